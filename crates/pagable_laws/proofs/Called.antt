@@ -1,13 +1,13 @@
 -- What trees feel of each call, by the call and its reply.
 use Rattle.pagable_laws.proofs.Effects.{Effect, IsMine, beside, both-none, but, cached, cached-if, entry, fell, forgets, handed, handle, like, load-named, load-owns, moves, no-one, node, none}
-use Rattle.pagable_laws.proofs.Words.{Call, Change, CloneCall, Core, Err, Error, Event, GetsKnown, HandleNumber, HandleRow, KeepsOpen, Kind, List, LoadNumber, Mode, NodeNumber, None, Ok, Option}
-use Rattle.pagable_laws.proofs.Words.{OptionalDataKey, Owner, PinCall, Reply, Result, Seen, Some, Values, [], adopted, ap, arith, bears_known, false, find_row, first_key, inl, inr, is_in, is_named_by}
-use Rattle.pagable_laws.proofs.{Effects.{none-named, opens, own-handle, own-mode, own-named, owned-mine, shuts, stays, turned, with-key}, Goes.{Goes, KnowsNext, NotLoads, a-handle, begun}}
-use Rattle.pagable_laws.proofs.{Goes.{found-changed, goes-then, quiet-goes}, GoodReferences.{alike-away, fell-away, good}, Trees.{same-number, same_some}, Words.{Alike, ArcRef, Beginning, Blob, Bool}}
-use Rattle.pagable_laws.specs.TreeSteps.{CallFeels, StaysAway, bears_node, feels-adopted, feels-away, feels-birth, feels-end, feels-key, feels-known, feels-lazy, feels-nothing, knows_node, sets_key}
-use Rattle.pagable_laws.{proofs.Words.{moved, nat_tests, next_node, nothing_felt, of_cell, owner_value, refl, rules, subst, sym, true, with_handle, ℕ, ◌∙◌, ◌≡◌, ◌⊎◌}, specs.TreeSteps.AreGood}
-use Rattle.pagable_world.specs.LoadCalls.{AdoptCall, AskCall, BeginCall, BeginKeyCall, EndCall, Given, HandOverCall, Installs, LazyCall, LoadCloses, MayEnd, is_owned_in, numbers_of, without_load}
+use Rattle.pagable_laws.proofs.{Effects.{none-named, opens, own-handle, own-mode, own-named, owned-mine, shuts, stays, turned, with-key}, Goes.{Goes, KnowsNext, NotLoads, a-handle, alike-away}}
+use Rattle.pagable_laws.proofs.{Goes.{begun, fell-away, found-changed, goes-then, good, quiet-goes}, Trees.{same-number, same_some}, Words.{Alike, ArcRef, Beginning, Blob, Bool, Call, Change}}
+use Rattle.pagable_laws.proofs.Words.{CloneCall, Core, Err, Error, Event, GetsKnown, HandleNumber, HandleRow, KeepsOpen, Kind, List, LoadNumber, Mode, NodeNumber, None, Ok, Option, OptionalDataKey}
+use Rattle.pagable_laws.proofs.Words.{Owner, PinCall, Reply, Result, Seen, Some, Values, [], adopted, ap, arith, bears_known, false, find_row, first_key, inl, inr, is_in, is_named_by, moved}
+use Rattle.pagable_laws.{proofs.Words.{nat_tests, next_node, nothing_felt, of_cell, owner_value, refl, rules, subst, sym, true, with_handle, ℕ, ◌∙◌, ◌≡◌, ◌⊎◌}, specs.TreeSteps.{AreGood, CallFeels}}
+use Rattle.pagable_laws.specs.TreeSteps.{StaysAway, bears_node, feels-adopted, feels-away, feels-birth, feels-end, feels-key, feels-known, feels-lazy, feels-nothing, knows_node, sets_key}
 use Rattle.pagable_world.specs.{Calls.{Asked, BirthCall, OfferCall, RecallCall, ReleaseCall, ScheduleCall, SetKeyCall, StoreCall, with_known}, Cascade.{FallsAnyhow, only_handle}, Events.Does}
+use Rattle.pagable_world.specs.LoadCalls.{AdoptCall, AskCall, BeginCall, BeginKeyCall, EndCall, Given, HandOverCall, Installs, LazyCall, LoadCloses, MayEnd, is_owned_in, numbers_of, without_load}
 use Rattle.pagable_world.specs.{OneWorker.LeavesCache, Pager.{CallBrings, IsNewNode}, World.{of_key, usable}, declared.{answers.Pinning.Pinning, calls.Want.Want}}
 
 -- ---- each call, and what loads do, by whoever asks

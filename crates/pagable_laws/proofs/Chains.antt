@@ -266,13 +266,11 @@ claim_made walkings t i event reply = 0
 module _ {N B W : Type 0} (walkings : ℕ → Option Walking) (t : ℕ) (i : Identity) where
   pub claims-cons : (event : Event N B W) (reply : EventReply N B W) (more : List (Event N B W)) (rest : List (EventReply N B W))
       → claims_made walkings t i (event ∷ more) (reply ∷ rest) ≡ claim_made walkings t i event reply + claims_made walkings t i more rest
-  unfolding claims_made
   claims-cons x0 x1 more rest = grind (arith, nat_tests, zero-add)
 
   -- what one worker of the table claimed is among them
   pub own-claims : (n : ℕ) (w : Walking) → walkings n ≡ Some w → w.table ≡ t → (happened : List (Event N B W)) (replied : List (EventReply N B W))
       → times (is_claim_of {W = W} i) (steps_of n happened replied) ≤ claims_made walkings t i happened replied
-  unfolding steps_of claims_made
   own-claims n w there on (event ∷ more) (reply ∷ rest) =
       grind (arith, nat_tests, sum_by-append, one, is_claim_of, step_of, steps_of, claims-cons, times, is_on_table, sum_by-cons, claim_made, own-claims n w there on more rest)
   own-claims n w there on x4 x5 = grind (arith, nat_tests)
@@ -307,7 +305,6 @@ module _ {N E B W : Type 0} (m : Seen N B W) where
 
   arrives : (s : MachineState N E) (moments : List (Moment N E B W)) → AreMoments m s moments → IsMachineWhole m.values s → StandsIn (world_of s) → LoadsStand m.values.types (world_of s)
       → Arrives s (state_after s moments) (events_of moments) (replies_of moments) × StepsAreWithin m.values s moments
-  unfolding state_after steps_of claims_made
   arrives s [] chain whole work loads = (grind (arith, nat_tests, append-nil), tt)
   arrives s (x ∷ xs) (does, chain) whole work loads =
       let turns : EventTurns m (world_of s) x.event x.reply (world_of x.after) =

@@ -25,9 +25,9 @@ module _ {N B W : Type 0} (m : Seen N B W) (v : ℕ) (task : Task) (s s' : Site)
       plain v task s.shelf s'.shelf same _ (give r key height below) (λ a is. grind (arith, nat_tests)) (gives v task s.shelf r key height below rest)
       (λ i slot there own still. given-open v task s.shelf i r key height below ∙ covers i slot there own still)
 
-  go : (todo : List Todo) → s.todo ≡ todo → AllStand s.shelf v task todo → Covers s.shelf v todo → (step : Took W) → Does m v s todo step s'
+  pub stands-on : (todo : List Todo) → s.todo ≡ todo → AllStand s.shelf v task todo → Covers s.shelf v todo → (step : Took W) → Does m v s todo step s'
       → Goes v task s.shelf (answer_after todo step) s'.shelf s'.todo
-  go (to_start r place ∷ below) e (meets, apart, rest) covers (Took.Claim i (Ok Claim.Claimed)) (is, c) =
+  stands-on (to_start r place ∷ below) e (meets, apart, rest) covers (Took.Claim i (Ok Claim.Claimed)) (is, c) =
       let new : Slot = record { worker = v; written = None; outcome = no_result } in
       let free : is_open_in (identity_of r) below ≡ false = false_from_ne_true (is_open_in (identity_of r) below)
       (λ is. let a = open-slot v task s.shelf (identity_of r) below rest is in some-none a.1 c.finds.1.1) in
@@ -36,14 +36,14 @@ module _ {N B W : Type 0} (m : Seen N B W) (v : ℕ) (task : Task) (s s' : Site)
       (λ changes now. (grind (arith, nat_tests, all-stay, grows, false_from_ne_true, true-false, is-same, is-self)))
       (grind (arith, nat_tests, put-cases, identity_of, is_open_in, or_right, is_identity, or_left, is-self)))
   -- the key of the reference was known
-  go (to_start r place ∷ []) e (meets, apart, rest) covers (Took.Claim i (Ok (Claim.Known key height))) (is, c) = to-list c.finds.1.2.list_is
+  stands-on (to_start r place ∷ []) e (meets, apart, rest) covers (Took.Claim i (Ok (Claim.Known key height))) (is, c) = to-list c.finds.1.2.list_is
       (plain v task s.shelf s'.shelf c.finds.1.2.table_is.slots None (to_release r key height ∷ []) (λ a is. absurd (cc)) ((meets, c.finds.1.1), (λ i no. absurd (cc)), tt) covers)
-  go (to_start r place ∷ x ∷ below) e (meets, apart, rest) covers (Took.Claim i (Ok (Claim.Known key height))) (is, c) = to-list c.finds.1.2.list_is
+  stands-on (to_start r place ∷ x ∷ below) e (meets, apart, rest) covers (Took.Claim i (Ok (Claim.Known key height))) (is, c) = to-list c.finds.1.2.list_is
       (plain v task s.shelf s'.shelf c.finds.1.2.table_is.slots None (give r key height (x ∷ below)) (λ a is. absurd (cc)) (gives v task s.shelf r key height (x ∷ below) rest)
       (λ i slot there own still. given-open v task s.shelf i r key height (x ∷ below) ∙ covers i slot there own still))
-  go (to_start r place ∷ below) e all covers (Took.Claim i (Ok Claim.Waiting)) (is, c) = to-list (c.finds.1.2.list_is ∙ e)
+  stands-on (to_start r place ∷ below) e all covers (Took.Claim i (Ok Claim.Waiting)) (is, c) = to-list (c.finds.1.2.list_is ∙ e)
       (plain v task s.shelf s'.shelf c.finds.1.2.table_is.slots None (to_start r place ∷ below) (λ a is. absurd (cc)) all covers)
-  go (to_write r place through ∷ below) e ((meets, c), apart, rest) covers (Took.Write i (Ok out)) (is, p) =
+  stands-on (to_write r place through ∷ below) e ((meets, c), apart, rest) covers (Took.Write i (Ok out)) (is, p) =
       let new : Slot = record c.slot { written = Some (m.written_of out) } in
       let puts = changes-slot s.shelf s'.shelf (identity_of r) c.slot (λ slot. record slot { written = Some (m.written_of out) }) c.claimed p.writes.table_is in
       let o : Open = record { reference = r; place = place; through = through; written = m.written_of out; keys = []; height = 0 } in
@@ -51,16 +51,13 @@ module _ {N B W : Type 0} (m : Seen N B W) (v : ℕ) (task : Task) (s s' : Site)
       (is-changed c.slot new c.claimed c.own refl (grind (arith, nat_tests, some-none))) meets (ap is_failed c.no_result_yet)
       (λ changes now. settles v task s'.shelf o below (grind (arith, nat_tests, all-stay, grows, false_from_ne_true, true-false, is-same, is-self)))
       (grind (arith, nat_tests, or_right, started-open, put-cases, is_identity, or_left, is-self)))
-  go (to_publish r key height ∷ below) e ((meets, c), apart, rest) covers (Took.Publish i k h) (is, same_key, same_height, t) =
+  stands-on (to_publish r key height ∷ below) e ((meets, c), apart, rest) covers (Took.Publish i k h) (is, same_key, same_height, t) =
       let new : Slot = with_outcome (published key height) c.slot in
       let puts = changes-slot s.shelf s'.shelf (identity_of r) c.slot (with_outcome (published key height)) c.claimed t.table_is in
       to-list t.list_is (own-goes v task s.shelf s'.shelf (identity_of r) new (to_release r key height ∷ below) puts (is-changed c.slot new c.claimed c.own refl (grind arith)) meets (grind arith)
       (λ changes now. (grind (arith, nat_tests, all-stay, grows, false_from_ne_true, true-false, is-same, is-self))) (grind (arith, nat_tests, put-cases, or_cases, true-false, is-same, is-self)))
-  go (to_fail fault back ∷ below) e all covers Took.Fail (back_is, table_is, list_is) = to-list list_is (failed-goes v task s.shelf s'.shelf (answer_of_fault fault) table_is)
-  go _ e all covers step does = grind (arith, nat_tests, to-list, fails, swaps, plain, released)
-
-  pub stands-on : AllStand s.shelf v task s.todo → Covers s.shelf v s.todo → (step : Took W) → Does m v s s.todo step s' → Goes v task s.shelf (answer_after s.todo step) s'.shelf s'.todo
-  stands-on all covers step does = go s.todo refl all covers step does
+  stands-on (to_fail fault back ∷ below) e all covers Took.Fail (back_is, table_is, list_is) = to-list list_is (failed-goes v task s.shelf s'.shelf (answer_of_fault fault) table_is)
+  stands-on _ e all covers step does = grind (arith, nat_tests, to-list, fails, swaps, plain, released)
 
 abbrev pub StandsIn : World → Type 0
 StandsIn u = WorkStands u.work.shelves u.work.walkings u.core.last.worker
@@ -139,7 +136,7 @@ module _ {N B W : Type 0} (m : Seen N B W) (u u' : World) (work : StandsIn u) wh
       let now : Walking = record w { todo = s.after.todo; steps = reply.steps; answer = reply.answer } in
       let stands = work.workers v.0 w s.at in
       let site : Site = record { core = u.core; shelf = u.work.shelves w.table; todo = w.todo } in
-      let goes = stands-on m v.0 w.task site s.after stands.all stands.covers reply.took s.does.does in
+      let goes = stands-on m v.0 w.task site s.after w.todo refl stands.all stands.covers reply.took s.does.does in
       let shelf_is : (i : Identity) → (u'.work.shelves w.table).slots i ≡ s.after.shelf.slots i =
       λ i. (s.work.same_shelves w.table).slots i ∙ ap (λ (x : Shelf). x.slots i) (updated-at w.table s.after.shelf u.work.shelves) in
       let kept : u.core.last.worker ≤ s.after.core.last.worker = (walk-goes m v.0 site s.after w.todo reply.took s.does.does).goes.workers_last in
@@ -279,28 +276,24 @@ module _ {W : Type 0} (n : ℕ) where
       → IsMetFailure shelf n past answer → IsMetFailure shelf' n more answer
   met-stays shelf shelf' past more x4 grown on x7 = grind (arith, nat_tests, on, failed-stays)
 
-  unfoldable pub FailsMet : Shelf → List (Took W) → List Todo → Type 0
+  abbrev pub FailsMet : Shelf → List (Took W) → List Todo → Type 0
   FailsMet shelf past [] = Unit {0}
   FailsMet shelf past (to_fail fault back ∷ below) = IsMetFailure shelf n past (answer_of_fault fault) × FailsMet shelf past below
   FailsMet shelf past (x ∷ below) = FailsMet shelf past below
 
   pub fails-stay : (shelf shelf' : Shelf) (past more : List (Took W)) (todo : List Todo) → ShelfGrows shelf shelf' → ((x : Took W) → Among past x → Among more x)
       → FailsMet shelf past todo → FailsMet shelf' more todo
-  unfolding FailsMet
   fails-stay shelf shelf' past more [] grown on met = tt
   fails-stay shelf shelf' past more (x ∷ below) grown on met = let rest = fails-stay shelf shelf' past more below grown on in grind (arith, nat_tests, rest, met-stays)
 
   module _ (shelf : Shelf) (past : List (Took W)) where
     started : (place : ℕ) (rs : List ArcRef) (todo : List Todo) → FailsMet shelf past todo → FailsMet shelf past (next_start place rs ++ todo)
-    unfolding FailsMet
     started place x1 todo met = grind (arith, nat_tests)
 
     given : (r : ArcRef) (key height : ℕ) (todo : List Todo) → FailsMet shelf past todo → FailsMet shelf past (give r key height todo)
-    unfolding FailsMet
     given r key height x3 met = grind (arith, nat_tests, started)
 
     pub first-met : (task : Task) → FailsMet shelf past (first_todo task)
-    unfolding FailsMet
     first-met x0 = grind (arith, nat_tests, started)
 
     refused : (step : Took W) (e : Error) → Among past step → MetError step e → IsMetFailure shelf n past (WorkerAnswer.Failed e) × Unit {0}
@@ -312,7 +305,6 @@ module _ {W : Type 0} (n : ℕ) where
     -- what follows a step, where the other's claim has failed if that is what was found
     pub follows-met : (f : W → Written) (todo : List Todo) (step : Took W) (next : List Todo) → Follows f todo step next → Among past step
         → ((i : Identity) → step ≡ Took.Claim i (Ok Claim.AlreadyFailed) → FailedElsewhere shelf n i) → FailsMet shelf past todo → FailsMet shelf past next
-    unfolding FailsMet
     follows-met f (to_start r place ∷ below) (Took.Claim j (Ok Claim.AlreadyFailed)) next (is, e) among already met = rw e ((j, among, already j refl), tt)
     follows-met f (to_start r place ∷ below) (Took.Claim j (Err fault)) next (is, e) among already met = rw e (refused _ fault among refl)
     follows-met f (to_pin r place ∷ below) (Took.Pin j (Err fault)) next (is, e) among already met = rw e (refused _ fault among refl)
@@ -325,7 +317,6 @@ module _ {W : Type 0} (n : ℕ) where
 
     -- the answer is what the list was about to fail with, or a key
     pub answered : (todo : List Todo) (step : Took W) (answer : WorkerAnswer) → answer_after todo step ≡ Some answer → FailsMet shelf past todo → IsMetFailure shelf n past answer
-    unfolding FailsMet
     answered x0 x1 answer is x4 = grind (arith, nat_tests)
 
 -- of a worker and its steps: they lead to its list, whatever it fails with was met, and they are within their bound

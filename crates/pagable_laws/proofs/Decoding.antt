@@ -28,7 +28,6 @@ got-alike (r ∷ rs) (suc place) kind = got-alike rs place kind
 got-alike x0 x1 kind = grind (arith, nat_tests, both-not, both-looked-up)
 
 answers-alike : (got : List ArcRef) (place : ℕ) (keys : List ℕ) → AllTwo AnswersAlike (answers_from got place keys) (answers_from (some_of (kinds_of got)) place keys)
-unfolding answers_from
 answers-alike got place [] = no-two
 answers-alike got place (key ∷ keys) = more-two _ _ _ _ (got-alike got place) (answers-alike got (place + 1) keys)
 
@@ -67,7 +66,6 @@ at-place (x ∷ xs) g back = at-place xs g back
 -- what is looked up of references, the first of which were got: the first of those that are left is refused
 looked : (front back done : List ArcRef) (q : ArcRef) (more : List ArcRef) (keys : List ℕ) → kinds_of back ≡ kinds_of done → length keys ≡ length (done ++ q ∷ more)
     → Looked look_kind (λ k. k) (answers_from (front ++ back) (length front) keys) (map kind_of_arc (done ++ q ∷ more)) (Err (Error.Storage q.kind.0))
-unfolding answers_from
 looked front [] [] q more (key ∷ keys) same few = not-looked _ _ _ _ _ (rw (slice_get_past (front ++ []) (length front) (omega (arith, length-append front []))) refl)
 looked front (g ∷ back) (d ∷ done) q more (key ∷ keys) same few =
     let one : g.kind.0 ≡ d.kind.0 = cc in
@@ -143,7 +141,6 @@ module _ (types : Types) (t : ℕ) (blob : Blob) (refs got : List ArcRef) (f : I
   Answers a r = (kind : ℕ) → OutLook no_cause (InPlace got refs) (a kind) (own_look kind r)
 
   all-answer : (place : ℕ) (rs : List ArcRef) (keys : List ℕ) → ((i : ℕ) → slice_get rs i ≡ slice_get refs (place + i)) → length keys ≡ length rs → AllTwo Answers (answers_from got place keys) rs
-  unfolding answers_from
   all-answer place [] [] at few = no-two
   all-answer place (r ∷ rs) (k ∷ ks) at few =
       let start : place + 0 ≡ place = omega arith in
@@ -247,7 +244,6 @@ module _ (types : Types) (t : ℕ) (blob : Blob) (refs got : List ArcRef) (f : I
 
 pub fine : (w : Core) (owner : Owner) (seen : List ℕ) (rs : List ArcRef) → ((r : ArcRef) → Among rs r → IsReference w owner r) → ((r : ArcRef) → Among rs r → is_in seen r.handle.0 ≡ false)
     → ((q : ℕ) → times (λ (r : ArcRef). r.handle.0 == q) rs ≤ 1) → references_fault w owner seen rs ≡ None
-unfolding references_fault is_in
 fine w owner seen [] good new once = refl
 fine w owner seen (r ∷ rs) good new once =
     let rest = fine w owner (r.handle.0 ∷ seen) rs (λ q among. good q (suc among.0, among.1)) (λ q among.
@@ -295,7 +291,6 @@ module _ {types : Types} {stored : ℕ → Option Blob} {trees : ℕ → Tree} {
   answers : (place : ℕ) (keys : List ℕ)
       → ((i key : ℕ) (r : ArcRef) → slice_get got (place + i) ≡ Some r → slice_get keys i ≡ Some key → ReadsNodeTree types stored trees key (type_of r.kind.0) r.node.0)
       → AllTwo (AnswersFor types stored trees got) (answers_from got place keys) keys
-  unfolding answers_from
   answers place [] h = no-two
   answers place (key ∷ keys) h =
       let here : place ≡ place + 0 = omega arith in

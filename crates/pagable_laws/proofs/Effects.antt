@@ -1,11 +1,11 @@
 -- What a step does: how it is felt, which handles and loads it leaves to others, and that the cache goes on to give for a kind and a key what it gave, as long as the node is held as the
 -- kind asks. The parts of which each call is made.
-use Rattle.pagable_laws.proofs.Goes.{goes-quiet, goes-then, keyed, le-more, le-self, none-in-next, only-rows, parts, quiet-goes, quiet-self, rows-mode, rows-moved, rows-self, stands-alike}
-use Rattle.pagable_laws.proofs.Words.{Among, ArcRef, Blob, Bool, Change, Core, Error, HandleNumber, HandleRow, Kind, List, LoadNumber, Mode, NodeNumber, None, OpenLoad, Option, OptionalDataKey, Owner}
+use Rattle.pagable_laws.proofs.{Decoding.among-either, Goes.{Goes, Has, IsShut, NotLoads, NotValues, Quiet, Stands, a-handle, alike, among-kept, born, fell as quiet-fell, found-number, goes-known}}
+use Rattle.pagable_laws.proofs.Goes.{goes-quiet, goes-then, keyed, le-more, le-self, none-in-next, only-rows, parts, quiet-goes, quiet-self, rows-mode, rows-moved, rows-self, same-owner}
+use Rattle.pagable_laws.proofs.{Goes.{stands-alike, stands-changed, stands-fell, stands-more}, Trees.{at-most-sum, counted, one-true, same-number, same_some, self-number}, Words.{Alike, Among}}
+use Rattle.pagable_laws.proofs.Words.{ArcRef, Blob, Bool, Change, Core, Error, HandleNumber, HandleRow, Kind, List, LoadNumber, Mode, NodeNumber, None, OpenLoad, Option, OptionalDataKey, Owner}
 use Rattle.pagable_laws.proofs.Words.{Result, Some, [], and_parts, ap, arith, cases_Bool, false, false_from_ne_true, find_row, held, if_there, if◌then◌else◌, inl, inr, is_handle, is_in, is_named_by}
 use Rattle.pagable_laws.proofs.Words.{is_owned_by, is_owner, is_pinning, is_some, moved, nat_tests, not, nothing_felt, one, owner_value, owner_worker, pins, refl, rules, slice_get, subst, suc, sym}
-use Rattle.pagable_laws.proofs.{Decoding.among-either, Goes.{Goes, Has, IsShut, NotLoads, NotValues, Quiet, Stands, a-handle, alike, among-kept, born, fell as quiet-fell, found-number, goes-known}}
-use Rattle.pagable_laws.proofs.{Goes.{stands-changed, stands-fell, stands-more}, GoodReferences.same-owner, Trees.{at-most-sum, counted, one-true, same-number, same_some, self-number}, Words.Alike}
 use Rattle.pagable_laws.{proofs.Words.{true, updated, with_handle, zero, ℕ, ◌&&◌, ◌++◌, ◌+◌, ◌<◌, ◌==◌, ◌∙◌, ◌∷◌, ◌≡◌, ◌≤◌}, specs.TreeSteps.{AreGood, Bears, Knows, sets_key}}
 use Rattle.pagable_world.specs.{Calls.{row_of, with_cached, with_key, with_mode, with_node}, Cascade.{Falls, fallen, left_rows, nobody, only_handle}, Kinds.{is_at, is_in_memory, is_loose, is_pin}}
 use Rattle.pagable_world.specs.{LoadCalls.{is_owned_in, numbers_of, with_load, without_load}, Pager.OwnersAreThere, Plain.{changed, is_pinned_kind}, Refusals.{Owns, OwnsLoad, earlier, named_fault}}
@@ -84,7 +84,6 @@ list-apart = record { no_value = λ n is. absurd (cc); no_load = λ l. refl }
 
 -- what references name is the handle of one of them
 pub named-among : (rs : List ArcRef) (q : ℕ) → is_named_by rs q ≡ true → (r : ArcRef) × Among rs r × (r.handle.0 ≡ q)
-unfolding is_named_by
 named-among [] q is = absurd (cc)
 named-among (r ∷ rs) q is = elim (cases_Bool (r.handle.0 == q)) [ inl e ↦ (r, (zero, refl), same-number _ _ e) | inr e ↦ let a = named-among rs q (rw e at is) in (a.0, (suc a.1.0, a.1.1), a.2) ]
 
@@ -98,7 +97,6 @@ both-none x0 x1 is = grind (arith, nat_tests)
 
 -- where nothing is said against handles that are named, each is live and the owner's
 pub named : (w : Core) (owner : Owner) (seen : List ℕ) (hs : List HandleNumber) → named_fault w owner seen hs ≡ None → (h : HandleNumber) → is_in (numbers_of hs) h.0 ≡ true → Has w owner h
-unfolding named_fault is_in
 named w owner seen [] none h is = absurd (cc)
 named w owner seen (x ∷ hs) none h is = elim (cases_Bool (x.0 == h.0)) [
   | inl e ↦ subst (λ z. Has w owner z) (ap (λ n. let k : HandleNumber = record { 0 = n } in k) (same-number _ _ e)) (grind (arith, nat_tests))
@@ -156,7 +154,6 @@ module _ (mine : Owner) where
   -- handles that a load hands over aren't the owner's
   pub handed-free : ((load : LoadNumber) → is_owner (Owner.Load load) mine ≡ false) → (w : Core) (l : LoadNumber) (hs : List HandleNumber) (seen : List ℕ) → named_fault w (Owner.Load l) seen hs ≡ None
       → (q : ℕ) (row : HandleRow) → row.owner ≡ mine → Stands w.last.handle w.rows q row → is_in (numbers_of hs) q ≡ false
-  unfolding named_fault is_in
   handed-free apart w l [] seen none q row own s = refl
   handed-free apart w l (h ∷ hs) seen none q row own s =
       let (first, rest) = both-none _ _ none in let more = handed-free apart w l hs (h.0 ∷ seen) rest q row own s in grind (arith, nat_tests, same-number, apart)

@@ -1,9 +1,9 @@
 -- The least set of handles that fall. What falls of a value of two levels; and a lone cell that is unpinned.
-use Rattle.pagable_laws.proofs.Words.{[], and_parts, ap, arith, cases_lt, false, false_from_ne_true, find_row, held, inl, inr, is_owned_by, is_owner, length, nat_tests, not, one, owner_value, pins}
 use Rattle.pagable_laws.proofs.{Trees.{at-most-sum, counted, one-small, one-true, same-number, sum-le, sum-plus, sum-zero}, Words.{Among, Blob, Bool, HandleRow, Last, List, Mode, Ok, Option, Owner}}
-use Rattle.pagable_laws.{proofs.Words.{refl, suc, sum_by-cons, sym, true, zero, ℕ, ◌&&◌, ◌+◌, ◌<◌, ◌==◌, ◌||◌, ◌∙◌, ◌∷◌, ◌≡◌, ◌≤◌}, specs.FallLaws.{IsGivenAlone, LoneIsListed, OwnsNothing}}
-use Rattle.{pagable_laws.specs.FallLaws.{TwoLevelsFall, first, first_node, lone, lone_listed, lone_unlisted, two_rows}, pagable_world.specs.{Calls.{row_of, with_mode}, Cascade.Falls}}
-use Rattle.{pagable_world.specs.{Cascade.{IsClosed, IsLeast, IsWithin, is_outside, loses_value, nobody, owned_outside}, Kinds.{is_at, is_pin}}, std.{proofs.Common.sum_by, specs.Prelude.nat_lt}}
+use Rattle.pagable_laws.proofs.Words.{[], and_parts, ap, arith, cases_lt, false, false_from_ne_true, held, inl, inr, is_owned_by, is_owner, length, nat_tests, not, one, owner_value, pins, refl, suc}
+use Rattle.pagable_laws.{proofs.Words.{sum_by-cons, sym, true, zero, ℕ, ◌&&◌, ◌+◌, ◌<◌, ◌==◌, ◌||◌, ◌∙◌, ◌∷◌, ◌≡◌, ◌≤◌}, specs.FallLaws.{IsGivenAlone, LoneIsListed, OwnsNothing, TwoLevelsFall}}
+use Rattle.{pagable_laws.specs.FallLaws.{first, first_node, lone, lone_listed, lone_unlisted, two_rows}, pagable_world.specs.{Calls.{row_of, with_mode}, Cascade.{Falls, IsClosed, IsLeast, IsWithin}}}
+use Rattle.{pagable_world.specs.{Cascade.{is_outside, loses_value, nobody, owned_outside}, Kinds.{is_at, is_pin}}, std.{proofs.Common.sum_by, specs.Prelude.nat_lt}}
 
 -- 1 for a handle outside the set; one that the node's value owns; and one of the one set and not of the other
 abbrev outside : (ℕ → Bool) → HandleRow → ℕ
@@ -145,7 +145,6 @@ fell stored =
     }
 
 pub is_listed : LoneIsListed
-unfolding find_row
 is_listed = record {
   listed = λ stored. record { does = inr (row_of 1 first_node Mode.LoosePinned Owner.Caller, record { live = refl; own = refl; as_asked = refl }, inr (refl, fell stored)) };
   not_unlisted = λ stored call. elim call.does [

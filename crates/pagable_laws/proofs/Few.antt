@@ -1,11 +1,11 @@
 -- A pager with few of each is whole, by facts about its first numbers that compute.
-use Rattle.pagable_laws.proofs.Words.{WellFormed, [], and_parts, ap, arith, cases_lt, false, held, inl, inr, is_handle, is_owned_by, is_owner, is_some, length, nat_eq, nat_tests, not, of_cell, one}
-use Rattle.pagable_laws.proofs.Words.{owner_value, pins, references_fault, refl, row_at, rules, subst, suc, sym, times, true, type_of, updated, ℕ, ◌&&◌, ◌<◌, ◌==◌, ◌∙◌, ◌∷◌, ◌≡◌, ◌≤◌}
-use Rattle.pagable_laws.proofs.{Existing.within-self, GoodReferences.good, Trees.sum-zero, Words.{Alike, Among, ArcRef, Bool, Core, HandleRow, List, None, Ok, OpenLoad, Option, Owner, Some}}
-use Rattle.pagable_world.specs.{Cascade.{is_keyed, loses_value, owned_outside}, Kinds.{is_at, is_loose, is_pin, is_share, is_shared, sharing}, Pager.{IsHandleBefore, MayOwnLoad}, Plain.is_shared_kind}
-use Rattle.std.specs.{List.{AllByRecursion as Each, AllPairs}, Prelude.{IfSome, nat_le, nat_lt}}
-use Rattle.{pagable_laws.specs.{FallLaws.no_work, TwoLevels.{Sample, machine, sample, sample_references, sample_type, value_at}}, pagable_world.specs.Cascade.{Falls, IsLeast, MustList, fallen}}
-use Rattle.{pagable_world.specs.World.{Root, is_here, of_key, type_at}, std.proofs.{Common.All, lemmas.{Bool.{agree_below, agree_below_at}, List.Kept.AllPairs-cons}}}
+use Rattle.pagable_laws.proofs.{Existing.within-self, Goes.good, Trees.sum-zero, Words.{Alike, Among, ArcRef, Bool, Core, HandleRow, List, None, Ok, OpenLoad, Option, Owner, Some, WellFormed, []}}
+use Rattle.pagable_laws.proofs.Words.{and_parts, ap, arith, cases_lt, false, held, inl, inr, is_handle, is_owned_by, is_owner, is_some, length, nat_eq, nat_tests, not, of_cell, one, owner_value}
+use Rattle.pagable_laws.{proofs.Words.{pins, references_fault, refl, row_at, rules, subst, suc, sym, times, true, type_of, updated, ℕ, ◌&&◌, ◌<◌, ◌==◌, ◌∙◌, ◌∷◌, ◌≡◌, ◌≤◌}, specs.FallLaws.no_work}
+use Rattle.{pagable_laws.specs.TwoLevels.{Sample, machine, sample, sample_references, sample_type, value_at}, pagable_world.specs.Cascade.{Falls, IsLeast, MustList, fallen, is_keyed, loses_value}}
+use Rattle.pagable_world.specs.{Cascade.owned_outside, Kinds.{is_at, is_loose, is_pin, is_share, is_shared, sharing}, Pager.{IsHandleBefore, MayOwnLoad}, Plain.is_shared_kind, World.{Root, is_here}}
+use Rattle.{pagable_world.specs.World.{of_key, type_at}, std.{proofs.{Common.All, lemmas.{Bool.{agree_below, agree_below_at}, List.Kept.AllPairs-cons}}, specs.List.AllByRecursion as Each}}
+use Rattle.std.specs.{List.AllPairs, Prelude.{IfSome, nat_le, nat_lt}}
 
 -- what holds of what there is
 of-some : {X : Type 0} (P : X → Type 0) {x : Option X} {y : X} → IfSome x P → x ≡ Some y → P y
@@ -165,7 +165,6 @@ pub record Passes (w : Core) (vs : List (Option Sample)) : Type 0 where
   pub numbers : NumberFits w vs 0 × NumberFits w vs 1 × NumberFits w vs 2 × NumberFits w vs 3
 
 past-end : (vs : List (Option Sample)) (n : ℕ) → length vs ≤ n → value_at vs n ≡ None
-unfolding value_at
 past-end (x ∷ xs) (suc n) few = past-end xs n (omega arith)
 past-end x0 x1 few = grind (arith, nat_tests)
 

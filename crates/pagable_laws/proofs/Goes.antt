@@ -1,13 +1,13 @@
 -- What a step does to the plain world as far as trees feel it: the parts of each call's summary. And a live handle that no value owns and that isn't given up outlasts a cascade, with its row.
 use Rattle.pagable_laws.proofs.{Decoding.among-either, Existing.outlast, Trees.{same-number, same_some, self-number}, Words.{Alike, Among, ArcRef, Blob, Bool, Call, Change, CloneCall, Core, Event}}
-use Rattle.pagable_laws.proofs.Words.{EventReply, HandleNumber, HandleRow, HandlesAreWhole, Happens, Identity, Kind, Last, List, LoadNumber, Mode, NodeNumber, None, Ok, OpenLoad, Option}
+use Rattle.pagable_laws.proofs.Words.{EventReply, HandleNumber, HandleRow, HandlesAreWhole, Happens, Identity, IsReference, Kind, Last, List, LoadNumber, Mode, NodeNumber, None, Ok, OpenLoad, Option}
 use Rattle.pagable_laws.proofs.Words.{OptionalDataKey, Owner, PinCall, Reply, Seen, Site, Some, Todo, Took, World, [], adopted, answer_after, ap, arith, bears_known, false, false_from_ne_true}
-use Rattle.pagable_laws.proofs.Words.{filter, find_row, if◌then◌else◌, inl, inr, is_handle, is_named_by, is_owner, is_pinning, le_trans, mode_of, moved, nat_tests, next_node, not, nothing_felt}
-use Rattle.pagable_laws.proofs.Words.{owner_value, owner_worker, refl, row_at, rules, subst, suc, sym, to_load, to_pin, true, type_of, updated, with_handle, zero, ℕ, ◌&&◌, ◌++◌, ◌+◌, ◌<◌, ◌==◌, ◌∙◌}
-use Rattle.{pagable_laws.{proofs.Words.{◌∷◌, ◌≡◌, ◌≤◌, ◌⊎◌}, specs.TreeSteps.{Bears, BeginsWell, HasPin, Knows, PinHolds, sets_key}}, pagable_world.proofs.Elements.{among-left, found-among}}
-use Rattle.pagable_world.specs.{Calls.{row_of, with_cached, with_key, with_mode, with_node}, Cascade.{AreNewEntries, Falls, FallsAnyhow, fallen, is_keyed, left_rows}, Kinds.is_loose}
-use Rattle.pagable_world.specs.{LoadCalls.{EndCall, is_owned_in, with_load, with_pin, without_load}, Loads.Does, Plain.{changed, or_else}, Workers.PinsAtOnce, World.{Cell, Root}}
-use Rattle.pagable_world.specs.declared.{answers.Pinning.Pinning, events.PinStep.PinStep}
+use Rattle.pagable_laws.proofs.Words.{filter, find_row, if◌then◌else◌, inl, inr, is_handle, is_named_by, is_owner, is_pinning, le_trans, mode_of, moved, nat_tests, next_node, not, nothing_felt, one}
+use Rattle.pagable_laws.proofs.Words.{owner_value, owner_worker, pins, references_fault, refl, row_at, rules, subst, suc, sum_by-cons, sym, to_load, to_pin, true, type_of, updated, with_handle, zero}
+use Rattle.pagable_laws.{proofs.Words.{ℕ, ◌&&◌, ◌++◌, ◌+◌, ◌<◌, ◌==◌, ◌∙◌, ◌∷◌, ◌≡◌, ◌≤◌, ◌⊎◌}, specs.TreeSteps.{AreGood, Bears, BeginsWell, HasPin, Knows, PinHolds, StaysAway, sets_key}}
+use Rattle.pagable_world.{proofs.Elements.{among-left, found-among}, specs.{Calls.{row_of, with_cached, with_key, with_mode, with_node}, Cascade.{AreNewEntries, Falls, FallsAnyhow, fallen}}}
+use Rattle.pagable_world.specs.{Cascade.{is_keyed, left_rows}, Kinds.{is_loose, is_pin}, LoadCalls.{EndCall, is_owned_in, with_load, with_pin, without_load}, Loads.Does, Plain.{changed, or_else}}
+use Rattle.pagable_world.specs.{Refusals.reference_fault, Workers.PinsAtOnce, World.{Cell, Root}, declared.{answers.Pinning.Pinning, events.PinStep.PinStep}}
 pub use Rattle.{pagable_laws.specs.TreeSteps.{CoreGoes as Goes, IsShut, Kept, RowsGo, Was}, pagable_world.proofs.Elements.{among-map as among-changed, among-one as only-one, once}}
 use Rattle.pagable_world.specs.Workers as workers
 
@@ -52,7 +52,6 @@ found-number q rows row found = (found-among q rows row found).1
 -- a handle that is found in a changed row was found before
 pub found-changed : (test : HandleRow → Bool) (f : HandleRow → HandleRow) → ((h : HandleRow) → (f h).number ≡ h.number) → (q : ℕ) (rows : List HandleRow) (row : HandleRow)
     → find_row q (changed test f rows) ≡ Some row → (was : HandleRow) × (find_row q rows ≡ Some was) × (row ≡ (if test was then f was else was))
-unfolding find_row
 found-changed test f same q [] row found = absurd (cc)
 found-changed test f same q (h ∷ hs) row found = grind (arith, nat_tests, is_handle, false, true, find_row, changed, found-changed test f same q hs row)
 
@@ -73,22 +72,18 @@ rows-moved last rows s owner free q row found few =
 
 -- handles that come at the end have greater numbers
 pub rows-more : (last : ℕ) (rows more : List HandleRow) → ((q : ℕ) → q ≤ last → find_row q more ≡ None) → RowsGo last rows (rows ++ more)
-unfolding find_row
 rows-more last [] more new q row found few = let none = new q few in absurd (cc)
 rows-more last (h ∷ hs) more new q row found few =
     let back : find_row q (hs ++ more) ≡ Some row → Was hs q row = λ f. rows-more last hs more new q row f few in grind (arith, nat_tests, is_handle, find_row)
 
 pub none-in-new : (last q : ℕ) (entries : List HandleRow) → AreNewEntries last entries → q ≤ last → find_row q entries ≡ None
-unfolding find_row
 none-in-new last q [] new few = refl
 none-in-new last q (h ∷ hs) (number, mode, owner, new) few = let a : is_handle q h ≡ false = grind (arith, nat_tests) in rw a (none-in-new (last + 1) q hs new (omega arith))
 
 pub none-in-next : (last q : ℕ) (h : HandleRow) → h.number.0 ≡ last + 1 → q ≤ last → find_row q (h ∷ []) ≡ None
-unfolding find_row
 none-in-next last q h next few = let a : is_handle q h ≡ false = grind (arith, nat_tests) in rw a refl
 
 pub found-left : (gone : ℕ → Bool) (q : ℕ) (rows : List HandleRow) (row : HandleRow) → find_row q (left_rows gone rows) ≡ Some row → (find_row q rows ≡ Some row) × (gone q ≡ false)
-unfolding find_row
 found-left gone q [] row found = absurd (cc)
 found-left gone q (h ∷ hs) row found = grind (arith, nat_tests, is_handle, find_row, left_rows, false, true, same-number, found-left gone q hs row)
 
@@ -185,7 +180,6 @@ pub record Stands (last : ℕ) (rows : List HandleRow) (q : ℕ) (row : HandleRo
   pub given : q ≤ last
 
 pub find-both : (q : ℕ) (xs ys : List HandleRow) → find_row q (xs ++ ys) ≡ or_else (find_row q xs) (find_row q ys)
-unfolding find_row
 find-both q [] ys = refl
 find-both q (h ∷ hs) ys = grind (arith, nat_tests, find-both q hs ys)
 
@@ -194,7 +188,6 @@ among-found q rows row found = (found-among q rows row found).0
 
 -- where nothing is found, nothing has the number
 pub none-found : (q : ℕ) (rows : List HandleRow) (h : HandleRow) → find_row q rows ≡ None → Among rows h → h.number.0 ≡ q → ⊥
-unfolding find_row
 none-found q [] h none among is = absurd (cc)
 none-found q (x ∷ xs) h none among is =
     let rest : (find_row q xs ≡ None → Among xs h → ⊥) = λ no there. none-found q xs h no there is in
@@ -205,7 +198,6 @@ abbrev pub AreUpTo : ℕ → List HandleRow → Type 0
 AreUpTo last rows = (h : HandleRow) → Among rows h → h.number.0 ≤ last
 
 pub none-above : (last q : ℕ) (rows : List HandleRow) → AreUpTo last rows → last < q → find_row q rows ≡ None
-unfolding find_row
 none-above last q [] few above = refl
 none-above last q (h ∷ hs) few above = grind (arith, nat_tests, few h (zero, refl), none-above last q hs (λ x among. few x (suc among.0, among.1)) above)
 
@@ -234,7 +226,6 @@ module _ (test : HandleRow → Bool) (f : HandleRow → HandleRow) (same : (h : 
   after-number h = grind (arith, nat_tests)
 
   pub found-after : (q : ℕ) (rows : List HandleRow) (row : HandleRow) → find_row q rows ≡ Some row → find_row q (changed test f rows) ≡ Some (after row)
-  unfolding find_row
   found-after q [] row found = absurd (cc)
   found-after q (h ∷ hs) row found = grind (arith, nat_tests, is_handle, find_row, changed, true, false, after-number, found-after q hs row)
 
@@ -253,7 +244,6 @@ stands-more {last} {more_last} {rows} {q} {row} more le none s =
     let g = s.given in record { live = find-both q rows more ∙ ap (λ x. or_else x (find_row q more)) s.live; only = only; given = omega arith }
 
 pub stands-new : (last : ℕ) (rows : List HandleRow) (row : HandleRow) → AreUpTo last rows → row.number.0 ≡ last + 1 → Stands (last + 1) (rows ++ row ∷ []) row.number.0 row
-unfolding find_row
 stands-new last rows row few next =
     let none = none-above last row.number.0 rows few (omega arith) in
     record {
@@ -263,12 +253,19 @@ stands-new last rows row few next =
     }
 
 pub found-kept : (gone : ℕ → Bool) (q : ℕ) (rows : List HandleRow) (row : HandleRow) → gone q ≡ false → find_row q rows ≡ Some row → find_row q (left_rows gone rows) ≡ Some row
-unfolding find_row
 found-kept gone q [] row kept found = absurd (cc)
 found-kept gone q (h ∷ hs) row kept found = grind (arith, nat_tests, is_handle, find_row, left_rows, true, false, same-number, found-kept gone q hs row kept)
 
 pub among-kept : {X : Type 0} (test : X → Bool) (xs : List X) (x : X) → Among (filter test xs) x → Among xs x
 among-kept test xs x among = (among-left test xs x among).0
+
+-- a handle that isn't gone keeps its row
+pub stands-left : {before w w' : Core} {given : ℕ → Bool} {r : _} (f : Falls before w given r w') {q : ℕ} {row : HandleRow} → f.gone q ≡ false → Stands w.last.handle w.rows q row
+    → Stands w'.last.handle w'.rows q row
+stands-left {w = w} f {q} {row} kept s =
+    let left : Stands w.last.handle (left_rows f.gone w.rows) q row =
+    record { live = found-kept f.gone q w.rows row kept s.live; only = λ h a is. s.only h (among-kept _ w.rows h a) is; given = s.given } in
+    stands-alike {w = fallen w f.gone f.entries} f.leaves (stands-more f.entries (le-more _ _) (none-in-new w.last.handle q f.entries f.new s.given) left)
 
 pub stands-fell : {before w w' : Core} {given : ℕ → Bool} {r : _} {q : ℕ} {row : HandleRow} → Falls before w given r w' → NotValues row.owner → given q ≡ false
     → Stands w.last.handle w.rows q row → Stands w'.last.handle w'.rows q row
@@ -281,9 +278,40 @@ stands-fell {before} {w} {w'} {given} {r} {q} {row} f free kept s =
     (λ n x there own lost. false_from_ne_true (x.number.0 == q) (λ e.
     let o = no_value x there (same-number x.number.0 q e) in let no : is_owner (owner_value n) x.owner ≡ false = grind (arith, nat_tests) in cc))
     row among (ap (λ p. p == q) number ∙ self-number q) in
-    let live = found-kept f.gone q w.rows row stays s.live in
-    let left : Stands w.last.handle (left_rows f.gone w.rows) q row = record { live = live; only = λ h a is. s.only h (among-kept _ w.rows h a) is; given = s.given } in
-    stands-alike {w = fallen w f.gone f.entries} f.leaves (stands-more f.entries (le-more _ _) (none-in-new w.last.handle q f.entries f.new s.given) left)
+    stands-left f stays s
+
+-- ---- references that nothing is to be said against name handles of their owner, as they should
+
+pub or-none : {X : Type 0} (a b : Option X) → or_else a b ≡ None → (a ≡ None) × (b ≡ None)
+or-none x0 b is = grind (arith, nat_tests)
+
+pub same-owner : (o p : Owner) → is_owner o p ≡ true → p ≡ o
+same-owner x0 x1 is = grind (arith, nat_tests, same-number)
+
+module _ (w : Core) (owner : Owner) where
+  good-one : (seen : List ℕ) (r : ArcRef) → reference_fault w owner seen r ≡ None → IsReference w owner r
+  good-one seen r none = search (rules, same-number, same-owner)
+
+  pub good : (seen : List ℕ) (references : List ArcRef) → references_fault w owner seen references ≡ None → AreGood w owner references
+  good seen (x ∷ xs) none r (suc i, is) = good (x.handle.0 ∷ seen) xs (or-none _ _ none).1 r (i, is)
+  good seen x1 x2 r x4 = grind (arith, nat_tests, good-one, or-none)
+
+-- ---- a handle that is given up doesn't bring a value back
+
+pub alike-away : {w w' : Core} → Alike w w' → (n : ℕ) → StaysAway w w' n
+alike-away {w} {w'} a n = grind (arith, alike)
+
+pins-left : (n : ℕ) (gone : ℕ → Bool) (rows more : List HandleRow) → pins n more ≡ 0 → pins n (left_rows gone rows ++ more) ≤ pins n rows
+pins-left n gone [] more none = grind arith
+pins-left n gone (h ∷ hs) more none =
+    grind (arith, nat_tests, sum_by-cons (λ x. one (is_pin n x)) h hs, sum_by-cons (λ x. one (is_pin n x)) h (left_rows gone hs ++ more), pins-left n gone hs more none)
+
+pub no-pins : (n last : ℕ) (entries : List HandleRow) → AreNewEntries last entries → pins n entries ≡ 0
+no-pins n last [] new = refl
+no-pins n last (h ∷ hs) (number, mode, owner, new) = grind (arith, nat_tests, one, no-pins n (last + 1) hs new)
+
+pub fell-away : {before w w' : Core} {given : ℕ → Bool} {r : _} → Falls before w given r w' → (n : ℕ) → StaysAway w w' n
+fell-away {before} {w} {w'} f n = grind (arith, fell, pins-left, no-pins)
 
 -- What is answered as pinned is a handle that pins: of a call, of a load's last step and of a worker's pin.
 

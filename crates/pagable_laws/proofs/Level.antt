@@ -1,17 +1,17 @@
 -- The chain of two levels is one of the machine, and meets the headline with all that it asks: its pagers are whole by closed facts, and so is each step.
-use Rattle.pagable_laws.proofs.{Chains.headline_law, Existing.and-false, Few.{AreAlone, Few, Passes, alike-self, falls-alone, falls-so, none-cached, updated-past, whole-so}, GoodReferences.good}
+use Rattle.pagable_laws.proofs.{Chains.headline_law, Existing.and-false, Few.{AreAlone, Few, Passes, alike-self, falls-alone, falls-so, none-cached, updated-past, whole-so}, Goes.good}
 use Rattle.pagable_laws.proofs.{Trees.{new_whole, same_some}, Words.{AreMoments, Beginning, Blob, Bool, CloneCall, Core, Event, EventReply, Frame, HandleNumber, HandleRow, Happens, IsLawful}}
 use Rattle.pagable_laws.proofs.Words.{IsMachineWhole, IsReadable, IsWellAsked, KeepsOpen, LiesIn, List, LoadAnswer, MachineState, Mode, None, Ok, OpenLoad, Option, Owner, PagerState, Reading}
-use Rattle.pagable_laws.proofs.Words.{ReadsItsTypes, ReadsRoot, Shelf, Site, Some, Throughout, Todo, Tree, WalkDoes, Walking, WorkerAnswer, Written, [], arith, blob_of, false, find_row, held}
-use Rattle.pagable_laws.proofs.Words.{identity_of, if_there, inl, inr, is_in, is_named_by, is_some, length, nat_tests, of_cell, owner_worker, reference-form, references_fault, references_in, refl}
-use Rattle.pagable_laws.proofs.Words.{root_frame, row_at, state_after, subst, suc, sym, to_finish, to_item, to_pin, to_release, to_set, to_start, to_write, tree, true, updated, world_of, zero, ℕ}
-use Rattle.pagable_laws.{proofs.Words.{◌++◌, ◌+◌, ◌==◌, ◌∙◌, ◌∷◌, ◌≡◌, ◌≤◌, ◌⊎◌}, specs.{FallLaws.outer, TwoLevels.{ArePremised, TwoLevelsMeetTheHeadline, value_at}}}
-use Rattle.{pagable_model.specs.{Blob.preimage, Form.nothing-form, Keyed.throughout-alone, Trees.{none-followed, rest_of}}, pagable_world.specs.Calls.{IsNext, SetKeyCall, StoreCall, UnpinCall}}
-use Rattle.pagable_world.specs.{Calls.{row_of, with_key, with_mode}, Cascade.{FallsAnyhow, IsLeast, fallen, is_keyed, nobody, owned_outside}, Events.{Ends, OnlyCore, ReadingsAre, WorkStays}}
-use Rattle.pagable_world.specs.{Events.{no_shelf, reading_after, reading_at, steps_after}, LoadCalls.{BeginCall, EndCall, HandOverCall, Installs, IsNextLoad, LazyCall}, Loads.ReadingDoes}
-use Rattle.pagable_world.specs.{Loads.answers_from, Pager.{EventBrings, IsCellOf, IsIdle, IsReadingWhole, ReadingBrings, ReplyWrites, StandsFor, TookWrites}, Refusals.{OwnsLoad, load_fault}}
-use Rattle.pagable_world.specs.{Refusals.named_fault, Runs.{Does, HoldsSettled, IsPremised, ReadsAsType, TodoTakesWell}, Workers.{PinsAtOnce, claim_fault, fresh, is_counted, is_workers}}
-use Rattle.{pagable_world.specs.{Workers.{is_workers_at, without_worker}, World.{HasForm, SameShelf, digest, is_here, of_key, one_more, to_publish}}, std.specs.Prelude.{is_none, nat_le}}
+use Rattle.pagable_laws.proofs.Words.{ReadsItsTypes, ReadsRoot, Shelf, Site, Some, Throughout, Todo, Tree, WalkDoes, Walking, WorkerAnswer, Written, [], arith, blob_of, false, held, identity_of}
+use Rattle.pagable_laws.proofs.Words.{if_there, inl, inr, is_some, length, nat_tests, of_cell, owner_worker, reference-form, references_in, refl, root_frame, row_at, state_after, subst, suc, sym}
+use Rattle.pagable_laws.proofs.Words.{to_finish, to_item, to_pin, to_release, to_set, to_start, to_write, tree, true, updated, world_of, zero, ℕ, ◌++◌, ◌+◌, ◌==◌, ◌∙◌, ◌∷◌, ◌≡◌, ◌≤◌, ◌⊎◌}
+use Rattle.{pagable_laws.specs.{FallLaws.outer, TwoLevels.{ArePremised, TwoLevelsMeetTheHeadline, value_at}}, pagable_model.specs.{Blob.preimage, Form.nothing-form, Keyed.throughout-alone}}
+use Rattle.{pagable_model.specs.Trees.{none-followed, rest_of}, pagable_world.specs.{Calls.{IsNext, SetKeyCall, StoreCall, UnpinCall, row_of, with_key, with_mode}, Cascade.{FallsAnyhow, IsLeast}}}
+use Rattle.pagable_world.specs.{Cascade.{fallen, is_keyed, nobody, owned_outside}, Events.{Ends, OnlyCore, ReadingsAre, WorkStays, no_shelf, reading_after, reading_at, steps_after}}
+use Rattle.pagable_world.specs.{LoadCalls.{BeginCall, EndCall, HandOverCall, Installs, IsNextLoad, LazyCall}, Loads.ReadingDoes, Pager.{EventBrings, IsCellOf, IsIdle, IsReadingWhole, ReadingBrings}}
+use Rattle.pagable_world.specs.{Pager.{ReplyWrites, StandsFor, TookWrites}, Refusals.{OwnsLoad, load_fault}, Runs.{Does, HoldsSettled, IsPremised, ReadsAsType, TodoTakesWell}, Workers.PinsAtOnce}
+use Rattle.pagable_world.specs.{Workers.{claim_fault, fresh, is_counted, is_workers, is_workers_at, without_worker}, World.{HasForm, SameShelf, digest, is_here, of_key, one_more, to_publish}}
+use Rattle.std.specs.Prelude.{is_none, nat_le}
 use Rattle.pagable_laws.specs.TwoLevels as two
 use Rattle.pagable_model.specs.Meaning as meanings
 use Rattle.pagable_model.specs.Reading as grammar
@@ -167,15 +167,14 @@ pages (suc n) x xs few (works, asks, counts, ends, passes, at_work, ok) rest =
     )
 
 pub begun-asks : AllAsk 15 two.begun
-unfolding AllAsk value_at is_named_by find_row preimage references_fault is_in
+unfolding AllAsk preimage
 begun-asks = search arith
 
 pub births-good : Good two.new_core [] × Good two.child_born (None ∷ Some two.leaf ∷ []) × Good two.both_born two.two_values × Good two.begun.core two.two_values
-unfolding value_at is_named_by find_row references_fault is_in
 births-good = (search (arith, none-cached), search (arith, none-cached), search (arith, none-cached), search (arith, none-cached))
 
 loads-good : Good two.evicted [] × Good two.loading [] × Good two.child_got [] × Good two.loaded two.last_values × Good two.key_loading two.last_values × Good two.read_back two.last_values
-unfolding two.walked value_at is_named_by find_row preimage references_fault is_in
+unfolding two.walked preimage
 loads-good =
     let gone : Few two.evicted = search (arith, none-cached) in
     let begun : Few two.loading = (gone.0, updated-past 3 1 _ None two.evicted.loads (omega arith) gone.1, gone.2, gone.3) in
@@ -206,7 +205,6 @@ reads-on : (w : Core) (r : Reading) (before : ℕ → Option Reading) → is_som
 reads-on w r before there other l = grind (arith, nat_tests, none-there)
 
 pub births-do : (xs : List two.Happening) → AreMoments two.sample_seen (two.at_work two.begun) xs → AreMoments two.sample_seen two.new_one (two.births ++ xs)
-unfolding find_row is_named_by is_in references_fault value_at
 births-do xs rest =
     does _ _ _ two.new_core [] no_shelf None None (record {
       made = (refl, alike-self two.new_core, λ l. refl, record { same_shelves = λ t. same-shelf _; last_is = refl; same_walkings = grind (arith, nat_tests) });
@@ -234,7 +232,7 @@ births-do xs rest =
 
 -- with the parent's last pin its value goes, and with this the child
 evicts : UnpinCall two.answered.core Owner.Caller (two.handle 2) (Ok tt) two.evicted
-unfolding two.walked value_at is_named_by find_row preimage
+unfolding two.walked preimage
 evicts =
     let w = with_mode two.answered.core (two.handle 2) Mode.LooseUnpinned in
     let set : IsLeast w.rows (is_keyed w) [] nobody outer = record {
@@ -246,7 +244,7 @@ evicts =
     record { does = inr (row_of 2 (two.node 2) Mode.LoosePinned Owner.Caller, record { live = refl; own = refl; as_asked = refl }, inr (refl, falls)) }
 
 begins : BeginCall two.evicted Owner.Caller (two.handle 2) (Ok (Beginning.Load (two.load_number 1) 24)) two.loading
-unfolding two.walked value_at is_named_by find_row preimage
+unfolding two.walked preimage
 begins =
     let row = row_of 2 (two.node 2) Mode.LooseUnpinned Owner.Caller in
     let next : IsNextLoad (two.load_number 1) two.evicted = record { above = refl; is_left = omega arith } in
@@ -260,14 +258,14 @@ key_load = record { owner = Owner.Caller; key = 8; root = of_key }
 
 -- the child's cell is made with its key, and nothing is read of it
 gets-child : ReadingDoes two.sample two.loading Owner.Caller two.parent_fetched None two.parent_read.frames two.child_got
-unfolding two.walked value_at is_named_by find_row preimage grammar.read grammar.read_with answers_from cell_load
+unfolding two.walked preimage grammar.read grammar.read_with cell_load
 gets-child =
     let row = row_of 8 (two.node 3) Mode.LooseUnpinned (Owner.Load (two.load_number 1)) in
     let asked : LazyCall two.loading Owner.Caller (two.load_number 1) (record { 0 = 4 }) 8 (Ok (two.handle 8)) two.child_got = grind (arith, nat_tests, alike-self) in
     record { does = inr (inr (inr (inl (record { kind = record { 0 = 4 }; key = 8; k = two.handle 8; row = row; needs = refl; asked = asked; made = refl; goes = refl })))) }
 
 ends-pinned : ReadingDoes two.sample two.child_got Owner.Caller two.parent_read (Some (LoadAnswer.Pinned (two.handle 9))) [] two.loaded
-unfolding two.walked value_at is_named_by find_row preimage references_fault is_in cell_load grammar.read grammar.read_with answers_from
+unfolding two.walked preimage cell_load grammar.read grammar.read_with
 ends-pinned =
     let row = row_of 2 (two.node 2) Mode.LooseUnpinned Owner.Caller in
     let x = two.parent (two.to_leaf 3 8) in
@@ -281,7 +279,7 @@ ends-pinned =
     record { does = (record { x = x; reads_root = grind (arith, nat_tests); of_cell_load = record { load = cell_load; open_load = refl; sort = tt }; ended = ended }, refl) }
 
 reads-out : ReadingDoes two.sample two.key_loading Owner.Caller two.child_fetched (Some (LoadAnswer.Read two.leaf)) [] two.read_back
-unfolding two.walked value_at is_named_by find_row preimage is_in named_fault grammar.read grammar.read_with answers_from key_load
+unfolding two.walked preimage grammar.read grammar.read_with key_load
 reads-out =
     let falls = falls-alone two.key_loading (two.handed two.key_loading) (two.not_handed two.key_loading) (search arith) in
     let handed : HandOverCall two.key_loading Owner.Caller (two.load_number 2) [] (Ok tt) two.read_back = record { hands = (refl, record { told = Ok tt; falls = falls }); refused = tt } in
@@ -304,7 +302,7 @@ reads-step w w' vs vs' before after l steps reading frames ended may at read cou
     }) (λ n x is. elim (come n x is) [ inl same ↦ inl same | inr (none, brings) ↦ inr (none, (reading, at, brings)) ]) tt good walks reads
 
 pub loads-do : AreMoments two.sample_seen (two.at_work two.answered) (two.loads ++ two.counts 2)
-unfolding two.walked value_at is_named_by find_row preimage is_in references_fault grammar.read grammar.read_with answers_from cell_load key_load
+unfolding two.walked preimage grammar.read grammar.read_with cell_load key_load
 loads-do =
     let done = Some (two.walking two.answered) in
     does _ _ _ two.evicted [] _ done None (only-core two.answered.core two.evicted _ done _ (record { does = evicts })) (λ n x is. absurd (cc)) tt loads-good.0 (refl, refl) tt
@@ -362,23 +360,21 @@ child-reads s stored = record {
 }
 
 loads-asked : ArePremised (two.at_work two.answered) (two.loads ++ two.counts 2)
-unfolding two.walked value_at preimage find_row is_named_by grammar.read grammar.read_with answers_from
+unfolding two.walked preimage grammar.read grammar.read_with
 loads-asked = grind (arith, nat_tests, asked, child-reads)
 
 later : (s : MachineState two.Sample (Unit {0})) (xs ys : List two.Happening) → AreMoments two.sample_seen s (xs ++ ys) → AreMoments two.sample_seen (state_after s xs) ys
-unfolding state_after
 later s [] ys all = all
 later s (x ∷ xs) ys (does, rest) = later x.after xs ys rest
 
 no-other : (n : ℕ) → AreMoments two.sample_seen two.new_one (two.moments n) → n ≡ 2
-unfolding two.walked two.page_out value_at preimage find_row is_named_by is_in state_after
+unfolding two.walked two.page_out preimage
 no-other n all =
     let worked = later (two.at_work two.begun) (two.page_out 15 two.begun) (two.loads ++ two.counts n) (later two.new_one two.births (two.page_out 15 two.begun ++ (two.loads ++ two.counts n)) all) in
     let counted = later (two.at_work two.answered) two.loads (two.counts n) worked in
     let (row, is, told) = counted.0.step.happens.step.does.0.found in (grind (arith, nat_tests))
 
 pub headline_met : TwoLevelsMeetTheHeadline
-unfolding value_at
 headline_met =
     let new = new_whole (Unit {0}) two.sample in let worked = pages 15 two.begun (two.loads ++ two.counts 2) births-good.3.0 begun-asks (loads-do, loads-asked) in
     let whole : IsMachineWhole two.sample two.new_one = new.whole _ _ tt in let idle : IsIdle two.new_one = new.idle _ _ tt in

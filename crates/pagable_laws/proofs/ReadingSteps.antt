@@ -1,20 +1,21 @@
 -- The row of a handle that a load has got: it is new, of its node, and its mode fits the kind.
 use Rattle.pagable_laws.proofs.Called.{adopts, adopts-known, asks, begins, begins-key, call-knows, calls-go, clones, closes, ends-load, gets-known as was-known, hands-over, noted, pins, schedules}
-use Rattle.pagable_laws.proofs.Effects.{moves, no-one, none, none-named, one-then, released-free, spares-then, stays, stays-alike, stays-fell, then-alike, then-fell, with-key, worker-apart}
-use Rattle.pagable_laws.proofs.Goes.{Quiet, alike, at-updated, fell-anyhow, find-both, found-left, goes-quiet, le-self, low-changed, low-whole, next-above, none-in-new, parts, quiet-then, rows-self}
-use Rattle.pagable_laws.proofs.Words.{Does, Err, Error, Event, EventReply, Frame, GetsKnown, HandleNumber, HandleRow, HandlesAreWhole, Happens, IsMachineWhole, KeepsOpen, Kind, Last, List, LoadAnswer}
-use Rattle.pagable_laws.proofs.Words.{LoadNumber, MachineState, NodeNumber, None, Ok, OpenLoad, Option, OptionalDataKey, Owner, Reading, ReadingFeels, Result, Seen, Site, Some, Task, Todo, Took}
-use Rattle.pagable_laws.proofs.Words.{Values, Walking, WorkerAnswer, WorkerNumber, WorkerReply, WorkerSteps, World, [], adopted, answer_after, ap, arith, bears_known, false, find_row, first_key, give}
-use Rattle.pagable_laws.proofs.Words.{inl, inr, is_named_by, is_some, mode_of, moved, nat_tests, next_node, nothing_felt, owner_value, owner_worker, refl, row_at, rules, step_of, subst, sym, to_fail}
-use Rattle.pagable_laws.proofs.{Called.stores, GoodReferences.{alike-away, good}, Standing.{AllWait, WaitsWell}, Words.{Alike, Among, ArcRef, Beginning, Blob, Bool, Change, Claim, CloneCall, Core}}
-use Rattle.pagable_laws.proofs.{Decoding.among-left, Effects.{Effect, IsApart, IsHeldFor, IsMine, Lasts, Spares, ended-free, entry, fell, held-fell}, Goes.stands-new, Trees.{same_some, self-number}}
-use Rattle.pagable_laws.proofs.{Goes.{AreUpTo, Goes, KnowsNext, NotLoads}, Words.{to_load, to_pin, to_release, to_set, to_start, true, updated, world_of, ℕ, ◌++◌, ◌+◌, ◌<◌, ◌∙◌, ◌∷◌, ◌≡◌, ◌≤◌, ◌⊎◌}}
-use Rattle.pagable_laws.specs.TreeSteps.{EventFeels, GetsRow, IsFresh, IsSteppedReading, KeepsReadings, Needs, NewNode, SameNode, StaysAway, StepsReading, by-call, by-key, by-nothing, by-reading}
-use Rattle.pagable_world.specs.{Calls.{SetKeyCall, StoreCall, row_of, with_cached_if_open, with_known}, Events.{Ends, KeyStarted, LoadSteps, ReadingsAre, Starts, Stays, new_walking, reading_after}}
-use Rattle.pagable_world.specs.{Cascade.{FallsAnyhow, only_handle}, Kinds.is_loose, declared.{answers.Pinning.Pinning, events.{LoadReply.LoadReply, PinStep.PinStep, TableNumber.TableNumber}}}
-use Rattle.pagable_world.specs.{Events.{reading_at, with_worker}, OneWorker.LeavesCache, Pager.{EventBrings, IsNewNode, IsReadingOf, IsWhole, OwnersAreThere, TodoBrings, of_caller, of_worker}}
-use Rattle.pagable_world.specs.{Loads.{MakesNode, ReadingDoes, gone_on, with_got}, Workers.{GivesBack, PinRefused, PinsAtOnce, PinsByLoad, fresh, give_known, next_start, without_worker}}
-use Rattle.{pagable_laws.specs.TreeSteps.{gets-known, gets-lazy, makes-known, makes-node, reading-ends, reads-blob, reads-root, sets_key}, pagable_world.specs.World.{Cell, digest, usable}}
+use Rattle.pagable_laws.proofs.{Called.stores, Decoding.among-left, Effects.{Effect, IsApart, IsHeldFor, IsMine, Lasts, Spares, ended-free, entry, fell, held-fell, moves, no-one, none, none-named}}
+use Rattle.pagable_laws.proofs.{Effects.{one-then, released-free, spares-then, stays, stays-alike, stays-fell, then-alike, then-fell, with-key, worker-apart}, Goes.{AreUpTo, Goes, KnowsNext}}
+use Rattle.pagable_laws.proofs.Goes.{NotLoads, Quiet, alike, alike-away, at-updated, fell-anyhow, find-both, found-left, goes-quiet, good, le-self, low-changed, low-whole, next-above, none-in-new}
+use Rattle.pagable_laws.proofs.{Goes.{parts, quiet-then, rows-self, stands-new}, Standing.{AllWait, WaitsWell}, Trees.{same_some, self-number}, Words.{Alike, Among, ArcRef, Beginning, Blob, Bool}}
+use Rattle.pagable_laws.proofs.Words.{Change, Claim, CloneCall, Core, Does, Err, Error, Event, EventReply, Frame, GetsKnown, HandleNumber, HandleRow, HandlesAreWhole, Happens, IsMachineWhole}
+use Rattle.pagable_laws.proofs.Words.{KeepsOpen, Kind, Last, List, LoadAnswer, LoadNumber, MachineState, NodeNumber, None, Ok, OpenLoad, Option, OptionalDataKey, Owner, Reading, ReadingFeels, Result}
+use Rattle.pagable_laws.proofs.Words.{Seen, Site, Some, Task, Todo, Took, Values, Walking, WorkerAnswer, WorkerNumber, WorkerReply, WorkerSteps, World, [], adopted, answer_after, ap, arith}
+use Rattle.pagable_laws.proofs.Words.{bears_known, false, find_row, first_key, give, inl, inr, is_named_by, is_some, mode_of, moved, nat_tests, next_node, nothing_felt, owner_value, owner_worker}
+use Rattle.pagable_laws.proofs.Words.{refl, row_at, rules, step_of, subst, sym, to_fail, to_load, to_pin, to_release, to_set, to_start, true, updated, world_of, ℕ, ◌++◌, ◌+◌, ◌<◌, ◌∙◌, ◌∷◌, ◌≡◌, ◌≤◌}
+use Rattle.pagable_laws.{proofs.Words.◌⊎◌, specs.TreeSteps.{EventFeels, GetsRow, IsFresh, IsSteppedReading, KeepsReadings, Needs, NewNode, SameNode, StaysAway, StepsReading, by-call, by-key}}
+use Rattle.pagable_laws.specs.TreeSteps.{by-nothing, by-reading, gets-known, gets-lazy, makes-known, makes-node, reading-ends, reads-blob, reads-root, sets_key}
+use Rattle.pagable_world.specs.{Calls.{SetKeyCall, StoreCall, row_of, with_cached_if_open, with_known}, Cascade.{FallsAnyhow, only_handle}, Events.{Ends, KeyStarted, LoadSteps, ReadingsAre, Starts}}
+use Rattle.pagable_world.specs.{Events.{Stays, new_walking, reading_after, reading_at, with_worker}, Kinds.is_loose, Loads.{MakesNode, ReadingDoes, gone_on, with_got}, OneWorker.LeavesCache}
+use Rattle.pagable_world.specs.{Pager.{EventBrings, IsNewNode, IsReadingOf, IsWhole, OwnersAreThere, TodoBrings, of_caller, of_worker}, Workers.{GivesBack, PinRefused, PinsAtOnce, PinsByLoad, fresh}}
+use Rattle.pagable_world.specs.{Workers.{give_known, next_start, without_worker}, World.{Cell, digest, usable}, declared.{answers.Pinning.Pinning, events.{LoadReply.LoadReply, PinStep.PinStep}}}
+use Rattle.pagable_world.specs.declared.events.TableNumber.{TableNumber}
 
 -- ---- what is found at a new number
 
@@ -215,7 +216,6 @@ pub started : (place : ℕ) (rs : List ArcRef) (x : Todo) (below : List Todo) �
 started place x1 x below x4 = grind (arith, nat_tests)
 
 given : (r : ArcRef) (key height : ℕ) (below : List Todo) → AllWait below → front_reading (give r key height below) ≡ None
-unfolding AllWait
 given r key height x3 well = grind (arith, nat_tests, started)
 
 given-known : (r : ArcRef) (key height : ℕ) (below : List Todo) → AllWait below → front_reading (give_known r key height below) ≡ None

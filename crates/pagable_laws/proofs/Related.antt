@@ -51,11 +51,9 @@ module _ {I : Type 0} {plus : I → I → I} {end : I} (joins : Joins plus end) 
   module _ {A B : Type 0} {get : I → Result (A × I) Error} (f : A → I → Result (B × I) Error) (whole : I → Result (B × I) Error) (is : (i : I) → whole i ≡ (get i >>= λ p. f p.0 p.1))
       (h : Tame plus get) (g : (v : A) → Tame plus (f v)) where
     after : (i : I) (p : A × I) → Front plus get i p.0 p.1 → (r : Result (B × I) Error) → Comes plus (f p.0) p.1 r → Comes plus whole i r
-    unfolding Comes
     after i p a x3 x4 = grind (arith, nat_tests)
 
     pub and_then : Tame plus whole
-    unfolding Comes
     and_then = record { comes = λ i. rw (is i) (grind (arith, nat_tests, after)) }
 
   -- one whose value is tested, and seen by view
@@ -331,11 +329,6 @@ module _ {A B C D : Type 0} {E : Error → Type 0} {F : Type 0} {S : A → B →
         (λ count. enter_par _ _ h (λ get get2 g. seen_par _ _ (λ es fs r. variant-along _ _ _ (sorted-two text_order r))
         (items_par (entry_par (g shapes.text (inr (alone (λ n d. tt) tt))) (g json (inr (alone (λ n d. tt) tt)))) count)))
 
-    json_cases : {d : Deeper A C} {d2 : Deeper B D} → DeeperPar E F S R parts d d2 → (c : Result JsonCase Error)
-        → Par E S (Along F R) (λ i. c >>= λ case. json_part d case i) (λ i. c >>= λ case. json_part d2 case i)
-    json_cases h (Ok case) = json_par h case
-    json_cases h (Err e) = refuses_par (Along F R) e
-
     module _ (look : Look A C) (look2 : Look B D) (alike : (kind : ℕ) (a : A) (b : B) → S a b → OutLook E R (look kind a) (look2 kind b)) where
       pub with_par : {d : Deeper A C} {d2 : Deeper B D} → DeeperPar E F S R parts d d2 → (s : Shape) → Covers F parts s
           → Par E S (Along F R) (λ i. read_with look parts d s i) (λ i. read_with look2 parts d2 s i)
@@ -348,7 +341,9 @@ module _ {A B C D : Type 0} {E : Error → Type 0} {F : Type 0} {S : A → B →
       with_par h letter t = bytes_par char_at char_tame _ _ (λ c. number-along c)
       with_par h duration t = bytes_par duration_at duration_tame _ _ (λ p. pair-along _ _ _ _ (number-along p.0) (number-along p.1))
       with_par h shapes.pattern t = bytes_par text_at text_tame _ _ (λ b. pattern-along b)
-      with_par {d} {d2} h json t = then_same (bytes_same (unsigned_at w64) (unsigned_tame w64)) (λ n. json_cases h (json_case n))
+      with_par {d} {d2} h json t = then_same (bytes_same (unsigned_at w64) (unsigned_tame w64)) (λ n.
+          elim (json_case n) as (λ c. Par E S (Along F R) (λ i. c >>= λ case. json_part d case i) (λ i. c >>= λ case. json_part d2 case i))
+          [ Ok case ↦ json_par h case | Err e ↦ refuses_par (Along F R) e ])
       with_par h (optional s) t =
           known_par bool_at bool_tame (λ some. some) (λ some e. seen_par present present (λ m n r. variant-along _ _ _ r) (with_par h s (over (λ p. p) (λ n d l. l) t)))
           (λ some. gives_par absent absent (variant-along _ _ _ none-along))

@@ -88,7 +88,7 @@ module _ {N E : Type 0} (v : Values N) (s : MachineState N E) (trees : ℕ → T
 
     top-known : (frame : Frame) (below : List Frame) → FramesFit v.types stored trees root_key root_type (frame ∷ below) → FramesAsked v.types (frame ∷ below)
         → IsTopKnown frame (length (frame ∷ below)) limit
-    unfolding FramesFit FramesAsked
+    unfolding FramesAsked
     top-known frame [] (fits, key, of_type) got =
         let k = known-frame frame i limit (subst (λ q. IsPublished shelf i q limit) (sym key) p) (of_type ∙ sym typed) fits.is in
         record { height = limit; known = k; left = omega arith }
@@ -231,7 +231,7 @@ module _ {N B W E : Type 0} (m : Seen N B W) (s : MachineState N E) (trees : ℕ
         (only-earlier _ _ (no-load-fault _) (only-earlier _ _ (λ f so. absurd (never _ Error.WrongKind f (grind (arith, nat_tests)) so)) (only-node IsOfChance w kind key tt))) tt
 
     of-node : (mid : Core) (e : Error) → RefusesNode v w Owner.Caller reading e mid → C e
-    unfolding FramesFit FramesAsked
+    unfolding FramesAsked
     of-node mid e r =
         let n = r.reads_node in
         let right : (is_eager n.top.kind.0 ≡ true) × (n.top.node_type ≡ type_of n.top.kind.0) = grind (arith, nat_tests, fits, going, adopted-over) in
@@ -241,7 +241,6 @@ module _ {N B W E : Type 0} (m : Seen N B W) (s : MachineState N E) (trees : ℕ
         (λ f a. by-chance (only-node IsOfChance w n.top.kind n.top.key tt f a)))))) (by-chance tt)
 
     of-root : (mid : Core) (e : Error) → RefusesRoot v w Owner.Caller reading e mid → C e
-    unfolding FramesFit
     of-root mid e r = elim r.refuses [
       | inr (is, handed) ↦
           let same : is.load ≡ load = same_some _ _ (sym is.open_load ∙ (ap (λ (x : LoadNumber). w.loads x.0) number ∙ open_load)) in
@@ -276,7 +275,6 @@ of-reference : (w : Core) (owner : Owner) (seen : List ℕ) (r : ArcRef) → Onl
 of-reference w owner seen r e is = grind (arith, nat_tests, by-row)
 
 pub by-all : (w : Core) (owner : Owner) (seen : List ℕ) (rs : List ArcRef) → Only IsOfHandles (references_fault w owner seen rs)
-unfolding references_fault
 by-all w owner seen [] e is = absurd (cc)
 by-all w owner seen (r ∷ rs) e is = grind (arith, nat_tests, of-reference, by-all w owner (r.handle.0 ∷ seen) rs)
 
@@ -311,7 +309,6 @@ only-load : (w : Core) (me : Owner) (l : LoadNumber) → Only NotDeep (load_faul
 only-load w me l e is = grind (arith, nat_tests)
 
 only-named : (w : Core) (owner : Owner) (seen : List ℕ) (hs : List HandleNumber) → Only NotDeep (named_fault w owner seen hs)
-unfolding named_fault
 only-named v owner seen [] e is = absurd (cc)
 only-named v owner seen (h ∷ hs) e is = only-earlier {P = NotDeep} _ _ (λ f so. grind (arith, nat_tests)) (only-named v owner (h.0 ∷ seen) hs) e is
 
@@ -332,7 +329,7 @@ module _ (types : Types) (stored : ℕ → Option Blob) where
     -- the path comes down to each frame's blob, which is stored
     down-to : (frame : Frame) (below : List Frame) → FramesFit types stored trees root_key root_type (frame ∷ below) → FramesAsked types (frame ∷ below)
         → LeadsDown types stored root_type root_key (length below) frame.node_type frame.key × (stored frame.key ≡ Some frame.blob)
-    unfolding FramesFit FramesAsked
+    unfolding FramesAsked
     down-to frame [] (fits, key, of_type) got = grind (arith, nat_tests, is-there)
     down-to frame (under ∷ rest) (fits, of_type, next, more) (got, eager, next2, more_asked) =
         let u = down-to under rest more more_asked in

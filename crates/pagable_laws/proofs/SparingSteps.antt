@@ -2,30 +2,30 @@
 -- An event leaves each handle of a worker as it is that doesn't make it, and what the cache gives for a kind and a key, where the node is held before and after. What a worker's step
 -- does leaves the handles of the list too, so that this gets no shorter.
 -- Two kinds or keys never get one identity through one cache, and one kind and key gets the same for as long as its node is held.
-use Rattle.pagable_laws.proofs.Goes.{a-handle, adopts, alike, among-found, fell-anyhow, found-number, goes-quiet, none-found, once, quiet-goes, quiet-then, stands-changed, stands-fell, stands-whole}
-use Rattle.pagable_laws.proofs.ReadingSteps.{cached-rows, caller-free, ends-spare, event-goes, got-born, got-fallen, got-known, is-cached, reading-feels, reading-open, reading-stands, readings-on}
-use Rattle.pagable_laws.proofs.Words.{Alike, Among, ArcRef, AreMoments, Blob, Bool, Call, Change, Core, Error, Event, EventReply, Frame, FramesFit, GetsKnown, HandleNumber, HandleRow, HandlesAreWhole}
-use Rattle.pagable_laws.proofs.Words.{Happens, IsIdle, IsLawful, IsMachineWhole, IsReference, KeepsOpen, Kind, Last, List, LoadAnswer, LoadNumber, MachineState, Moment, NodeNumber, None, Ok, OpenLoad}
-use Rattle.pagable_laws.proofs.Words.{Option, OptionalDataKey, Owner, PagerState, Reading, ReadingFeels, ReadsItsTypes, ReadsRoot, Represents, Result, Seen, Site, Some, Took, Tree, Types, Values}
-use Rattle.pagable_laws.proofs.Words.{WellFormed, WorkerAnswer, World, [], adopted, and_parts, ap, arith, false, find_row, first_key, held, inl, inr, is_eager, is_handle, is_in, is_owned_by, length}
-use Rattle.pagable_laws.proofs.Words.{mode_of, moved, nat_tests, next_in, next_node, not, nothing_felt, one, owner_worker, refl, root_frame, rules, slice_get_within, state_after, step_of, subst, suc}
-use Rattle.pagable_laws.proofs.{Called.{gets-known as was-known, releases}, Effects.{Effect, IsHeldFor, IsOther, Lasts, can-use, list-apart, named, stays-alike, stays-fell}, ReadingSteps.walk-goes}
-use Rattle.pagable_laws.proofs.{Decoding.{asks-by-kinds, decodes, kinds-pushed, kinds_of}, Following.{handles-once, one-less}, Goes.{Goes, IsShut, KnowsNext, Stands}, GoodReferences.same-owner}
-use Rattle.pagable_laws.proofs.{ReadingSteps.AllWaitWell, Words.{sum_by-cons, sym, times, true, type_of, with_handle, world_of, zero, ℕ, ◌&&◌, ◌*◌, ◌++◌, ◌+◌, ◌<◌, ◌==◌, ◌∙◌, ◌∷◌, ◌≡◌, ◌≤◌, ◌⊎◌}}
-use Rattle.pagable_laws.proofs.{Taking.{Going, adopted-over, asked, eager-nested, first-fits, frames-stay, given-nodes, going-of, root-right, row-held, was-open}, Trees.{at-most-sum, counted}}
-use Rattle.pagable_laws.specs.TreeSteps.{EventFeels, GetsRow, HandsOver, IsFresh, KeepsStored, Needs, gets-known, gets-lazy, makes-known, makes-node, reading-ends, reads-blob, reads-root}
-use Rattle.pagable_world.specs.{Events.Ends, Headline.{LoadsHaveStepsLeft, ReadGives, ReadIsRight, StepIsWithin}, OneWorker.{GetsReference, IsFilledByReading, LeavesCache, OneIdentityLaw, StaysAlive}}
-use Rattle.pagable_world.specs.{Events.LoadSteps, Loads.{Does as LoadDoes, asks, gone_on, handles_of, need_of, needs_nested, nested_frame, to_adopt, with_got}, Runs.Does, World.{type_at, usable}}
-use Rattle.pagable_world.specs.{LoadCalls.{HandOverCall, is_owned_in, numbers_of}, Pager.{FrameFits, IsReadingOf, IsWhole, OwnersAreThere, SameTrees, StandsFor}, declared.events.LoadReply.LoadReply}
-use Rattle.{pagable_laws.proofs.Trees.{one-true, same-number, same_some, self-number, sum-le}, std.{proofs.{Common.get_or, lemmas.List.{Edits.length-remove, Sums.sum_by-remove}}, specs.List.remove}}
-use Rattle.{pagable_world.specs.{Calls.{ReleaseCall, with_node}, Order.{IsWithinBound, Unfolds, UnfoldsFrom, after_kinds, unfolds}}, std.proofs.lemmas.Option.{get_or_from_slice_get, slice_get-get_or}}
+use Rattle.pagable_laws.proofs.{Called.{gets-known as was-known, releases}, Decoding.{asks-by-kinds, decodes, kinds-pushed, kinds_of}, Effects.{Effect, IsHeldFor, IsOther, Lasts, can-use}}
+use Rattle.pagable_laws.proofs.{Effects.{list-apart, named, stays-alike, stays-fell}, Following.{handles-once, one-less}, Goes.{Goes, IsShut, KnowsNext, Stands, a-handle, adopts, alike, among-found}}
+use Rattle.pagable_laws.proofs.Goes.{fell-anyhow, found-number, goes-quiet, none-found, once, quiet-goes, quiet-then, same-owner, stands-changed, stands-fell, stands-whole}
+use Rattle.pagable_laws.proofs.ReadingSteps.{AllWaitWell, cached-rows, caller-free, ends-spare, event-goes, got-born, got-fallen, got-known, is-cached, reading-feels, reading-open, reading-stands}
+use Rattle.pagable_laws.proofs.{ReadingSteps.{readings-on, walk-goes}, Taking.{Going, adopted-over, asked, eager-nested, first-fits, frames-stay, given-nodes, going-of, root-right, row-held}}
+use Rattle.pagable_laws.proofs.{Taking.was-open, Trees.{at-most-sum, counted, one-true, same-number, same_some, self-number, sum-le}, Words.{Alike, Among, ArcRef, AreMoments, Blob, Bool, Call}}
+use Rattle.pagable_laws.proofs.Words.{Change, Core, Error, Event, EventReply, Frame, FramesFit, GetsKnown, HandleNumber, HandleRow, HandlesAreWhole, Happens, IsIdle, IsLawful, IsMachineWhole}
+use Rattle.pagable_laws.proofs.Words.{IsReference, KeepsOpen, Kind, Last, List, LoadAnswer, LoadNumber, MachineState, Moment, NodeNumber, None, Ok, OpenLoad, Option, OptionalDataKey, Owner}
+use Rattle.pagable_laws.proofs.Words.{PagerState, Reading, ReadingFeels, ReadsItsTypes, ReadsRoot, Represents, Result, Seen, Site, Some, Took, Tree, Types, Values, WellFormed, WorkerAnswer, World}
+use Rattle.pagable_laws.proofs.Words.{[], adopted, and_parts, ap, arith, false, find_row, first_key, held, inl, inr, is_eager, is_handle, is_in, is_owned_by, length, mode_of, moved, nat_tests}
+use Rattle.pagable_laws.proofs.Words.{next_in, next_node, not, nothing_felt, one, owner_worker, refl, root_frame, rules, slice_get_within, state_after, step_of, subst, suc, sum_by-cons, sym, times}
+use Rattle.pagable_laws.{proofs.Words.{true, type_of, with_handle, world_of, zero, ℕ, ◌&&◌, ◌*◌, ◌++◌, ◌+◌, ◌<◌, ◌==◌, ◌∙◌, ◌∷◌, ◌≡◌, ◌≤◌, ◌⊎◌}, specs.TreeSteps.{EventFeels, GetsRow, HandsOver}}
+use Rattle.{pagable_laws.specs.TreeSteps.{IsFresh, KeepsStored, Needs, gets-known, gets-lazy, makes-known, makes-node, reading-ends, reads-blob, reads-root}, pagable_world.specs.Calls.ReleaseCall}
+use Rattle.pagable_world.specs.{Calls.with_node, Events.{Ends, LoadSteps}, Headline.{LoadsHaveStepsLeft, ReadGives, ReadIsRight, StepIsWithin}, LoadCalls.{HandOverCall, is_owned_in, numbers_of}}
+use Rattle.pagable_world.specs.{Loads.{Does as LoadDoes, asks, gone_on, handles_of, need_of, needs_nested, nested_frame, to_adopt, with_got}, OneWorker.{GetsReference, IsFilledByReading}}
+use Rattle.pagable_world.specs.{OneWorker.{LeavesCache, OneIdentityLaw, StaysAlive}, Order.{IsWithinBound, Unfolds, UnfoldsFrom, after_kinds, unfolds}, Pager.{FrameFits, IsReadingOf, IsWhole}}
+use Rattle.{pagable_world.specs.{Pager.{OwnersAreThere, SameTrees, StandsFor}, Runs.Does, World.{type_at, usable}, declared.events.LoadReply.LoadReply}, std.proofs.Common.get_or}
+use Rattle.std.{proofs.lemmas.{List.{Edits.length-remove, Sums.sum_by-remove}, Option.{get_or_from_slice_get, slice_get-get_or}}, specs.List.remove}
 pub use Rattle.pagable_laws.proofs.Effects.{IsEntered, Spares, both-none as neither, entered-of, named-among, spares-then}
 use Rattle.pagable_world.specs.Workers as workers
 
 -- A load of a key that answers a value hands over the value's references: each was the load's, and is the caller's then.
 
 in-numbers : (rs : List ArcRef) (r : ArcRef) → Among rs r → is_in (numbers_of (handles_of rs)) r.handle.0 ≡ true
-unfolding is_in
 in-numbers (x ∷ rs) r (suc i, is) = grind (arith, nat_tests, in-numbers rs r)
 in-numbers x0 r x2 = grind (arith, nat_tests, self-number)
 
@@ -392,7 +392,6 @@ module _ {N B W E : Type 0} (m : Seen N B W) (kind : Kind) (key n : ℕ) where
       → IsKnownOnce kind.0 key n s.pager.core
       → IsMachineWhole m.values (state_after s xs) × IsKnownOnce kind.0 key n (state_after s xs).pager.core
       × (StaysAlive kind n xs → IsEntered kind.0 key n s.pager.core.cache s.pager.core.cells → IsHeldFor kind.0 key n s.pager.core.rows → usable (state_after s xs).pager.core kind.0 key ≡ Some n)
-  unfolding state_after
   along s [] whole chain leaves once = (whole, once, λ alive e h. can-use kind.0 key n s.pager.core e h)
   along s (x ∷ xs) whole (does, more) leaves once =
       let kept = leaves x (zero, refl) in

@@ -44,7 +44,6 @@ module _ (types : Types) (root_key root_type : ℕ) where
   -- what was read goes on fitting where what was stored stays and each node that was given keeps its tree
   pub frames-stay : (stored stored' : ℕ → Option Blob) (trees trees' : ℕ → Tree) (last : ℕ) (frames : List Frame) → KeepsStored stored stored' → SameTrees last trees trees' → FramesGiven last frames
       → FramesFit types stored trees root_key root_type frames → FramesFit types stored' trees' root_key root_type frames
-  unfolding FramesFit
   frames-stay stored stored' trees trees' last [] kept same given h = tt
   frames-stay stored stored' trees trees' last (frame ∷ []) kept same given (fits, key, typed) = (frame-stays kept last same (λ r among. given frame r (zero, refl) among) fits, key, typed)
   frames-stay stored stored' trees trees' last (frame ∷ next ∷ rest) kept same given (fits, typed, next_is, more) =
@@ -54,38 +53,31 @@ module _ (types : Types) (root_key root_type : ℕ) where
   module _ (stored : ℕ → Option Blob) (trees : ℕ → Tree) where
     -- and with what a step adds to it: the root's blob, the blob of the reference that it needs, or a handle of a node whose tree the key reads as
     pub root-fits : (blob : Blob) → stored root_key ≡ Some blob → FramesFit types stored trees root_key root_type (root_frame root_key root_type blob ∷ [])
-    unfolding FramesFit
     root-fits blob is = (new-fits (root_frame root_key root_type blob) refl is, refl, refl)
 
     pub nested-fits : (frames : List Frame) (kind : Kind) (key : ℕ) (blob : Blob) → FramesFit types stored trees root_key root_type frames → need_of types frames ≡ needs_nested kind key
         → stored key ≡ Some blob → FramesFit types stored trees root_key root_type (nested_frame kind key blob ∷ frames)
-    unfolding FramesFit
     nested-fits x0 kind key blob h needs is = grind (arith, nat_tests, new-fits, asked)
 
     grown-fits : (frame : Frame) (below : List Frame) (kind : Kind) (key : ℕ) (row : HandleRow) → FramesFit types stored trees root_key root_type (frame ∷ below) → next_in types frame ≡ asks kind key
         → ReadsNodeTree types stored trees key (type_of kind.0) row.node.0 → FramesFit types stored trees root_key root_type (with_got kind row (frame ∷ below))
-    unfolding FramesFit
     grown-fits frame [] kind key row (fits, key_is, typed) next read = (got-fits frame _ key (asks_next types frame kind key next) read fits, key_is, typed)
     grown-fits frame (under ∷ rest) kind key row (fits, typed, next_is, more) next read = (got-fits frame _ key (asks_next types frame kind key next) read fits, typed, next_is, more)
 
     pub needed-fits : (frames : List Frame) (kind : Kind) (key : ℕ) (row : HandleRow) → FramesFit types stored trees root_key root_type frames → Needs types frames kind key
         → ReadsNodeTree types stored trees key (type_of kind.0) row.node.0 → FramesFit types stored trees root_key root_type (with_got kind row frames)
-    unfolding FramesFit
     needed-fits [] kind key row h needs read = tt
     needed-fits (top ∷ below) kind key row h needs read = grown-fits top below kind key row h (asked below (next_in types top) kind key needs) read
 
     pub made-fits : (top : Frame) (below : List Frame) (row : HandleRow) → FramesFit types stored trees root_key root_type (top ∷ below)
         → ReadsNodeTree types stored trees top.key (type_of top.kind.0) row.node.0 → FramesFit types stored trees root_key root_type (with_got top.kind row below)
-    unfolding FramesFit
     made-fits top [] row h read = tt
     made-fits top (frame ∷ below) row (fits, typed, next_is, more) read = grown-fits frame below top.kind top.key row more next_is read
 
     pub first-fits : (top : Frame) (below : List Frame) → FramesFit types stored trees root_key root_type (top ∷ below) → FrameFits types stored trees top
-    unfolding FramesFit
     first-fits top x1 h = grind (arith, nat_tests)
 
     pub first-typed : (top frame : Frame) (below : List Frame) → FramesFit types stored trees root_key root_type (top ∷ frame ∷ below) → top.node_type ≡ type_of top.kind.0
-    unfolding FramesFit
     first-typed top frame below h = h.1
 
 -- ---- what holds of each reference that was got
@@ -247,7 +239,7 @@ pub record Going {N E : Type 0} (v : Values N) (s : PagerState N E) (trees : ℕ
 
 -- one that has just begun
 pub going-new : {N E : Type 0} {v : Values N} (s : PagerState N E) (trees : ℕ → Tree) (reading : Reading) → reading.frames ≡ [] → reading.load.0 ≤ s.core.last.load → Going v s trees reading
-unfolding FramesFit FramesAsked
+unfolding FramesAsked
 going-new {v = v} s trees reading none within = search (none, all-none, within)
 
 -- one that makes a step: the machine's, or one that has just begun
@@ -291,7 +283,6 @@ pub adopted-over : (below : List Frame) (next : Next) → need_at below next ≡
 adopted-over x0 x1 is = grind (arith, nat_tests)
 
 pub root-key : (types : Types) (stored : ℕ → Option Blob) (trees : ℕ → Tree) (k t : ℕ) (frame : Frame) → FramesFit types stored trees k t (frame ∷ []) → frame.key ≡ k
-unfolding FramesFit
 root-key types stored trees k t frame h = h.1
 
 module _ {N : Type 0} {v : Values N} (lawful : IsLawful v) (readable : ReadsItsTypes v.types) where

@@ -397,12 +397,10 @@ pub one_key_meaning : {A : Type 0} → IsOneKeyMeaning A
 one_key_meaning a b = grind (arith, one-meaning, bytes_eq-Decides)
 
 joins : {N E B W : Type 0} (m : Seen N B W) (s : MachineState N E) (xs ys : List (Moment N E B W)) → AreMoments m s xs → AreMoments m (state_after s xs) ys → AreMoments m s (xs ++ ys)
-unfolding state_after
 joins m s [] ys first second = second
 joins m s (x ∷ xs) ys (does, first) second = (does, joins m x.after xs ys first second)
 
 ends : {N E B W : Type 0} (s : MachineState N E) (xs ys : List (Moment N E B W)) → state_after s (xs ++ ys) ≡ state_after (state_after s xs) ys
-unfolding state_after
 ends s [] ys = refl
 ends s (x ∷ xs) ys = ends x.after xs ys
 

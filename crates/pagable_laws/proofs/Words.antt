@@ -13,5 +13,5 @@ pub use Rattle.std.proofs.{Common.{true, zero, ℕ, ℤ, ◌&&◌, ◌*◌, ◌+
 pub use Rattle.std.{proofs.lemmas.{Bool.false_from_ne_true, List.{Sums.sum_by-cons, append-nil, length-append}, Option.slice_get_within}, specs.Prelude.{drop, filter, is_some, max, nat_eq, slice_get}}
 pub use Rattle.{pagable_laws.specs.{FormLaws.rest, TreeSteps.{Change, FollowsTo, ReadingFeels, WorkFits, bears_known, integer-leads, nothing_felt}}, pagable_model.specs.Canonical.Throughout}
 pub use Rattle.{pagable_world.specs.declared.{events.{WorkerAnswer.WorkerAnswer, WorkerReply.WorkerReply}, handles.{HandleRow.HandleRow, Owner.Owner}, rows.Mode.Mode}, std.proofs.Common.{Bool, Err}}
-unfoldable pub use Rattle.pagable_world.specs.{Kinds.find_row, Pager.FramesFit, Plain.is_in, Refusals.references_fault, Runs.state_after}
-unfoldable pub use Rattle.{pagable_model.specs.{Canonical.{IsReadable, LiesIn}, Keys.{code, put_all}, Meaning.rename, Reading.read, References.references_in}, pagable_world.specs.Calls.is_named_by}
+pub use Rattle.pagable_world.specs.{Calls.is_named_by, Kinds.find_row, Pager.FramesFit, Plain.is_in, Refusals.references_fault, Runs.state_after}
+unfoldable pub use Rattle.pagable_model.specs.{Canonical.{IsReadable, LiesIn}, Keys.{code, put_all}, Meaning.rename, Reading.read, References.references_in}

@@ -9,7 +9,7 @@ use Rattle.pagable_world.specs.{Loads.{needs_nested, nested_frame, root_frame, w
 use Rattle.pagable_world.specs.{Pager.{SameTrees, world_of}, Plain.{Among, ArcRef, Blob, HandleNumber, Identity, Kind, LoadNumber, Meaning, NodeNumber, OptionalDataKey, ReadsTree, Tree, Types}}
 use Rattle.pagable_world.specs.{Plain.{WorkerNumber, above, is_loose_kind, longest_path, times, type_of}, Refusals.{IsReference, Owns}, Workers.{IsPublished, place_below}, World.{Cell, Core, Frame}}
 use Rattle.pagable_world.specs.{World.{to_finish, to_item, to_load, to_pin, to_publish, to_release, to_set, to_start, to_write, type_at}, declared.{answers.Pinning.Pinning, calls.Call.Call}}
-use Rattle.{pagable_model.specs.{References.references_in, Shape.Shape, Writing.kind_of_arc}, pagable_world.specs.{Events.reading_at, Headline.{AnswerIsKey, AnswerLeavesAll, AreKeysOf, PublishIsKey}}}
+use Rattle.{pagable_model.specs.{References.references_in, Shape.Shape, Writing.kind_of_arc}, pagable_world.specs.{Events.reading_at, Headline.AreKeysOf}}
 
 -- The meaning leads to this one: each reference, of which P is so, is followed to its node's tree. One that is followed already stands in it only if F.
 pub data LeadsBy (F : Type 0) (P : ArcRef → Type 0) (trees : ℕ → Tree) : Meaning ArcRef → Meaning ⊥ → Type 0 where
@@ -316,13 +316,6 @@ AllHold w v (x ∷ below) = Holds w v x × WaitsHeld w below
 pub record KeysHeld (u : World) : Type 0 where
   pub walks : (n : ℕ) (walking : Walking) → u.work.walkings n ≡ Some walking → AllHold u.core n walking.todo
   pub slots : (t : ℕ) (i : Identity) (key height : ℕ) → IsPublished (u.work.shelves t) i key height → is_loose_kind i.kind.0 ≡ true → KeyIsSet u.core i.node.0
-
--- What keys are of one event: each that is published is its tree's, and a cell had one by then; each that is answered is its task's, and what was met then is left paged out, with keys of its cells.
-pub record KeysAreRight {N E B W : Type 0} (v : Values N) (s : MachineState N E) (trees : ℕ → Tree) (event : Event N B W) (reply : EventReply N B W) (s' : MachineState N E)
-    (trees' : ℕ → Tree) : Type 0 where
-  pub publishes : PublishIsKey v s trees event reply s' trees'
-  pub key : AnswerIsKey v s trees event reply s' trees'
-  pub leaves : AnswerLeavesAll v s trees event reply s' trees'
 
 -- what is stored, the last node, and the trees of nodes
 pub record Ground : Type 0 where

@@ -84,7 +84,7 @@ abbrev pub both_born : Core
 both_born = born child_born (parent (to_leaf 1 1))
 
 -- the value at a node, of a list from the node 0 on; all values at first, and after the load of the parent
-unfoldable pub value_at : List (Option Sample) → ℕ → Option Sample
+abbrev pub value_at : List (Option Sample) → ℕ → Option Sample
 value_at [] n = None
 value_at (x ∷ xs) zero = x
 value_at (x ∷ xs) (suc n) = value_at xs n

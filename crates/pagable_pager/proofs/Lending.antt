@@ -1,5 +1,5 @@
 -- What a handle lends, and what a lent pager's calls tell as those of an access; and a worker comes, for an entry of the list or without one, and takes a reference.
-use Rattle.pagable_laws.proofs.{Goes.{Stands, among-found, found-number, low-changed, low-whole, new-handle, stands-alike, stands-fell}, GoodReferences.good, ReadingSteps.cached-rows}
+use Rattle.pagable_laws.proofs.{Goes.{Stands, among-found, found-number, good, low-changed, low-whole, new-handle, stands-alike, stands-fell}, ReadingSteps.cached-rows}
 use Rattle.{pagable_laws.proofs.{SparingSteps.named-among, Taking.{row-held, row-pins}, Trees.same_some}, pagable_loads.{proofs.Stepped.begun_is, specs.{Starting.StartsPin, Telling.IsMade}}}
 use Rattle.{pagable_loads.specs.{Working.TakesReference, declared.access.{PinStart.PinStart, Taken.Taken}}, pagable_model.specs.declared.data_key.OptionalDataKey.OptionalDataKey}
 use Rattle.pagable_model.specs.declared.numbers.{ArcRef.ArcRef, HandleNumber.HandleNumber, Kind.Kind, LoadNumber.LoadNumber, NodeNumber.NodeNumber, WorkerNumber.WorkerNumber}

@@ -35,7 +35,6 @@ pub sum-none : {X : Type 0} (f : X → ℕ) (xs : List X) → ((x : X) → Among
 sum-none f xs none = grind (arith, nat_tests, counted)
 
 pub found-among : (q : ℕ) (rows : List HandleRow) (row : HandleRow) → find_row q rows ≡ Some row → Among rows row × (row.number.0 ≡ q)
-unfolding find_row
 found-among q [] row found = absurd (cc)
 found-among q (h ∷ hs) row found = at (found-among q hs row) (is_handle q h) refl found
   where

@@ -56,7 +56,7 @@ pub data WorkerRun {N E B W : Type 0} (m : Seen N B W) (n : ℕ) : List Todo →
       → WorkerRun m n todo s (step ∷ steps) answer s'
 
 -- what is asked of each step of a run: no value in memory is written later, and keys that are taken without being read read as some value
-unfoldable pub LoadAsksWell : {N E : Type 0} {v : Values N} {me : Owner} {reading : Reading} {s s' : PagerState N E} {answer : LoadAnswer N} → LoadRun v me reading s answer s' → Type 0
+abbrev pub LoadAsksWell : {N E : Type 0} {v : Values N} {me : Owner} {reading : Reading} {s s' : PagerState N E} {answer : LoadAnswer N} → LoadRun v me reading s answer s' → Type 0
 LoadAsksWell {v = v} (load-ends reading answer s s' step) = HoldsSettled v s' × TakesWell v s reading
 LoadAsksWell {v = v} (load-goes-on reading frames answer s mid s' step more) = HoldsSettled v mid × TakesWell v s reading × LoadAsksWell more
 

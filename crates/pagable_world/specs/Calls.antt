@@ -26,7 +26,7 @@ abbrev pub with_key : Core → NodeNumber → ℕ → Core
 with_key w n key = record w { cells = updated n.0 (if_there (λ (cell : Cell). Some (record cell { key = OptionalDataKey.Some key })) None (w.cells n.0)) w.cells }
 
 -- whether the handle is one of a value's references
-unfoldable pub is_named_by : List ArcRef → ℕ → Bool
+abbrev pub is_named_by : List ArcRef → ℕ → Bool
 is_named_by [] q = false
 is_named_by (r ∷ rs) q = (r.handle.0 == q) || is_named_by rs q
 

@@ -119,7 +119,7 @@ abbrev pub is_on_table : ℕ → Option Walking → Bool
 is_on_table t walking = if_there (λ (w : Walking). w.table == t) false walking
 
 -- how often the identity was claimed in these replies by workers of the table
-unfoldable pub claims_made : {N B W : Type 0} → (ℕ → Option Walking) → ℕ → Identity → List (Event N B W) → List (EventReply N B W) → ℕ
+abbrev pub claims_made : {N B W : Type 0} → (ℕ → Option Walking) → ℕ → Identity → List (Event N B W) → List (EventReply N B W) → ℕ
 claims_made walkings t i (Event.WorkerStep v ∷ more) (EventReply.WorkerMoved (Ok reply) ∷ rest) = one (is_on_table t (walkings v.0) && is_claim_of i reply.took) + claims_made walkings t i more rest
 claims_made walkings t i (event ∷ more) (reply ∷ rest) = claims_made walkings t i more rest
 claims_made walkings t i [] rest = 0

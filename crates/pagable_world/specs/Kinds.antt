@@ -100,7 +100,7 @@ abbrev pub sharing : ℕ → List HandleRow → ℕ
 sharing n rows = sum_by (λ h. one (is_share n h)) rows
 
 -- the row of the handle with this number
-unfoldable pub find_row : ℕ → List HandleRow → Option HandleRow
+abbrev pub find_row : ℕ → List HandleRow → Option HandleRow
 find_row q [] = None
 find_row q (h ∷ hs) = if is_handle q h then Some h else find_row q hs
 

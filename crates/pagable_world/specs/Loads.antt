@@ -10,7 +10,7 @@ answer_of None kind = Err (Error.Storage kind)
 answer_of (Some r) kind = if r.kind.0 == kind then Ok r else Err Error.WrongKind
 
 -- the answers to a blob's keys, from this place on
-unfoldable pub answers_from : List ArcRef → ℕ → List ℕ → List Answer
+abbrev pub answers_from : List ArcRef → ℕ → List ℕ → List Answer
 answers_from got place [] = []
 answers_from got place (key ∷ keys) = (λ kind. answer_of (slice_get got place) kind) ∷ answers_from got (place + 1) keys
 

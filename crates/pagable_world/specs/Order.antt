@@ -11,7 +11,7 @@ step_of v (Event.WorkerStep u) (EventReply.WorkerMoved (Ok reply)) = if u.0 == v
 step_of v event reply = []
 
 -- the worker's steps, in order
-unfoldable pub steps_of : {N B W : Type 0} → ℕ → List (Event N B W) → List (EventReply N B W) → List (Took W)
+abbrev pub steps_of : {N B W : Type 0} → ℕ → List (Event N B W) → List (EventReply N B W) → List (Took W)
 steps_of v (event ∷ more) (reply ∷ rest) = step_of v event reply ++ steps_of v more rest
 steps_of v [] rest = []
 steps_of v (event ∷ more) [] = []

@@ -262,7 +262,7 @@ pub record FrameFits (types : Types) (stored : ℕ → Option Blob) (trees : ℕ
   pub got : (place key : ℕ) (r : ArcRef) → slice_get frame.got place ≡ Some r → slice_get frame.blob.keys place ≡ Some key → ReadsNodeTree types stored trees key (type_of r.kind.0) r.node.0
 
 -- each blob is what the one below it asks for, and the last is the root's
-unfoldable pub FramesFit : Types → (ℕ → Option Blob) → (ℕ → Tree) → (root_key root_type : ℕ) → List Frame → Type 0
+abbrev pub FramesFit : Types → (ℕ → Option Blob) → (ℕ → Tree) → (root_key root_type : ℕ) → List Frame → Type 0
 FramesFit types stored trees root_key root_type [] = Unit {0}
 FramesFit types stored trees root_key root_type (frame ∷ []) = FrameFits types stored trees frame × (frame.key ≡ root_key) × (frame.node_type ≡ root_type)
 FramesFit types stored trees root_key root_type (frame ∷ below ∷ rest) =

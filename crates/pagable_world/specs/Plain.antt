@@ -24,7 +24,7 @@ abbrev pub changed : {X : Type 0} → (X → Bool) → (X → X) → List X → 
 changed test f xs = map (λ x. if test x then f x else x) xs
 
 -- whether the number is in the list
-unfoldable pub is_in : List ℕ → ℕ → Bool
+abbrev pub is_in : List ℕ → ℕ → Bool
 is_in [] q = false
 is_in (x ∷ xs) q = (x == q) || is_in xs q
 

@@ -78,12 +78,12 @@ abbrev pub reference_fault : Core → Owner → List ℕ → ArcRef → Option E
 reference_fault w owner seen r = if_there (λ (row : HandleRow). row_fault w r (refused_if (not (is_owner owner row.owner) || is_in seen r.handle.0) Error.NotYours) row) (Some Error.NoSuchHandle) (row_at w r.handle)
 
 -- the cause of the first reference that has one
-unfoldable pub references_fault : Core → Owner → List ℕ → List ArcRef → Option Error
+abbrev pub references_fault : Core → Owner → List ℕ → List ArcRef → Option Error
 references_fault w owner seen [] = None
 references_fault w owner seen (r ∷ rs) = or_else (reference_fault w owner seen r) (references_fault w owner (r.handle.0 ∷ seen) rs)
 
 -- why handles that are named can't all be handed over: one isn't live; one is another's, or is named twice
-unfoldable pub named_fault : Core → Owner → List ℕ → List HandleNumber → Option Error
+abbrev pub named_fault : Core → Owner → List ℕ → List HandleNumber → Option Error
 named_fault w owner seen [] = None
 named_fault w owner seen (h ∷ hs) =
     earlier (if_there (λ (row : HandleRow). refused_if (not (is_owner owner row.owner) || is_in seen h.0) Error.NotYours) (Some Error.NoSuchHandle) (row_at w h)) (named_fault w owner (h.0 ∷ seen) hs)

@@ -94,7 +94,7 @@ AreMoments m s [] = Unit {0}
 AreMoments m s (x ∷ xs) = Does m s x.event x.reply x.after × AreMoments m x.after xs
 
 -- the machine after these moments
-unfoldable pub state_after : {N E B W : Type 0} → MachineState N E → List (Moment N E B W) → MachineState N E
+abbrev pub state_after : {N E B W : Type 0} → MachineState N E → List (Moment N E B W) → MachineState N E
 state_after s [] = s
 state_after s (x ∷ xs) = state_after x.after xs
 
