@@ -3,7 +3,7 @@ use Rattle.{pagable_laws.proofs.{Effects.{IsMine, owned-mine}, ReadingSteps.{cal
 use Rattle.pagable.proofs.Keeping.{kept-on, one-or-old, quiet, same-work, leaves-so, like, makes, makes-with, not-same, one-serves, updated-at, Leaves, Passes, event-passes, drives, by-call}
 use Rattle.pagable.{proofs.Keeping.{key-starts, nothing-done, refused}, specs.{Driving.{Answer, Drives, Given, IsInStep, Readings, holding, kept_at, over, ByNumber}, Keeping.{Holding, IsKept}}}
 use Rattle.pagable.specs.{Keeping.{IsServing, IsTaken, KeepsOne, Kept, Makes, ReadsFor, machine_of, readings_in, rest_after, Forgets, IsPrepared, KeptStep}, Serving.{Serves, plain_call, plain_reply}}
-use Rattle.pagable.specs.{Taken.{value-is-read, reading-is-refused, node-comes-back}, Walking.{IsBegun, IsWalkKept, shelf_at, has_task, walking_of, IsIn}, declared.held.{Held.Held, Walk.Walk}}
+use Rattle.pagable.specs.{Paged.{value-is-read, reading-is-refused, node-comes-back}, Walking.{IsBegun, IsWalkKept, shelf_at, has_task, walking_of, IsIn}, declared.held.{Held.Held, Walk.Walk}}
 use Rattle.{pagable_walk.{proofs.Turning.plain-fits, specs.{Slots.written_of, Table.shelf_of, Turns.plain, declared.{results.Trees.Ghosts, table.SlotTable.SlotTable}}}, std.specs.Option.option_map}
 use Rattle.std.{proofs.Common.{rules, ◌≡◌, ℕ, true, List, [], Option, Some, None}, specs.{Prelude.{Result, is_none, is_some, slice_get}, declared.{alloc.Global.Global, sync.Arc.Arc, vec.Vec.Vec}}}
 use Rattle.std.proofs.{Common.{Ok, inl, inr, refl, sym, ap, subst, ◌∙◌, arith, ◌≢◌, zero, suc, ◌+◌, ◌∷◌, ◌++◌, ◌==◌, if◌then◌else◌, length, Err, false, ◌⊎◌, ◌<◌}, lemmas.Bool.Decides.nat_tests}

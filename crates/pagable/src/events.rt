@@ -6,7 +6,7 @@ ghost use Rattle.{pagable_pager.specs.View.{core_in, telling}, pagable.specs.{Ke
 
 use crate::calls;
 use crate::held::Held;
-use crate::readings::{load_step, put, remove, reserve};
+use crate::readings::{load_step, put, remove};
 use crate::workers::{table_new, worker_item, worker_listed, worker_step};
 use indexmap::IndexMap;
 use pagable_codec::{Env, NodeSet};
@@ -58,7 +58,7 @@ where
     if !pager.has_load_number() {
         return Err(Error::NumbersSpent);
     }
-    reserve(readings)?;
+    readings.reserve(1)?;
     Ok(())
 }
 

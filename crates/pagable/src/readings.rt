@@ -12,15 +12,7 @@ use pagable_loads::Reading;
 use pagable_model::{DataKey, Error, LoadNumber};
 use pagable_pager::{Lent, Pager};
 use pagable_world::{LoadAnswer, LoadReply};
-use std::alloc::{AllocError, Global};
-
-/// A place for one more.
-pub fn reserve<V: Drop>(kept: &mut IndexMap<u64, V>) -> Result<(), AllocError>
-    ensures same { (q : ℕ) → kept_at kept.new q ≡ kept_at kept.old q }
-    ensures room { OnOk result (0 < spare kept.new) }
-{
-    kept.reserve(1)
-}
+use std::alloc::Global;
 
 /// Nothing is kept of a load any more.
 pub fn remove(readings: &mut IndexMap<u64, Reading>, load: u64)
@@ -76,7 +68,7 @@ pub fn prepare(
     let Some(node_type) = cell_type else {
         return Err(Unread::Untyped);
     };
-    if reserve(readings).is_err() {
+    if readings.reserve(1).is_err() {
         return Err(Unread::NoPlace);
     }
     put(

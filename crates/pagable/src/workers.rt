@@ -6,8 +6,7 @@ ghost use Rattle.{pagable_pager.specs.View.{core_in, state_in, telling}, pagable
 ghost use Rattle.pagable_world.specs.{Kinds.{identity_of, owner_worker}, World.{of_entry, of_item}, declared.events.{Event.Event, EventReply.EventReply}};
 
 use crate::held::{Begun, Held, Walk};
-use crate::list;
-use crate::readings::{put, reserve};
+use crate::readings::put;
 use indexmap::IndexMap;
 use pagable_codec::{Env, NodeSet};
 use pagable_core::{PagableStorage, SerializedData};
@@ -38,7 +37,7 @@ where
     if held.tables.reserve(1).is_err() {
         return Err(Error::OutOfMemory);
     }
-    list::put(&mut held.tables, SlotTable::new(alloc));
+    held.tables.push_reserved(SlotTable::new(alloc));
     Ok(TableNumber(held.tables.len() as u64))
 }
 
@@ -56,7 +55,7 @@ fn ready<E: Trees>(
     if !(0 < table.0 && table.0 <= tables.len() as u64) {
         return Err(Error::NoSuchHandle);
     }
-    reserve(walks)?;
+    walks.reserve(1)?;
     Ok(())
 }
 
@@ -193,23 +192,14 @@ where
     step(lent, alloc, table, worker, path, task)
 }
 
-// The worker's answer, if a step came to one.
-fn answer_of<E: Trees>(turn: &Turn<E>) -> Option<WorkerAnswer>
-    ensures { result ≡ answer_in turn.now }
+// What is to be done after a step, if there is more, and else the worker's answer.
+fn parts_of<E: Trees>(turn: Turn<E>) -> (Option<Task<E>>, Option<WorkerAnswer>)
+    ensures task { result.0 ≡ task_in turn }
+    ensures answer { result.1 ≡ answer_in turn }
 {
     match turn {
-        Turn::Goes(_) => None,
-        Turn::Answers(answer) => Some(*answer),
-    }
-}
-
-// What is to be done after a step, if there is more.
-fn task_left<E: Trees>(turn: Turn<E>) -> Option<Task<E>>
-    ensures { result ≡ task_in turn }
-{
-    match turn {
-        Turn::Goes(task) => Some(task),
-        Turn::Answers(_) => None,
+        Turn::Goes(task) => (Some(task), None),
+        Turn::Answers(answer) => (None, Some(answer)),
     }
 }
 
@@ -219,15 +209,15 @@ fn settle<E: Trees>(walk: &mut Walk<E>, moved: Moved<E>) -> WorkerReply<Arc<Seri
     ensures path { walk.new.path ≡ walk.old.path }
     ensures reply { result ≡ record { took = moved.took; answer = answer_in moved.turn; steps = walk.new.steps } }
 {
-    let answer = answer_of(&moved.turn);
-    walk.answer = answer_of(&moved.turn);
+    let (task, answer) = parts_of(moved.turn);
+    walk.task = task;
+    walk.answer = answer;
     let steps = if moved.counted {
         walk.steps.saturating_add(1)
     } else {
         walk.steps
     };
     walk.steps = steps;
-    walk.task = task_left(moved.turn);
     WorkerReply {
         took: moved.took,
         answer,

@@ -303,8 +303,14 @@ pub new-handle : (w : Core) (node : NodeNumber) (mode : Mode) (owner : Owner) �
     → Stands (w.last.handle + 1) (w.rows ++ row_of (w.last.handle + 1) node mode owner ∷ []) (w.last.handle + 1) (row_of (w.last.handle + 1) node mode owner)
 new-handle w node mode owner low = stands-new w.last.handle w.rows (row_of (w.last.handle + 1) node mode owner) low refl
 
-pins-by : {last : ℕ} (w : Core) {row : HandleRow} (k : HandleNumber) (q : ℕ) → k.0 ≡ q → Stands last w.rows q row → is_pinning row.mode ≡ true → HasPin w k
-pins-by w {row = row} k q is s pins = record { row = row; live = subst (λ n. find_row n w.rows ≡ Some row) (sym is) s.live; is = pins }
+-- the handle is its owner's, and pins this node
+pub record PinOf (w : Core) (me : Owner) (node : NodeNumber) (k : HandleNumber) : Type 0 where
+  pub pin : HasPin w k
+  pub own : pin.row.owner ≡ me
+  pub at : pin.row.node ≡ node
+
+pub pins-by : {last : ℕ} (w : Core) {row : HandleRow} (k : HandleNumber) (q : ℕ) → k.0 ≡ q → Stands last w.rows q row → is_pinning row.mode ≡ true → PinOf w row.owner row.node k
+pins-by w {row = row} k q is s pins = record { pin = record { row = row; live = subst (λ n. find_row n w.rows ≡ Some row) (sym is) s.live; is = pins }; own = refl; at = refl }
 
 -- the pin that is made of a loose handle
 pinned-new : (u : Core) (h : HandleNumber) (node : NodeNumber) (me : Owner) → AreLow u
@@ -313,7 +319,7 @@ pinned-new u h node me low = new-handle (with_mode u h Mode.LoosePinned) node Mo
     (low-changed u.last.handle u.rows (is_handle h.0) (λ r. record r { mode = Mode.LoosePinned }) (λ r. refl) low)
 
 module _ (w w' : Core) (low : AreLow w) where
-  pin-call : (me : Owner) (h k : HandleNumber) → PinCall w me h (Ok (Pinning.Pinned k)) w' → HasPin w' k
+  pub pin-call : (me : Owner) (h k : HandleNumber) (c : PinCall w me h (Ok (Pinning.Pinned k)) w') → PinOf w' me c.pins.0.node k
   pin-call me h k c = pins-by w' k (w.last.handle + 1) c.pins.2.1.above (stands-alike {w = with_pin w h c.pins.0.node me} c.pins.2.2 (pinned-new w h c.pins.0.node me low)) refl
 
   pub clone-call : (me : Owner) (h k : HandleNumber) → CloneCall w me h (Ok k) w'
@@ -325,12 +331,13 @@ module _ (w w' : Core) (low : AreLow w) where
   owned-none l = let none = none-above w.last.handle (w.last.handle + 1) w.rows low (omega arith) in rw none refl
 
   pin-stays : (u : Core) (h : HandleNumber) (node : NodeNumber) (me : Owner) (k : HandleNumber) (given : ℕ → Bool) → NotValues me → AreLow u → u.last.handle ≡ w.last.handle
-      → k.0 ≡ w.last.handle + 1 → given (w.last.handle + 1) ≡ false → FallsAnyhow w (with_pin u h node me) given w' → HasPin w' k
+      → k.0 ≡ w.last.handle + 1 → given (w.last.handle + 1) ≡ false → FallsAnyhow w (with_pin u h node me) given w' → PinOf w' me node k
   pin-stays u h node me k given free low' same next kept f =
       let q : u.last.handle + 1 ≡ w.last.handle + 1 = ap (λ n. n + 1) same in
       pins-by w' k (u.last.handle + 1) (next ∙ sym q) (stands-fell f.falls free (ap given q ∙ kept) (pinned-new u h node me low')) refl
 
-  end-call : {N : Type 0} (me : Owner) (l : LoadNumber) (x : N) (t : ℕ) (references : List ArcRef) (k : HandleNumber) → NotValues me → EndCall w me l x t references (Ok k) w' → HasPin w' k
+  pub end-call : {N : Type 0} (me : Owner) (l : LoadNumber) (x : N) (t : ℕ) (references : List ArcRef) (k : HandleNumber) → NotValues me → (c : EndCall w me l x t references (Ok k) w')
+      → PinOf w' me c.installs.0 k
   end-call me l x t references k free c =
       let (node, h, may, i) = c.installs in
       elim i.falls [
@@ -353,23 +360,25 @@ module _ {N B W : Type 0} (m : Seen N B W) (v : ℕ) (s s' : Site) (low : AreLow
   at-once r through k does = elim does [
     | inl (is, same, clone) ↦
         let c = clone-call s.core s'.core low (owner_worker v) r.handle k clone in
-        pins-by s'.core k (s.core.last.handle + 1) clone.made.2.above c.2 (not-loose c.0.mode (rw (same_some _ _ (sym is.live ∙ c.1)) at is.sort))
-    | inr (is, (mid, clone, pin)) ↦ pin-call mid s'.core (low-handle s.core mid _ _ _ low clone.made.3) (owner_worker v) through k pin
+        (pins-by s'.core k (s.core.last.handle + 1) clone.made.2.above c.2 (not-loose c.0.mode (rw (same_some _ _ (sym is.live ∙ c.1)) at is.sort))).pin
+    | inr (is, (mid, clone, pin)) ↦ (pin-call mid s'.core (low-handle s.core mid _ _ _ low clone.made.3) (owner_worker v) through k pin).pin
   ]
 
   held : (todo : List Todo) (i : Identity) (k : HandleNumber) → workers.Does m v s todo (Took.Pin i (Ok (PinStep.Held k))) s'
       → HasPin s'.core k × (answer_after {W = W} todo (Took.Pin i (Ok (PinStep.Held k))) ≡ None)
   held (to_pin r place ∷ below) i k (is, p) = (at-once r p.pins.0 k p.pins.1, refl)
-  held (to_load r place through reading ∷ below) i k (is, p) = let e = p.goes.0.does.0 in (end-call s.core s'.core low (owner_worker v) reading.load e.x _ _ k (λ n is. absurd (cc)) e.ended, refl)
+  held (to_load r place through reading ∷ below) i k (is, p) =
+      let e = p.goes.0.does.0 in ((end-call s.core s'.core low (owner_worker v) reading.load e.x _ _ k (λ n is. absurd (cc)) e.ended).pin, refl)
   held _ i k does = absurd does
 
 -- each pin of an event that answers one
 pub pins-hold : {N B W : Type 0} (m : Seen N B W) (u u' : World) (event : Event N B W) (reply : EventReply N B W) → HandlesAreWhole u.core → Happens m u event reply u' → PinHolds event reply u'.core
-pins-hold m u u' (Event.Call (Call.Pin h)) (EventReply.CallReply (Reply.Pin (Ok (Pinning.Pinned k)))) whole happens = pin-call u.core u'.core (low-whole whole) Owner.Caller h k happens.step.does
+pins-hold m u u' (Event.Call (Call.Pin h)) (EventReply.CallReply (Reply.Pin (Ok (Pinning.Pinned k)))) whole happens =
+    (pin-call u.core u'.core (low-whole whole) Owner.Caller h k happens.step.does).pin
 pins-hold m u u' (Event.LoadStep l) (EventReply.LoadMoved (Ok reply)) whole happens = λ k is.
-    let e = rw is at happens.moves.does.does in end-call u.core u'.core (low-whole whole) Owner.Caller happens.moves.reading.load e.0.x _ _ k (λ n is. absurd (cc)) e.0.ended
-pins-hold m u u' (Event.Call (Call.LoadEnd l x)) (EventReply.CallReply (Reply.LoadEnded (Ok k))) whole happens = end-call u.core u'.core (low-whole whole) Owner.Caller l x _ _ k
-    (λ n is. absurd (cc)) happens.step.does
+    let e = rw is at happens.moves.does.does in (end-call u.core u'.core (low-whole whole) Owner.Caller happens.moves.reading.load e.0.x _ _ k (λ n is. absurd (cc)) e.0.ended).pin
+pins-hold m u u' (Event.Call (Call.LoadEnd l x)) (EventReply.CallReply (Reply.LoadEnded (Ok k))) whole happens =
+    (end-call u.core u'.core (low-whole whole) Owner.Caller l x _ _ k (λ n is. absurd (cc)) happens.step.does).pin
 pins-hold {W = W} m u u' (Event.WorkerStep n) (EventReply.WorkerMoved (Ok reply)) whole happens = λ i k is.
     let steps = happens.moves in let h = held m n.0 _ steps.after (low-whole whole) steps.walking.todo i k (rw is at steps.does.does) in
     grind (arith, nat_tests, find_row)

@@ -1,5 +1,5 @@
 -- What a blob asks for is told by kinds alone: with references of the same kinds it is read side by side, up to where one of the two readings asks for a reference that wasn't got.
-use Rattle.pagable_loads.specs.{Ahead.{AsksNext, Foresees, GotMore, IsAhead, Kept, RowTells, kinds_of}, Decoding.is_asking, Ending.{LeadsOn, left_behind, left_in, many, to_do, weight, weight_on}}
+use Rattle.pagable_loads.specs.{Decoding.{AsksNext, Foresees, GotMore, IsAhead, Kept, RowTells, is_asking, kinds_of}, Ending.{LeadsOn, left_behind, left_in, many, to_do, weight, weight_on}}
 use Rattle.pagable_model.specs.{Basic.{bool_at, char_at, duration_at, length_at, longest, nanos_of_second, text_at}, Blob.Blob, Carried.{of_entries, of_hash_map, of_tagged}, Deep.is_eager}
 use Rattle.pagable_model.specs.{Keys.{put_all, put_sorted, text_order}, Meaning.{Meaning, absent, entry, failure, integer, lifted, present, sequence, success, variant}, Numbers.Read}
 use Rattle.pagable_model.specs.{Numbers.{signed_at, unsigned_at, varint_at}, Reading.{Deeper, Gets, JsonCase, Rest, array_case, below, bytes_of, choose, counted, deepest, enter, flag_case, items}}

@@ -1,7 +1,7 @@
 //! A load's steps, over an access to a pager, and a load that is driven to its end. And whole operations over an access: a pin, with the load that it may need, and the reading of a key.
 
 ghost use Rattle.std.specs.{Arc.arc_value, Prelude.{[], IfOk, IsSome, length, Ok, ◌<◌, ◌≡◌}};
-ghost use Rattle.pagable_loads.specs.{Ahead.{goes_on_with, GotMore, IsAhead}, Decoding.Needs, Ending.LeadsOn, Frames.{frames_of, reading_of}, Starting.{PinsFirst, Unpins}, Stepping.Drops};
+ghost use Rattle.pagable_loads.specs.{Decoding.{goes_on_with, GotMore, IsAhead, Needs}, Ending.LeadsOn, Frames.{frames_of, reading_of}, Starting.{PinsFirst, Unpins}, Stepping.Drops};
 ghost use Rattle.{pagable_loads.specs.{Stepping.{IsSameLoad, Runs, Steps, Tries}, Telling.{Acts, values_at}}, pagable_world.specs.{Access.{PinsOver, ReadsOver}, declared.handles.Owner.Owner}};
 ghost use Rattle.pagable_world.specs.{Loads.{need_of, needs_lazy, ReadsNode, ReadsRoot}, World.{one_more, seen_as}};
 

@@ -3,7 +3,7 @@ use Rattle.std.specs.{List.remove, Prelude.{[], Bool, Err, false, IfErr, IfOk, i
 use Rattle.std.specs.Prelude.{◌+◌, ◌-◌, ◌<◌, ◌==◌, ◌||◌, ◌∷◌, ◌≡◌, ◌≤◌, ◌⊎◌}
 use Rattle.{pagable_model.specs.Stored.{Adds, RefusesFetch, RefusesFlush, RefusesStore}, pagable_world.specs.{Cascade.{Falls, FallsAnyhow, nobody, only_handle}, Kinds.{any_mode, fits_mode}}}
 use Rattle.pagable_world.specs.{Kinds.{is_handle, is_loose, is_pinned, is_unpinned, mode_of, owner_value, pins}, Plain.{ArcRef, Blob, changed, Error, HandleNumber, HandleRow, if_there, Kind, Mode}}
-use Rattle.pagable_world.specs.{Plain.{NodeNumber, OptionalDataKey, Owner, Pinning, times, type_of, updated}, Refusals.{AreHandlesFull, earlier, handle_fault, is_type, IsListFull, live_fault, Owns}}
+use Rattle.pagable_world.specs.{Plain.{NodeNumber, OptionalDataKey, Owner, Pinning, times, type_of, updated}, Refusals.{AreHandlesFull, earlier, handle_fault, is_type, live_fault, Owns}}
 use Rattle.pagable_world.specs.{Refusals.{references_fault, Refused, refused_if, spent, where_so}, World.{Alike, Cell, Core, greatest, is_here, key_at, row_at, type_at, usable}}
 
 abbrev pub row_of : ℕ → NodeNumber → Mode → Owner → HandleRow
@@ -100,22 +100,20 @@ pub record IsRefused (cause : Option Error) (w : Core) (r : Result (Unit {0}) Er
   pub told : r ≡ Err e
   pub stays : Alike w w'
 
--- The handle of this row lets its pin go and stays; or it is unpinned already.
-abbrev pub LetsGo : Core → HandleNumber → HandleRow → Result (Unit {0}) Error → Core → Type 0
-LetsGo w h row r w' = ((row.mode ≡ Mode.LooseUnpinned) × (r ≡ Ok tt) × Alike w w') ⊎ ((row.mode ≡ Mode.LoosePinned) × Falls w (with_mode w h Mode.LooseUnpinned) nobody r w')
-
+-- The handle lets its pin go and stays; or it is unpinned already.
 pub record UnpinCall (w : Core) (me : Owner) (h : HandleNumber) (r : Result (Unit {0}) Error) (w' : Core) : Type 0 where
-  pub does : IsRefused (handle_fault w me h is_loose) w r w' ⊎ ((row : HandleRow) × Owns w me h is_loose row × LetsGo w h row r w')
+  pub does :
+      IsRefused (handle_fault w me h is_loose) w r w' ⊎ ((row : HandleRow) × Owns w me h is_loose row
+      × (((row.mode ≡ Mode.LooseUnpinned) × (r ≡ Ok tt) × Alike w w') ⊎ ((row.mode ≡ Mode.LoosePinned) × Falls w (with_mode w h Mode.LooseUnpinned) nobody r w')))
 
 pub record ReleaseCall (w : Core) (me : Owner) (h : HandleNumber) (r : Result (Unit {0}) Error) (w' : Core) : Type 0 where
   pub does : IsRefused (handle_fault w me h any_mode) w r w' ⊎ ((row : HandleRow) × Owns w me h any_mode row × Falls w w (only_handle h) r w')
 
 -- The cell of a loose handle gets a key, and its value goes if nothing pins it. Through a handle of another mode nothing happens.
-abbrev pub SetsKey : Core → HandleRow → ℕ → Result (Unit {0}) Error → Core → Type 0
-SetsKey w row key r w' = ((is_loose row.mode ≡ false) × (r ≡ Ok tt) × Alike w w') ⊎ ((is_loose row.mode ≡ true) × Falls w (with_key w row.node key) nobody r w')
-
 pub record SetKeyCall (w : Core) (me : Owner) (h : HandleNumber) (key : ℕ) (r : Result (Unit {0}) Error) (w' : Core) : Type 0 where
-  pub does : IsRefused (handle_fault w me h any_mode) w r w' ⊎ ((row : HandleRow) × Owns w me h any_mode row × SetsKey w row key r w')
+  pub does :
+      IsRefused (handle_fault w me h any_mode) w r w' ⊎ ((row : HandleRow) × Owns w me h any_mode row
+      × (((is_loose row.mode ≡ false) × (r ≡ Ok tt) × Alike w w') ⊎ ((is_loose row.mode ≡ true) × Falls w (with_key w row.node key) nobody r w')))
 
 -- a look-up is refused only where there is no such handle
 pub record Looks {X : Type 0} (w : Core) (h : HandleNumber) (holds : X → HandleRow → Type 0) (r : Result X Error) : Type 0 where
@@ -140,13 +138,10 @@ abbrev pub TypeCall : Core → NodeNumber → Option ℕ → Type 0
 TypeCall w n found = found ≡ type_at w n.0
 
 -- a loose unpinned handle moves to the list's end; once the storage is closed it is given up
-abbrev pub Schedules : Core → HandleNumber → Core → Type 0
-Schedules w h w' =
-    ((w.closed ≡ false) × Alike (record w { rows = moved (only_handle h) Owner.List w.rows; list = w.list ++ h ∷ [] }) w') ⊎ ((w.closed ≡ true) × FallsAnyhow w w (only_handle h) w')
-
 pub record ScheduleCall (w : Core) (me : Owner) (h : HandleNumber) (r : Result (Unit {0}) Error) (w' : Core) : Type 0 where
-  pub moves : IfOk r (λ u. (row : HandleRow) × Owns w me h is_unpinned row × Schedules w h w')
-  pub refused : IfErr r (λ e. Refused (handle_fault w me h is_unpinned) (handle_fault w me h is_unpinned) ((w.closed ≡ false) × IsListFull w) w e w')
+  pub moves : IfOk r (λ u. (row : HandleRow) × Owns w me h is_unpinned row
+      × (((w.closed ≡ false) × Alike (record w { rows = moved (only_handle h) Owner.List w.rows; list = w.list ++ h ∷ [] }) w') ⊎ ((w.closed ≡ true) × FallsAnyhow w w (only_handle h) w')))
+  pub refused : IfErr r (λ e. Refused (handle_fault w me h is_unpinned) (handle_fault w me h is_unpinned) ((w.closed ≡ false) × (w.places.entries ≤ length w.list)) w e w')
 
 -- the entry at this place of the list moves to the one who asks, or there is none
 abbrev pub TakeCall : Core → Owner → ℕ → Option HandleNumber → Core → Type 0

@@ -57,10 +57,6 @@ pub record MustList (before w w' : Core) (n : ℕ) : Type 0 where
 abbrev pub IsPlaceWanting : Core → Core → Type 0
 IsPlaceWanting w w' = (w.places.handles ≤ length w.rows) ⊎ (w.places.entries ≤ length w'.list)
 
--- why a cell isn't listed: no number is left, or no place
-abbrev pub CannotList : Core → Core → Type 0
-CannotList w w' = (greatest ≤ w'.last.handle) ⊎ IsPlaceWanting w w'
-
 -- what is answered then: memory is wanting only where a number was left at first
 abbrev pub IsListRefusal : Core → Core → Error → Type 0
 IsListRefusal w w' Error.NumbersSpent = greatest ≤ w'.last.handle
@@ -91,10 +87,10 @@ pub record Falls (before w : Core) (given : ℕ → Bool) (r : Result (Unit {0})
   pub gone : ℕ → Bool
   pub entries : List HandleRow
   pub set : IsLeast w.rows (is_keyed w) entries given gone
-  -- an entry comes for a cell that must be listed, one for each; and where none comes there is a cause
+  -- an entry comes for a cell that must be listed, one for each; and where none comes no number is left, or no place
   pub new : AreNewEntries w.last.handle entries
   pub only : (n : ℕ) → 0 < held n entries → MustList before w w' n × (held n entries ≡ 1)
-  pub each : (n : ℕ) → MustList before w w' n → (held n entries ≡ 1) ⊎ CannotList w w'
+  pub each : (n : ℕ) → MustList before w w' n → (held n entries ≡ 1) ⊎ ((greatest ≤ w'.last.handle) ⊎ IsPlaceWanting w w')
   pub tells : TellsListing before w entries r w'
   pub within : w.last.handle + length entries ≤ greatest
   pub leaves : Alike (fallen w gone entries) w'

@@ -32,12 +32,9 @@ refused_if b e = if b then Some e else None
 abbrev pub spent : ℕ → Option Error
 spent last = refused_if (nat_le greatest last) Error.NumbersSpent
 
--- the vector of handles has no place left, or the list has none
+-- the vector of handles has no place left
 abbrev pub AreHandlesFull : Core → Type 0
 AreHandlesFull w = w.places.handles ≤ length w.rows
-
-abbrev pub IsListFull : Core → Type 0
-IsListFull w = w.places.entries ≤ length w.list
 
 -- an own handle whose mode is as asked
 pub record Owns (w : Core) (me : Owner) (h : HandleNumber) (fits : Mode → Bool) (row : HandleRow) : Type 0 where

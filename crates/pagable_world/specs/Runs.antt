@@ -22,10 +22,6 @@ abbrev pub read_out : {N B W : Type 0} → EventReply N B W → Option N
 read_out (EventReply.LoadMoved (Ok reply)) = read_by reply.ended
 read_out reply = None
 
--- nor does one that is read out
-abbrev pub ReadsSettled : {N B W : Type 0} → Values N → EventReply N B W → Type 0
-ReadsSettled {N} v reply = (x : N) → read_out reply ≡ Some x → IsSettled v x
-
 -- the storage isn't closed
 abbrev pub KeepsOpen : {N B W : Type 0} → Event N B W → Type 0
 KeepsOpen (Event.Call Call.Close) = ⊥
@@ -71,7 +67,8 @@ IsWellAsked v s trees event reply = Unit {0}
 -- all that is asked of an event at the state that it finds, and of what it leaves
 pub record IsPremised {N E B W : Type 0} (v : Values N) (s : MachineState N E) (trees : ℕ → Tree) (event : Event N B W) (reply : EventReply N B W) (s' : MachineState N E) : Type 0 where
   pub settled : HoldsSettled v s'.pager
-  pub reads_settled : ReadsSettled v reply
+  -- nor does one that is read out hold anything that is written after it was made
+  pub reads_settled : (x : N) → read_out reply ≡ Some x → IsSettled v x
   pub stays_open : KeepsOpen event
   pub well : IsWellAsked v s trees event reply
 

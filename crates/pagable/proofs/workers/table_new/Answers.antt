@@ -8,5 +8,5 @@ returns-then-is_err g c =
 
 pub returns : goal.returns
 returns g c =
-    let is = c.put.ensures.items ∙ ap (λ tables. tables ++ c.new.result ∷ []) c.reserve.ensures.items in
-    table-drives (values_at g.E.Node.NodeSet g.E.Env g.E.Hash.KeyHash) _ _ c.args.pager.now _ c.requires c.is_whole.ensures c.put.new.list c.new.result _ is (search rules) c.new.ensures
+    let is = c.push_reserved.ensures.items ∙ ap (λ tables. tables ++ c.new.result ∷ []) c.reserve.ensures.items in
+    table-drives (values_at g.E.Node.NodeSet g.E.Env g.E.Hash.KeyHash) _ _ c.args.pager.now _ c.requires c.is_whole.ensures c.push_reserved.new.self c.new.result _ is (search rules) c.new.ensures
