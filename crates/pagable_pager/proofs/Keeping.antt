@@ -288,20 +288,18 @@ module _ {N S E : Type 0} {tells : Telling S} {says : E → Values N} {p q : Pag
 
     module _ (same : (n : ℕ) → value_in mid n ≡ value_in p.values n) (t2 : Tables) (values : ValuesByNode N) {y : N} (shared : y ≡ x)
         (kept : (n : ℕ) → value_in values n ≡ updated t2.last_node (Some y) (value_in mid) n) {k : HandleNumber} {b : Bool} (opens : b ≡ tells.closed p.storage) (left : t1.last_node < greatest)
-        (next : (stored : ℕ → Option Blob) (closed : Bool) (failures : ℕ) → IsNext k (core_of t1 stored closed failures))
-        (comes : (stored : ℕ → Option Blob) (closed : Bool) (failures : ℕ) → not b ≡ not closed → Alike (adopted (core_of t1 stored closed failures) l kind key (first_key kind.0 key) rs)
-        (core_of t2 stored closed failures)) (whole : IsWhole t2) (later : AreLater t2) where
+        (does : Does t1 (λ w w'. IsNext k w × (not b ≡ not w.closed → Alike (adopted w l kind key (first_key kind.0 key) rs) w')) t2) where
       abbrev learned : PagerView N S E
       learned = record p { tables = t2; values = values }
 
       leaves : Alike (adopted (core_in tells p) l kind key (first_key kind.0 key) rs) (core_in tells learned)
-      leaves = adopted-past l kind key (first_key kind.0 key) rs (only-room is mid room) (comes (tells.stored p.storage) (tells.closed p.storage) (tells.failed p.storage) (ap not opens))
+      leaves = adopted-past l kind key (first_key kind.0 key) rs (only-room is mid room) ((does.does (tells.stored p.storage) (tells.closed p.storage) (tells.failed p.storage)).1 (ap not opens))
 
       adopts : Adopts (core_in tells p) me l kind key ((says p.environment).node_type x) ((says p.environment).references x) k (core_in tells learned)
       adopts =
           subst (λ z. Adopts (core_in tells p) me l kind key ((says p.environment).node_type x) z k (core_in tells learned)) listed
           (made-new (core_in tells p) me l kind key ((says p.environment).node_type x) rs (fresh-in _ _ _) unknown-in k (subst (λ (u : Core). u.last.node < greatest) (only-room is mid room).same left)
-          (next-past (only-room is mid room) (next (tells.stored p.storage) (tells.closed p.storage) (tells.failed p.storage))) leaves)
+          (next-past (only-room is mid room) (does.does (tells.stored p.storage) (tells.closed p.storage) (tells.failed p.storage)).0) leaves)
 
       last : t2.last_node ≡ p.tables.last_node + 1
       last = let a = leaves in grind (arith, nat_tests)
@@ -312,7 +310,7 @@ module _ {N S E : Type 0} {tells : Telling S} {says : E → Values N} {p q : Pag
 
       pub new-so : IsPager tells says learned
       new-so =
-          in-step learned whole later
+          in-step learned does.whole (does.later (room.later is.later))
           (adopts-new {v = says p.environment} {s = state_in tells p} {s' = state_in tells learned} is.state adopts unknown-in (told is mid room same t2 values x shared kept last))
 
 -- ---- a value comes to a load's cell, and others go with their nodes

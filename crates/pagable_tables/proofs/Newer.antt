@@ -9,10 +9,10 @@ use Rattle.pagable_tables.proofs.Words.{Mode, NodeNumber, NodeRow, None, Ok, Onl
 use Rattle.pagable_tables.proofs.Words.{ValueStays, [], alive, and_parts, ap, arith, cases_Bool, cases_eq, cell_in, changed, core_of, counts_at, false, find_row, get, get_or, gives_row, greatest}
 use Rattle.pagable_tables.proofs.Words.{has_key, has_value, held, if_there, if◌then◌else◌, inl, inr, is_at, is_handle, is_keyed, is_loose_kind, is_named_by, is_outside, is_owned_by, is_owned_in}
 use Rattle.pagable_tables.proofs.Words.{is_owner, is_pin, is_pinning, is_plain_pin, is_shared, is_some, is_valued, is_workers_load, key_in, known_at, left_rows, length, live, load_at, load_in}
-use Rattle.pagable_tables.proofs.Words.{loses_value, mode_of, moved, nat_eq, nat_lt, nat_tests, next_node, nobody, not, one, option_map, owner_value, owner_worker, owns_nothing, passes_in, pins}
+use Rattle.pagable_tables.proofs.Words.{loses_value, mode_of, moved, nat_eq, nat_lt, nat_tests, next_node, nobody, not, one, only_handle, option_map, owner_value, owner_worker, owns_nothing, passes_in, pins}
 use Rattle.pagable_tables.proofs.Words.{plain_of, reach_at, references_fault, refl, refs_at, row_of, sharing, slice_get, slice_get-get_or, subst, suc, sum_by, sum_by-append, sum_by-cons}
 use Rattle.pagable_tables.proofs.Words.{sum_by-le-sum_by, sum_by_push, sym, take, times, true, updated, with_handle, with_mode, with_node, with_worker, ℕ, ◌&&◌, ◌++◌, ◌+◌, ◌-◌, ◌<◌, ◌==◌, ◌||◌, ◌∙◌}
-use Rattle.pagable_tables.{proofs.{Words.{◌∷◌, ◌≡◌, ◌≢◌, ◌≤◌, ◌⊎◌}, Worlds.{born-past, named-none, named-take, next-past, owner-same, owner-self, room-alike, same-cache}}, specs.Core.Does}
+use Rattle.pagable_tables.{proofs.{Words.{◌∷◌, ◌≡◌, ◌≢◌, ◌≤◌, ◌⊎◌}, Worlds.{born-past, moved-twice, named-none, named-take, next-past, owner-same, owner-self, room-alike, same-cache}}, specs.Core.Does}
 use Rattle.{pagable_tables.specs.{Core.{DoesShed, IsWhole, TakesWorker, gives}, Falling.{Becomes, Widens}}, pagable_world.specs.Workers.is_load_of}
 use Rattle.pagable_world.specs.Pager as pager
 
@@ -395,9 +395,15 @@ module _ (before w : Core) (lists : Bool) (t : Holdings) (l : LoadNumber) (rs : 
 
 pub ruleset places = (nat_tests, place-got, row-there)
 
--- handles move after others
-pub moved-then : {old mid new : Handles} {rows to : List HandleRow} (s : ℕ → Bool) (o : Owner) → Becomes old rows mid → Becomes mid (moved s o (live mid.places.items)) new → moved s o rows ≡ to → Becomes old to new
-moved-then s o a b is = record { sound = b.sound; rows = b.rows ∙ ap (moved s o) a.rows ∙ is; capacity = b.capacity ∙ a.capacity; next = λ q next. b.next q (a.next q next) }
+-- one more moves, after others
+pub moved-then : {old mid new : Handles} (s s' : ℕ → Bool) (h : HandleNumber) (o : Owner) (rows : List HandleRow) → Becomes old (moved s o rows) mid → Becomes mid (moved (only_handle h) o (live mid.places.items)) new
+    → ((q : ℕ) → (h.0 == q || s q) ≡ s' q) → Becomes old (moved s' o rows) new
+moved-then s s' h o rows a b next = record {
+  sound = b.sound;
+  rows = b.rows ∙ ap (moved (only_handle h) o) a.rows ∙ moved-twice s h o rows ∙ ap (λ (u : ℕ → Bool). moved u o rows) (λ i q. next q i);
+  capacity = b.capacity ∙ a.capacity;
+  next = λ q next. b.next q (a.next q next);
+}
 
 -- ---- calls that leave the tables whole, as their steps leave the plain world
 

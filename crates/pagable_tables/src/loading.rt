@@ -308,10 +308,7 @@ pub fn adopt(
     requires learns { 0 < spare t.old.cache }
     requires asked { (me : Owner) × (node_type : ℕ) × (early_fault (plain_of t.old) me load kind node_type references.items ≡ None) }
     requires unknown { usable (plain_of t.old) kind.0 key ≡ None }
-    ensures next { (stored : ℕ → Option Blob) (closed : Bool) (failures : ℕ) → IsNext result (core_of t.old stored closed failures) }
-    ensures adopted { (stored : ℕ → Option Blob) (closed : Bool) (failures : ℕ) → lists ≡ not closed → Alike (adopted (core_of t.old stored closed failures) load kind key (first_key kind.0 key) references.items) (core_of t.new stored closed failures) }
-    ensures whole { IsWhole t.new }
-    ensures later { AreLater t.new }
+    ensures { Does t.old (λ w w'. IsNext result w × (lists ≡ not w.closed → Alike (adopted w load kind key (first_key kind.0 key) references.items) w')) t.new }
 {
     let own_key = if is_pinned_kind(kind) { key.get() } else { 0 };
     learn_new(t, load, kind, key, own_key, references, lists)

@@ -98,7 +98,7 @@ pub fn is_loose(t: &Tables, handle: HandleNumber) -> Result<bool, Error>
 
 /// The type of a node, or None where the node is gone.
 pub fn node_live(t: &Tables, node: NodeNumber) -> Option<u32>
-    ensures { (stored : ℕ → Option Blob) (closed : Bool) (failures : ℕ) → TypeCall (core_of t.now stored closed failures) node result }
+    ensures { TypeCall (plain_of t.now) node result }
 {
     Some(tables::counts_of(&t.holdings.nodes, node.0)?.node_type)
 }

@@ -1,8 +1,8 @@
 //! The list of cells that wait for page-out: entries come and are taken. And page-out workers: they begin, give up what they have at a node, and end.
 
-ghost use Rattle.std.specs.Prelude.{Bool, IfOk, Option, false, is_some, length, nat_eq, not, true, ℕ, ◌+◌, ◌<◌, ◌≡◌};
-ghost use Rattle.{indexmap.specs.IndexMap.get, pagable_model.specs.declared.numbers.LoadNumber.LoadNumber, pagable_tables.specs.Core.{AreLater, BeginsWorker, Does, DoesShed, InReach, IsNoLess}};
-ghost use Rattle.pagable_tables.specs.{Core.{IsWhole, MayHold, TakesWorker, core_of, left_load, plain_of}, Falling.{Sheds, counts_at, load_at, reach_at, worker_at}};
+ghost use Rattle.std.specs.Prelude.{Bool, IfOk, Option, false, is_some, length, not, true, ℕ, ◌+◌, ◌<◌, ◌≡◌};
+ghost use Rattle.{pagable_model.specs.declared.numbers.LoadNumber.LoadNumber, pagable_tables.specs.Core.{AreLater, BeginsWorker, Does, DoesShed, InReach, IsNoLess}};
+ghost use Rattle.pagable_tables.specs.{Core.{IsWhole, MayHold, TakesWorker, core_of, left_load, plain_of}, Falling.{load_at, reach_at, worker_at}};
 ghost use Rattle.pagable_world.specs.{Calls.{ScheduleCall, TakeCall}, Cascade.FallsAnyhow, Kinds.{is_owner, owner_worker}, Plain.{Blob, updated}, Workers.{WorkerEnds, is_workers_at}};
 ghost use Rattle.pagable_world.specs.declared.handles.Owner.{Owner};
 
@@ -108,11 +108,7 @@ pub fn schedule_for_paging<N: Drop>(
 ) -> Result<(), Error>
     requires whole { IsWhole t.old }
     requires holder { MayHold (plain_of t.old) me }
-    ensures scheduled { (stored : ℕ → Option Blob) (closed : Bool) (failures : ℕ) → lists ≡ not closed
-        → ScheduleCall (core_of t.old stored closed failures) me handle result (core_of t.new stored closed failures) }
-    ensures whole { IsWhole t.new }
-    ensures sheds { Sheds (counts_at t.old.holdings.nodes) (get nat_eq values.old) (counts_at t.new.holdings.nodes) (get nat_eq values.new) }
-    ensures later { AreLater t.old → AreLater t.new }
+    ensures { DoesShed lists t.old values.old (λ w w'. ScheduleCall w me handle result w') t.new values.new }
 {
     let at = own(t, me, handle)?;
     if !is_unpinned(at.row.mode) {
