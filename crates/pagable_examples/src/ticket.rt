@@ -24,7 +24,7 @@ impl<E: Env> EagerlyCarried<E> for Ticket {
 impl<E: Env> PagableEagerSerialize<E> for Ticket {
     ghost eager_write_causes = { writes_memory };
 
-    #[tactic(auto, using(pagable::proofs::Carrying::writing))]
+    #[tactic(auto, using(pagable::proofs::Carrying::writing, pagable_traits::proofs::Parts::write_steps))]
     fn eager_pagable_serialize<S: PagableSerializer<E>>(
         &self,
         serializer: &mut S,

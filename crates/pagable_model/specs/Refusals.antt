@@ -32,24 +32,7 @@ number_of Error.KeyTaken = 24
 number_of Error.Closed = 25
 number_of (Error.Custom text) = 26
 
--- the refusals by which an input is outside the grammar; the others say nothing of it
-abbrev pub is_reading_fault : Error → Bool
-is_reading_fault Error.UnexpectedEnd = true
-is_reading_fault Error.BadVarint = true
-is_reading_fault Error.BadBool = true
-is_reading_fault Error.BadUtf8 = true
-is_reading_fault Error.BadChar = true
-is_reading_fault Error.TooLong = true
-is_reading_fault Error.TooDeep = true
-is_reading_fault Error.JsonCase = true
-is_reading_fault Error.JsonNumber = true
-is_reading_fault Error.BadDuration = true
-is_reading_fault Error.UnknownTag = true
-is_reading_fault Error.BadStaticIndex = true
-is_reading_fault Error.NoMoreKeys = true
-is_reading_fault _ = false
-
--- Those that a reader may have of its own beside them: a pattern that isn't built, want of memory, and what it tells in words. What
+-- Those that a reader may have of its own beside the faults of the input: a pattern that isn't built, want of memory, and what it tells in words. What
 -- a pager, a storage or a writer refuses is none of them.
 abbrev pub is_own_reading : Error → Bool
 is_own_reading Error.RegexRefused = true

@@ -1,12 +1,12 @@
 -- What values, and their parts one after another, are written and read as: basic values, texts and patterns, what may be absent, successes and failures, tuples and
 -- cells. All that a reader and a writer owe, from what those of the bytes or of the parts tell.
 use Rattle.pagable_codec.proofs.Writing.{writes_flag, writes_letter, writes_signed, writes_unsigned}
-use Rattle.{pagable_flavors.specs.Calls.Appends, pagable_model.specs.{Basic.{char_form, duration_at, duration_form, length_at, nanos_of_second, text_at}, Carried.{nanos_of, of_duration, of_span}}}
+use Rattle.pagable_model.specs.{Basic.{char_form, duration_at, duration_form, length_at, nanos_of_second, text_at}, Carried.{nanos_of, of_duration, of_span}}
 use Rattle.pagable_model.specs.{Carried.seconds_of, Form.{duration-form, none-form, pattern-form}, Lifted.MeansOnce, Meaning.pattern, Numbers.{IsSigned, bound, signed_form, unsigned_form, varint_at}}
-use Rattle.{pagable_model.specs.{Refusals.is_reading_fault, Shape.{duration, flag as flag_shape, letter, unsigned}, Track.{Track, left}}, pagable_traits.proofs.Words.{Answer, ArcRef, Bool, Context}}
-use Rattle.pagable_traits.proofs.Words.{Err, Error, Extends, FormAt, Gives, GivesSome, Grows, IfErr, Is, List, Meaning, Meanings, MeansOption, MeansPair, MeansResult, Nesting, NoForm, None, Ok, OnOk}
+use Rattle.{pagable_model.specs.{Refusals.is_own_reading, Shape.{duration, flag as flag_shape, letter, unsigned}, Track.{Track, left}}, pagable_traits.proofs.Words.{Answer, ArcRef, Bool, Context}}
+use Rattle.pagable_traits.proofs.Words.{Err, Error, FormAt, Gives, GivesSome, IfErr, Is, List, Meaning, Meanings, MeansOption, MeansPair, MeansResult, Nesting, NoForm, None, Ok, OnOk}
 use Rattle.pagable_traits.proofs.Words.{Option, Out, Read, Refused, Rest, Result, Shape, Some, SomeMeaning, String, WritesSome, [], absent, added, ap, arith, bool_at, bool_form, both, both-form}
-use Rattle.pagable_traits.proofs.Words.{bytes_of, char_at, err-form, failure, false, grows_bytes, grows_trans, inr, integer, length, long_or, long_or_memory, longest, means-err, means-none, means-ok}
+use Rattle.pagable_traits.proofs.Words.{bytes_of, char_at, err-form, failure, false, grows_trans, inr, integer, length, long_or, long_or_memory, longest, means-err, means-none, means-ok}
 use Rattle.pagable_traits.proofs.Words.{means-some, memory, memory_or, memory_refuses, moves_trans, never, number, ok-form, optional, outcome, pair, present, read, read_with, refl, refused_memory}
 use Rattle.pagable_traits.proofs.Words.{signed, signed_at, some, some-form, string_bytes, success, text-form, text_form, then, to_z-of_z, true, unsigned_at, w32, w64, writes_bytes, writes_is}
 use Rattle.{pagable_traits.proofs.Words.{ℕ, ℤ, ◌*◌, ◌++◌, ◌+◌, ◌^◌, ◌∙◌, ◌∷◌, ◌≡◌, ◌≤◌}, std.proofs.{Common.{FitsSigned, of_z, rules, suc, to_z, zero, ◌/◌, ◌<◌}, lemmas.Bool.Decides.nat_tests}}
@@ -216,27 +216,9 @@ pub ruleset read_steps = (reads_unsigned, reads_signed, reads_flag, reads_letter
 
 -- ---- writing
 
-pub wrote_on : (old new : Out) (given bytes : List ℕ) → given ≡ old.bytes → new ≡ record old { bytes = bytes } → Extends given bytes → Grows old new
-wrote_on old new given bytes e f h = rw f (grows_bytes old bytes (rw e at h))
-
 wrote_form : {X Y : Type 0} (r : Result Y Error) (n : Nesting) (s : Shape) (meaning : X → Meaning ArcRef) (x : X) (form : List ℕ) (old new : Out) (given bytes : List ℕ) → FormAt n s (meaning x) form [] → given ≡ old.bytes → new ≡ record old { bytes = bytes }
     → OnOk r (bytes ≡ given ++ form) → OnOk r (WritesSome (Is meaning x) n s old new)
 wrote_form r n s meaning x form old new given bytes is e f h = grind (arith, writes_is, writes_bytes, is)
-
--- by what a serializer says of itself with other bytes
-pub basic_written : {X Y E : Type 0} (r : Result Y Error) (n : Nesting) (s : Shape) (meaning : X → Meaning ArcRef) (x : X) (form : List ℕ)
-    {old new : Out} {env env_after : E} {levels levels_after : ℕ} {given bytes : List ℕ} → FormAt n s (meaning x) form []
-    → given ≡ old.bytes → new ≡ record old { bytes = bytes } → env_after ≡ env → levels_after ≡ levels
-    → Appends form r given bytes
-    → record { ok : OnOk r (WritesSome (Is meaning x) n s old new); refused : IfErr r (Refused (Is meaning x) n s); only : IfErr r memory; err : Grows old new; same_env : env_after ≡ env; same_levels : levels_after ≡ levels }
-basic_written r n s meaning x form {old = old} {new = new} {given = given} {bytes = bytes} is e f same_env same_levels told = record {
-  ok = wrote_form r n s meaning x form old new given bytes is e f told.ok;
-  refused = refused_memory r (Is meaning x) n s told.only;
-  only = told.only;
-  err = wrote_on old new given bytes e f told.err;
-  same_env = same_env;
-  same_levels = same_levels;
-}
 
 -- what a number's range in Rust is here
 is-signed : (w : Width) (z : ℤ) → FitsSigned w z → IsSigned w z
@@ -298,16 +280,16 @@ module _ {Z : Type 0} (r : Result (String Z) Error) (rest last : Rest Answer) (b
   pub gives_text : GivesSome memory (Is (λ t. meanings.text (string_bytes t))) last r (bytes_of text_at meanings.text rest)
   gives_text = rw f (gives_bytes memory string_bytes meanings.text text_at r rest after (rw e h))
 
--- ---- the faults of a text are faults of the input
+-- ---- the faults of a text are faults of the input, and no reader's own
 
-faults-varint : (more last : ℕ) (bytes : List ℕ) (e : Error) → varint_at more last bytes ≡ Err e → is_reading_fault e ≡ true
+faults-varint : (more last : ℕ) (bytes : List ℕ) (e : Error) → varint_at more last bytes ≡ Err e → is_own_reading e ≡ false
 unfolding varint_at
 faults-varint zero last [] e h = grind arith
 faults-varint (suc more) last [] e h = grind arith
 faults-varint zero last (b ∷ rest) e h = grind arith
 faults-varint (suc more) last (b ∷ rest) e h = grind (arith, faults-varint more last rest)
 
-faults-text : (bytes : List ℕ) (e : Error) → text_at bytes ≡ Err e → is_reading_fault e ≡ true
+faults-text : (bytes : List ℕ) (e : Error) → text_at bytes ≡ Err e → is_own_reading e ≡ false
 unfolding text_at length_at
 faults-text bytes e h = grind (arith, faults-varint)
 
