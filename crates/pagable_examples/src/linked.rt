@@ -41,17 +41,17 @@ pub enum LinkedNode {
 }
 
 impl NodeSet<Linked> for LinkedNode {
-    ghost use Rattle.pagable_examples.specs.Linked.{has_meaning, has_shape, means, own_shape, reads, refers, refs_of, shape_of, type_of, writes};
+    ghost use Rattle.pagable_examples.specs.Linked.{has_shape, reads, shape_of, told, type_of, writes};
 
     ghost type_of = { type_of };
 
     ghost shape_of = { λ e t. shape_of t };
 
-    ghost own_shape = { λ e n. own_shape n };
+    ghost own_shape = { λ e n. (told n).shape };
 
-    ghost means = { means };
+    ghost means = { λ n. (told n).means };
 
-    ghost refs_of = { refs_of };
+    ghost refs_of = { λ n. (told n).refs };
 
     ghost write_causes = { λ t. (writes t).are };
 
@@ -61,9 +61,9 @@ impl NodeSet<Linked> for LinkedNode {
 
     ghost read_causes_are_own = { λ t. (reads t).own };
 
-    ghost has_meaning = { has_meaning };
+    ghost has_meaning = { λ n. (told n).has_meaning };
 
-    ghost refers = { refers };
+    ghost refers = { λ n. (told n).refers };
 
     ghost has_shape = { λ e n. has_shape n };
 

@@ -3,13 +3,10 @@
 
 mod cells;
 mod equal;
-mod failing;
 mod own_types;
 mod patterns;
 mod readings;
 mod reasons;
-mod references;
 mod registries;
+mod serving;
 mod session;
-mod sha256;
-mod written;

@@ -1,12 +1,9 @@
 -- What the values of the rows mean, and how they are spelled.
-use Rattle.std.specs.{Prelude.{ℕ, zero, suc, ◌≡◌, refl, true, Option, Some, None, List, []}, Arc.arc_value, Global.Vec, Int.w8, String.string_bytes}
-use Rattle.pagable_traits.specs.{Plain.plain_means, declared.plain.OfKind.OfKind}
+use Rattle.std.specs.{Prelude.{ℕ, zero, suc, ◌≡◌, refl, true, Option, Some, None, List, [], String}, Arc.arc_value, Global.Vec, Int.w8, String.string_bytes, declared.alloc.Global.Global}
 use Rattle.pagable.specs.Meanings.{AreSingle, Meanings, exactly, lists, lists_single, options, options_single, pairs, pairs_single, seen_by, some}
-use Rattle.pagable.specs.OwnCauses.{WriteCauses, writes_either, writes_long_or, writes_memory, writes_memory_or}
-use Rattle.pagable_model.specs.{Meaning.{Meaning, number, pair}, References.{references_in, SameReferences}, Refusals.may_refuse_writing, Shape.{Shape, both, list, optional, reference, text, unsigned}}
-use Rattle.pagable_model.specs.{Standing.SomeMeaning, declared.error.Error.Error, declared.numbers.ArcRef.ArcRef}
-use Rattle.std.specs.Prelude.{String}
-use Rattle.std.specs.declared.alloc.Global.{Global}
+use Rattle.{pagable.specs.OwnCauses.{WriteCauses, writes_either, writes_long_or, writes_memory, writes_memory_or}, pagable_examples.specs.Linked.{Case, referring}}
+use Rattle.{pagable_traits.specs.{Plain.plain_means, declared.plain.OfKind.OfKind}, pagable_model.specs.{Meaning.number, References.references_in, Refusals.may_refuse_writing}}
+use Rattle.pagable_model.specs.{Shape.{Shape, both, list, optional, reference, text, unsigned}, declared.numbers.ArcRef.ArcRef}
 use Rattle.vectors.specs.declared.calls.nodes.CellNode.{CellNode}
 use Rattle.pagable_model.specs.Meaning as meanings
 use Rattle.vectors.specs.declared.calls.nodes.CellNode.TheVariants as nodes
@@ -111,19 +108,8 @@ pub bytes_refer : (p : ℕ × ℕ) → references_in (bytes_mean.meaning p) ≡ 
 unfolding references_in
 bytes_refer p = refl
 
--- What a case of a node says: its shape, what it means, and what it refers to, which is what its one meaning refers to.
-pub record Case : Type 1 where
-  pub shape : Shape
-  pub means : Meaning ArcRef → Type 0
-  pub has_meaning : SomeMeaning means
-  pub refs : List ArcRef
-  pub refers : (m : Meaning ArcRef) → means m → SameReferences refs (references_in m)
-
 abbrev pub case : {T : Type 0} → Shape → (M : Meanings T) → AreSingle M → (refs : T → List ArcRef) → ((x : T) → references_in (M.meaning x) ≡ refs x) → T → Case
 case s M single refs same x = record { shape = s; means = M.of x; has_meaning = some M x; refs = refs x; refers = λ m h. rw (single x m h, same x) (λ test. refl) }
-
-abbrev pub referring : {T : Type 0} → Shape → (M : Meanings T) → AreSingle M → T → Case
-referring s M single x = case s M single (λ y. references_in (M.meaning y)) (λ y. refl) x
 
 abbrev pub told : CellNode → Case
 told (nodes.Name t) = case text text_means (λ x m is. is) (λ x. []) (λ x. text-refers (string_bytes x)) (arc_value t)

@@ -25,9 +25,7 @@ pub fn answer(alloc: Global, name: &str, count: u32) -> anyhow::Result<String> {
         return Ok(String::from_str(alloc, "no such values")?);
     };
     let outcome = types::answer(alloc, name_of_type, input.as_slice());
-    let bytes = outcome
-        .as_ref()
-        .and_then(Outcome::bytes)
-        .unwrap_or_default();
+    let written = outcome.as_ref().and_then(Outcome::bytes);
+    let bytes = written.unwrap_or_default();
     Ok(format!(in alloc; "{name} {} bytes wrote {:016x}", bytes.len(), sum_of(bytes))?)
 }

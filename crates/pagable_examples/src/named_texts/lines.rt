@@ -1,6 +1,5 @@
 //! Lines of input.
 
-use std::alloc::{AllocError, Global};
 use std::io;
 use std::io::{BufRead, Read};
 
@@ -16,11 +15,6 @@ pub enum Line {
     Whole,
     /// A line above the greatest length.
     TooLong,
-}
-
-/// A buffer for one line. It never grows, so that reading lines takes no memory.
-pub fn line_buffer(alloc: Global) -> Result<Vec<u8>, AllocError> {
-    Vec::with_capacity(alloc, LONGEST_LINE + 1)
 }
 
 /// Reads the next line into the buffer. The last line may lack its LF. Of a line that is too long no more than one byte

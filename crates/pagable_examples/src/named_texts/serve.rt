@@ -1,7 +1,7 @@
 //! Answering lines.
 
 use crate::named_texts::command::parse;
-use crate::named_texts::lines::{Line, line_buffer, next_line};
+use crate::named_texts::lines::{LONGEST_LINE, Line, next_line};
 use crate::named_texts::session::{Answer, Refusal, Session};
 use pagable::KeyHash;
 use std::alloc::Global;
@@ -16,7 +16,8 @@ pub fn serve<H: KeyHash, R: BufRead, W: Write>(
     reader: &mut R,
     writer: &mut W,
 ) -> io::Result<()> {
-    let mut line = line_buffer(alloc)?;
+    // The buffer never grows, so that reading lines takes no memory.
+    let mut line = Vec::with_capacity(alloc, LONGEST_LINE + 1)?;
     let mut session: Session<H> = Session::new(alloc);
     answers(alloc, &mut session, &mut line, reader, writer)
 }
@@ -67,9 +68,6 @@ fn write<W: Write>(outcome: &Result<Answer<'_>, Refusal>, writer: &mut W) -> io:
         Ok(Answer::Number(number)) => writeln!(writer, "{number}"),
         Err(Refusal::BadName) => writeln!(writer, "bad name"),
         Err(Refusal::NoName) => writeln!(writer, "no name"),
-        Err(Refusal::Error(e)) => {
-            let number = e.number();
-            writeln!(writer, "error {number}")
-        }
+        Err(Refusal::Error(e)) => writeln!(writer, "error {}", e.number()),
     }
 }

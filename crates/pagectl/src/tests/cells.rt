@@ -1,8 +1,7 @@
 //! Cells are written as what they hold when they are looked at, which no contract can say. What is read into one stands in the
 //! data of `vectors`.
 
-use crate::tests::equal::equal;
-use crate::tests::written::is_written;
+use crate::tests::equal::{equal, is_written};
 use pagable_examples::any::AnyEnv;
 use std::sync::OnceLock;
 use std::sync::atomic::{AtomicI64, Ordering};

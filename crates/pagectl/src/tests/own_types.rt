@@ -1,7 +1,6 @@
 //! Types of one's own of `pagable_examples` that are no data of `vectors`: each value is written, and read again. And a storage that fails.
 
-use crate::tests::equal::equal;
-use crate::tests::written::is_written;
+use crate::tests::equal::{equal, is_written};
 use pagable::{Error, InMemoryBlobs, PagableDeserialize, PagableSerialize, PagableStorage};
 use pagable_examples::any::read;
 use pagable_examples::{Dish, FailingStorage, Sheet, Size, quick_start};

@@ -10,19 +10,11 @@ fn a_reason_keeps_62_bytes_of_its_text(rt: HostRuntime) -> Result<(), Fail> {
     equal(&rt, Reason::new("").as_str(), "", "no text");
     equal(&rt, Reason::new(digits).as_str(), digits, "61 bytes");
     let long = "0123456789012345678901234567890123456789012345678901234567890é";
-    equal(
-        &rt,
-        Reason::new(long).as_str(),
-        digits,
-        "63 bytes, the last two one character",
-    );
-    let own = Error::Custom(Reason::new("intentional serialization failure"));
+    // (63 bytes, the last two one character)
+    equal(&rt, Reason::new(long).as_str(), digits, "63 bytes");
+    let told = "intentional serialization failure";
+    let own = Error::Custom(Reason::new(told));
     let text = format!(in rt.alloc(); "{own}")?;
-    equal(
-        &rt,
-        text.as_str(),
-        "intentional serialization failure",
-        "as it is shown",
-    );
+    equal(&rt, text.as_str(), told, "as it is shown");
     Ok(())
 }

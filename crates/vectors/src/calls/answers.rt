@@ -135,11 +135,8 @@ fn took(took: &Took<Arc<SerializedData>>) -> (&'static str, Option<Identity>, To
         Took::SetKey(identity, Ok(_)) => (" set", Some(*identity), NOTHING),
         Took::SetKey(identity, Err(e)) => (" set", Some(*identity), fault(" refused", e)),
         Took::Publish(identity, key, height) => {
-            (
-                " publish",
-                Some(*identity),
-                ("", Some(key.get()), Some(*height as u128)),
-            )
+            let told = ("", Some(key.get()), Some(*height as u128));
+            (" publish", Some(*identity), told)
         }
         Took::Release(identity) => (" release", Some(*identity), NOTHING),
         Took::Fail => (" fail", None, NOTHING),

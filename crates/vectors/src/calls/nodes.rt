@@ -233,10 +233,7 @@ impl<H: KeyHash> NodeSet<CellEnv<H>> for CellNode {
                 Ok(CellNode::Note(Arc::new(alloc, text)?))
             }
             2 => {
-                let mixed: (u8, Lists) = PagableDeserialize::pagable_deserialize(
-                    alloc,
-                    deserializer,
-                )?;
+                let mixed = PagableDeserialize::pagable_deserialize(alloc, deserializer)?;
                 Ok(CellNode::Mixed(Arc::new(alloc, mixed)?))
             }
             3 => Ok(CellNode::Link(Link::pagable_deserialize(alloc, deserializer)?)),
@@ -247,10 +244,7 @@ impl<H: KeyHash> NodeSet<CellEnv<H>> for CellNode {
             }
             6 => Ok(CellNode::Holder(OfKind::<0>::pagable_deserialize(alloc, deserializer)?)),
             7 => {
-                let (first, second): (u8, u8) = PagableDeserialize::pagable_deserialize(
-                    alloc,
-                    deserializer,
-                )?;
+                let (first, second) = PagableDeserialize::pagable_deserialize(alloc, deserializer)?;
                 Ok(CellNode::Bytes(first, second))
             }
             _ => Err(Error::WrongKind),
