@@ -2,23 +2,23 @@
 -- Each stage once: what is still to be done of it, with what was done, is at most what was claimed.
 -- What follows for keys: each that is published is its tree's, each that is answered is its task's, and what a worker met that answers one is left paged out.
 -- A worker's steps up to its answer: none of its own claims waits any more, and what another claimed is as it was.
-use Rattle.pagable_laws.proofs.Words.{Alike, ArcRef, Blob, Bool, Claim, Core, Does, Event, EventReply, Frame, FramesFit, HandleNumber, Happens, HoldsSettled, Identity, IsLawful, IsMachineWhole}
-use Rattle.pagable_laws.proofs.Words.{IsPublished, Last, List, LoadAnswer, LoadNumber, MachineState, Mode, None, Ok, OpenLoad, Option, OptionalDataKey, Owner, PagerState, Reading, ReadingFeels}
-use Rattle.pagable_laws.proofs.Words.{ReadsItsTypes, ReadsTree, Represents, Seen, Shelf, Site, Slot, Some, Task, Todo, Took, Tree, Values, Walking, WellFormed, WorkFits, WorkerAnswer, WorkerNumber}
-use Rattle.pagable_laws.proofs.Words.{WorkerReply, WorkerSteps, Written, [], answer_after, ap, append_assoc, arith, cases_Bool, false, give, held, identity_of, if_there, inl, inr, is_some, key_at}
-use Rattle.pagable_laws.proofs.Words.{nat_eq, nat_tests, no_result, nothing_felt, of_cell, of_entry, of_item, one, refl, subst, sum_by-cons, sym, times, to_fail, to_finish, to_item, to_load, to_pin}
+use Rattle.pagable_laws.proofs.Words.{Bool, Claim, Core, Does, Event, EventReply, Frame, FramesFit, HandleNumber, Happens, HoldsSettled, Identity, IsLawful, IsMachineWhole, IsPublished, Last, List}
+use Rattle.pagable_laws.proofs.Words.{LoadAnswer, LoadNumber, MachineState, Mode, None, Ok, OpenLoad, Option, OptionalDataKey, Owner, PagerState, Reading, ReadingFeels, ReadsItsTypes, Represents}
+use Rattle.pagable_laws.proofs.Words.{Seen, Shelf, Site, Slot, Some, Task, Todo, Took, Tree, Values, Walking, WellFormed, WorkFits, WorkerAnswer, WorkerNumber, WorkerReply, WorkerSteps, Written, []}
+use Rattle.pagable_laws.proofs.Words.{answer_after, ap, append_assoc, arith, cases_Bool, false, give, held, identity_of, if_there, inl, inr, is_some, key_at, nat_eq, nat_tests, no_result}
+use Rattle.pagable_laws.proofs.Words.{nothing_felt, of_cell, of_entry, of_item, one, refl, subst, sum_by-cons, sym, times, to_fail, to_finish, to_item, to_load, to_pin, to_release, to_set, to_start}
 use Rattle.pagable_laws.proofs.{Called.{begin-goes, begins-key}, Coming.{FailsMet, answered as was-answered, failed-elsewhere, failed-stays, fails-stay, first-met, follows-met, goes-same, stands-on}}
 use Rattle.pagable_laws.proofs.{Coming.updated-at, Decoding.{among-left, among-right}, Felt.{fits-nothing, reading-fits, trees-go-on}, Following.{IdentityStands, cell-of, keys-of, known-of}}
-use Rattle.pagable_laws.proofs.{Following.tree-form, Goes.Goes, Merkle.{one_item_key, one_key, tree_readable}, ReadingSteps.{caller-free, reading-feels}, SparingSteps.{hands, read-right}}
-use Rattle.pagable_laws.proofs.{Standing.{AllStand, AllWait, Covers, Goes as ShelfGoes, HasNoFailed, first-stands, grows, is_open_in, same-worker, some-none, some-same}, Stepping.{all-known, all-low}}
-use Rattle.pagable_laws.proofs.{Stepping.{done-on, keys-same, stands-for}, Taking.{Going, given-nodes, going-new, going-step, row-held, stands-here, was-open}, Trees.{each-type, same_some}}
-use Rattle.pagable_laws.proofs.{Trees.steps_follow, Words.{to_release, to_set, to_start, to_write, true, with_handle, world_of, ℕ, ◌&&◌, ◌++◌, ◌+◌, ◌==◌, ◌∙◌, ◌∷◌, ◌≡◌, ◌≤◌}}
-use Rattle.pagable_world.specs.Access.{AccessState, AllHaveResults, LoadAsksWell, LoadRun, PinLaw, ReadLaw, ReadingStep, WalkStep, WorkerRun, load-ends, load-goes-on, worker-ends, worker-goes-on}
-use Rattle.pagable_world.specs.{Headline.{AreKeysOf, FailedElsewhere, IsKeyOfTask, IsLeftPagedOut, IsMetFailure, LeavesAll, Meets, ReadIsRight, meets-below, meets-entry, meets-of-item}, Kinds.has_key}
-use Rattle.pagable_world.specs.{LoadCalls.with_load, Loads.{Does as LoadDoes, gone_on}, Order.{Follows, InOrder, Leads, OnceEach, is_claim_of, is_later_of}, Pager.{Moves, SameTrees, StandsFor}}
-use Rattle.pagable_world.specs.{Pager.kids_of, Plain.{is_loose_kind, longest_path}, Runs.TakesWell, Workers.{first_todo, fresh, is_open_outcome, next_start}, World.{Fault, Root, is_identity, of_key}}
-use Rattle.{pagable_laws.specs.TreeSteps.{AllHold, Ground, HasHandle, IsDone, KeyIsSet, KeysAreRight, KeysHeld, Waits, Walks, ground_of}, pagable_model.specs.Merkle.KeyOfItem}
-use Rattle.{pagable_world.specs.World.to_publish, std.{proofs.Math.Nat.zero-add, specs.Prelude.nat_le}}
+use Rattle.pagable_laws.proofs.{Following.tree-form, Goes.Goes, Merkle.{one_item_key, one_key}, ReadingSteps.{caller-free, reading-feels}, SparingSteps.{hands, read-right}, Standing.AllStand}
+use Rattle.pagable_laws.proofs.{Standing.{AllWait, Covers, Goes as ShelfGoes, HasNoFailed, first-stands, grows, same-worker, some-none, some-same}, Stepping.{all-known, all-low, done-on, keys-same}}
+use Rattle.pagable_laws.proofs.{Stepping.stands-for, Taking.{Going, given-nodes, going-new, going-step, row-held, stands-here, was-open}, Trees.{same_some, steps_follow}, Words.{Alike, ArcRef, Blob}}
+use Rattle.pagable_laws.{proofs.Words.{to_write, true, with_handle, world_of, ℕ, ◌&&◌, ◌++◌, ◌+◌, ◌==◌, ◌∙◌, ◌∷◌, ◌≡◌, ◌≤◌}, specs.TreeSteps.{AllHold, Ground, HasHandle, IsDone, KeyIsSet, KeysHeld}}
+use Rattle.pagable_world.specs.Headline.{FailedElsewhere, IsKeyOfTask, IsLeftPagedOut, IsMetFailure, LeavesAll, Meets, PublishIsKey, ReadIsRight, meets-below, meets-entry, meets-of-item}
+use Rattle.pagable_world.specs.{Access.{ReadLaw, ReadingStep, WalkStep, WorkerRun, load-ends, load-goes-on, worker-ends, worker-goes-on}, Headline.{AnswerIsKey, AnswerLeavesAll, AreKeysOf}}
+use Rattle.pagable_world.specs.{Kinds.has_key, LoadCalls.with_load, Loads.{Does as LoadDoes, gone_on}, Order.{Follows, Leads, is_claim_of, is_later_of}, Pager.{Moves, SameTrees, StandsFor, kids_of}}
+use Rattle.pagable_world.specs.{Plain.{is_loose_kind, longest_path}, Runs.TakesWell, Workers.{first_todo, fresh, is_open_outcome, next_start}, World.{Fault, Root, is_identity, of_key, to_publish}}
+use Rattle.std.{proofs.Math.Nat.zero-add, specs.Prelude.nat_le}
+use Rattle.{pagable_laws.specs.TreeSteps.{Waits, Walks, ground_of}, pagable_model.specs.Merkle.KeyOfItem, pagable_world.specs.Access.{AccessState, AllHaveResults, LoadAsksWell, LoadRun, PinLaw}}
 
 -- the pager stands for trees, and what the load has read fits them
 record Under {N E : Type 0} (v : Values N) (s : PagerState N E) (trees : ℕ → Tree) (key : ℕ) (reading : Reading) : Type 0 where
@@ -51,7 +51,7 @@ module _ {N E : Type 0} {v : Values N} (lawful : IsLawful v) (readable : ReadsIt
       let seen : Seen N Blob Written = record { values = v; blob_of = λ b. b; written_of = λ w. w } in
       let felt = reading-feels seen s.core Owner.Caller caller-free s'.core reading answer frames step.does in
       let feels = felt.feels u.well.whole.handles in
-      let fit = reading-fits lawful readable u.settled u.well step.whole u.stands reading u.going.fits (given-nodes reading.frames u.going.held) felt.does.goes takes felt.opens feels in
+      let fit = reading-fits lawful u.settled u.well step.whole u.stands readable reading u.going.fits (given-nodes reading.frames u.going.held) felt.does.goes takes felt.opens feels in
       let stands = trees-go-on lawful u.settled u.well step.whole u.stands step.moves felt.does.goes fit.1 in
       record {
         trees' = fit.0;
@@ -136,17 +136,15 @@ IsWay (to_start r place ∷ []) = ⊥
 IsWay (x ∷ below) = AllWait below
 
 module _ (k : ℕ) (i : Identity) where
-  unfoldable all-left : List Todo → ℕ
+  abbrev all-left : List Todo → ℕ
   all-left [] = 0
   all-left (x ∷ todo) = left k i x + all-left todo
 
   started : (place : ℕ) (rs : List ArcRef) (x : Todo) (below : List Todo) → AllWait (x ∷ below)
       → (all-left (next_start place rs ++ x ∷ below) ≡ all-left (x ∷ below)) × IsWay (next_start place rs ++ x ∷ below)
-  unfolding AllWait all-left
   started place x1 x2 below more = grind (arith, nat_tests, zero-add)
 
   given : (r : ArcRef) (key height : ℕ) (below : List Todo) → AllWait below → (all-left (give r key height below) ≡ all-left below) × IsWay (give r key height below)
-  unfolding AllWait all-left
   given r key height x3 waits = grind (arith, nat_tests, started)
 
   -- whether the reference is of the identity
@@ -159,16 +157,13 @@ module _ (k : ℕ) (i : Identity) where
   ends : (p : ℕ) (r : ArcRef) (m n : ℕ) → m ≤ n → one (k == p && at r) + m ≤ 0 + (from k p (at r) + n)
   ends p r m n few = grind (arith, nat_tests)
 
-  failed : {next : List Todo} {fault : Fault} {back : Option HandleNumber} (todo : List Todo) → next ≡ to_fail fault back ∷ []
-      → (one false + all-left next ≤ one false + all-left todo) × IsWay next
-  unfolding AllWait all-left
+  failed : {next : List Todo} {fault : Fault} {back : Option HandleNumber} (todo : List Todo) → next ≡ to_fail fault back ∷ [] → (one false + all-left next ≤ one false + all-left todo) × IsWay next
   failed todo e = rw e (omega arith, tt)
 
   module _ {W : Type 0} (f : W → Written) where
     -- one step: what is of the stage, with what is left of it, is at most a claim with what was left before
     goes : (todo : List Todo) (step : Took W) (next : List Todo) → IsWay todo → Follows f todo step next
         → (one (is_later_of k i step) + all-left next ≤ one (is_claim_of i step) + all-left todo) × IsWay next
-    unfolding AllWait all-left
     goes (to_start r place ∷ []) step next way follows = absurd way
     goes _ step next way follows = grind (arith, nat_tests, failed, started, given, goes-up, ends)
 
@@ -196,7 +191,6 @@ module _ (k : ℕ) (i : Identity) where
 
     -- the entry of a listed cell, which may be known already
     entry : (r : ArcRef) (place : ℕ) (steps : List (Took W)) (last : List Todo) → Leads f (to_start r place ∷ []) steps last → times (is_claim_of i) steps ≤ 1 → times (is_later_of k i) steps ≤ 1
-    unfolding AllWait all-left
     entry r place [] last leads few = omega arith
     entry r place (Took.Claim j (Ok Claim.Claimed) ∷ steps) last (mid, (is, e), leads) few =
         let few_left : one (at r) + times (is_claim_of i) steps ≤ 1 = subst (λ j. one (is_identity i j) + times (is_claim_of i) steps ≤ 1) is
@@ -207,13 +201,9 @@ module _ (k : ℕ) (i : Identity) where
         grind (arith, nat_tests, once-more, entry r place steps last (subst (λ m. Leads f m steps last) e leads) less)
     entry r place (step ∷ steps) last (mid, follows, leads) few = grind (arith, nat_tests, once-more, bounded, along, few-claims, after-release)
 
-    at-once : (task : Task) (steps : List (Took W)) (last : List Todo) → Leads f (first_todo task) steps last → times (is_claim_of i) steps ≤ 1 → times (is_later_of k i) steps ≤ 1
-    unfolding AllWait all-left
+    -- what the automaton accepts, with no identity claimed twice, has each stage at most once after its claim
+    pub at-once : (task : Task) (steps : List (Took W)) (last : List Todo) → Leads f (first_todo task) steps last → times (is_claim_of i) steps ≤ 1 → times (is_later_of k i) steps ≤ 1
     at-once x0 steps last leads few = grind (arith, nat_tests, started, bounded, along, zero-add, entry)
-
--- what the automaton accepts, with no identity claimed twice, has each stage at most once after its claim
-pub once_each : {W : Type 0} (f : W → Written) (task : Task) (steps : List (Took W)) → InOrder f task steps → ((i : Identity) → times (is_claim_of i) steps ≤ 1) → OnceEach steps
-once_each f task steps order few = record { claim = few; later = λ stage i. at-once stage i f task steps order.left order.leads (few i) }
 
 -- ---- one step of a worker
 
@@ -273,7 +263,6 @@ key-known w n set live = some-key (key_at w n) (let keyed = set.keyed in grind (
 -- a cell whose key is published has one by then
 set-by-then : {N B W : Type 0} (m : Seen N B W) (n : ℕ) (s s' : Site) (todo : List Todo) (i : Identity) (key height : ℕ) → Does m n s todo (Took.Publish i key height) s' → AllHold s.core n todo
     → ((k : ℕ) → HasHandle s.core n k → is_some (s.core.cells k) ≡ true) → is_loose_kind i.kind.0 ≡ true → (set : ℕ) × (key_at s.core i.node.0 ≡ OptionalDataKey.Some set)
-unfolding AllHold
 set-by-then m n s s' (to_publish r k h ∷ below) i key height does all live kind =
     subst (λ (j : Identity). (set : ℕ) × (key_at s.core j.node.0 ≡ OptionalDataKey.Some set)) (sym does.0)
     (key-known s.core r.node.0 (all.0.0 (subst (λ (j : Identity). is_loose_kind j.kind.0 ≡ true) does.0 kind)) (live r.node.0 all.0.1))
@@ -297,36 +286,28 @@ module _ {N B W E : Type 0} (m : Seen N B W) (s s' : MachineState N E) (trees tr
     is-after P p walking there = grind (arith, nat_tests, same_some, updated-at)
 
   left-all : (t : ℕ) (task : Task) (key : ℕ) → IsDone m.values (s'.work.shelves t) task key → LeavesAll m.values s'.pager (s'.work.shelves t) trees' task
-  left-all t task key done =
-      record {
-        blobs = λ i meets. let p = met m.values s' trees' after t task key done i meets in left-paged-out m.values s' trees' after t i p.0 p.1.0 p.1.1;
-        cells = λ i meets kind live.
-            let p = met m.values s' trees' after t task key done i meets in let k = key-known s'.pager.core i.node.0 (held.slots t i p.0 p.1.0 p.1.1 kind) live in
-            let handles = whole.pager.whole.handles in let represents = stands.pager in record { key = k.0; set = k.1; reads = (grind (arith, nat_tests)) };
-      }
+  left-all t task key done = record {
+    blobs = λ i meets. let p = met m.values s' trees' after t task key done i meets in left-paged-out m.values s' trees' after t i p.0 p.1.0 p.1.1;
+    cells = λ i meets kind live.
+        let p = met m.values s' trees' after t task key done i meets in let k = key-known s'.pager.core i.node.0 (held.slots t i p.0 p.1.0 p.1.1 kind) live in
+        let handles = whole.pager.whole.handles in let represents = stands.pager in record { key = k.0; set = k.1; reads = (grind (arith, nat_tests)) };
+  }
 
-  pub keys-right : (event : Event N B W) (reply : EventReply N B W) → Happens m (world_of s) event reply (world_of s') → KeysAreRight m.values s trees event reply s' trees'
+  -- each key that is published is its tree's, and a cell had one by then; each that is answered is its task's, and what was met then is left paged out, with keys of its cells
+  pub keys-right : (event : Event N B W) (reply : EventReply N B W) → Happens m (world_of s) event reply (world_of s')
+      → PublishIsKey m.values s trees event reply s' trees' × AnswerIsKey m.values s trees event reply s' trees' × AnswerLeavesAll m.values s trees event reply s' trees'
   keys-right (Event.WorkerStep n) (EventReply.WorkerMoved (Ok reply)) is =
-      let w = is.moves in
-      record {
-        publishes = λ i key height e.
+      let w = is.moves in (
+        λ i key height e.
             let does = subst (λ (k : Took W). Does m n.0 (site n reply w) w.walking.todo k w.after) e w.does.does in
             let set = set-by-then m n.0 (site n reply w) w.after w.walking.todo i key height does (held_before.walks n.0 w.walking w.at) (λ k h.
-            subst (λ k. is_some (s.pager.core.cells k) ≡ true) h.at (cell-of earlier.pager.whole.handles h.row.node.0 (row-held s.pager.core h.h h.row h.live))) in (grind (arith, nat_tests), set);
-        key = λ walking key there e. is-after n reply w (λ x. IsKeyOfTask m.values trees' x.task key)
-            (is-key m.values s' trees' after w.walking.table w.walking.task key (done n reply w key e)) walking there;
-        leaves = λ walking key there e. is-after n reply w (λ x. LeavesAll m.values s'.pager (s'.work.shelves x.table) trees' x.task)
-            (left-all w.walking.table w.walking.task key (done n reply w key e)) walking there;
-      }
-  keys-right event reply is = record { publishes = tt; key = tt; leaves = tt }
-
--- ---- what a worker is about to set
-
--- a key that a worker is about to set reads as its node's tree
-pub sets-key : {N E : Type 0} (v : Values N) (s : MachineState N E) (trees : ℕ → Tree) → ReadsItsTypes v.types → WorkFits v s trees
-    → (n : ℕ) (walking : Walking) (r : ArcRef) (through : HandleNumber) (key height : ℕ) (below : List Todo)
-    → s.work.walkings n ≡ Some walking → walking.todo ≡ to_set r through key height ∷ below → ReadsTree s.pager.core.stored v.types key (trees r.node.0)
-sets-key v s trees reads fit n walking r through key height below there is = grind (arith, nat_tests, same_some, tree_readable, each-type)
+            subst (λ k. is_some (s.pager.core.cells k) ≡ true) h.at (cell-of earlier.pager.whole.handles h.row.node.0 (row-held s.pager.core h.h h.row h.live))) in (grind (arith, nat_tests), set),
+        λ walking key there e. is-after n reply w (λ x. IsKeyOfTask m.values trees' x.task key)
+            (is-key m.values s' trees' after w.walking.table w.walking.task key (done n reply w key e)) walking there,
+        λ walking key there e. is-after n reply w (λ x. LeavesAll m.values s'.pager (s'.work.shelves x.table) trees' x.task)
+            (left-all w.walking.table w.walking.task key (done n reply w key e)) walking there,
+      )
+  keys-right event reply is = (tt, tt, tt)
 
 module _ {N E B W : Type 0} (m : Seen N B W) (n : ℕ) (task : Task) (C : Type 0) where
   went : {todo next : List Todo} {s s' : AccessState N E} {step : Took W} → WalkStep m n todo s step next s' → AllStand s.shelf n task todo → Covers s.shelf n todo
@@ -334,14 +315,13 @@ module _ {N E B W : Type 0} (m : Seen N B W) (n : ℕ) (task : Task) (C : Type 0
   went {todo} {next} {s} {s'} {step} w all covers =
       subst (λ t. ShelfGoes n task s.shelf (answer_after todo step) s'.shelf t) (sym w.goes_on)
       (goes-same n task s.shelf w.after.shelf s'.shelf _ w.after.todo w.shelf_is.slots
-      (stands-on m n task (record { core = s.pager.core; shelf = s.shelf; todo = todo }) w.after all covers step w.does.does))
+      (stands-on m n task (record { core = s.pager.core; shelf = s.shelf; todo = todo }) w.after todo refl all covers step w.does.does))
 
   -- What a worker leaves with its answer: of its own claims, and of others'. And what it failed with was met where, if C, what its list fails with was met, and none of its claims had failed.
   at-answer : {todo : List Todo} {s s' : AccessState N E} {steps : List (Took W)} {answer : WorkerAnswer} → WorkerRun m n todo s steps answer s' → (past : List (Took W)) → AllStand s.shelf n task todo
       → Covers s.shelf n todo → (C → HasNoFailed s.shelf n × FailsMet n s.shelf past todo)
       → ((i : Identity) (slot : Slot) → s'.shelf.slots i ≡ Some slot → slot.worker ≡ n → is_open_outcome slot.outcome ≡ false)
       × ((i : Identity) (slot : Slot) → s'.shelf.slots i ≡ Some slot → nat_eq slot.worker n ≡ false → s.shelf.slots i ≡ Some slot) × (C → IsMetFailure s'.shelf n (past ++ steps) answer)
-  unfolding is_open_in
   at-answer (worker-ends todo next step answer s s' w is) past all covers met =
       let g = went w all covers in let grown = grows n s.shelf s'.shelf g.changes in (
         λ i slot there own.
@@ -373,8 +353,8 @@ item-answered m n item {s} {s'} run all =
 -- of an entry, on a table of no claims: nobody had failed before
 pub entry-answered : {N E B W : Type 0} (m : Seen N B W) (n : ℕ) (h : HandleNumber) (j : Identity) {s s' : AccessState N E} {steps : List (Took W)} {answer : WorkerAnswer}
     → WorkerRun m n (first_todo (of_entry h j)) s steps answer s' → ((i : Identity) → s.shelf.slots i ≡ None) → answer ≡ WorkerAnswer.AlreadyFailed → ⊥
-entry-answered m n h j {s} {s'} {steps} run none is =
+entry-answered {W = W} m n h j {s} {s'} {steps} run none is =
     let a = at-answer m n (of_entry h j) (Unit {0}) run [] (first-stands s.shelf n (of_entry h j)) (λ i slot there own still. some-none there (none i))
-    (λ c. (λ i slot there own. some-none there (none i), first-met n s.shelf [] (of_entry h j))) in
+    (λ c. (λ i slot there own. some-none there (none i), first-met {W = W} n s.shelf [] (of_entry h j))) in
     let (i, among, failed) = subst (λ x. IsMetFailure s'.shelf n steps x) is (a.2 tt) in
     some-none (a.1 i failed.slot failed.claimed failed.of_another) (none i)

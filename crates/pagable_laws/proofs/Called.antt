@@ -1,22 +1,18 @@
 -- What trees feel of each call, by the call and its reply.
 use Rattle.pagable_laws.proofs.Effects.{Effect, IsMine, beside, both-none, but, cached, cached-if, entry, fell, forgets, handed, handle, like, load-named, load-owns, moves, no-one, node, none}
-use Rattle.pagable_laws.proofs.Words.{Call, Change, CloneCall, Core, Err, Error, Event, GetsKnown, HandleNumber, HandleRow, KeepsOpen, Kind, List, LoadNumber, Mode, NodeNumber, None, Ok, Option}
-use Rattle.pagable_laws.proofs.Words.{OptionalDataKey, Owner, PinCall, Reply, Result, Seen, Some, Values, [], adopted, ap, arith, bears_known, false, find_row, first_key, inl, inr, is_in, is_named_by}
-use Rattle.pagable_laws.proofs.{Effects.{none-named, opens, own-handle, own-mode, own-named, owned-mine, shuts, stays, turned, with-key}, Goes.{Goes, KnowsNext, NotLoads, a-handle, begun}}
-use Rattle.pagable_laws.proofs.{Goes.{found-changed, goes-then, quiet-goes}, GoodReferences.{alike-away, fell-away, good}, Trees.{same-number, same_some}, Words.{Alike, ArcRef, Beginning, Blob, Bool}}
-use Rattle.pagable_laws.specs.TreeSteps.{CallFeels, StaysAway, bears_node, feels-adopted, feels-away, feels-birth, feels-end, feels-key, feels-known, feels-lazy, feels-nothing, knows_node, sets_key}
-use Rattle.pagable_laws.{proofs.Words.{moved, nat_tests, next_node, nothing_felt, of_cell, owner_value, refl, rules, subst, sym, true, with_handle, ℕ, ◌∙◌, ◌≡◌, ◌⊎◌}, specs.TreeSteps.AreGood}
-use Rattle.pagable_world.specs.LoadCalls.{AdoptCall, AskCall, BeginCall, BeginKeyCall, EndCall, Given, HandOverCall, Installs, LazyCall, LoadCloses, MayEnd, is_owned_in, numbers_of, without_load}
-use Rattle.pagable_world.specs.{Calls.{Asked, BirthCall, OfferCall, RecallCall, ReleaseCall, ScheduleCall, SetKeyCall, StoreCall, with_known}, Cascade.{FallsAnyhow, only_handle}, Events.Does}
-use Rattle.pagable_world.specs.{OneWorker.LeavesCache, Pager.{CallBrings, IsNewNode}, World.{of_key, usable}, declared.{answers.Pinning.Pinning, calls.Want.Want}}
+use Rattle.pagable_laws.proofs.Words.{Core, Err, Error, Event, GetsKnown, HandleNumber, HandleRow, KeepsOpen, Kind, List, LoadNumber, Mode, NodeNumber, None, Ok, Option, OptionalDataKey, Owner}
+use Rattle.pagable_laws.proofs.Words.{PinCall, Reply, Result, Seen, Some, Values, [], adopted, ap, arith, bears_known, false, find_row, first_key, inl, inr, is_in, is_named_by, moved, nat_tests}
+use Rattle.pagable_laws.proofs.{Effects.{none-named, opens, own-handle, own-mode, own-named, owned-mine, shuts, stays, turned, with-key}, Goes.{Goes, KnowsNext, NotLoads, a-handle, alike-away, begun}}
+use Rattle.pagable_laws.proofs.{Goes.{fell-away, found-changed, goes-then, good, quiet-goes}, Trees.{same-number, same_some}, Words.{Alike, ArcRef, Beginning, Blob, Bool, Call, Change, CloneCall}}
+use Rattle.pagable_laws.specs.TreeSteps.{bears_node, feels-adopted, feels-away, feels-birth, feels-end, feels-key, feels-known, feels-lazy, feels-nothing, knows_node, sets_key}
+use Rattle.pagable_laws.{proofs.Words.{next_node, nothing_felt, of_cell, owner_value, refl, rules, subst, sym, true, with_handle, ℕ, ◌∙◌, ◌≡◌, ◌⊎◌}, specs.TreeSteps.{AreGood, CallFeels, StaysAway}}
+use Rattle.pagable_world.specs.{Calls.{Asked, BirthCall, RecallCall, ReleaseCall, ScheduleCall, StoreCall, with_known}, Cascade.{FallsAnyhow, only_handle}, Events.Does, LoadCalls.{AskCall, BeginCall}}
+use Rattle.pagable_world.specs.{LoadCalls.{BeginKeyCall, EndCall, Given, HandOverCall, LoadCloses, is_owned_in, numbers_of, without_load}, OneWorker.LeavesCache, Pager.{CallBrings, IsNewNode}}
+use Rattle.pagable_world.specs.{World.{of_key, usable}, declared.{answers.Pinning.Pinning, calls.Want.Want}}
 
 -- ---- each call, and what loads do, by whoever asks
 
 module _ {me : Owner} {lists : Bool} {Asks Leaves : Type 0} {c : Change} where
-  -- nothing changes: what search knows of any asker, it applies here of this one
-  same : {w w' : Core} → Alike w w' → Effect me lists Asks Leaves false c w w'
-  same a = stays a
-
   pub made-handle : {w w' : Core} (node : NodeNumber) (mode : Mode) (owner : Owner) → Alike (with_handle w node mode owner) w' → Effect me lists Asks Leaves false c w w'
   made-handle {w = w} node mode owner a = like (handle (none w) node mode owner) a
 
@@ -33,16 +29,16 @@ module _ {me : Owner} {lists : Bool} {Asks Leaves : Type 0} {c : Change} where
   stores (Err e) x = was-asked x.refused.0
 
   pub clones : {w w' : Core} {h : HandleNumber} (r : Result HandleNumber Error) → CloneCall w me h r w' → Effect me lists Asks Leaves false c w w'
-  clones x0 x = grind (arith, nat_tests, made-handle, same)
+  clones x0 x = grind (arith, nat_tests, made-handle, stays {me = me} {lists = lists} {Asks = Asks} {Leaves = Leaves} {c = c})
 
   pub recalls : {w w' : Core} {kind : Kind} {key : ℕ} (r : Result (Option HandleNumber) Error) → RecallCall w me kind key r w' → Effect me lists Asks Leaves false c w w'
-  recalls x0 x = grind (arith, nat_tests, made-handle, same)
+  recalls x0 x = grind (arith, nat_tests, made-handle, stays {me = me} {lists = lists} {Asks = Asks} {Leaves = Leaves} {c = c})
 
   pub gets-known : {w w' : Core} {l : LoadNumber} {kind : Kind} {key : ℕ} {k : HandleNumber} → GetsKnown w l kind key k w' → Effect me lists Asks Leaves false c w w'
   gets-known g = made-handle _ _ _ g.leaves
 
   pub asks : {w w' : Core} {l : LoadNumber} {want : Want} (r : Result Given Error) → AskCall w me l want r w' → Effect me lists Asks Leaves false c w w'
-  asks x0 x = grind (arith, nat_tests, was-asked, gets-known, same_some, same)
+  asks x0 x = grind (arith, nat_tests, was-asked, gets-known, same_some, stays {me = me} {lists = lists} {Asks = Asks} {Leaves = Leaves} {c = c})
 
   pub closes : {w w' : Core} (l : LoadNumber) {r : Result (Unit {0}) Error} → (Asks → IsMine w me l) → LoadCloses w l r w' → Effect me lists Asks Leaves false c w w'
   closes {w = w} l mine f = fell (shuts (none w) l mine) f (load-owns w l)
@@ -55,7 +51,7 @@ module _ {me : Owner} {lists : Bool} {Asks Leaves : Type 0} {c : Change} where
   module _ (free : NotLoads me) where
     pub pins : {w w' : Core} {h : HandleNumber} (r : Result Pinning Error) → PinCall w me h r w' → Effect me lists Asks Leaves false c w w'
     pins {w = w} {h = h} (Ok (Pinning.Pinned k)) x = like (handle (own-mode free w h x.pins.0 x.pins.1 Mode.LoosePinned refl) _ Mode.Pinned me) x.pins.2.2
-    pins x0 x = grind (arith, nat_tests, same)
+    pins x0 x = grind (arith, nat_tests, stays {me = me} {lists = lists} {Asks = Asks} {Leaves = Leaves} {c = c})
 
     pub schedules : {w w' : Core} (h : HandleNumber) (r : Result (Unit {0}) Error) → ScheduleCall w me h r w' → Effect me lists Asks Leaves false c w w'
     schedules {w = w} h (Ok u) x = elim x.moves.2 [
@@ -73,9 +69,10 @@ module _ {me : Owner} {lists : Bool} {Asks Leaves : Type 0} {c : Change} where
     hands-over l hs (Err e) x = stays x.refused.1
 
     -- the caller's handle was not a load's, and isn't one's after references have moved to the value
-    installed : {w w' : Core} {t : ℕ} {references : List ArcRef} {k : HandleNumber} (l : LoadNumber) (p : NodeNumber) (h : HandleNumber) → MayEnd w me l p h t references
-        → Installs w me l p h k references w' → Effect me lists Asks Leaves false c w w'
-    installed {w} {w'} {references = references} l p h may i =
+    pub ends-load : {N : Type 0} {w w' : Core} {x : N} {t : ℕ} {references : List ArcRef} (l : LoadNumber) (r : Result HandleNumber (Error × Option N)) → EndCall w me l x t references r w'
+        → Effect me lists Asks Leaves false c w w'
+    ends-load {w = w} {w'} {references = references} l (Ok k) e =
+        let (p, h, may, i) = e.installs in
         let closed : Effect me lists Asks Leaves true c w (without_load w l) = shuts (none w) l (λ own. owned-mine may.owned) in
         let own-free : (r : HandleRow) → find_row h.0 w.rows ≡ Some r → NotLoads r.owner =
         λ r found. subst NotLoads (sym (ap (λ (x : HandleRow). x.owner) (same_some _ _ (sym found ∙ i.owned.live)) ∙ i.owned.own)) free in
@@ -88,10 +85,6 @@ module _ {me : Owner} {lists : Bool} {Asks Leaves : Type 0} {c : Change} where
               h Mode.LoosePinned refl (own-handle h i.row i.owned) pinned-free) p Mode.Pinned me) f.falls (but (is_owned_in w (Owner.Load l)) (is_named_by references) (load-owns w l))
           | inr (there, f) ↦ fell (handle (turned closed h Mode.LoosePinned refl (own-handle h i.row i.owned) own-free) p Mode.Pinned me) f.falls (load-owns w l)
         ]
-
-    pub ends-load : {N : Type 0} {w w' : Core} {x : N} {t : ℕ} {references : List ArcRef} (l : LoadNumber) (r : Result HandleNumber (Error × Option N)) → EndCall w me l x t references r w'
-        → Effect me lists Asks Leaves false c w w'
-    ends-load l (Ok k) e = let (p, h, may, i) = e.installs in installed l p h may i
     ends-load l (Err (e, Some y)) x = stays x.refused.1.stays
     ends-load l (Err (e, None)) x = closes l (λ own. owned-mine x.refused.may.owned) x.refused.closes
 
@@ -99,9 +92,6 @@ module _ {me : Owner} {lists : Bool} {Asks Leaves : Type 0} {c : Change} where
   releases {w = w} h r x = elim x.does [ inl refused ↦ stays refused.stays | inr (row, owns, f) ↦ fell (none w) f (own-handle h row owns) ]
 
 module _ {me : Owner} {lists : Bool} {Asks Leaves : Type 0} where
-  unfelt : {w w' : Core} → Alike w w' → Effect me lists Asks Leaves false nothing_felt w w'
-  unfelt a = stays a
-
   pub begins : {w w' : Core} {h : HandleNumber} (r : Result Beginning Error) → BeginCall w me h r w' → Effect me lists Asks Leaves false nothing_felt w w'
   begins {w} {w'} {h} (Ok (Beginning.Load l key)) x =
       let row : HandleRow = x.begins.0 in
@@ -110,11 +100,11 @@ module _ {me : Owner} {lists : Bool} {Asks Leaves : Type 0} where
       like (opens (handle (none w) row.node Mode.LooseUnpinned (Owner.Load l)) key (of_cell row.node a.4.0 h)
       (goes-then (quiet-goes nothing_felt (a-handle w row.node Mode.LooseUnpinned (Owner.Load l)))
       (begun nothing_felt made key (of_cell row.node a.4.0 h) me (λ node t k root. let typed = a.4.1 in let own = a.1 in grind (arith, nat_tests))))) a.4.2
-  begins x0 x = grind (arith, nat_tests, unfelt)
+  begins x0 x = grind (arith, nat_tests, stays {me = me} {lists = lists} {Asks = Asks} {Leaves = Leaves} {c = nothing_felt})
 
   pub begins-key : {w w' : Core} {key : ℕ} (r : Result Beginning Error) → BeginKeyCall w me key r w' → Effect me lists Asks Leaves false nothing_felt w w'
   begins-key {w} {key = key} (Ok (Beginning.Load l k)) x = like (opens (none w) key of_key (begun nothing_felt w key of_key me (λ node t h is. absurd (cc)))) x.begins.2
-  begins-key x0 x = grind (arith, nat_tests, unfelt)
+  begins-key x0 x = grind (arith, nat_tests, stays {me = me} {lists = lists} {Asks = Asks} {Leaves = Leaves} {c = nothing_felt})
 
   -- a node that a load adopts, which the cache gets to know while the storage is open
   pub adopts : {w w' : Core} (l : LoadNumber) (kind : Kind) (key : ℕ) (own : OptionalDataKey) (references : List ArcRef) → usable w kind.0 key ≡ None → AreGood w (Owner.Load l) references
@@ -145,12 +135,6 @@ module _ {N B W : Type 0} (m : Seen N B W) (w : Core) (me : Owner) (free : NotLo
       → Effect me true (Unit {0}) (LeavesCache {N = N} {B = B} {W = W} (Event.Call call)) false nothing_felt w w' → CG call reply
   quiet brings s = so nothing_felt s (feels-nothing brings)
 
-  unmoved : Alike w w' → Effect me true (Unit {0}) (Unit {0}) false nothing_felt w w'
-  unmoved a = stays a
-
-  asked : Asked w w' → Effect me true (Unit {0}) (Unit {0}) false nothing_felt w w'
-  asked a = was-asked a
-
   births : (call : Call N B) (x : N) (mode : Mode) → ((n : ℕ) (y : N) → CallBrings w call n y → (y ≡ x) × IsNewNode w n) → (r : Result HandleNumber (Error × N))
       → BirthCall w me x (m.values.node_type x) (m.values.references x) mode r w' → CG call (Reply.Made r)
   births call x mode brings (Ok k) c =
@@ -160,49 +144,6 @@ module _ {N B W : Type 0} (m : Seen N B W) (w : Core) (me : Owner) (free : NotLo
       so (bears_node t OptionalDataKey.None) (like (handle (node w t OptionalDataKey.None references (refl, refl) (own-named w references right)) (next_node w) mode me) c.made.3)
       (feels-birth x brings right)
   births call x mode brings (Err e) c = quiet (λ n y b. inl (brings n y b).1) (stays c.refused.1.stays)
-
-  sets : (h : HandleNumber) (key : ℕ) (r : Result (Unit {0}) Error) → SetKeyCall w me h key r w' → CG (Call.SetDataKey h key) (Reply.Done r)
-  sets h key r c = elim c.does [
-    | inl refused ↦ quiet (λ n x b. absurd b) (stays refused.stays)
-    | inr (row, owns, inl (mode, told, a)) ↦ quiet (λ n x b. absurd b) (stays a)
-    | inr (row, owns, inr (loose, f)) ↦ so (sets_key row.node.0 key) (fell (with-key w row.node key) f no-one) (feels-key h key row (record { live = owns.live; own = owns.own; as_asked = loose }))
-  ]
-
-  offers : (kind : Kind) (key : ℕ) (h : HandleNumber) (r : Result (Option HandleNumber) Error) → OfferCall w me kind key h r w' → CG (Call.OnArcDeserialized kind key h) (Reply.FromCache r)
-  offers kind key h (Ok None) c =
-      let row : HandleRow = c.answers.0 in
-      let owns = c.answers.1 in
-      so (knows_node kind.0 key row.node.0) (like (cached (none w) kind key row.node (refl, refl, refl) c.answers.3.1) c.answers.3.2)
-      (feels-known kind key h row (record { live = owns.live; own = owns.own; as_asked = refl }) c.answers.2)
-  offers kind key h (Ok (Some k)) c = elim c.answers.3 [
-    | inl (closed, same, a) ↦ quiet (λ n x b. absurd b) (stays a)
-    | inr (open_still, (n, usable, next, f)) ↦ quiet (λ n x b. absurd b) (fell (handle (none w) _ _ me) f.falls (own-handle h c.answers.0 c.answers.1))
-  ]
-  offers kind key h (Err e) c = quiet (λ n x b. absurd b) (stays c.refused.stays)
-
-  adopting : (l : LoadNumber) (kind : Kind) (key : ℕ) (x : N) (r : Result HandleNumber (Error × N)) → AdoptCall w me l kind key x (m.values.node_type x) (m.values.references x) r w'
-      → CG (Call.LoadAdopt l kind key x) (Reply.Made r)
-  adopting l kind key x (Ok k) c =
-      let right = good w (Owner.Load l) [] (m.values.references x) c.adopts.good in
-      elim c.adopts.makes [
-        | inl (n, usable, f) ↦ quiet (λ n y b. inl b.1) (adopts-known l kind n (m.values.references x) right f)
-        | inr (unknown, few, a) ↦ so (bears_known kind.0 key (first_key kind.0 key)) (adopts l kind key (first_key kind.0 key) (m.values.references x) unknown right a)
-            (feels-adopted l kind key x k c.adopts.typed right)
-      ]
-  adopting l kind key x (Err e) c = quiet (λ n y b. inl b.1) (stays c.refused.1.stays)
-
-  lazily : (l : LoadNumber) (kind : Kind) (key : ℕ) (r : Result HandleNumber Error) → LazyCall w me l kind key r w' → CG (Call.LoadLazy l kind key) (Reply.Handle r)
-  lazily l kind key (Ok k) c = elim c.makes.3 [
-    | inl known ↦ quiet (λ n x b. absurd b) (gets-known known)
-    | inr (unknown, few, next, a) ↦ so (bears_known kind.0 key (OptionalDataKey.Some key)) (adopts l kind key (OptionalDataKey.Some key) [] unknown (none-named w (Owner.Load l)) a)
-        (feels-lazy l kind key k)
-  ]
-  lazily l kind key (Err e) c = quiet (λ n x b. absurd b) (stays c.refused.stays)
-
-  load-ends : (l : LoadNumber) (x : N) (r : Result HandleNumber (Error × Option N)) → EndCall w me l x (m.values.node_type x) (m.values.references x) r w' → CG (Call.LoadEnd l x) (Reply.LoadEnded r)
-  load-ends l x (Ok k) c = so nothing_felt (ends-load free l (Ok k) c) (feels-end l x k (good w (Owner.Load l) [] (m.values.references x) c.installs.2.good))
-  load-ends l x (Err (e, Some y)) c = quiet (λ n z b. inr (alike-away c.refused.1.stays n)) (ends-load free l (Err (e, Some y)) c)
-  load-ends l x (Err (e, None)) c = quiet (λ n z b. inr (fell-away c.refused.closes n)) (ends-load free l (Err (e, None)) c)
 
   pub calls-go : (call : Call N B) (reply : Reply N B) → KeepsOpen {N = N} {B = B} {W = W} (Event.Call call) → Does m w me call reply w' → CG call reply
   calls-go (Call.NewPagedOut t key) (Reply.Handle (Ok k)) still c =
@@ -219,7 +160,6 @@ module _ {N B W : Type 0} (m : Seen N B W) (w : Core) (me : Owner) (free : NotLo
   calls-go (Call.IntoPagable h) (Reply.Handle (Ok k)) still c = quiet (λ n x b. absurd b) (like (own-mode free w h c.turned.0 c.turned.1 Mode.LoosePinned refl) c.turned.3)
   calls-go (Call.ScheduleForPaging h) (Reply.Done r) still c = quiet (λ n x b. absurd b) (schedules free h r c)
   calls-go (Call.TakePending i) (Reply.Taken (Some h)) still c = quiet (λ n x b. absurd b) (like (moves (none w) (only_handle h) me _ free (entry refl i h c.0)) c.1)
-  calls-go (Call.TakePending i) (Reply.Taken None) still c = quiet (λ n x b. absurd b) (stays c.1)
   calls-go (Call.CacheGet kind key) (Reply.FromCache r) still c = quiet (λ n x b. absurd b) (recalls r c)
   calls-go Call.CacheClear (Reply.Done r) still c = quiet (λ n x b. absurd b) (like (forgets w (λ leaves. leaves)) c.leaves)
   calls-go (Call.Store b) (Reply.Stored r) still c = quiet (λ n x b. absurd b) (stores r c)
@@ -229,7 +169,39 @@ module _ {N B W : Type 0} (m : Seen N B W) (w : Core) (me : Owner) (free : NotLo
   calls-go (Call.LoadTake l hs) (Reply.Done r) still c = quiet (λ n x b. absurd b) (hands-over free l hs.items r c)
   calls-go (Call.LoadDrop l) (Reply.Done r) still c = quiet (λ n x b. absurd b)
       (elim c.does [ inl refused ↦ stays refused.stays | inr (load, owned, closing) ↦ closes l (λ own. owned-mine owned) closing ])
-  calls-go _ reply still c = grind (arith, nat_tests, quiet, unmoved, asked, births, sets, offers, adopting, lazily, load-ends)
+  calls-go (Call.SetDataKey h key) (Reply.Done r) still c = elim c.does [
+    | inl refused ↦ quiet (λ n x b. absurd b) (stays refused.stays)
+    | inr (row, owns, inl (mode, told, a)) ↦ quiet (λ n x b. absurd b) (stays a)
+    | inr (row, owns, inr (loose, f)) ↦ so (sets_key row.node.0 key) (fell (with-key w row.node key) f no-one) (feels-key h key row (record { live = owns.live; own = owns.own; as_asked = loose }))
+  ]
+  calls-go (Call.OnArcDeserialized kind key h) (Reply.FromCache (Ok None)) still c =
+      let row : HandleRow = c.answers.0 in
+      let owns = c.answers.1 in
+      so (knows_node kind.0 key row.node.0) (like (cached (none w) kind key row.node (refl, refl, refl) c.answers.3.1) c.answers.3.2)
+      (feels-known kind key h row (record { live = owns.live; own = owns.own; as_asked = refl }) c.answers.2)
+  calls-go (Call.OnArcDeserialized kind key h) (Reply.FromCache (Ok (Some k))) still c = elim c.answers.3 [
+    | inl (closed, same, a) ↦ quiet (λ n x b. absurd b) (stays a)
+    | inr (open_still, (n, usable, next, f)) ↦ quiet (λ n x b. absurd b) (fell (handle (none w) _ _ me) f.falls (own-handle h c.answers.0 c.answers.1))
+  ]
+  calls-go (Call.LoadAdopt l kind key x) (Reply.Made (Ok k)) still c =
+      let right = good w (Owner.Load l) [] (m.values.references x) c.adopts.good in
+      elim c.adopts.makes [
+        | inl (n, usable, f) ↦ quiet (λ n y b. inl b.1) (adopts-known l kind n (m.values.references x) right f)
+        | inr (unknown, few, a) ↦ so (bears_known kind.0 key (first_key kind.0 key)) (adopts l kind key (first_key kind.0 key) (m.values.references x) unknown right a)
+            (feels-adopted l kind key x k c.adopts.typed right)
+      ]
+  calls-go (Call.LoadLazy l kind key) (Reply.Handle (Ok k)) still c = elim c.makes.3 [
+    | inl known ↦ quiet (λ n x b. absurd b) (gets-known known)
+    | inr (unknown, few, next, a) ↦ so (bears_known kind.0 key (OptionalDataKey.Some key)) (adopts l kind key (OptionalDataKey.Some key) [] unknown (none-named w (Owner.Load l)) a)
+        (feels-lazy l kind key k)
+  ]
+  calls-go (Call.LoadEnd l x) (Reply.LoadEnded (Ok k)) still c = so nothing_felt (ends-load free l (Ok k) c) (feels-end l x k (good w (Owner.Load l) [] (m.values.references x) c.installs.2.good))
+  calls-go (Call.LoadEnd l x) (Reply.LoadEnded (Err (e, Some y))) still c = quiet (λ n z b. inr (alike-away c.refused.1.stays n)) (ends-load free l (Err (e, Some y)) c)
+  calls-go (Call.LoadEnd l x) (Reply.LoadEnded (Err (e, None))) still c = quiet (λ n z b. inr (fell-away c.refused.closes n)) (ends-load free l (Err (e, None)) c)
+  calls-go _ reply still c =
+      let unmoved : Alike w w' → Effect me true (Unit {0}) (Unit {0}) false nothing_felt w w' = stays in
+      let asked : Asked w w' → Effect me true (Unit {0}) (Unit {0}) false nothing_felt w w' = was-asked in
+      grind (arith, nat_tests, quiet, unmoved, asked, births)
 
 -- the cache gets to know an old node only where the caller puts it there
 pub call-knows : (W : Type 0) {N B : Type 0} {v : Values N} {w w' : Core} {me : Owner} {call : Call N B} {reply : Reply N B} {c : Change} → CallFeels v w me call reply w' c

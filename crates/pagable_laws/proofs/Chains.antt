@@ -1,22 +1,22 @@
 -- A handle goes on to stand for its reference, as a clone does; a key that was set stays. And each event keeps trees: what it brings fits some trees afterwards, with all that its loads read.
-use Rattle.pagable_laws.proofs.{Answered.{keys-right, once_each, sets-key}, Called.{begin-goes, pins}, Coming.{EventTurns, HasGone, StandsIn, event-turns, goes-on, idle-stands, turns-keep}}
-use Rattle.pagable_laws.proofs.{Coming.{turns-stand, updated-at, waits-well}, Felt.{call-fits, fits-key, fits-nothing, none-comes, reading-fits, trees-go-on}, Following.given-of, Goes.Stands}
-use Rattle.pagable_laws.proofs.{Goes.{among-found, fell, found-number, goes-quiet, pins-hold, quiet-goes, stands-alike, stands-fell, stands-new, stands-whole}, ReadingSteps.{ends-quiet, event-goes}}
-use Rattle.pagable_laws.proofs.{ReadingSteps.{is-reading-of, readings-on, walk-goes, works-free}, SparingSteps.{LoadsStand, Spares, event-on, idle-bounded, reads-give, step-within, steps-left}}
-use Rattle.pagable_laws.proofs.{Standing.{KeepsTask, ShelfGrows, grows, is-same, keeps-task, put-cases, puts-slot, true-false}, Stepping.{fits-on, keys-same}, Taking.{Going, given-nodes, going-new}}
-use Rattle.pagable_laws.proofs.{Taking.{going-of, going-on, going-step, pin_stands, tree-stays}, Trees.{one-small, same_some, sum-zero}, Words.{Among, ArcRef, AreMoments, Beginning, Bool, Change}}
-use Rattle.pagable_laws.proofs.Words.{Claim, CloneCall, Core, Does, Event, EventReply, HandleNumber, HandleRow, HandlesAreWhole, Happens, HoldsSettled, Identity, IsIdle, IsLawful, IsMachineWhole}
-use Rattle.pagable_laws.proofs.Words.{IsPublished, IsWellAsked, List, MachineState, Moment, NodeNumber, None, Ok, Option, Owner, Reading, ReadsItsTypes, Seen, Shelf, Site, Slot, Some, Todo, Took}
-use Rattle.pagable_laws.proofs.Words.{Tree, Values, Walking, WorkFits, WorkerAnswer, WorkerNumber, WorkerReply, WorkerSteps, World, [], above, any_mode, ap, append_assoc, arith, false}
-use Rattle.pagable_laws.proofs.Words.{false_from_ne_true, find_row, give, identity_of, inl, inr, is_owner, is_some, le_trans, nat_tests, nothing_felt, one, owner_worker, refl, row_at, rules}
-use Rattle.pagable_laws.proofs.Words.{state_after, step_of, subst, sum_by-cons, sym, times, to_finish, to_item, to_load, to_pin, to_set, to_start, to_write, true, type_of, world_of, ℕ, ◌&&◌, ◌++◌}
-use Rattle.pagable_laws.{proofs.Words.{◌+◌, ◌∙◌, ◌∷◌, ◌≡◌, ◌≤◌, ◌⊎◌}, specs.TreeSteps.{AllHold, ChangeFits, CoreGoes, EventFeels, HasHandle, HasPin, Holds, IsSteppedReading, KeyIsSet, KeysAreReady}}
-use Rattle.{pagable_laws.specs.TreeSteps.{KeysHeld, PinHolds, StandsAt, WaitsHeld, by-call, by-key, by-nothing, by-reading}, pagable_world.specs.{Calls.{SetKeyCall, row_of, with_key}, Events.Ends}}
-use Rattle.pagable_world.specs.{Headline.{HasLetGo, HeadlineLaw, IsRight, PinGives, StepsAreWithin, TableMeets, WorkIsRight, WorkerIsRight, claims_made, is_on_table}, Kinds.{fits_mode, is_loose}}
-use Rattle.pagable_world.specs.{Order.{InOrder, is_claim_of, steps_of}, Pager.{EventBrings, IsReadingOf, StandsFor}, Plain.is_loose_kind, Refusals.Owns, Runs.{Does as DoesMoment, Fact, IsPremised}}
-use Rattle.pagable_world.specs.{Runs.{TakesWell, TreesAfter, TreesAlong, events_of, replies_of}, Workers.{claim_fault, give_known, next_start, with_changed_slot, with_outcome}, World.SameShelf}
-use Rattle.{pagable_world.specs.{World.{published, to_publish, type_at}, declared.{answers.Pinning.Pinning, events.PinStep.PinStep}}, std.proofs.{Common.append-nil, Math.Nat.zero-add}}
-use Rattle.std.{proofs.lemmas.List.Sums.sum_by-append, specs.Prelude.is_none}
+use Rattle.pagable_laws.proofs.Words.{AreMoments, Beginning, Bool, Change, Claim, CloneCall, Core, Does, Event, EventReply, HandleNumber, HandleRow, HandlesAreWhole, Happens, HoldsSettled, Identity}
+use Rattle.pagable_laws.proofs.Words.{IsIdle, IsLawful, IsMachineWhole, IsPublished, IsWellAsked, List, MachineState, Moment, NodeNumber, None, Ok, Option, Owner, Reading, ReadsItsTypes, Seen, Shelf}
+use Rattle.pagable_laws.proofs.Words.{Site, Slot, Some, Todo, Took, Tree, Values, Walking, WorkFits, WorkerAnswer, WorkerNumber, WorkerReply, WorkerSteps, World, [], above, any_mode, ap, append_assoc}
+use Rattle.pagable_laws.proofs.Words.{arith, false, false_from_ne_true, find_row, give, identity_of, inl, inr, is_owner, is_some, le_trans, nat_tests, nothing_felt, one, owner_worker, refl, row_at}
+use Rattle.pagable_laws.proofs.Words.{rules, state_after, step_of, subst, sum_by-cons, sym, times, to_finish, to_item, to_load, to_pin, to_set, to_start, to_write, true, type_of, world_of, ℕ, ◌&&◌}
+use Rattle.pagable_laws.proofs.{Answered.{at-once, keys-right}, Called.{begin-goes, pins}, Coming.{EventTurns, HasGone, StandsIn, event-turns, goes-on, idle-stands, turns-keep, turns-stand}}
+use Rattle.pagable_laws.proofs.{Coming.{updated-at, waits-well}, Felt.{call-fits, fits-key, fits-nothing, none-comes, reading-fits, trees-go-on}, Following.given-of, Goes.{Stands, among-found, fell}}
+use Rattle.pagable_laws.proofs.{Goes.{found-number, goes-quiet, pins-hold, quiet-goes, stands-alike, stands-fell, stands-new, stands-whole}, Merkle.tree_readable, ReadingSteps.ends-quiet}
+use Rattle.pagable_laws.proofs.{ReadingSteps.{event-goes, is-reading-of, readings-on, walk-goes, works-free}, SparingSteps.{LoadsStand, Spares, event-on, idle-bounded, reads-give, step-within}}
+use Rattle.pagable_laws.proofs.{SparingSteps.steps-left, Standing.{KeepsTask, ShelfGrows, grows, is-same, keeps-task, put-cases, puts-slot, true-false}, Stepping.{fits-on, keys-same}, Taking.Going}
+use Rattle.pagable_laws.proofs.{Taking.{given-nodes, going-new, going-of, going-on, going-step, pin_stands, tree-stays}, Trees.{each-type, one-small, same_some, sum-zero}, Words.{Among, ArcRef}}
+use Rattle.pagable_laws.{proofs.Words.{◌++◌, ◌+◌, ◌∙◌, ◌∷◌, ◌≡◌, ◌≤◌, ◌⊎◌}, specs.TreeSteps.{AllHold, ChangeFits, CoreGoes, EventFeels, HasHandle, HasPin, Holds, IsSteppedReading, KeyIsSet}}
+use Rattle.pagable_world.specs.{Events.Ends, Headline.{HasLetGo, HeadlineLaw, IsRight, PinGives, StepsAreWithin, TableMeets, WorkIsRight, WorkerIsRight, claims_made, is_on_table}, Kinds.fits_mode}
+use Rattle.pagable_world.specs.{Kinds.is_loose, Order.{InOrder, OnceEach, is_claim_of, steps_of}, Pager.{EventBrings, IsReadingOf, StandsFor}, Plain.is_loose_kind, Refusals.Owns}
+use Rattle.pagable_world.specs.{Runs.{Does as DoesMoment, Fact, IsPremised, TakesWell, TreesAfter, TreesAlong, events_of, replies_of}, Workers.{claim_fault, give_known, next_start, with_changed_slot}}
+use Rattle.std.{proofs.{Math.Nat.zero-add, lemmas.List.Sums.sum_by-append}, specs.Prelude.is_none}
+use Rattle.{pagable_laws.specs.TreeSteps.{KeysAreReady, KeysHeld, PinHolds, StandsAt, WaitsHeld, by-call, by-key, by-nothing, by-reading}, pagable_world.specs.Calls.{SetKeyCall, row_of, with_key}}
+use Rattle.{pagable_world.specs.{Workers.with_outcome, World.{SameShelf, published, to_publish, type_at}, declared.{answers.Pinning.Pinning, events.PinStep.PinStep}}, std.proofs.Common.append-nil}
 
 module _ {c : Change} {w w' : Core} (goes : CoreGoes c w w') where
   pub stands-on : {r : ArcRef} {h : HandleNumber} → StandsAt w r h → StandsAt w' r h
@@ -172,7 +172,7 @@ module _ {N B W : Type 0} (m : Seen N B W) (u u' : World) {c : Change} (goes : C
       record { walks = h.walks; slots = h.slots }
 
 pub keys-ready : {N E : Type 0} (v : Values N) (s : MachineState N E) (trees : ℕ → Tree) → ReadsItsTypes v.types → WorkFits v s trees → KeysHeld (world_of s) → KeysAreReady v s trees
-keys-ready v s trees reads fit held k key row sets = grind (arith, sets-key)
+keys-ready v s trees reads fit held k key row sets = let there = sets.there in let todo = sets.sets in let owns = sets.owns in grind (arith, nat_tests, same_some, tree_readable, each-type)
 
 module _ {N E B W : Type 0} (m : Seen N B W) (s : MachineState N E) (trees : ℕ → Tree) where
   reading-takes : (event : Event N B W) (reply : EventReply N B W) (reading : Reading) → IsSteppedReading (world_of s) event reading → IsWellAsked m.values s trees event reply
@@ -189,7 +189,7 @@ module _ {N E B W : Type 0} (m : Seen N B W) (s : MachineState N E) (trees : ℕ
         let f = call-fits lawful settled whole.pager whole'.pager stands.pager c call answer goes asked feels in (f.0, rw called f.1)
     event-fits lawful readable s' settled whole whole' ready event reply goes well (by-reading c reading answer frames stepped opens feels steps) =
         let g = going-of s trees readings reading (is-reading-of (world_of s) event reading stepped) in
-        let f = reading-fits lawful readable settled whole.pager whole'.pager stands.pager reading g.fits (given-nodes reading.frames g.held) goes
+        let f = reading-fits lawful settled whole.pager whole'.pager stands.pager readable reading g.fits (given-nodes reading.frames g.held) goes
         (reading-takes event reply reading stepped well) opens feels in
         (f.0, (grind (arith, nat_tests)))
     event-fits lawful readable s' settled whole whole' ready event reply goes well (by-key k key row is sets keeps) =
@@ -347,8 +347,10 @@ module _ {N E B W : Type 0} (m : Seen N B W) (s end : MachineState N E) (happene
       let nobody : HasGone m.written_of n s.work.shelves (s.work.walkings n) [] = subst (λ o. HasGone m.written_of n s.work.shelves o []) (sym (idle.walkings n)) refl in
       let went = rw there at (all.gone n [] nobody) in
       let order : InOrder m.written_of walking.task (steps_of n happened replied) = record { left = walking.todo; leads = went.leads } in
-      let once = once_each m.written_of walking.task (steps_of n happened replied) order
-      (λ i. le_trans (own-claims end.work.walkings walking.table i n walking there refl happened replied) (grind (arith, nat_tests, one-small))) in
+      let few : (i : Identity) → times (is_claim_of i) (steps_of n happened replied) ≤ 1 =
+      λ i. le_trans (own-claims end.work.walkings walking.table i n walking there refl happened replied) (grind (arith, nat_tests, one-small)) in
+      let once : OnceEach (steps_of n happened replied) =
+      record { claim = few; later = λ stage i. at-once stage i m.written_of walking.task (steps_of n happened replied) walking.todo went.leads (few i) } in
       let let_go = λ (answer : WorkerAnswer) (is : walking.answer ≡ Some answer). has-let-go m end all.work all.whole n walking answer there is in
       let within = went.within in record { order = order; once = once; bounded = omega arith; met = went.met; let_go = let_go }
 

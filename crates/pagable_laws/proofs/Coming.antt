@@ -1,17 +1,16 @@
 -- What each event does to workers and tables: it touches one worker, and claims of its own.
-use Rattle.pagable_laws.proofs.{Called.calls-go, Decoding.{among-left, among-right}, Goes.le-of, ReadingSteps.{caller-free, reading-feels, walk-goes}, Standing.{AllStand, Covers, CoversBy, Goes}}
-use Rattle.pagable_laws.proofs.Standing.{HasNoFailed, SameSlots, ShelfGrows, SlotChanges, Turned, WaitsWell, WorkStands, all-stay, changes-slot, failed-goes, fails, follows-waits, given-open, gives}
-use Rattle.pagable_laws.proofs.Standing.{grows, is-changed, is-new, is-quiet, is-same, is-self, is-started, is-stepped, is_failed, is_open_in, meets-grow, open-slot, own-goes, plain, put-cases}
-use Rattle.pagable_laws.proofs.{Standing.{puts-slot, same-slots, same-worker, settles, some-none, some-same, started-open, swaps, true-false, work-stands}, Trees.steps_follow, Words.{Alike, Among}}
-use Rattle.pagable_laws.proofs.Words.{ArcRef, Call, Claim, Core, Does, Err, Error, Event, EventReply, Happens, Identity, IsIdle, List, MachineState, None, Ok, Option, Owner, Reply, Seen, Shelf, Site}
-use Rattle.pagable_laws.proofs.Words.{Slot, Some, Task, Todo, Took, Walking, WorkerAnswer, WorkerNumber, WorkerReply, WorkerSteps, World, Written, [], above, answer_after, ap, arith, cases_Bool}
-use Rattle.pagable_laws.proofs.Words.{drop, false, false_from_ne_true, give, identity_of, if◌then◌else◌, inl, inr, length, nat_eq, nat_tests, no_result, one, refl, rules, step_of, subst, sum_by-cons}
-use Rattle.pagable_laws.proofs.Words.{sym, times, to_fail, to_finish, to_item, to_load, to_pin, to_release, to_set, to_start, to_write, true, updated, world_of, ℕ, ◌*◌, ◌++◌, ◌+◌, ◌<◌, ◌==◌, ◌∙◌}
-use Rattle.{pagable_laws.proofs.Words.{◌∷◌, ◌≡◌, ◌≤◌}, pagable_world.specs.{Events.{CallStep, Starts, Stays, WorkIs, WorkStays, new_walking, no_shelf}, Headline.{FailedElsewhere, IsMetFailure}}}
-use Rattle.pagable_world.specs.{Order.{Follows, Leads, MetError, is_claim, own_references, references_written}, Workers.{first_todo, is_counted, next_start, settle, with_outcome, with_wait}}
-use Rattle.{pagable_world.specs.{World.{Open, answer_of_fault, is_identity, published, to_publish}, declared.events.TableNumber.TableNumber}, std.proofs.Common.{append-nil, length-append, ◌-◌}}
-use Rattle.std.{proofs.lemmas.{Bool.{or_cases, or_left, or_right}, List.{length-drop, Sums.sum_by-append}}, specs.List.sum_by}
-use Rattle.pagable_laws.proofs.Called as calling
+use Rattle.pagable_laws.proofs.Standing.{Turned, WaitsWell, WorkStands, all-stay, changes-slot, failed-goes, fails, follows-waits, given-open, gives, grows, is-changed, is-new, is-quiet, is-same}
+use Rattle.pagable_laws.proofs.Standing.{is-self, is-started, is-stepped, is_failed, is_open_in, meets-grow, open-slot, own-goes, plain, put-cases, puts-slot, same-slots, same-worker, settles}
+use Rattle.pagable_laws.proofs.Words.{EventReply, Happens, Identity, IsIdle, KeepsOpen, List, MachineState, None, Ok, Option, Seen, Shelf, Site, Slot, Some, Task, Todo, Took, Walking, WorkerAnswer}
+use Rattle.pagable_laws.proofs.Words.{WorkerNumber, WorkerReply, WorkerSteps, World, Written, [], above, answer_after, ap, arith, cases_Bool, drop, false, false_from_ne_true, give, identity_of}
+use Rattle.pagable_laws.proofs.Words.{if◌then◌else◌, inl, inr, length, nat_eq, nat_tests, no_result, one, refl, rules, step_of, subst, sum_by-cons, sym, times, to_fail, to_finish, to_item, to_load}
+use Rattle.pagable_laws.proofs.Words.{to_pin, to_release, to_set, to_start, to_write, true, updated, world_of, ℕ, ◌*◌, ◌++◌, ◌+◌, ◌<◌, ◌==◌, ◌∙◌, ◌∷◌, ◌≡◌, ◌≤◌, ◌⊎◌}
+use Rattle.pagable_laws.proofs.{Decoding.{among-left, among-right}, Goes.le-of, ReadingSteps.event-goes, Standing.{AllStand, Covers, CoversBy, Goes, HasNoFailed, SameSlots, ShelfGrows, SlotChanges}}
+use Rattle.pagable_laws.proofs.{Standing.{some-none, some-same, started-open, swaps, true-false, work-stands}, Trees.steps_follow, Words.{Among, ArcRef, Call, Claim, Core, Does, Err, Error, Event}}
+use Rattle.pagable_world.specs.{Events.{Starts, WorkStays, new_walking}, Headline.{FailedElsewhere, IsMetFailure}, Order.{Follows, Leads, MetError, is_claim, own_references, references_written}}
+use Rattle.pagable_world.specs.{Workers.{first_todo, is_counted, next_start, settle, with_outcome, with_wait}, World.{Open, answer_of_fault, is_identity, published, to_publish}}
+use Rattle.std.{proofs.lemmas.List.Sums.sum_by-append, specs.List.sum_by}
+use Rattle.{pagable_world.specs.declared.events.TableNumber.TableNumber, std.proofs.{Common.{append-nil, length-append, ◌-◌}, lemmas.{Bool.{or_cases, or_left, or_right}, List.length-drop}}}
 
 -- ---- whatever a worker does, what stands of its list and of its table stands afterwards
 
@@ -25,9 +24,9 @@ module _ {N B W : Type 0} (m : Seen N B W) (v : ℕ) (task : Task) (s s' : Site)
       plain v task s.shelf s'.shelf same _ (give r key height below) (λ a is. grind (arith, nat_tests)) (gives v task s.shelf r key height below rest)
       (λ i slot there own still. given-open v task s.shelf i r key height below ∙ covers i slot there own still)
 
-  go : (todo : List Todo) → s.todo ≡ todo → AllStand s.shelf v task todo → Covers s.shelf v todo → (step : Took W) → Does m v s todo step s'
+  pub stands-on : (todo : List Todo) → s.todo ≡ todo → AllStand s.shelf v task todo → Covers s.shelf v todo → (step : Took W) → Does m v s todo step s'
       → Goes v task s.shelf (answer_after todo step) s'.shelf s'.todo
-  go (to_start r place ∷ below) e (meets, apart, rest) covers (Took.Claim i (Ok Claim.Claimed)) (is, c) =
+  stands-on (to_start r place ∷ below) e (meets, apart, rest) covers (Took.Claim i (Ok Claim.Claimed)) (is, c) =
       let new : Slot = record { worker = v; written = None; outcome = no_result } in
       let free : is_open_in (identity_of r) below ≡ false = false_from_ne_true (is_open_in (identity_of r) below)
       (λ is. let a = open-slot v task s.shelf (identity_of r) below rest is in some-none a.1 c.finds.1.1) in
@@ -36,14 +35,14 @@ module _ {N B W : Type 0} (m : Seen N B W) (v : ℕ) (task : Task) (s s' : Site)
       (λ changes now. (grind (arith, nat_tests, all-stay, grows, false_from_ne_true, true-false, is-same, is-self)))
       (grind (arith, nat_tests, put-cases, identity_of, is_open_in, or_right, is_identity, or_left, is-self)))
   -- the key of the reference was known
-  go (to_start r place ∷ []) e (meets, apart, rest) covers (Took.Claim i (Ok (Claim.Known key height))) (is, c) = to-list c.finds.1.2.list_is
+  stands-on (to_start r place ∷ []) e (meets, apart, rest) covers (Took.Claim i (Ok (Claim.Known key height))) (is, c) = to-list c.finds.1.2.list_is
       (plain v task s.shelf s'.shelf c.finds.1.2.table_is.slots None (to_release r key height ∷ []) (λ a is. absurd (cc)) ((meets, c.finds.1.1), (λ i no. absurd (cc)), tt) covers)
-  go (to_start r place ∷ x ∷ below) e (meets, apart, rest) covers (Took.Claim i (Ok (Claim.Known key height))) (is, c) = to-list c.finds.1.2.list_is
+  stands-on (to_start r place ∷ x ∷ below) e (meets, apart, rest) covers (Took.Claim i (Ok (Claim.Known key height))) (is, c) = to-list c.finds.1.2.list_is
       (plain v task s.shelf s'.shelf c.finds.1.2.table_is.slots None (give r key height (x ∷ below)) (λ a is. absurd (cc)) (gives v task s.shelf r key height (x ∷ below) rest)
       (λ i slot there own still. given-open v task s.shelf i r key height (x ∷ below) ∙ covers i slot there own still))
-  go (to_start r place ∷ below) e all covers (Took.Claim i (Ok Claim.Waiting)) (is, c) = to-list (c.finds.1.2.list_is ∙ e)
+  stands-on (to_start r place ∷ below) e all covers (Took.Claim i (Ok Claim.Waiting)) (is, c) = to-list (c.finds.1.2.list_is ∙ e)
       (plain v task s.shelf s'.shelf c.finds.1.2.table_is.slots None (to_start r place ∷ below) (λ a is. absurd (cc)) all covers)
-  go (to_write r place through ∷ below) e ((meets, c), apart, rest) covers (Took.Write i (Ok out)) (is, p) =
+  stands-on (to_write r place through ∷ below) e ((meets, c), apart, rest) covers (Took.Write i (Ok out)) (is, p) =
       let new : Slot = record c.slot { written = Some (m.written_of out) } in
       let puts = changes-slot s.shelf s'.shelf (identity_of r) c.slot (λ slot. record slot { written = Some (m.written_of out) }) c.claimed p.writes.table_is in
       let o : Open = record { reference = r; place = place; through = through; written = m.written_of out; keys = []; height = 0 } in
@@ -51,16 +50,13 @@ module _ {N B W : Type 0} (m : Seen N B W) (v : ℕ) (task : Task) (s s' : Site)
       (is-changed c.slot new c.claimed c.own refl (grind (arith, nat_tests, some-none))) meets (ap is_failed c.no_result_yet)
       (λ changes now. settles v task s'.shelf o below (grind (arith, nat_tests, all-stay, grows, false_from_ne_true, true-false, is-same, is-self)))
       (grind (arith, nat_tests, or_right, started-open, put-cases, is_identity, or_left, is-self)))
-  go (to_publish r key height ∷ below) e ((meets, c), apart, rest) covers (Took.Publish i k h) (is, same_key, same_height, t) =
+  stands-on (to_publish r key height ∷ below) e ((meets, c), apart, rest) covers (Took.Publish i k h) (is, same_key, same_height, t) =
       let new : Slot = with_outcome (published key height) c.slot in
       let puts = changes-slot s.shelf s'.shelf (identity_of r) c.slot (with_outcome (published key height)) c.claimed t.table_is in
       to-list t.list_is (own-goes v task s.shelf s'.shelf (identity_of r) new (to_release r key height ∷ below) puts (is-changed c.slot new c.claimed c.own refl (grind arith)) meets (grind arith)
       (λ changes now. (grind (arith, nat_tests, all-stay, grows, false_from_ne_true, true-false, is-same, is-self))) (grind (arith, nat_tests, put-cases, or_cases, true-false, is-same, is-self)))
-  go (to_fail fault back ∷ below) e all covers Took.Fail (back_is, table_is, list_is) = to-list list_is (failed-goes v task s.shelf s'.shelf (answer_of_fault fault) table_is)
-  go _ e all covers step does = grind (arith, nat_tests, to-list, fails, swaps, plain, released)
-
-  pub stands-on : AllStand s.shelf v task s.todo → Covers s.shelf v s.todo → (step : Took W) → Does m v s s.todo step s' → Goes v task s.shelf (answer_after s.todo step) s'.shelf s'.todo
-  stands-on all covers step does = go s.todo refl all covers step does
+  stands-on (to_fail fault back ∷ below) e all covers Took.Fail (back_is, table_is, list_is) = to-list list_is (failed-goes v task s.shelf s'.shelf (answer_of_fault fault) table_is)
+  stands-on _ e all covers step does = grind (arith, nat_tests, to-list, fails, swaps, plain, released)
 
 abbrev pub StandsIn : World → Type 0
 StandsIn u = WorkStands u.work.shelves u.work.walkings u.core.last.worker
@@ -68,9 +64,6 @@ StandsIn u = WorkStands u.work.shelves u.work.walkings u.core.last.worker
 -- no load waits below what is done next
 pub waits-well : (u : World) → StandsIn u → (n : ℕ) (walking : Walking) → u.work.walkings n ≡ Some walking → WaitsWell walking.todo
 waits-well u work n walking is = (work.workers n walking is).waits
-
-abbrev pub KnowsTables : World → Type 0
-KnowsTables u = (v : ℕ) (w : Walking) → u.work.walkings v ≡ Some w → w.table ≤ u.work.last_table
 
 -- what an event does to the worker that it touches, which makes these steps
 pub data OwnTurn {N B W : Type 0} (m : Seen N B W) (u : World) (v : ℕ) (taken : List (Took W)) (u' : World) : Type 0 where
@@ -100,16 +93,18 @@ goes-same v task shelf mid shelf' answer todo same g =
     grind (arith, changes, all-stay v task mid shelf' more todo (λ i is slot there own. same i ∙ there) g.all, same, meets-grow mid shelf' task)
 
 module _ {N B W : Type 0} (m : Seen N B W) (u u' : World) (work : StandsIn u) where
-  module _ (event : Event N B W) (reply : EventReply N B W) where
-    quiet : ((n : ℕ) → step_of n event reply ≡ []) → u.core.last.worker ≤ u'.core.last.worker → SameSlots u.work.shelves u'.work.shelves → ((v : ℕ) → u'.work.walkings v ≡ u.work.walkings v)
-        → EventTurns m u event reply u'
-    quiet no_step last same stay = grind (arith, nat_tests, is-quiet)
+  module _ (event : Event N B W) (reply : EventReply N B W) (h : Happens m u event reply u') where
+    last-on : u.core.last.worker ≤ u'.core.last.worker
+    last-on = let cases : KeepsOpen event ⊎ (event ≡ Event.Call Call.Close) = grind (arith, nat_tests) in elim cases [
+      | inl keeps ↦ (event-goes m u u' event reply keeps h).goes.workers_last
+      | inr closes ↦ (let c = subst (λ e. Happens m u e reply u') closes h in grind (arith, nat_tests, le-of))
+    ]
 
-    by-work : ((n : ℕ) → step_of n event reply ≡ []) → u.core.last.worker ≤ u'.core.last.worker → WorkStays u.work u'.work → EventTurns m u event reply u'
-    by-work no_step last w = quiet no_step last (λ t i. (w.shelves t).slots i) w.walkings
+    quiet : ((n : ℕ) → step_of n event reply ≡ []) → SameSlots u.work.shelves u'.work.shelves → ((v : ℕ) → u'.work.walkings v ≡ u.work.walkings v) → EventTurns m u event reply u'
+    quiet no_step same stay = grind (arith, nat_tests, is-quiet, last-on)
 
-    unchanged : ((n : ℕ) → step_of n event reply ≡ []) → Stays u u' → EventTurns m u event reply u'
-    unchanged no_step s = by-work no_step (le-of _ _ (ap (λ l. l.worker) s.core.last)) s.work
+    by-work : ((n : ℕ) → step_of n event reply ≡ []) → WorkStays u.work u'.work → EventTurns m u event reply u'
+    by-work no_step w = quiet no_step (λ t i. (w.shelves t).slots i) w.walkings
 
     starts : ((n : ℕ) → step_of n event reply ≡ []) → (t : TableNumber) (task : Task) (core : Core) (v : WorkerNumber) → core.last.worker ≡ u.core.last.worker → Starts u t task core v u'
         → EventTurns m u event reply u'
@@ -120,51 +115,33 @@ module _ {N B W : Type 0} (m : Seen N B W) (u u' : World) (work : StandsIn u) wh
         let turned = is-started u.work.shelves u'.work.shelves u.work.walkings u'.work.walkings u.core.last.worker work (λ q i. (s.work.same_shelves q).slots i)
         v.0 (new_walking t task) above refl refl new (λ n other. s.work.same_walkings n ∙ updated-off v.0 (Some (new_walking t task)) u.work.walkings n other) in
         let own : OwnTurn m u v.0 (step_of v.0 event reply) u' = begins t task (no_step v.0) (λ q i. (s.work.same_shelves q).slots i) (grind (arith, nat_tests)) new in
-        record { who = v.0; turned = turned; last = omega (arith, s.next); small = omega (arith, s.next); others = λ n other. no_step n; own = own }
+        record { who = v.0; turned = turned; last = last-on; small = omega (arith, s.next); others = λ n other. no_step n; own = own }
 
-    tabled : ((n : ℕ) → step_of n event reply ≡ []) → KnowsTables u → (t : TableNumber) → t.0 ≡ u.work.last_table + 1 → Alike u.core u'.core
-        → WorkIs (updated t.0 no_shelf u.work.shelves) t.0 u.work.walkings u'.work → EventTurns m u event reply u'
-    tabled no_step tables t is a w =
-        let nothing : (i : Identity) (slot : Slot) → (u.work.shelves t.0).slots i ≡ Some slot → ⊥ =
-        λ i slot there. let s = work.slots t.0 i slot there in let few = tables slot.worker s.walking s.there in let on = s.on_table in absurd (omega arith) in
-        quiet no_step (le-of _ _ (ap (λ l. l.worker) a.last)) (λ q i. let same = (w.same_shelves q).slots i in
-        grind (arith, nat_tests, cases_Bool (nat_eq q t.0), same-worker q t.0, nothing i)) w.same_walkings
-
-  call-last : (call : Call N B) (r : Reply N B) → CallStep m u.core Owner.Caller call r u'.core → u.core.last.worker ≤ u'.core.last.worker
-  call-last x0 x1 c = grind (arith, nat_tests, le-of, calls-go, caller-free)
-
-  stepped : (v : WorkerNumber) (reply : WorkerReply W) → WorkerSteps m u v reply u' → EventTurns m u (Event.WorkerStep v) (EventReply.WorkerMoved (Ok reply)) u'
-  stepped v reply s =
-      let w = s.walking in
+  pub event-turns : ((v : ℕ) (w : Walking) → u.work.walkings v ≡ Some w → w.table ≤ u.work.last_table) → (event : Event N B W) (reply : EventReply N B W) → Happens m u event reply u'
+      → EventTurns m u event reply u'
+  event-turns tables Event.TableNew (EventReply.TableMade (Ok t)) h =
+      let w = h.made.3 in let next = h.made.0 in let nothing : (i : Identity) (slot : Slot) → (u.work.shelves t.0).slots i ≡ Some slot → ⊥ =
+      λ i slot there. let s = work.slots t.0 i slot there in let few = tables slot.worker s.walking s.there in let on = s.on_table in absurd (omega arith) in
+      quiet _ _ h (λ n. refl) (λ q i. let same = (w.same_shelves q).slots i in grind (arith, nat_tests, cases_Bool (nat_eq q t.0), same-worker q t.0, nothing i)) w.same_walkings
+  event-turns tables (Event.WorkerItem t item) (EventReply.WorkerMade (Ok v)) h = starts _ _ h (λ n. refl) t _ u.core v refl h.starts
+  event-turns tables (Event.WorkerListed t i) (EventReply.WorkerMade (Ok v)) h = starts _ _ h (λ n. refl) t _ _ v refl h.starts.5
+  event-turns tables (Event.WorkerStep v) (EventReply.WorkerMoved (Ok reply)) h =
+      let s = h.moves in let w = s.walking in
       let now : Walking = record w { todo = s.after.todo; steps = reply.steps; answer = reply.answer } in
       let stands = work.workers v.0 w s.at in
       let site : Site = record { core = u.core; shelf = u.work.shelves w.table; todo = w.todo } in
-      let goes = stands-on m v.0 w.task site s.after stands.all stands.covers reply.took s.does.does in
+      let goes = stands-on m v.0 w.task site s.after w.todo refl stands.all stands.covers reply.took s.does.does in
       let shelf_is : (i : Identity) → (u'.work.shelves w.table).slots i ≡ s.after.shelf.slots i =
       λ i. (s.work.same_shelves w.table).slots i ∙ ap (λ (x : Shelf). x.slots i) (updated-at w.table s.after.shelf u.work.shelves) in
-      let kept : u.core.last.worker ≤ s.after.core.last.worker = (walk-goes m v.0 site s.after w.todo reply.took s.does.does).goes.workers_last in
-      let last : u'.core.last.worker ≡ s.after.core.last.worker = (grind (arith, nat_tests)) in
       let turned : Turned v.0 u.work.shelves u'.work.shelves u.work.walkings u'.work.walkings =
       is-stepped v.0 u.work.shelves u'.work.shelves u.work.walkings u'.work.walkings w now s.at (s.work.same_walkings v.0 ∙ updated-at v.0 (Some now) u.work.walkings) refl refl
       (λ n other. s.work.same_walkings n ∙ updated-off v.0 (Some now) u.work.walkings n other)
       (λ t other i. (s.work.same_shelves t).slots i ∙ ap (λ (x : Shelf). x.slots i) (updated-off w.table s.after.shelf u.work.shelves t other))
       (stands.unfailed s.at_work) (follows-waits m.written_of w.todo reply.took s.after.todo (steps_follow m v.0 site s.after reply.took s.does) stands.waits)
       (goes-same v.0 w.task (u.work.shelves w.table) s.after.shelf (u'.work.shelves w.table) reply.answer s.after.todo shelf_is (rw s.answers goes)) in
-      let few = work.numbered v.0 w s.at in
-      record { who = v.0; turned = turned; last = omega arith; small = omega arith; others = λ n other. grind (arith, nat_tests); own = steps v reply refl (grind (arith, nat_tests)) s }
-
-  pub event-turns : KnowsTables u → (event : Event N B W) (reply : EventReply N B W) → Happens m u event reply u' → EventTurns m u event reply u'
-  event-turns tables (Event.Call call) (EventReply.CallReply r) h = by-work _ _ (λ n. refl) (call-last call r h.step) h.work
-  event-turns tables (Event.LoadStart q) (EventReply.Started r) h = by-work _ _ (λ n. refl) (calling.begin-goes r h.step).workers_last h.work
-  event-turns tables (Event.LoadKey key t) (EventReply.Started r) h =
-      by-work _ _ (λ n. refl) (calling.begins-key {lists = false} {Asks = Unit {0}} {Leaves = Unit {0}} r h.step).goes.workers_last h.work
-  event-turns tables (Event.LoadStep l) (EventReply.LoadMoved (Ok r)) h = let x = h.moves in
-      by-work _ _ (λ n. refl) (reading-feels m u.core Owner.Caller caller-free u'.core x.reading r.ended x.frames x.does).does.goes.workers_last x.work
-  event-turns tables Event.TableNew (EventReply.TableMade (Ok t)) h = tabled _ _ (λ n. refl) tables t h.made.0 h.made.1 h.made.3
-  event-turns tables (Event.WorkerItem t item) (EventReply.WorkerMade (Ok v)) h = starts _ _ (λ n. refl) t _ u.core v refl h.starts
-  event-turns tables (Event.WorkerListed t i) (EventReply.WorkerMade (Ok v)) h = starts _ _ (λ n. refl) t _ _ v refl h.starts.5
-  event-turns tables (Event.WorkerStep v) (EventReply.WorkerMoved (Ok reply)) h = stepped v reply h.moves
-  event-turns tables x1 x2 h = grind (arith, nat_tests, by-work, unchanged)
+      let few = work.numbered v.0 w s.at in let last = last-on (Event.WorkerStep v) (EventReply.WorkerMoved (Ok reply)) h in
+      record { who = v.0; turned = turned; last = last; small = omega (arith, few, last); others = λ n other. grind (arith, nat_tests); own = steps v reply refl (grind (arith, nat_tests)) s }
+  event-turns tables x1 x2 h = grind (arith, nat_tests, by-work)
 
 -- one of two: at the number, or elsewhere
 at-number : {X : Type 0} (P : X → Type 0) (k : ℕ) (x : X) (f : ℕ → X) (q : ℕ) → P x → P (f q) → P (updated k x f q)
@@ -279,28 +256,24 @@ module _ {W : Type 0} (n : ℕ) where
       → IsMetFailure shelf n past answer → IsMetFailure shelf' n more answer
   met-stays shelf shelf' past more x4 grown on x7 = grind (arith, nat_tests, on, failed-stays)
 
-  unfoldable pub FailsMet : Shelf → List (Took W) → List Todo → Type 0
+  abbrev pub FailsMet : Shelf → List (Took W) → List Todo → Type 0
   FailsMet shelf past [] = Unit {0}
   FailsMet shelf past (to_fail fault back ∷ below) = IsMetFailure shelf n past (answer_of_fault fault) × FailsMet shelf past below
   FailsMet shelf past (x ∷ below) = FailsMet shelf past below
 
   pub fails-stay : (shelf shelf' : Shelf) (past more : List (Took W)) (todo : List Todo) → ShelfGrows shelf shelf' → ((x : Took W) → Among past x → Among more x)
       → FailsMet shelf past todo → FailsMet shelf' more todo
-  unfolding FailsMet
   fails-stay shelf shelf' past more [] grown on met = tt
   fails-stay shelf shelf' past more (x ∷ below) grown on met = let rest = fails-stay shelf shelf' past more below grown on in grind (arith, nat_tests, rest, met-stays)
 
   module _ (shelf : Shelf) (past : List (Took W)) where
     started : (place : ℕ) (rs : List ArcRef) (todo : List Todo) → FailsMet shelf past todo → FailsMet shelf past (next_start place rs ++ todo)
-    unfolding FailsMet
     started place x1 todo met = grind (arith, nat_tests)
 
     given : (r : ArcRef) (key height : ℕ) (todo : List Todo) → FailsMet shelf past todo → FailsMet shelf past (give r key height todo)
-    unfolding FailsMet
     given r key height x3 met = grind (arith, nat_tests, started)
 
     pub first-met : (task : Task) → FailsMet shelf past (first_todo task)
-    unfolding FailsMet
     first-met x0 = grind (arith, nat_tests, started)
 
     refused : (step : Took W) (e : Error) → Among past step → MetError step e → IsMetFailure shelf n past (WorkerAnswer.Failed e) × Unit {0}
@@ -312,7 +285,6 @@ module _ {W : Type 0} (n : ℕ) where
     -- what follows a step, where the other's claim has failed if that is what was found
     pub follows-met : (f : W → Written) (todo : List Todo) (step : Took W) (next : List Todo) → Follows f todo step next → Among past step
         → ((i : Identity) → step ≡ Took.Claim i (Ok Claim.AlreadyFailed) → FailedElsewhere shelf n i) → FailsMet shelf past todo → FailsMet shelf past next
-    unfolding FailsMet
     follows-met f (to_start r place ∷ below) (Took.Claim j (Ok Claim.AlreadyFailed)) next (is, e) among already met = rw e ((j, among, already j refl), tt)
     follows-met f (to_start r place ∷ below) (Took.Claim j (Err fault)) next (is, e) among already met = rw e (refused _ fault among refl)
     follows-met f (to_pin r place ∷ below) (Took.Pin j (Err fault)) next (is, e) among already met = rw e (refused _ fault among refl)
@@ -325,7 +297,6 @@ module _ {W : Type 0} (n : ℕ) where
 
     -- the answer is what the list was about to fail with, or a key
     pub answered : (todo : List Todo) (step : Took W) (answer : WorkerAnswer) → answer_after todo step ≡ Some answer → FailsMet shelf past todo → IsMetFailure shelf n past answer
-    unfolding FailsMet
     answered x0 x1 answer is x4 = grind (arith, nat_tests)
 
 -- of a worker and its steps: they lead to its list, whatever it fails with was met, and they are within their bound

@@ -2,26 +2,26 @@
 -- handle twice, where the handles that were got are apart.
 -- A value that was read of a blob leads to what the blob's key reads as: reading the blob with the references that were got runs along the reading of
 -- its bare keys, and each of these reads as the tree of the node that was got for it.
-use Rattle.pagable_laws.proofs.Trees.{AllTwo, Along, at-most-sum, counted, each-two, followed-along, integer-along, more-two, no-two, none-along, number-along, one-true, one_tree, pair-along}
-use Rattle.pagable_laws.proofs.Words.{Among, ArcRef, Blob, Bool, Core, Err, Error, Form, Frame, IsLawful, IsReadable, IsReference, Kind, List, Meaning, None, Ok, Option, Owner, PagerState}
-use Rattle.pagable_laws.proofs.Words.{ReadsItsTypes, ReadsTree, Result, Shape, Some, Throughout, Tree, Types, ValueStands, Values, [], and_parts, ap, append-nil, append_assoc, arith, cases_Bool}
-use Rattle.pagable_laws.proofs.Words.{cases_lt, false, followed, if◌then◌else◌, inl, inr, integer-leads, is_eager, is_in, length, length-append, map, nat_tests, next_in, none, one, pair, read}
-use Rattle.pagable_laws.proofs.Words.{reference, references_fault, references_in, refl, rest, slice_get, subst, suc, sum_by-cons, sym, times, tree, true, type_of, variant, zero, ℕ, ◌&&◌, ◌++◌, ◌+◌}
-use Rattle.pagable_laws.proofs.{Again.{Looked, all-looked, form-again, not-looked, one-looked}, Related.{Out, OutLook, any_cause, both-given, both-looked-up, both-not, both-refused, first-not}}
-use Rattle.pagable_laws.proofs.{Related.{first-refused, keeps_forms, no_cause, read_par, renamed, typed_par}, Trees.{pattern-along, reference-along, refs-two, same-number, self-number, text-along}}
-use Rattle.pagable_laws.{proofs.{Trees.{tree_is, variant-along}, Words.{◌==◌, ◌∙◌, ◌∷◌, ◌≡◌, ◌≤◌, ◌⊎◌}}, specs.{FormLaws.at, TreeSteps.{Decoded, LeadsTo, followed-leads, none-leads, number-leads}}}
-use Rattle.pagable_model.specs.Trees.{IsFollowed, KeyRef, ReadsAs, integer-followed, key_ref, none-followed, number-followed, pair-followed, pattern-followed, reference-followed, rest_of}
-use Rattle.pagable_model.specs.{Meaning.{integer, number, pattern, text}, Reading.{Rest, deepest}, References.SameReferences, Standing.{Answer, answer_at, handles_at}, Steps.◌>>=◌}
-use Rattle.pagable_world.specs.Pager.{FrameFits, MeaningStands, NodeStands, ReadsNodeTree, followed-stands, integer-stands, none-stands, number-stands, pair-stands, pattern-stands, reference-stands}
-use Rattle.pagable_world.specs.{Loads.{IsDecoded, Next, answer_of, answers_from, asks, is_faulty, next_by, next_of, read_with, reads}, Order.{after_kinds, some_of}, Pager.text-stands}
-use Rattle.{pagable_laws.specs.TreeSteps.{pair-leads, pattern-leads, reference-leads, text-leads, variant-leads}, pagable_model.specs.{Trees.{text-followed, variant-followed}, Writing.kind_of_arc}}
+use Rattle.pagable_laws.proofs.Trees.{followed-along, integer-along, more-two, no-two, none-along, number-along, one-true, one_tree, pair-along, pattern-along, reference-along, refs-two, same-number}
+use Rattle.pagable_laws.proofs.Words.{List, Meaning, None, Ok, Option, Owner, PagerState, ReadsItsTypes, ReadsTree, Result, Shape, Some, Throughout, Tree, Types, ValueStands, Values, [], and_parts}
+use Rattle.pagable_laws.proofs.Words.{ap, append-nil, append_assoc, arith, cases_Bool, cases_lt, false, followed, if◌then◌else◌, inl, inr, integer-leads, is_eager, is_in, length, length-append, map}
+use Rattle.pagable_laws.proofs.Words.{nat_tests, next_in, none, one, pair, read, reference, references_fault, references_in, refl, rest, slice_get, subst, suc, sum_by-cons, sym, times, tree, true}
+use Rattle.pagable_laws.proofs.{Again.{Looked, all-looked, form-again, not-looked, one-looked}, Related.{Out, OutLook, any_cause, both-faulty, both-given, both-looked-up, both-not, both-refused}}
+use Rattle.pagable_laws.proofs.{Related.{each, first-not, first-refused, keeps_forms, no_cause, one_cause, read_par, renamed, typed_par}, Trees.{AllTwo, Along, at-most-sum, counted, each-two}}
+use Rattle.pagable_laws.proofs.{Trees.{self-number, text-along, tree_is, variant-along}, Words.{Among, ArcRef, Blob, Bool, Core, Err, Error, Form, Frame, IsLawful, IsReadable, IsReference, Kind}}
+use Rattle.pagable_laws.{proofs.Words.{type_of, variant, zero, ℕ, ◌&&◌, ◌++◌, ◌+◌, ◌==◌, ◌∙◌, ◌∷◌, ◌≡◌, ◌≤◌, ◌⊎◌}, specs.{FormLaws.at, TreeSteps.{Decoded, LeadsTo, followed-leads, none-leads}}}
+use Rattle.pagable_model.specs.{Reading.{Rest, deepest}, References.SameReferences, Standing.{Answer, answer_at, handles_at}, Steps.◌>>=◌, Trees.{IsFollowed, KeyRef, ReadsAs, integer-followed}}
+use Rattle.pagable_model.specs.{Trees.{key_ref, none-followed, number-followed, pair-followed, pattern-followed, reference-followed, rest_of, text-followed, variant-followed}, Writing.kind_of_arc}
+use Rattle.pagable_world.specs.Pager.{NodeStands, ReadsNodeTree, followed-stands, integer-stands, none-stands, number-stands, pair-stands, pattern-stands, reference-stands, text-stands}
+use Rattle.pagable_world.specs.{Loads.{IsDecoded, Next, answer_of, answers_from, asks, is_faulty, next_by, next_of, read_with, reads}, Order.{after_kinds, some_of}, Pager.{FrameFits, MeaningStands}}
+use Rattle.{pagable_laws.specs.TreeSteps.{number-leads, pair-leads, pattern-leads, reference-leads, text-leads, variant-leads}, pagable_model.specs.Meaning.{integer, number, pattern, text}}
 use Rattle.{pagable_world.specs.{Pager.variant-stands, Refusals.reference_fault}, std.proofs.{Common.sum_by, lemmas.{List.{length-map, map-append}, Option.{slice_get-get_or, slice_get_past}}}}
 
 abbrev pub kinds_of : List ArcRef → List ℕ
 kinds_of got = map (λ (r : ArcRef). r.kind.0) got
 
 abbrev AnswersAlike : Answer → Answer → Type 0
-AnswersAlike a b = (kind : ℕ) → OutLook no_cause (λ r q. Unit {0}) (a kind) (b kind)
+AnswersAlike a b = (kind : ℕ) → OutLook one_cause (λ r q. Unit {0}) (a kind) (b kind)
 
 got-alike : (got : List ArcRef) (place : ℕ) → AnswersAlike (answer_of (slice_get got place)) (answer_of (slice_get (some_of (kinds_of got)) place))
 got-alike (r ∷ rs) (suc place) kind = got-alike rs place kind
@@ -33,16 +33,18 @@ answers-alike got place [] = no-two
 answers-alike got place (key ∷ keys) = more-two _ _ _ _ (got-alike got place) (answers-alike got (place + 1) keys)
 
 -- the same next, but for the references in what is read
-by-alike : (key : Option ℕ) {first second : Result (Meaning ArcRef × Rest Answer) Error} → Out no_cause AnswersAlike (Along (Unit {0}) (λ r q. Unit {0})) first second
+by-alike : (key : Option ℕ) {first second : Result (Meaning ArcRef × Rest Answer) Error} → Out one_cause (AllTwo AnswersAlike) (Along (Unit {0}) (λ r q. Unit {0})) first second
     → ((own : Meaning ArcRef) → next_by key first ≡ reads own → ⊥) → next_by key second ≡ next_by key first
 by-alike key (both-given p q v s) isnt = absurd (isnt p.0 refl)
-by-alike key (both-refused e) isnt = refl
-by-alike key (first-refused e r c) isnt = absurd c
+by-alike key (both-faulty e sober) isnt = refl
+by-alike key (both-refused e f same) isnt = ap (λ x. next_by key (Err x)) (sym same)
+by-alike key (first-refused e r c) isnt = absurd (no_cause c)
 
 next-alike : (types : Types) (t : ℕ) (blob : Blob) (got : List ArcRef) → ((own : Meaning ArcRef) → next_of types t blob got ≡ reads own → ⊥)
     → after_kinds types t blob (kinds_of got) ≡ next_of types t blob got
 next-alike types t blob got isnt =
-    let two = typed_par {E = no_cause} {F = Unit {0}} {S = AnswersAlike} {R = (λ r q. Unit {0})} {parts = types.parts} answer_at answer_at (λ kind a b h. h kind) 0 (types.nodes t) (λ s is. inl tt)
+    let two = typed_par {E = one_cause} {F = Unit {0}} {T = AllTwo AnswersAlike} {R = (λ r q. Unit {0})} {parts = types.parts} answer_at answer_at
+    (each _ _ (λ kind a b h. h kind)) 0 (types.nodes t) (λ s is. inl tt)
     (rest blob.bytes (answers_from got 0 blob.keys)) (rest blob.bytes (answers_from (some_of (kinds_of got)) 0 blob.keys)) (record { bytes = refl; refs = answers-alike got 0 blob.keys }) in
     ap (λ n. next_by (slice_get blob.keys n) (read_with types t blob (some_of (kinds_of got)))) (length-map (kinds_of got) _ ∙ length-map got _) ∙ by-alike _ two isnt
 
@@ -133,14 +135,17 @@ kind-at [] (x ∷ refs) same place r is = absurd (cc)
 kind-at (g ∷ got) (x ∷ refs) same zero r is = (g, refl, cc)
 kind-at (g ∷ got) (x ∷ refs) same (suc place) r is = kind-at got refs (cc) place r is
 
-given-alike : {A B : Type 0} {S : A → B → Type 0} {R : ArcRef → ArcRef → Type 0} {m : Meaning ArcRef} {after : Rest B} {first : Result (Meaning ArcRef × Rest A) Error}
-    {second : Result (Meaning ArcRef × Rest B) Error} → Out no_cause S (Along ⊥ R) first second → second ≡ Ok (m, after)
+given-alike : {A B : Type 0} {T : List A → List B → Type 0} {R : ArcRef → ArcRef → Type 0} {m : Meaning ArcRef} {after : Rest B} {first : Result (Meaning ArcRef × Rest A) Error}
+    {second : Result (Meaning ArcRef × Rest B) Error} → Out one_cause T (Along ⊥ R) first second → second ≡ Ok (m, after)
     → (own : Meaning ArcRef) × (left : Rest A) × (first ≡ Ok (own, left)) × Along ⊥ R own m
-given-alike x0 e = grind (arith, nat_tests, both-given)
+given-alike {B = B} {R = R} {m = m} {after = after} (both-given p q v s) e =
+    let same : q ≡ (m, after) = cc in (p.0, p.1, refl, subst (λ (z : Meaning ArcRef × Rest B). Along ⊥ R p.0 z.0) same v)
+given-alike (first-refused x r same) e = absurd (no_cause same)
+given-alike x0 e = absurd (cc)
 
 module _ (types : Types) (t : ℕ) (blob : Blob) (refs got : List ArcRef) (f : IsFormOf types t blob refs) (same : kinds_of got ≡ kinds_of refs) where
   abbrev Answers : Answer → ArcRef → Type 0
-  Answers a r = (kind : ℕ) → OutLook no_cause (InPlace got refs) (a kind) (own_look kind r)
+  Answers a r = (kind : ℕ) → OutLook one_cause (InPlace got refs) (a kind) (own_look kind r)
 
   all-answer : (place : ℕ) (rs : List ArcRef) (keys : List ℕ) → ((i : ℕ) → slice_get rs i ≡ slice_get refs (place + i)) → length keys ≡ length rs → AllTwo Answers (answers_from got place keys) rs
   unfolding answers_from
@@ -157,7 +162,7 @@ module _ (types : Types) (t : ℕ) (blob : Blob) (refs got : List ArcRef) (f : I
   reads-all : (own : Meaning ArcRef) × (next_of types t blob got ≡ reads own) × Along ⊥ (InPlace got refs) own f.own
   unfolding read
   reads-all =
-      let par = read_par {E = no_cause} {F = ⊥} {S = Answers} {R = InPlace got refs} answer_at own_look (λ kind a r h. h kind) 0 f.shape (inr f.can) in
+      let par = read_par {E = one_cause} {F = ⊥} {T = AllTwo Answers} {R = InPlace got refs} answer_at own_look (each _ _ (λ kind a r h. h kind)) 0 f.shape (inr f.can) in
       let whole : read (record { levels = 0; look = own_look; parts = types.parts }) f.shape (rest blob.bytes refs) ≡ Ok (f.own, rest [] []) =
       rw append-nil at (form-again [] f.form (looks-own refs) f.can) in
       let out = par.out (rest blob.bytes (answers_from got 0 blob.keys)) (rest blob.bytes refs) (record { bytes = refl; refs = all-answer 0 refs blob.keys (λ i. ap (slice_get refs) (let e : i ≡ 0 + i = omega arith in e)) f.as_many }) in
@@ -267,6 +272,11 @@ pub read-gives : (key : Option ℕ) (r : Result (Meaning ArcRef × Rest Answer) 
 read-gives key (Ok (m, after)) own is = let same : m ≡ own = cc in (after, rw same refl)
 read-gives key (Err e) own is = absurd (grind (arith, nat_tests))
 
+-- what was read in the one way was read in the other
+pub given-too : {A B X Y : Type 0} {E : Error → Error → Type 0} {T : List A → List B → Type 0} {V : X → Y → Type 0} {x : X} {after : Rest A} {first : Result (X × Rest A) Error} {second : Result (Y × Rest B) Error}
+    → Out E T V first second → first ≡ Ok (x, after) → (y : Y) × (left : Rest B) × (second ≡ Ok (y, left)) × V x y
+given-too x0 e = grind (arith, nat_tests, both-given)
+
 -- the key that a blob asks for next is the next of its keys
 pub asks_next : (types : Types) (frame : Frame) (kind : Kind) (key : ℕ) → next_in types frame ≡ asks kind key → slice_get frame.blob.keys (length frame.got) ≡ Some key
 asks_next types frame kind key is = grind (arith, nat_tests)
@@ -302,12 +312,6 @@ module _ {types : Types} {stored : ℕ → Option Blob} {trees : ℕ → Tree} {
       let first = answer-of (slice_get got place) key (λ r is. ((place, is), h 0 key r (subst (λ n. slice_get got n ≡ Some r) here is) refl)) in
       more-two _ key _ keys first
       (answers (place + 1) keys (λ i k r is at. let next : place + 1 + i ≡ place + suc i = omega arith in h (suc i) k r (subst (λ n. slice_get got n ≡ Some r) next is) at))
-
-  -- the two readings of the blob
-  both-read : {own : Meaning ArcRef} {after : Rest Answer} {first : Result (Meaning ArcRef × Rest Answer) Error} {second : Result (Meaning KeyRef × Rest ℕ) Error}
-      → Out any_cause (AnswersFor types stored trees got) (Along ⊥ (Found types stored trees got)) first second → first ≡ Ok (own, after)
-      → (m : Meaning KeyRef) × (rest : Rest ℕ) × (second ≡ Ok (m, rest)) × Along ⊥ (Found types stored trees got) own m
-  both-read x0 e = grind (arith, nat_tests, both-given)
 
   -- what was read leads to a tree, to which the bare keys lead too
   leads-follows : {x : Meaning ArcRef} {m : Meaning KeyRef} → Along ⊥ (Found types stored trees got) x m → (a : Meaning ⊥) × LeadsTo trees x a × IsFollowed (ReadsAs stored types) m a
@@ -345,10 +349,10 @@ module _ {N : Type 0} {v : Values N} (lawful : IsLawful v) (readable : ReadsItsT
   decodes frame x fits decoded =
       let given = read-gives _ _ decoded.own decoded.read in
       let all = answers 0 frame.blob.keys (λ i key r is at. let start : 0 + i ≡ i = omega arith in fits.got i key r (subst (λ n. slice_get frame.got n ≡ Some r) start is) at) in
-      let both = typed_par {E = any_cause} {F = ⊥} {S = AnswersFor v.types stored trees frame.got} {R = Found v.types stored trees frame.got} {parts = v.types.parts} answer_at
-      (λ kind key. Ok (key_ref kind key)) (λ kind a key h. h kind) 0 (v.types.nodes frame.node_type) (λ s is. inr (readable frame.node_type s is))
+      let both = typed_par {E = any_cause} {F = ⊥} {T = AllTwo (AnswersFor v.types stored trees frame.got)} {R = Found v.types stored trees frame.got} {parts = v.types.parts} answer_at
+      (λ kind key. Ok (key_ref kind key)) (each _ _ (λ kind a key h. h kind)) 0 (v.types.nodes frame.node_type) (λ s is. inr (readable frame.node_type s is))
       (rest frame.blob.bytes (answers_from frame.got 0 frame.blob.keys)) (rest_of frame.blob) (record { bytes = refl; refs = all }) in
-      let two = both-read both given.1 in
+      let two = given-too both given.1 in
       let led = leads-follows two.3 in
       record {
         t = tree frame.node_type led.0;

@@ -82,7 +82,7 @@ module _ {N E : Type 0} (v : Values N) (s : MachineState N E) (trees : ℕ → T
   -- a path that is too long from the reference's place is one of the task's
   leads-down : (n : ℕ) (task : Task) (r : ArcRef) (below : List Todo) → Expects task r below → Waits shelf task below → AllStand shelf n task below
       → longest_path < max (place_over r below + height (trees r.node.0).meaning) (deepest_path (trees r.node.0).meaning) → IsTooDeepTask trees task
-  unfolding Waits AllStand
+  unfolding Waits
   leads-down n task r (to_finish o ∷ below) (more, e) (known, attained, place, reach, expects, waits) (stands, apart, all) long =
       let claim = stands.1 in
       let f = fit.slots t (identity_of o.reference) claim.slot claim.claimed in
@@ -99,7 +99,7 @@ module _ {N E : Type 0} (v : Values N) (s : MachineState N E) (trees : ℕ → T
   -- a worker comes upon no claim of its own that it is at: a tree is no part of itself
   not-below : (n : ℕ) (task : Task) (q : Identity) (r : ArcRef) (below : List Todo) → size (trees q.node.0).meaning ≤ size (trees r.node.0).meaning → Expects task r below → Waits shelf task below
       → AllStand shelf n task below → is_open_in q below ≡ true → ⊥
-  unfolding Waits AllStand is_open_in
+  unfolding Waits
   not-below n task q r (to_finish o ∷ below) few (more, e) (known, attained, place, reach, expects, waits) (stands, apart, all) is =
       let claim = stands.1 in
       let f = fit.slots t (identity_of o.reference) claim.slot claim.claimed in
@@ -115,7 +115,6 @@ module _ {N E : Type 0} (v : Values N) (s : MachineState N E) (trees : ℕ → T
       → Claims n (record { core = core; shelf = shelf; todo = todo }) r place below (Err Error.TooDeep) s'
       → Expects task r below → Waits shelf task below → AllStand shelf n task below → Covers shelf n (to_start r place ∷ below) → place ≡ place_over r below
       → IsTooDeepTask trees task ⊎ WaitsForAsker shelf n (identity_of r)
-  unfolding is_open_in
   claim-deep n task core todo r place below s' c expects waits all covers at = elim c.refused.0 [
     | inl fault ↦ absurd (grind arith)
     | inr (inl (none_there, is, inl long)) ↦ inl (grind (arith, nat_tests, leads-down))
@@ -231,7 +230,6 @@ module _ {N B W E : Type 0} (m : Seen N B W) (s s' : MachineState N E) (trees tr
 
     of-claim : (after : Site) (todo : List Todo) (i : Identity) → Does m n site todo (Took.Claim i (Err Error.TooDeep)) after → AllStand site.shelf n walking.task todo → Covers site.shelf n todo
         → Walks m.values (ground_of s trees) site.shelf walking.task todo → IsTooDeepTask trees walking.task ⊎ WaitsForAsker site.shelf n i
-    unfolding AllStand
     of-claim after (to_start r place ∷ below) i (is, c) (stands, apart, all) covers (at, (expects, waits)) =
         subst (λ (j : Identity). IsTooDeepTask trees walking.task ⊎ WaitsForAsker site.shelf n j) (sym is)
         (claim-deep m.values s trees fit walking.table n walking.task s.pager.core walking.todo r place below after c expects waits all covers at)

@@ -1,11 +1,11 @@
 -- What a step does: how it is felt, which handles and loads it leaves to others, and that the cache goes on to give for a kind and a key what it gave, as long as the node is held as the
 -- kind asks. The parts of which each call is made.
-use Rattle.pagable_laws.proofs.Goes.{goes-quiet, goes-then, keyed, le-more, le-self, none-in-next, only-rows, parts, quiet-goes, quiet-self, rows-mode, rows-moved, rows-self, stands-alike}
-use Rattle.pagable_laws.proofs.Words.{Among, ArcRef, Blob, Bool, Change, Core, Error, HandleNumber, HandleRow, Kind, List, LoadNumber, Mode, NodeNumber, None, OpenLoad, Option, OptionalDataKey, Owner}
+use Rattle.pagable_laws.proofs.{Decoding.among-either, Goes.{Goes, Has, IsShut, NotLoads, NotValues, Quiet, Stands, a-handle, alike, among-kept, born, fell as quiet-fell, found-number, goes-known}}
+use Rattle.pagable_laws.proofs.Goes.{goes-quiet, goes-then, keyed, le-more, le-self, none-in-next, only-rows, parts, quiet-goes, quiet-self, rows-mode, rows-moved, rows-self, same-owner}
+use Rattle.pagable_laws.proofs.{Goes.{stands-alike, stands-changed, stands-fell, stands-more}, Trees.{at-most-sum, counted, one-true, same-number, same_some, self-number}, Words.{Alike, Among}}
+use Rattle.pagable_laws.proofs.Words.{ArcRef, Blob, Bool, Change, Core, Error, HandleNumber, HandleRow, Kind, List, LoadNumber, Mode, NodeNumber, None, OpenLoad, Option, OptionalDataKey, Owner}
 use Rattle.pagable_laws.proofs.Words.{Result, Some, [], and_parts, ap, arith, cases_Bool, false, false_from_ne_true, find_row, held, if_there, if◌then◌else◌, inl, inr, is_handle, is_in, is_named_by}
 use Rattle.pagable_laws.proofs.Words.{is_owned_by, is_owner, is_pinning, is_some, moved, nat_tests, not, nothing_felt, one, owner_value, owner_worker, pins, refl, rules, slice_get, subst, suc, sym}
-use Rattle.pagable_laws.proofs.{Decoding.among-either, Goes.{Goes, Has, IsShut, NotLoads, NotValues, Quiet, Stands, a-handle, alike, among-kept, born, fell as quiet-fell, found-number, goes-known}}
-use Rattle.pagable_laws.proofs.{Goes.{stands-changed, stands-fell, stands-more}, GoodReferences.same-owner, Trees.{at-most-sum, counted, one-true, same-number, same_some, self-number}, Words.Alike}
 use Rattle.pagable_laws.{proofs.Words.{true, updated, with_handle, zero, ℕ, ◌&&◌, ◌++◌, ◌+◌, ◌<◌, ◌==◌, ◌∙◌, ◌∷◌, ◌≡◌, ◌≤◌}, specs.TreeSteps.{AreGood, Bears, Knows, sets_key}}
 use Rattle.pagable_world.specs.{Calls.{row_of, with_cached, with_key, with_mode, with_node}, Cascade.{Falls, fallen, left_rows, nobody, only_handle}, Kinds.{is_at, is_in_memory, is_loose, is_pin}}
 use Rattle.pagable_world.specs.{LoadCalls.{is_owned_in, numbers_of, with_load, without_load}, Pager.OwnersAreThere, Plain.{changed, is_pinned_kind}, Refusals.{Owns, OwnsLoad, earlier, named_fault}}

@@ -1,8 +1,8 @@
 -- The least set of handles that fall. What falls of a value of two levels; and a lone cell that is unpinned.
 use Rattle.pagable_laws.proofs.Words.{[], and_parts, ap, arith, cases_lt, false, false_from_ne_true, find_row, held, inl, inr, is_owned_by, is_owner, length, nat_tests, not, one, owner_value, pins}
 use Rattle.pagable_laws.proofs.{Trees.{at-most-sum, counted, one-small, one-true, same-number, sum-le, sum-plus, sum-zero}, Words.{Among, Blob, Bool, HandleRow, Last, List, Mode, Ok, Option, Owner}}
-use Rattle.pagable_laws.{proofs.Words.{refl, suc, sum_by-cons, sym, true, zero, ℕ, ◌&&◌, ◌+◌, ◌<◌, ◌==◌, ◌||◌, ◌∙◌, ◌∷◌, ◌≡◌, ◌≤◌}, specs.FallLaws.{IsGivenAlone, LoneIsListed, OwnsNothing}}
-use Rattle.{pagable_laws.specs.FallLaws.{TwoLevelsFall, first, first_node, lone, lone_listed, lone_unlisted, two_rows}, pagable_world.specs.{Calls.{row_of, with_mode}, Cascade.Falls}}
+use Rattle.pagable_laws.{proofs.{Trees.pins_filter, Words.{refl, suc, sum_by-cons, sym, true, zero, ℕ, ◌&&◌, ◌+◌, ◌<◌, ◌==◌, ◌||◌, ◌∙◌, ◌∷◌, ◌≡◌, ◌≤◌}}, specs.FallLaws.{FallLaws, OwnsNothing}}
+use Rattle.{pagable_laws.specs.FallLaws.{both, first, first_node, lone, lone_listed, lone_unlisted, outer, two_rows}, pagable_world.specs.{Calls.{row_of, with_mode}, Cascade.Falls}}
 use Rattle.{pagable_world.specs.{Cascade.{IsClosed, IsLeast, IsWithin, is_outside, loses_value, nobody, owned_outside}, Kinds.{is_at, is_pin}}, std.{proofs.Common.sum_by, specs.Prelude.nat_lt}}
 
 -- 1 for a handle outside the set; one that the node's value owns; and one of the one set and not of the other
@@ -109,26 +109,15 @@ module _ (rows : List HandleRow) (keyed : ℕ → Bool) (entries : List HandleRo
   least_is_one given s t h a b among = grind (arith, nat_tests, inside s t h (a.least t b.holds b.closed) among, inside t s h (b.least s a.holds a.closed) among)
 
 -- so the given handles are the least set, and no more fall
-pub given-least : (rows : List HandleRow) (keyed : ℕ → Bool) (entries : List HandleRow) (given : ℕ → Bool) → OwnsNothing rows → IsLeast rows keyed entries given given
+given-least : (rows : List HandleRow) (keyed : ℕ → Bool) (entries : List HandleRow) (given : ℕ → Bool) → OwnsNothing rows → IsLeast rows keyed entries given given
 given-least rows keyed entries given nothing =
     let closed : IsClosed rows keyed entries given = λ n goes. let none : sum_by (λ h. one (is_owner (owner_value n) h.owner)) rows ≡ 0 = nothing n in grind (arith, nat_tests, and_parts, sum-le) in
     search (within-self rows keyed entries given, closed)
 
-pub given_alone : IsGivenAlone
-given_alone = record { same = λ rows keyed entries given s h nothing least among. least_is_one rows keyed entries given s given h least (given-least rows keyed entries given nothing) among }
-
--- ---- a value of two levels, and a lone cell
-
 pub and-false : (b : Bool) → one (b && false) ≡ 0
 and-false x0 = grind (arith, nat_tests)
 
-pub two_fall : TwoLevelsFall
-two_fall = record {
-  falls = record { holds = refl; closed = grind (arith, nat_tests, and-false); least = λ t holds closed. let f : owned_outside two_rows t 1 ≡ 0 = closed 1 (grind (arith, nat_tests)) in omega arith };
-  not_less = λ least. let fallen = least.closed 1 refl in absurd (omega arith);
-}
-
--- ---- a lone cell is listed
+-- ---- small worlds, and all laws of what falls
 
 fell : (stored : ℕ → Option Blob) → Falls (lone stored) (with_mode (lone stored) first Mode.LooseUnpinned) nobody (Ok tt) (lone_listed stored)
 fell stored =
@@ -144,10 +133,19 @@ fell stored =
       leaves = grind (arith, nat_tests);
     }
 
-pub is_listed : LoneIsListed
+two-fall : IsLeast two_rows both [] outer both
+two-fall = record { holds = refl; closed = grind (arith, nat_tests, and-false); least = λ t holds closed. let f : owned_outside two_rows t 1 ≡ 0 = closed 1 (grind (arith, nat_tests)) in omega arith }
+
+pub fall_laws : FallLaws
 unfolding find_row
-is_listed = record {
-  listed = λ stored. record { does = inr (row_of 1 first_node Mode.LoosePinned Owner.Caller, record { live = refl; own = refl; as_asked = refl }, inr (refl, fell stored)) };
+fall_laws = record {
+  least_set_is_there = least_is_there;
+  least_set_is_one = least_is_one;
+  given_fall_alone = λ rows keyed entries given s h nothing least among. least_is_one rows keyed entries given s given h least (given-least rows keyed entries given nothing) among;
+  pins_are_a_filter = pins_filter;
+  two_levels_fall = two-fall;
+  not_less = λ least. let fallen = least.closed 1 refl in absurd (omega arith);
+  lone_is_listed = λ stored. record { does = inr (row_of 1 first_node Mode.LoosePinned Owner.Caller, record { live = refl; own = refl; as_asked = refl }, inr (refl, fell stored)) };
   not_unlisted = λ stored call. elim call.does [
     | inl refused ↦ absurd (cc)
     | inr (row, own, inl (is, told, alike)) ↦ let pins_are : pins 1 (lone_unlisted stored).rows ≡ pins 1 (lone stored).rows = ap (pins 1) alike.rows in absurd (omega arith)

@@ -1,16 +1,16 @@
 -- What each step brings fits some trees afterwards: where a pager stands for trees, each value and key leads to its node's tree by its own references alone, and from
 -- this it stands for them again, so that what is asked of a node is shown at each node by itself.
-use Rattle.pagable_laws.proofs.Words.{Change, Core, Frame, HoldsSettled, IsLawful, IsReference, List, LoadAnswer, Meaning, None, OpenLoad, Option, OptionalDataKey, Owner, PagerState}
-use Rattle.pagable_laws.proofs.Words.{Reading, ReadingFeels, ReadingFits, ReadsItsTypes, ReadsRoot, ReadsTree, Reply, Represents, Some, Tree, Values, WellFormed, [], ap, arith, bears_known, cases_lt}
-use Rattle.pagable_laws.proofs.Words.{false, first_key, followed, held, if◌then◌else◌, inl, inr, integer-leads, is_some, key_at, nat_tests, none, nothing_felt, pair, reference, references_in, refl}
+use Rattle.pagable_laws.proofs.Words.{Call, Change, Core, Frame, HoldsSettled, IsLawful, IsReference, List, LoadAnswer, Meaning, None, OpenLoad, Option, OptionalDataKey, Owner, PagerState, Reading}
+use Rattle.pagable_laws.proofs.Words.{ReadingFeels, ReadingFits, ReadsItsTypes, ReadsRoot, ReadsTree, Reply, Represents, Some, Tree, Values, WellFormed, [], ap, arith, bears_known, cases_lt, false}
+use Rattle.pagable_laws.proofs.Words.{first_key, followed, held, if◌then◌else◌, inl, inr, integer-leads, is_some, key_at, nat_tests, none, nothing_felt, pair, reference, references_in, refl, rules}
 use Rattle.pagable_laws.proofs.{Coming.updated-at, Decoding.{decodes, meant-refs}, Following.{cell-of, given-of, halves, held-of, leads-on, one-node, stands-leads}, ReadingSteps.{new-node, old-node}}
-use Rattle.pagable_laws.proofs.{Related.along-rename, Taking.{first-fits, node-decoded, node-stays, root-key, tree-stays}, Trees.{one_tree, same_some, tree_is}, Words.{Among, ArcRef, Bool, Call}}
-use Rattle.pagable_laws.specs.TreeSteps.{CoreGoes, FramesGiven, LeadsTo, NodeLeads, SameNode, StaysAway, ValueLeads, bears_node, feels-adopted, feels-away, feels-birth, feels-end, feels-key}
-use Rattle.pagable_laws.specs.TreeSteps.{feels-known, feels-lazy, feels-nothing, followed-leads, gets-lazy, makes-node, none-leads, number-leads, pair-leads, pattern-leads}
-use Rattle.pagable_laws.{proofs.Words.{rules, subst, sym, tree, true, type_of, updated, variant, zero, ℕ, ◌+◌, ◌<◌, ◌==◌, ◌∙◌, ◌≡◌, ◌≤◌, ◌⊎◌}, specs.TreeSteps.{AreGood, CallFeels, ChangeFits}}
-use Rattle.pagable_world.specs.Pager.{IsCellOf, IsNewNode, KeyFits, MeaningStands, Moves, NodeStands, ReadingBrings, ReadsNodeTree, SameTrees, away, followed-stands, here, integer-stands, none-stands}
-use Rattle.pagable_world.specs.{Pager.{number-stands, pair-stands, pattern-stands, reference-stands, text-stands, variant-stands}, Plain.is_pinned_kind, Runs.{AsksWell, TakesWell}}
-use Rattle.{pagable_laws.specs.TreeSteps.{reference-leads, sets_key, text-leads, variant-leads}, pagable_model.specs.Meaning.{integer, number, pattern, text}, pagable_world.specs.Pager.CallBrings}
+use Rattle.pagable_laws.proofs.{Related.along-rename, Taking.{AllGot, first-fits, node-decoded, node-stays, root-key, tree-stays}, Trees.{one_tree, same_some, tree_is}, Words.{Among, ArcRef, Bool}}
+use Rattle.pagable_laws.specs.TreeSteps.{NodeLeads, SameNode, StaysAway, ValueLeads, bears_node, feels-adopted, feels-away, feels-birth, feels-end, feels-key, feels-known, feels-lazy, feels-nothing}
+use Rattle.pagable_laws.specs.TreeSteps.{followed-leads, gets-lazy, makes-node, none-leads, number-leads, pair-leads, pattern-leads, reference-leads, sets_key, text-leads, variant-leads}
+use Rattle.pagable_laws.{proofs.Words.{subst, sym, tree, true, type_of, updated, variant, zero, ℕ, ◌+◌, ◌<◌, ◌==◌, ◌∙◌, ◌≡◌, ◌≤◌, ◌⊎◌}, specs.TreeSteps.{CallFeels, ChangeFits, CoreGoes, LeadsTo}}
+use Rattle.pagable_world.specs.Pager.{ReadsNodeTree, SameTrees, away, followed-stands, here, integer-stands, none-stands, number-stands, pair-stands, pattern-stands, reference-stands, text-stands}
+use Rattle.pagable_world.specs.{Pager.variant-stands, Plain.is_pinned_kind, Runs.{AsksWell, TakesWell}}
+use Rattle.{pagable_model.specs.Meaning.{integer, number, pattern, text}, pagable_world.specs.Pager.{CallBrings, IsCellOf, IsNewNode, KeyFits, MeaningStands, Moves, NodeStands, ReadingBrings}}
 
 -- a meaning whose references' nodes have trees of their kinds' types leads to one
 pub led : {trees : ℕ → Tree} (x : Meaning ArcRef) → ((r : ArcRef) → Among (references_in x) r → (trees r.node.0).type ≡ type_of r.kind.0) → (a : Meaning ⊥) × LeadsTo trees x a
@@ -143,9 +143,6 @@ module _ {N E : Type 0} {v : Values N} {s s' : PagerState N E} {trees : ℕ → 
   abbrev last : ℕ
   last = s.core.last.node
 
-  good-given : (owner : Owner) (x : N) → AreGood s.core owner (v.references x) → (r : ArcRef) → Among (v.references x) r → r.node.0 ≤ last
-  good-given owner x good r among = (given-of well.whole.handles r.node.0 (good r among).typed).1
-
   -- a value came to a live node
   pub live-after : (n : ℕ) (x : N) → s'.values n ≡ Some x → is_some (s'.core.cells n) ≡ true
   live-after n x is = cell-of well'.whole.handles n (given-of well'.whole.handles n (well'.typed n x is)).0
@@ -191,7 +188,7 @@ module _ {N E : Type 0} {v : Values N} {s s' : PagerState N E} {trees : ℕ → 
       let l = led {trees = trees} some.0 (λ r among. let is = (good r (own-refs lawful x some.0 some.1 r among)).typed in
       same_some _ _ (sym (stands.typed r.node.0 (given-of well.whole.handles r.node.0 is).0) ∙ is)) in
       let born : (t : Tree) × (t.type ≡ v.node_type x) × ValueLeads v trees x t = (tree (v.node_type x) l.0, refl, record { own = some.0; typed = refl; means = some.1; leads = l.1 }) in
-      let few = good-given Owner.Caller x good in
+      let few = λ (r : ArcRef) (among : Among (v.references x) r). (given-of well.whole.handles r.node.0 (good r among).typed).1 in
       (_, fits-born born.0 _ _ OptionalDataKey.None born.1 (λ key is. absurd (cc)) (λ n y brings unset is. let b = brought n y brings in value-born born.0 _ n y x goes is b.0 b.1 few born.2))
   call-fits c call reply goes asked (feels-away t key k) =
       let reads = tree-stays goes.stored asked.reads in
@@ -203,7 +200,8 @@ module _ {N E : Type 0} {v : Values N} {s s' : PagerState N E} {trees : ℕ → 
       let reads : ReadsNodeTree v.types s'.core.stored trees key (type_of kind.0) row.node.0 = record { typed = is_typed; reads = tree-stays goes.stored (asked row owns) } in (trees, grind arith)
   call-fits c call reply goes asked (feels-adopted l kind key x k typed good) =
       let leads = value-leads lawful settled well stands x asked.stands.own asked.read (Owner.Load l) asked.stands.typed asked.stands.means asked.stands.stands good in
-      let same = sym asked.stands.typed ∙ typed in let reads = tree-stays goes.stored asked.reads in let few = good-given (Owner.Load l) x good in
+      let same = sym asked.stands.typed ∙ typed in let reads = tree-stays goes.stored asked.reads in
+      let few = λ (r : ArcRef) (among : Among (v.references x) r). (given-of well.whole.handles r.node.0 (good r among).typed).1 in
       (_, fits-born-known asked.read _ kind.0 key _ same (first-of (is_pinned_kind kind.0) key) reads (λ n y brings unset is. value-born asked.read _ n y x goes is brings.0 brings.1 few leads))
   call-fits c call reply goes asked (feels-lazy l kind key k) =
       (_, fits-born-known asked.read _ kind.0 key (OptionalDataKey.Some key) asked.typed (λ q is. cc) (tree-stays goes.stored asked.reads) (λ n y brings unset is. absurd brings))
@@ -211,62 +209,55 @@ module _ {N E : Type 0} {v : Values N} {s s' : PagerState N E} {trees : ℕ → 
       let leads = value-leads lawful settled well stands x in
       (_, fits-nothing _ (λ n y brings unset is. let meant = asked n brings.1 in rw brings.0 (leads meant.own (trees n) (Owner.Load l) meant.typed meant.means meant.stands good)))
 
-module _ {N E : Type 0} {v : Values N} {s s' : PagerState N E} {trees : ℕ → Tree} (lawful : IsLawful v) (readable : ReadsItsTypes v.types) (settled : HoldsSettled v s) (well : WellFormed v s)
-    (well' : WellFormed v s') (stands : Represents v s trees)
-    (reading : Reading) (fits : ReadingFits v s trees reading) (given : FramesGiven s.core.last.node reading.frames) where
-  module _ {c : Change} (goes : CoreGoes c s.core s'.core) where
-    -- the value of a root that was read leads to its cell's tree
-    root-leads : (n : ℕ) (x : N) → s'.values n ≡ Some x → ReadsRoot v reading x → IsCellOf s.core reading.load n
-        → (n ≤ s.core.last.node) × ValueLeads v trees x (trees n) × ((r : ArcRef) → Among (v.references x) r → r.node.0 ≤ s.core.last.node)
-    root-leads n x is root cell =
-        let here = rw root.frames at (fits cell.load cell.open_load) in
-        let d = decodes lawful readable root.root x (first-fits v.types cell.load.key reading.node_type s.core.stored trees root.root [] here) root.decoded in
-        let under = subst (λ q. ReadsTree s.core.stored v.types q d.t) (root-key v.types s.core.stored trees cell.load.key reading.node_type root.root here) d.reads in
-        let within : n ≤ s.core.last.node = subst (λ m. m ≤ s.core.last.node) cell.is (well.whole.loads.roots reading.load.0 cell.load cell.node cell.t cell.h cell.open_load cell.root).given.1 in
-        let old = old-node goes n within (live-after lawful settled well well' stands n x is) in
-        let typed : (trees n).type ≡ v.node_type x = same_some _ _ (sym (stands.typed n (held-of well.whole.handles n old.was)) ∙ sym old.typed ∙ well'.typed n x is) in
-        let cells = rw cell.is at (stands.loads reading.load.0 cell.load cell.node cell.t cell.h cell.open_load cell.root).reads in
-        let same : d.t ≡ trees n = one_tree s.core.stored v.types cell.load.key d.t (trees n) (sym d.leads.typed ∙ sym typed) under cells in
-        (within, subst (λ z. ValueLeads v trees x z) same d.leads, λ r among. given root.root r (rw root.frames (zero, refl)) (d.got r among))
+  module _ (readable : ReadsItsTypes v.types) (reading : Reading) (fits : ReadingFits v s trees reading) (given : AllGot (λ r. r.node.0 ≤ last) reading.frames) where
+    module _ {c : Change} (goes : CoreGoes c s.core s'.core) where
+      -- the value of a root that was read leads to its cell's tree
+      root-leads : (n : ℕ) (x : N) → s'.values n ≡ Some x → ReadsRoot v reading x → IsCellOf s.core reading.load n
+          → (n ≤ last) × ValueLeads v trees x (trees n) × ((r : ArcRef) → Among (v.references x) r → r.node.0 ≤ last)
+      root-leads n x is root cell =
+          let here = rw root.frames at (fits cell.load cell.open_load) in
+          let d = decodes lawful readable root.root x (first-fits v.types cell.load.key reading.node_type s.core.stored trees root.root [] here) root.decoded in
+          let under = subst (λ q. ReadsTree s.core.stored v.types q d.t) (root-key v.types s.core.stored trees cell.load.key reading.node_type root.root here) d.reads in
+          let within : n ≤ last = subst (λ m. m ≤ last) cell.is (well.whole.loads.roots reading.load.0 cell.load cell.node cell.t cell.h cell.open_load cell.root).given.1 in
+          let old = old-node goes n within (live-after n x is) in
+          let typed : (trees n).type ≡ v.node_type x = same_some _ _ (sym (stands.typed n (held-of well.whole.handles n old.was)) ∙ sym old.typed ∙ well'.typed n x is) in
+          let cells = rw cell.is at (stands.loads reading.load.0 cell.load cell.node cell.t cell.h cell.open_load cell.root).reads in
+          let same : d.t ≡ trees n = one_tree s.core.stored v.types cell.load.key d.t (trees n) (sym d.leads.typed ∙ sym typed) under cells in
+          (within, subst (λ z. ValueLeads v trees x z) same d.leads, λ r among. given root.root r (rw root.frames (zero, refl)) (d.got r among))
 
-    quiet : (n : ℕ) (x : N) → c ≡ nothing_felt → ReadingBrings v s.core reading n x → s'.values n ≡ Some x → ValueLeads v trees x (trees n)
-    quiet n x nothing x3 is = grind (arith, nat_tests, live-after, root-leads, new-node goes well.whole.handles)
+      quiet : (n : ℕ) (x : N) → c ≡ nothing_felt → ReadingBrings v s.core reading n x → s'.values n ≡ Some x → ValueLeads v trees x (trees n)
+      quiet n x nothing x3 is = grind (arith, nat_tests, live-after, root-leads, new-node goes well.whole.handles)
 
-    -- a node is born, and the root's value comes to an old one
-    root-on : (t0 : Tree) (n : ℕ) (x : N) → s'.values n ≡ Some x → ReadsRoot v reading x → IsCellOf s.core reading.load n
-        → ValueLeads v (updated (s.core.last.node + 1) t0 trees) x (updated (s.core.last.node + 1) t0 trees n)
-    root-on t0 n x is root cell =
-        let r = root-leads n x is root cell in
-        let same = with-below s.core.last.node t0 trees in
-        subst (λ z. ValueLeads v (updated (s.core.last.node + 1) t0 trees) x z) (sym (same n r.0)) (value-on lawful s.core.last.node same r.2 r.1)
+      -- a node is born, and the root's value comes to an old one
+      root-on : (t0 : Tree) (n : ℕ) (x : N) → s'.values n ≡ Some x → ReadsRoot v reading x → IsCellOf s.core reading.load n → ValueLeads v (more t0) x (more t0 n)
+      root-on t0 n x is root cell =
+          let r = root-leads n x is root cell in let same = with-below last t0 trees in
+          subst (λ z. ValueLeads v (more t0) x z) (sym (same n r.0)) (value-on lawful last same r.2 r.1)
 
-  still : CoreGoes nothing_felt s.core s'.core → (after : ℕ → Tree) × ChangeFits v nothing_felt (ReadingBrings v s.core reading) s s' trees after
-  still goes = (trees, fits-nothing lawful settled well well' stands _ (λ n x brings unset is. quiet goes n x refl brings is))
-
-  pub reading-fits : {c : Change} {answer : Option (LoadAnswer N)} {frames : List Frame} → CoreGoes c s.core s'.core → TakesWell v s reading
-      → (answer ≡ None → (load : OpenLoad) × (s.core.loads reading.load.0 ≡ Some load))
-      → ReadingFeels v s.core reading answer frames s'.core c → (after : ℕ → Tree) × ChangeFits v c (ReadingBrings v s.core reading) s s' trees after
-  reading-fits goes takes opens (gets-lazy kind key row needs got answer is) =
-      let asked = takes kind key needs in let kept = tree-stays goes.stored asked.reads in
-      let fit = fits-born-known lawful settled well well' stands asked.read (ReadingBrings v s.core reading) kind.0 key (OptionalDataKey.Some key) asked.typed (λ q e. cc) kept in
-      (_, fit (λ n x brings unset at. elim brings [ inl (reads, new) ↦ absurd (cc) | inr (root, cell) ↦ root-on goes asked.read n x at root cell ]))
-  reading-fits goes takes opens (makes-node x reads row got answer is) =
-      let load = opens answer in
-      let fit = fits load.0 load.1 in
-      let made = node-decoded lawful readable s.core.stored trees load.0.key reading.node_type reading x reads fit in
-      let t0 = made.0.t in
-      let fit_new = fits-born-known lawful settled well well' stands t0 (ReadingBrings v s.core reading) reads.top.kind.0 reads.top.key (first_key reads.top.kind.0 reads.top.key)
-      (made.0.typed ∙ made.1) (first-of (is_pinned_kind reads.top.kind.0) reads.top.key) (tree-stays goes.stored made.0.reads) in (
-        _,
-        fit_new (λ n y brings unset at. elim brings [
-          | inl (reads2, new) ↦
-              let other = (node-decoded lawful readable s.core.stored trees load.0.key reading.node_type reading y reads2 fit).0 in
-              let top : reads2.top ≡ reads.top = (cc) in
-              let moved : ReadsTree s.core.stored v.types reads.top.key other.t = subst (λ (f : Frame). ReadsTree s.core.stored v.types f.key other.t) top other.reads in
-              let same : other.t ≡ t0 = one_tree s.core.stored v.types reads.top.key other.t t0 (other.typed ∙ ap (λ (f : Frame). f.node_type) top ∙ sym made.0.typed) moved made.0.reads in
-              let few = λ (r : ArcRef) (among : Among (v.references y) r). given reads2.top r (subst (λ fs. Among fs reads2.top) (sym reads2.frames) (zero, refl)) (other.got r among) in
-              value-born lawful settled well well' stands t0 _ n y y goes at refl new few (subst (λ z. ValueLeads v trees y z) same other.leads)
-          | inr (root, cell) ↦ root-on goes t0 n y at root cell
-        ]),
-      )
-  reading-fits goes takes opens _ = still goes
+    pub reading-fits : {c : Change} {answer : Option (LoadAnswer N)} {frames : List Frame} → CoreGoes c s.core s'.core → TakesWell v s reading
+        → (answer ≡ None → (load : OpenLoad) × (s.core.loads reading.load.0 ≡ Some load))
+        → ReadingFeels v s.core reading answer frames s'.core c → (after : ℕ → Tree) × ChangeFits v c (ReadingBrings v s.core reading) s s' trees after
+    reading-fits goes takes opens (gets-lazy kind key row needs got answer is) =
+        let asked = takes kind key needs in
+        let fit = fits-born-known asked.read (ReadingBrings v s.core reading) kind.0 key (OptionalDataKey.Some key) asked.typed (λ q e. cc) (tree-stays goes.stored asked.reads) in
+        (_, fit (λ n x brings unset at. elim brings [ inl (reads, new) ↦ absurd (cc) | inr (root, cell) ↦ root-on goes asked.read n x at root cell ]))
+    reading-fits goes takes opens (makes-node x reads row got answer is) =
+        let load = opens answer in
+        let fit = fits load.0 load.1 in
+        let made = node-decoded lawful readable s.core.stored trees load.0.key reading.node_type reading x reads fit in
+        let t0 = made.0.t in
+        let fit_new = fits-born-known t0 (ReadingBrings v s.core reading) reads.top.kind.0 reads.top.key (first_key reads.top.kind.0 reads.top.key)
+        (made.0.typed ∙ made.1) (first-of (is_pinned_kind reads.top.kind.0) reads.top.key) (tree-stays goes.stored made.0.reads) in (
+          _,
+          fit_new (λ n y brings unset at. elim brings [
+            | inl (reads2, new) ↦
+                let other = (node-decoded lawful readable s.core.stored trees load.0.key reading.node_type reading y reads2 fit).0 in
+                let top : reads2.top ≡ reads.top = (cc) in
+                let moved : ReadsTree s.core.stored v.types reads.top.key other.t = subst (λ (f : Frame). ReadsTree s.core.stored v.types f.key other.t) top other.reads in
+                let same : other.t ≡ t0 = one_tree s.core.stored v.types reads.top.key other.t t0 (other.typed ∙ ap (λ (f : Frame). f.node_type) top ∙ sym made.0.typed) moved made.0.reads in
+                let few = λ (r : ArcRef) (among : Among (v.references y) r). given reads2.top r (subst (λ fs. Among fs reads2.top) (sym reads2.frames) (zero, refl)) (other.got r among) in
+                value-born t0 _ n y y goes at refl new few (subst (λ z. ValueLeads v trees y z) same other.leads)
+            | inr (root, cell) ↦ root-on goes t0 n y at root cell
+          ]),
+        )
+    reading-fits goes takes opens _ = (trees, fits-nothing _ (λ n x brings unset is. quiet goes n x refl brings is))

@@ -1,11 +1,10 @@
 -- A pager with few of each is whole, by facts about its first numbers that compute.
-use Rattle.pagable_laws.proofs.Words.{WellFormed, [], and_parts, ap, arith, cases_lt, false, held, inl, inr, is_handle, is_owned_by, is_owner, is_some, length, nat_eq, nat_tests, not, of_cell, one}
-use Rattle.pagable_laws.proofs.Words.{owner_value, pins, references_fault, refl, row_at, rules, subst, suc, sym, times, true, type_of, updated, ℕ, ◌&&◌, ◌<◌, ◌==◌, ◌∙◌, ◌∷◌, ◌≡◌, ◌≤◌}
-use Rattle.pagable_laws.proofs.{Existing.within-self, GoodReferences.good, Trees.sum-zero, Words.{Alike, Among, ArcRef, Bool, Core, HandleRow, List, None, Ok, OpenLoad, Option, Owner, Some}}
-use Rattle.pagable_world.specs.{Cascade.{is_keyed, loses_value, owned_outside}, Kinds.{is_at, is_loose, is_pin, is_share, is_shared, sharing}, Pager.{IsHandleBefore, MayOwnLoad}, Plain.is_shared_kind}
-use Rattle.std.specs.{List.{AllByRecursion as Each, AllPairs}, Prelude.{IfSome, nat_le, nat_lt}}
-use Rattle.{pagable_laws.specs.{FallLaws.no_work, TwoLevels.{Sample, machine, sample, sample_references, sample_type, value_at}}, pagable_world.specs.Cascade.{Falls, IsLeast, MustList, fallen}}
-use Rattle.{pagable_world.specs.World.{Root, is_here, of_key, type_at}, std.proofs.{Common.All, lemmas.{Bool.{agree_below, agree_below_at}, List.Kept.AllPairs-cons}}}
+use Rattle.pagable_laws.proofs.Words.{and_parts, ap, arith, cases_lt, false, held, inl, inr, is_handle, is_owned_by, is_owner, is_some, length, nat_eq, nat_tests, not, of_cell, one, owner_value, pins}
+use Rattle.pagable_laws.proofs.{Existing.within-self, Goes.good, Trees.sum-zero, Words.{Alike, Among, ArcRef, Bool, Core, HandleRow, List, None, Ok, OpenLoad, Option, Owner, Some, WellFormed, []}}
+use Rattle.pagable_laws.{proofs.Words.{references_fault, refl, row_at, rules, subst, suc, sym, times, true, updated, ℕ, ◌&&◌, ◌<◌, ◌==◌, ◌∷◌, ◌≡◌, ◌≤◌}, specs.{FallLaws.no_work, TwoLevels.Sample}}
+use Rattle.std.{proofs.lemmas.{Bool.{agree_below, agree_below_at}, List.Kept.AllPairs-cons}, specs.{List.{AllByRecursion as Each, AllPairs}, Prelude.{IfSome, nat_le, nat_lt}}}
+use Rattle.{pagable_laws.specs.TwoLevels.{machine, sample, value_at}, pagable_world.specs.{Cascade.{Falls, IsLeast, MustList, fallen, is_keyed, loses_value, owned_outside}, Kinds.{is_at, is_loose}}}
+use Rattle.{pagable_world.specs.{Kinds.{is_pin, is_share, is_shared, sharing}, Pager.{IsHandleBefore, MayOwnLoad}, World.{Root, is_here, of_key, type_at}}, std.proofs.Common.All}
 
 -- what holds of what there is
 of-some : {X : Type 0} (P : X → Type 0) {x : Option X} {y : X} → IfSome x P → x ≡ Some y → P y
@@ -68,17 +67,7 @@ falls-so before w given gone low few none least =
     let is_none = by-number 3 (lists_none before w gone) (λ n. false) none (λ n lt.
     let a = none-pass RowLow (is_pin n) before.rows low (λ h ok. let b = ok.0 in grind (arith, nat_tests)) in rw a refl) n in
     let a = must.pinned in let b = must.unpinned in let c = must.unkeyed in grind (arith, nat_tests) in
-    record {
-      gone = gone;
-      entries = [];
-      set = least;
-      new = tt;
-      only = λ n some. absurd (omega arith);
-      each = λ n must. absurd (no-must n must);
-      tells = record { all = λ n must. absurd (no-must n must); not_all = tt };
-      within = let b : w.last.handle ≤ 9 = grind (arith, nat_tests) in omega arith;
-      leaves = alike-self (fallen w gone []);
-    }
+    let few_left : w.last.handle ≤ 9 = grind (arith, nat_tests) in search (arith, least, no-must, alike-self)
 
 -- the given handles fall alone, if no value that goes owns another
 abbrev pub AreAlone : Core → Core → (ℕ → Bool) → Type 0
@@ -133,7 +122,7 @@ LoadFits w l load = (nat_lt 0 l ≡ true) × (nat_le l w.last.load ≡ true) × 
 
 -- how often a value refers to a handle, and the value of the node owns it; which is the same
 abbrev pub refers : Sample → ℕ → ℕ
-refers x q = times (λ (r : ArcRef). r.handle.0 == q) (sample_references x)
+refers x q = times (λ (r : ArcRef). r.handle.0 == q) (sample.references x)
 
 abbrev pub owns : Core → ℕ → ℕ → ℕ
 owns w n q = times (λ h. is_handle q h && is_owned_by (owner_value n) h) w.rows
@@ -141,8 +130,8 @@ owns w n q = times (λ h. is_handle q h && is_owned_by (owner_value n) h) w.rows
 abbrev pub ValueFits : Core → ℕ → Option Sample → Type 0
 ValueFits w n None = times (is_owned_by (owner_value n)) w.rows ≡ 0
 ValueFits w n (Some x) =
-    (type_at w n ≡ Some (sample_type x)) × (agree_below (λ q. nat_eq (refers x q) (owns w n q)) (λ q. true) 10 ≡ true)
-    × Each (λ (r : ArcRef). nat_le r.handle.0 9 ≡ true) (sample_references x) × (references_fault w (owner_value n) [] (sample_references x) ≡ None)
+    (type_at w n ≡ Some (sample.node_type x)) × (agree_below (λ q. nat_eq (refers x q) (owns w n q)) (λ q. true) 10 ≡ true)
+    × Each (λ (r : ArcRef). nat_le r.handle.0 9 ≡ true) (sample.references x) × (references_fault w (owner_value n) [] (sample.references x) ≡ None)
 
 -- what is asked of the node and of the load of this number
 abbrev pub NumberFits : Core → List (Option Sample) → ℕ → Type 0
@@ -165,7 +154,6 @@ pub record Passes (w : Core) (vs : List (Option Sample)) : Type 0 where
   pub numbers : NumberFits w vs 0 × NumberFits w vs 1 × NumberFits w vs 2 × NumberFits w vs 3
 
 past-end : (vs : List (Option Sample)) (n : ℕ) → length vs ≤ n → value_at vs n ≡ None
-unfolding value_at
 past-end (x ∷ xs) (suc n) few = past-end xs n (omega arith)
 past-end x0 x1 few = grind (arith, nat_tests)
 
@@ -216,12 +204,7 @@ module _ (w : Core) (vs : List (Option Sample)) (few : Few w) (p : Passes w vs) 
             owned = λ l x is. subst (λ o. MayOwnLoad w o) (sym (load l x is).2) tt;
             roots = λ l x node t h is root. grind (arith, nat_tests, of-some, subst (λ r. RootFits w r) root (load l x is).3);
           };
-          cache = λ kind key n is. let (four, eight, three) = few.3 kind key n is in
-              record {
-                given = let a : w.cache 4 8 ≡ Some n = cc in let b = of-some (λ n. nat_le n w.last.node ≡ true) p.stands.third.1 a in grind (arith, nat_tests);
-                typed = λ t at. of-some (λ t. t ≡ 1) p.stands.third.0 (subst (λ k. type_at w k ≡ Some t) three at) ∙ ap type_of (sym four);
-                shares = λ h among at. (low h among).1 ∙ ap is_shared_kind (sym four);
-              };
+          cache = λ kind key n is. let known = few.3 kind key n is in let third = p.stands.third in grind (arith, nat_tests, low);
           workers_numbered = grind (arith, nat_tests);
           shut = λ closed. let e = p.stands.stands_open in absurd (cc);
         };
@@ -230,5 +213,5 @@ module _ (w : Core) (vs : List (Option Sample)) (few : Few w) (p : Passes w vs) 
         typed = λ n x is. (value n x is).0;
         inside = λ n x q is. inside n x q is;
         bare = λ n is. subst (λ o. ValueFits w n o) is (number n).3;
-        references = λ n x r is among. good w (owner_value n) [] (sample_references x) (value n x is).3 r among;
+        references = λ n x r is among. good w (owner_value n) [] (sample.references x) (value n x is).3 r among;
       }

@@ -1,15 +1,16 @@
 -- A form of a node's value is one of its tree: over its references it is followed to their nodes' trees, and with their keys it stands under the tree's own.
-use Rattle.pagable_laws.proofs.Words.{Among, ArcRef, Bool, Core, Error, FollowsTo, Form, HandleRow, HandlesAreWhole, HoldsSettled, Identity, IsLawful, IsPublished, IsReadable, List, Meaning, Ok}
-use Rattle.pagable_laws.proofs.Words.{Option, PagerState, ReadsItsTypes, Represents, Result, Shape, Shelf, Slot, Some, Throughout, Tree, Types, Values, WellFormed, Written, [], ap, append-nil, arith}
-use Rattle.pagable_laws.proofs.Words.{blob_of, held, identity_of, if_there, inr, integer-leads, is_handle, is_owned_by, is_some, map, nat_tests, one, owner_value, reference, references_in, refl}
-use Rattle.pagable_laws.proofs.Words.{rename, rest, slice_get, slice_get_within, subst, suc, sum_by-cons, sym, times, tree, true, type_of, zero, ℕ, ◌&&◌, ◌++◌, ◌<◌, ◌==◌, ◌∙◌, ◌∷◌, ◌≡◌, ◌≤◌}
-use Rattle.pagable_laws.proofs.{Again.{looks-itself, read_again}, Decoding.{among-left, among-right}, Related.{Out, both-looked-up, keeps_forms, no_cause, read_par}, Trees.{AllTwo, Along}}
-use Rattle.pagable_laws.specs.TreeSteps.{Ground, KeyStands, LeadsBy, WroteTree, followed-leads, none-leads, number-leads, pair-leads, pattern-leads, reference-leads, text-leads, variant-leads}
-use Rattle.pagable_model.specs.{Merkle.{KeyOf, KeysOf, StoredAs, TreeForm, key-of}, Trees.{number-followed, pair-followed, pattern-followed, reference-followed, text-followed, variant-followed}}
-use Rattle.pagable_world.specs.{Headline.AreKeysOf, Pager.{IsWrittenOf, MeaningStands, NodeStands, away, followed-stands, here, kids_of, number-stands, pair-stands, reference-stands, variant-stands}}
-use Rattle.{pagable_laws.proofs.Trees.{followed-along, more-two, no-two, one_tree, pair-along, reference-along, same-number, same_some, sum-le, sum-zero, variant-along}, std.specs.Prelude.nat_lt}
-use Rattle.{pagable_model.specs.{Deep.{Kid, kid, kind_of_kid}, Merkle.{key_of_ref, kind_of_ref, more-keys, no-keys, unfolded}}, pagable_world.specs.World.{Outcome, digest, published, type_at}}
-use Rattle.{pagable_model.specs.{Reading.{Rest, deepest}, Trees.{IsFollowed, KeyRef, integer-followed, key_ref, none-followed}, Writing.kind_of_arc}, std.proofs.lemmas.Option.get_or_from_slice_get}
+use Rattle.pagable_laws.proofs.Words.{Bool, Core, FollowsTo, Form, HandleRow, HandlesAreWhole, HoldsSettled, Identity, IsLawful, IsPublished, IsReadable, List, Meaning, Ok, Option, PagerState}
+use Rattle.pagable_laws.proofs.Words.{ReadsItsTypes, Represents, Shape, Shelf, Slot, Some, Throughout, Tree, Types, Values, WellFormed, Written, [], ap, append-nil, arith, blob_of, held, identity_of}
+use Rattle.pagable_laws.proofs.Words.{if_there, inr, integer-leads, is_handle, is_owned_by, is_some, map, nat_tests, one, owner_value, reference, references_in, refl, rename, rest, slice_get}
+use Rattle.pagable_laws.proofs.{Again.{looks-itself, read_again}, Decoding.{among-left, among-right, given-too}, Related.{both-looked-up, each, keeps_forms, one_cause, read_par}, Trees.AllTwo}
+use Rattle.pagable_laws.proofs.{Trees.{Along, followed-along, more-two, no-two, one_tree, pair-along, reference-along, same-number, same_some, sum-le, sum-zero, variant-along}, Words.{Among, ArcRef}}
+use Rattle.pagable_laws.specs.TreeSteps.{KeyStands, LeadsBy, WroteTree, followed-leads, none-leads, number-leads, pair-leads, pattern-leads, reference-leads, text-leads, variant-leads}
+use Rattle.pagable_laws.{proofs.Words.{slice_get_within, subst, suc, sum_by-cons, sym, times, tree, true, type_of, zero, ℕ, ◌&&◌, ◌++◌, ◌<◌, ◌==◌, ◌∙◌, ◌∷◌, ◌≡◌, ◌≤◌}, specs.TreeSteps.Ground}
+use Rattle.pagable_model.specs.Trees.{IsFollowed, KeyRef, integer-followed, key_ref, none-followed, number-followed, pair-followed, pattern-followed, reference-followed, text-followed}
+use Rattle.pagable_model.specs.{Deep.{Kid, kid, kind_of_kid}, Merkle.{KeyOf, KeysOf, StoredAs, TreeForm, key-of, key_of_ref, kind_of_ref, more-keys, no-keys, unfolded}, Reading.deepest}
+use Rattle.pagable_world.specs.{Pager.{kids_of, number-stands, pair-stands, reference-stands, variant-stands}, World.{Outcome, digest, published, type_at}}
+use Rattle.std.{proofs.lemmas.Option.get_or_from_slice_get, specs.Prelude.nat_lt}
+use Rattle.{pagable_model.specs.{Trees.variant-followed, Writing.kind_of_arc}, pagable_world.specs.{Headline.AreKeysOf, Pager.{IsWrittenOf, MeaningStands, NodeStands, away, followed-stands, here}}}
 
 -- ---- the references in a form's meaning are those of the form, and none is followed
 
@@ -18,16 +19,14 @@ module _ {A : Type 0} where
   each-among P [] h = no-two
   each-among P (a ∷ k) h = more-two a a k k (h a (0, refl)) (each-among P k (λ b among. h b (suc among.0, among.1)))
 
-  along-out : {S : A → A → Type 0} {R : A → A → Type 0} {m : Meaning A} {after : Rest A} {first second : Result (Meaning A × Rest A) Error} → Out no_cause S (Along ⊥ R) first second
-      → first ≡ Ok (m, after) → (n : Meaning A) × Along ⊥ R m n
-  along-out x0 e = grind (arith, nat_tests)
-
   pub references-among : {kind_of : A → ℕ} {parts : ℕ → Shape} {s : Shape} {m : Meaning A} {b : List ℕ} {k : List A} → Throughout IsReadable parts s
       → Form A kind_of parts deepest s m b k → (n : Meaning A) × Along ⊥ (λ a c. Among k a) m n
   references-among {kind_of} {parts} {s} {m} {b} {k} can f =
       let whole = read_again parts s can 0 (λ kind a. Ok a) kind_of m b [] k k [] (looks-itself k) f in
-      let par = read_par {E = no_cause} {F = ⊥} {S = λ a c. Among k a} {R = λ a c. Among k a} (λ kind a. Ok a) (λ kind a. Ok a) (λ kind a c s. both-looked-up a c s) 0 s (inr can) in
-      along-out (par.out (rest b k) (rest b k) (record { bytes = refl; refs = each-among (λ a. Among k a) k (λ a among. among) })) (rw (append-nil, append-nil) at whole)
+      let par = read_par {E = one_cause} {F = ⊥} {T = AllTwo (λ a c. Among k a)} {R = λ a c. Among k a} (λ kind a. Ok a) (λ kind a. Ok a)
+      (each _ _ (λ kind a c s. both-looked-up a c s)) 0 s (inr can) in
+      let (n, left, is, along) = given-too (par.out (rest b k) (rest b k) (record { bytes = refl; refs = each-among (λ a. Among k a) k (λ a among. among) })) (rw (append-nil, append-nil) at whole) in
+      (n, along)
 
 -- ---- a node stands for one tree of its type
 

@@ -1,15 +1,15 @@
 -- What a step does to the plain world as far as trees feel it: the parts of each call's summary. And a live handle that no value owns and that isn't given up outlasts a cascade, with its row.
+use Rattle.pagable_laws.proofs.Words.{EventReply, HandleNumber, HandleRow, HandlesAreWhole, Happens, Identity, IsReference, Kind, Last, List, LoadNumber, Mode, NodeNumber, None, Ok, OpenLoad, Option}
+use Rattle.pagable_laws.proofs.Words.{OptionalDataKey, Owner, PinCall, Reply, Seen, Site, Some, Todo, Took, World, [], adopted, answer_after, ap, arith, bears_known, false, false_from_ne_true, filter}
+use Rattle.pagable_laws.proofs.Words.{find_row, if◌then◌else◌, inl, inr, is_handle, is_named_by, is_owner, is_pinning, le_trans, mode_of, moved, nat_tests, next_node, not, nothing_felt, one}
+use Rattle.pagable_laws.proofs.Words.{owner_value, owner_worker, pins, references_fault, refl, row_at, rules, subst, suc, sum_by-cons, sym, to_load, to_pin, true, type_of, updated, with_handle, zero}
 use Rattle.pagable_laws.proofs.{Decoding.among-either, Existing.outlast, Trees.{same-number, same_some, self-number}, Words.{Alike, Among, ArcRef, Blob, Bool, Call, Change, CloneCall, Core, Event}}
-use Rattle.pagable_laws.proofs.Words.{EventReply, HandleNumber, HandleRow, HandlesAreWhole, Happens, Identity, Kind, Last, List, LoadNumber, Mode, NodeNumber, None, Ok, OpenLoad, Option}
-use Rattle.pagable_laws.proofs.Words.{OptionalDataKey, Owner, PinCall, Reply, Seen, Site, Some, Todo, Took, World, [], adopted, answer_after, ap, arith, bears_known, false, false_from_ne_true}
-use Rattle.pagable_laws.proofs.Words.{filter, find_row, if◌then◌else◌, inl, inr, is_handle, is_named_by, is_owner, is_pinning, le_trans, mode_of, moved, nat_tests, next_node, not, nothing_felt}
-use Rattle.pagable_laws.proofs.Words.{owner_value, owner_worker, refl, row_at, rules, subst, suc, sym, to_load, to_pin, true, type_of, updated, with_handle, zero, ℕ, ◌&&◌, ◌++◌, ◌+◌, ◌<◌, ◌==◌, ◌∙◌}
-use Rattle.{pagable_laws.{proofs.Words.{◌∷◌, ◌≡◌, ◌≤◌, ◌⊎◌}, specs.TreeSteps.{Bears, BeginsWell, HasPin, Knows, PinHolds, sets_key}}, pagable_world.proofs.Elements.{among-left, found-among}}
-use Rattle.pagable_world.specs.{Calls.{row_of, with_cached, with_key, with_mode, with_node}, Cascade.{AreNewEntries, Falls, FallsAnyhow, fallen, is_keyed, left_rows}, Kinds.is_loose}
-use Rattle.pagable_world.specs.{LoadCalls.{EndCall, is_owned_in, with_load, with_pin, without_load}, Loads.Does, Plain.{changed, or_else}, Workers.PinsAtOnce, World.{Cell, Root}}
-use Rattle.pagable_world.specs.declared.{answers.Pinning.Pinning, events.PinStep.PinStep}
-pub use Rattle.{pagable_laws.specs.TreeSteps.{CoreGoes as Goes, IsShut, Kept, RowsGo, Was}, pagable_world.proofs.Elements.{among-map as among-changed, among-one as only-one, once}}
+use Rattle.pagable_laws.{proofs.Words.{ℕ, ◌&&◌, ◌++◌, ◌+◌, ◌<◌, ◌==◌, ◌∙◌, ◌∷◌, ◌≡◌, ◌≤◌, ◌⊎◌}, specs.TreeSteps.{AreGood, Bears, BeginsWell, HasPin, Knows, PinHolds, StaysAway, sets_key}}
+use Rattle.pagable_world.specs.{Cascade.left_rows, Kinds.{is_loose, is_pin}, LoadCalls.{EndCall, is_owned_in, with_load, with_pin, without_load}, Plain.{changed, or_else}, Refusals.reference_fault}
+use Rattle.pagable_world.specs.{Workers.PinsAtOnce, World.{Cell, Root}, declared.{answers.Pinning.Pinning, events.PinStep.PinStep}}
+use Rattle.pagable_world.{proofs.Elements.{among-left, found-among}, specs.{Calls.{row_of, with_cached, with_key, with_mode, with_node}, Cascade.{AreNewEntries, Falls, FallsAnyhow, fallen, is_keyed}}}
 use Rattle.pagable_world.specs.Workers as workers
+pub use Rattle.{pagable_laws.specs.TreeSteps.{CoreGoes as Goes, IsShut, Kept, RowsGo, Was}, pagable_world.proofs.Elements.{among-map as among-changed, among-one as only-one, once}}
 
 -- a step that sets no key, bears no node, begins no load and lets the cache know nothing
 pub record Quiet (w w' : Core) : Type 0 where
@@ -61,15 +61,10 @@ NotLoads o = (l : LoadNumber) → o ≡ Owner.Load l → ⊥
 
 pub rows-mode : (last : ℕ) (rows : List HandleRow) (h : HandleNumber) (mode : Mode) → is_loose mode ≡ true → ((r : HandleRow) → find_row h.0 rows ≡ Some r → NotLoads r.owner)
     → RowsGo last rows (changed (is_handle h.0) (λ row. record row { mode = mode }) rows)
-rows-mode last rows h mode is_so free q row found few =
-    let c = found-changed (is_handle h.0) (λ row. record row { mode = mode }) (λ r. refl) q rows row found in
-    let number = found-number q rows c.0 c.1 in
-    grind (arith, nat_tests, same-number, free c.0)
+rows-mode last rows h mode is_so free q row found few = grind (arith, nat_tests, found-changed, found-number)
 
 pub rows-moved : (last : ℕ) (rows : List HandleRow) (s : ℕ → Bool) (owner : Owner) → NotLoads owner → RowsGo last rows (moved s owner rows)
-rows-moved last rows s owner free q row found few =
-    let c = found-changed (λ (r : HandleRow). s r.number.0) (λ row. record row { owner = owner }) (λ r. refl) q rows row found in
-    grind (arith, nat_tests, free)
+rows-moved last rows s owner free q row found few = grind (arith, nat_tests, found-changed)
 
 -- handles that come at the end have greater numbers
 pub rows-more : (last : ℕ) (rows more : List HandleRow) → ((q : ℕ) → q ≤ last → find_row q more ≡ None) → RowsGo last rows (rows ++ more)
@@ -87,10 +82,10 @@ pub none-in-next : (last q : ℕ) (h : HandleRow) → h.number.0 ≡ last + 1 �
 unfolding find_row
 none-in-next last q h next few = let a : is_handle q h ≡ false = grind (arith, nat_tests) in rw a refl
 
-pub found-left : (gone : ℕ → Bool) (q : ℕ) (rows : List HandleRow) (row : HandleRow) → find_row q (left_rows gone rows) ≡ Some row → (find_row q rows ≡ Some row) × (gone q ≡ false)
+pub find-left : (gone : ℕ → Bool) (q : ℕ) (rows : List HandleRow) → find_row q (left_rows gone rows) ≡ (if gone q then None else find_row q rows)
 unfolding find_row
-found-left gone q [] row found = absurd (cc)
-found-left gone q (h ∷ hs) row found = grind (arith, nat_tests, is_handle, find_row, left_rows, false, true, same-number, found-left gone q hs row)
+find-left gone q [] = grind (arith, nat_tests)
+find-left gone q (h ∷ hs) = grind (arith, nat_tests, is_handle, find_row, left_rows, false, true, same-number, find-left gone q hs)
 
 pub quiet-then : {w m w' : Core} → Quiet w m → Quiet m w' → Quiet w w'
 quiet-then {w} {m} {w'} a b = search (rules, rows-then, le_trans, a.cells, b.cells, a.stored, b.stored, a.loads, b.loads, a.cache, b.cache, a.shut, b.shut)
@@ -119,7 +114,7 @@ pub fell : {before w w' : Core} {given : ℕ → Bool} {r : _} → Falls before 
 fell {w = w} f = quiet-then {m = fallen w f.gone f.entries}
     (parts (le-more _ _) (le-self _) (λ n cell is. grind (arith, nat_tests)) (λ l load is. is) (λ kind key n is. is)
     (rows-then w.last.handle w.last.handle w.rows (left_rows f.gone w.rows) _ (le-of _ _ refl)
-    (λ q row found few. record { was = row; live = (found-left f.gone q w.rows row found).0; at = refl; mine = λ l is. refl; loose = λ is. is })
+    (λ q row found few. record { was = row; live = grind (arith, nat_tests, find-left f.gone q w.rows); at = refl; mine = λ l is. refl; loose = λ is. is })
     (rows-more w.last.handle (left_rows f.gone w.rows) f.entries (λ q few. none-in-new w.last.handle q f.entries f.new few)))) (alike f.leaves)
 
 pub fell-anyhow : {before w w' : Core} {given : ℕ → Bool} → FallsAnyhow before w given w' → Quiet w w'
@@ -262,13 +257,16 @@ stands-new last rows row few next =
       given = omega arith;
     }
 
-pub found-kept : (gone : ℕ → Bool) (q : ℕ) (rows : List HandleRow) (row : HandleRow) → gone q ≡ false → find_row q rows ≡ Some row → find_row q (left_rows gone rows) ≡ Some row
-unfolding find_row
-found-kept gone q [] row kept found = absurd (cc)
-found-kept gone q (h ∷ hs) row kept found = grind (arith, nat_tests, is_handle, find_row, left_rows, true, false, same-number, found-kept gone q hs row kept)
-
 pub among-kept : {X : Type 0} (test : X → Bool) (xs : List X) (x : X) → Among (filter test xs) x → Among xs x
 among-kept test xs x among = (among-left test xs x among).0
+
+-- a handle that isn't gone keeps its row
+pub stands-left : {before w w' : Core} {given : ℕ → Bool} {r : _} (f : Falls before w given r w') {q : ℕ} {row : HandleRow} → f.gone q ≡ false → Stands w.last.handle w.rows q row
+    → Stands w'.last.handle w'.rows q row
+stands-left {w = w} f {q} {row} kept s =
+    let left : Stands w.last.handle (left_rows f.gone w.rows) q row =
+    record { live = find-left f.gone q w.rows ∙ (rw kept s.live); only = λ h a is. s.only h (among-kept _ w.rows h a) is; given = s.given } in
+    stands-alike {w = fallen w f.gone f.entries} f.leaves (stands-more f.entries (le-more _ _) (none-in-new w.last.handle q f.entries f.new s.given) left)
 
 pub stands-fell : {before w w' : Core} {given : ℕ → Bool} {r : _} {q : ℕ} {row : HandleRow} → Falls before w given r w' → NotValues row.owner → given q ≡ false
     → Stands w.last.handle w.rows q row → Stands w'.last.handle w'.rows q row
@@ -281,9 +279,41 @@ stands-fell {before} {w} {w'} {given} {r} {q} {row} f free kept s =
     (λ n x there own lost. false_from_ne_true (x.number.0 == q) (λ e.
     let o = no_value x there (same-number x.number.0 q e) in let no : is_owner (owner_value n) x.owner ≡ false = grind (arith, nat_tests) in cc))
     row among (ap (λ p. p == q) number ∙ self-number q) in
-    let live = found-kept f.gone q w.rows row stays s.live in
-    let left : Stands w.last.handle (left_rows f.gone w.rows) q row = record { live = live; only = λ h a is. s.only h (among-kept _ w.rows h a) is; given = s.given } in
-    stands-alike {w = fallen w f.gone f.entries} f.leaves (stands-more f.entries (le-more _ _) (none-in-new w.last.handle q f.entries f.new s.given) left)
+    stands-left f stays s
+
+-- ---- references that nothing is to be said against name handles of their owner, as they should
+
+pub or-none : {X : Type 0} (a b : Option X) → or_else a b ≡ None → (a ≡ None) × (b ≡ None)
+or-none x0 b is = grind (arith, nat_tests)
+
+pub same-owner : (o p : Owner) → is_owner o p ≡ true → p ≡ o
+same-owner x0 x1 is = grind (arith, nat_tests, same-number)
+
+module _ (w : Core) (owner : Owner) where
+  good-one : (seen : List ℕ) (r : ArcRef) → reference_fault w owner seen r ≡ None → IsReference w owner r
+  good-one seen r none = search (rules, same-number, same-owner)
+
+  pub good : (seen : List ℕ) (references : List ArcRef) → references_fault w owner seen references ≡ None → AreGood w owner references
+  unfolding references_fault
+  good seen (x ∷ xs) none r (suc i, is) = good (x.handle.0 ∷ seen) xs (or-none _ _ none).1 r (i, is)
+  good seen x1 x2 r x4 = grind (arith, nat_tests, good-one, or-none)
+
+-- ---- a handle that is given up doesn't bring a value back
+
+pub alike-away : {w w' : Core} → Alike w w' → (n : ℕ) → StaysAway w w' n
+alike-away {w} {w'} a n = grind (arith, alike)
+
+pins-left : (n : ℕ) (gone : ℕ → Bool) (rows more : List HandleRow) → pins n more ≡ 0 → pins n (left_rows gone rows ++ more) ≤ pins n rows
+pins-left n gone [] more none = grind arith
+pins-left n gone (h ∷ hs) more none =
+    grind (arith, nat_tests, sum_by-cons (λ x. one (is_pin n x)) h hs, sum_by-cons (λ x. one (is_pin n x)) h (left_rows gone hs ++ more), pins-left n gone hs more none)
+
+pub no-pins : (n last : ℕ) (entries : List HandleRow) → AreNewEntries last entries → pins n entries ≡ 0
+no-pins n last [] new = refl
+no-pins n last (h ∷ hs) (number, mode, owner, new) = grind (arith, nat_tests, one, no-pins n (last + 1) hs new)
+
+pub fell-away : {before w w' : Core} {given : ℕ → Bool} {r : _} → Falls before w given r w' → (n : ℕ) → StaysAway w w' n
+fell-away {before} {w} {w'} f n = grind (arith, fell, pins-left, no-pins)
 
 -- What is answered as pinned is a handle that pins: of a call, of a load's last step and of a worker's pin.
 
@@ -303,8 +333,14 @@ pub new-handle : (w : Core) (node : NodeNumber) (mode : Mode) (owner : Owner) �
     → Stands (w.last.handle + 1) (w.rows ++ row_of (w.last.handle + 1) node mode owner ∷ []) (w.last.handle + 1) (row_of (w.last.handle + 1) node mode owner)
 new-handle w node mode owner low = stands-new w.last.handle w.rows (row_of (w.last.handle + 1) node mode owner) low refl
 
-pins-by : {last : ℕ} (w : Core) {row : HandleRow} (k : HandleNumber) (q : ℕ) → k.0 ≡ q → Stands last w.rows q row → is_pinning row.mode ≡ true → HasPin w k
-pins-by w {row = row} k q is s pins = record { row = row; live = subst (λ n. find_row n w.rows ≡ Some row) (sym is) s.live; is = pins }
+-- the handle is its owner's, and pins this node
+pub record PinOf (w : Core) (me : Owner) (node : NodeNumber) (k : HandleNumber) : Type 0 where
+  pub pin : HasPin w k
+  pub own : pin.row.owner ≡ me
+  pub at : pin.row.node ≡ node
+
+pub pins-by : {last : ℕ} (w : Core) {row : HandleRow} (k : HandleNumber) (q : ℕ) → k.0 ≡ q → Stands last w.rows q row → is_pinning row.mode ≡ true → PinOf w row.owner row.node k
+pins-by w {row = row} k q is s pins = record { pin = record { row = row; live = subst (λ n. find_row n w.rows ≡ Some row) (sym is) s.live; is = pins }; own = refl; at = refl }
 
 -- the pin that is made of a loose handle
 pinned-new : (u : Core) (h : HandleNumber) (node : NodeNumber) (me : Owner) → AreLow u
@@ -313,7 +349,7 @@ pinned-new u h node me low = new-handle (with_mode u h Mode.LoosePinned) node Mo
     (low-changed u.last.handle u.rows (is_handle h.0) (λ r. record r { mode = Mode.LoosePinned }) (λ r. refl) low)
 
 module _ (w w' : Core) (low : AreLow w) where
-  pin-call : (me : Owner) (h k : HandleNumber) → PinCall w me h (Ok (Pinning.Pinned k)) w' → HasPin w' k
+  pub pin-call : (me : Owner) (h k : HandleNumber) (c : PinCall w me h (Ok (Pinning.Pinned k)) w') → PinOf w' me c.pins.0.node k
   pin-call me h k c = pins-by w' k (w.last.handle + 1) c.pins.2.1.above (stands-alike {w = with_pin w h c.pins.0.node me} c.pins.2.2 (pinned-new w h c.pins.0.node me low)) refl
 
   pub clone-call : (me : Owner) (h k : HandleNumber) → CloneCall w me h (Ok k) w'
@@ -325,12 +361,13 @@ module _ (w w' : Core) (low : AreLow w) where
   owned-none l = let none = none-above w.last.handle (w.last.handle + 1) w.rows low (omega arith) in rw none refl
 
   pin-stays : (u : Core) (h : HandleNumber) (node : NodeNumber) (me : Owner) (k : HandleNumber) (given : ℕ → Bool) → NotValues me → AreLow u → u.last.handle ≡ w.last.handle
-      → k.0 ≡ w.last.handle + 1 → given (w.last.handle + 1) ≡ false → FallsAnyhow w (with_pin u h node me) given w' → HasPin w' k
+      → k.0 ≡ w.last.handle + 1 → given (w.last.handle + 1) ≡ false → FallsAnyhow w (with_pin u h node me) given w' → PinOf w' me node k
   pin-stays u h node me k given free low' same next kept f =
       let q : u.last.handle + 1 ≡ w.last.handle + 1 = ap (λ n. n + 1) same in
       pins-by w' k (u.last.handle + 1) (next ∙ sym q) (stands-fell f.falls free (ap given q ∙ kept) (pinned-new u h node me low')) refl
 
-  end-call : {N : Type 0} (me : Owner) (l : LoadNumber) (x : N) (t : ℕ) (references : List ArcRef) (k : HandleNumber) → NotValues me → EndCall w me l x t references (Ok k) w' → HasPin w' k
+  pub end-call : {N : Type 0} (me : Owner) (l : LoadNumber) (x : N) (t : ℕ) (references : List ArcRef) (k : HandleNumber) → NotValues me → (c : EndCall w me l x t references (Ok k) w')
+      → PinOf w' me c.installs.0 k
   end-call me l x t references k free c =
       let (node, h, may, i) = c.installs in
       elim i.falls [
@@ -353,23 +390,25 @@ module _ {N B W : Type 0} (m : Seen N B W) (v : ℕ) (s s' : Site) (low : AreLow
   at-once r through k does = elim does [
     | inl (is, same, clone) ↦
         let c = clone-call s.core s'.core low (owner_worker v) r.handle k clone in
-        pins-by s'.core k (s.core.last.handle + 1) clone.made.2.above c.2 (not-loose c.0.mode (rw (same_some _ _ (sym is.live ∙ c.1)) at is.sort))
-    | inr (is, (mid, clone, pin)) ↦ pin-call mid s'.core (low-handle s.core mid _ _ _ low clone.made.3) (owner_worker v) through k pin
+        (pins-by s'.core k (s.core.last.handle + 1) clone.made.2.above c.2 (not-loose c.0.mode (rw (same_some _ _ (sym is.live ∙ c.1)) at is.sort))).pin
+    | inr (is, (mid, clone, pin)) ↦ (pin-call mid s'.core (low-handle s.core mid _ _ _ low clone.made.3) (owner_worker v) through k pin).pin
   ]
 
   held : (todo : List Todo) (i : Identity) (k : HandleNumber) → workers.Does m v s todo (Took.Pin i (Ok (PinStep.Held k))) s'
       → HasPin s'.core k × (answer_after {W = W} todo (Took.Pin i (Ok (PinStep.Held k))) ≡ None)
   held (to_pin r place ∷ below) i k (is, p) = (at-once r p.pins.0 k p.pins.1, refl)
-  held (to_load r place through reading ∷ below) i k (is, p) = let e = p.goes.0.does.0 in (end-call s.core s'.core low (owner_worker v) reading.load e.x _ _ k (λ n is. absurd (cc)) e.ended, refl)
+  held (to_load r place through reading ∷ below) i k (is, p) =
+      let e = p.goes.0.does.0 in ((end-call s.core s'.core low (owner_worker v) reading.load e.x _ _ k (λ n is. absurd (cc)) e.ended).pin, refl)
   held _ i k does = absurd does
 
 -- each pin of an event that answers one
 pub pins-hold : {N B W : Type 0} (m : Seen N B W) (u u' : World) (event : Event N B W) (reply : EventReply N B W) → HandlesAreWhole u.core → Happens m u event reply u' → PinHolds event reply u'.core
-pins-hold m u u' (Event.Call (Call.Pin h)) (EventReply.CallReply (Reply.Pin (Ok (Pinning.Pinned k)))) whole happens = pin-call u.core u'.core (low-whole whole) Owner.Caller h k happens.step.does
+pins-hold m u u' (Event.Call (Call.Pin h)) (EventReply.CallReply (Reply.Pin (Ok (Pinning.Pinned k)))) whole happens =
+    (pin-call u.core u'.core (low-whole whole) Owner.Caller h k happens.step.does).pin
 pins-hold m u u' (Event.LoadStep l) (EventReply.LoadMoved (Ok reply)) whole happens = λ k is.
-    let e = rw is at happens.moves.does.does in end-call u.core u'.core (low-whole whole) Owner.Caller happens.moves.reading.load e.0.x _ _ k (λ n is. absurd (cc)) e.0.ended
-pins-hold m u u' (Event.Call (Call.LoadEnd l x)) (EventReply.CallReply (Reply.LoadEnded (Ok k))) whole happens = end-call u.core u'.core (low-whole whole) Owner.Caller l x _ _ k
-    (λ n is. absurd (cc)) happens.step.does
+    let e = rw is at happens.moves.does.does in (end-call u.core u'.core (low-whole whole) Owner.Caller happens.moves.reading.load e.0.x _ _ k (λ n is. absurd (cc)) e.0.ended).pin
+pins-hold m u u' (Event.Call (Call.LoadEnd l x)) (EventReply.CallReply (Reply.LoadEnded (Ok k))) whole happens =
+    (end-call u.core u'.core (low-whole whole) Owner.Caller l x _ _ k (λ n is. absurd (cc)) happens.step.does).pin
 pins-hold {W = W} m u u' (Event.WorkerStep n) (EventReply.WorkerMoved (Ok reply)) whole happens = λ i k is.
     let steps = happens.moves in let h = held m n.0 _ steps.after (low-whole whole) steps.walking.todo i k (rw is at steps.does.does) in
     grind (arith, nat_tests, find_row)

@@ -5,7 +5,6 @@ mod Merkle
 pub mod Related
 pub mod Existing
 pub mod Goes
-pub mod GoodReferences
 pub mod Effects
 pub mod Called
 pub mod ReadingSteps

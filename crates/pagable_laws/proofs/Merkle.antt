@@ -1,16 +1,16 @@
 -- A tree of canonical types has one key, a stored tree has the key that it stands under, and keys tell trees apart.
-use Rattle.pagable_laws.proofs.Trees.{AllTwo, Along, EntryAlong, followed-on, form-along, integer-along, lifted-along, more-two, no-two, none-along, number-along, one-followed, pair-along}
-use Rattle.pagable_laws.proofs.Words.{Blob, Entries, Entry, Form, Forms, LiesIn, List, Meaning, Ok, Option, Shape, Throughout, Tree, Types, [], ap, append-nil, arith, blob_of, followed, inl, is_eager}
-use Rattle.pagable_laws.proofs.Words.{length, length-append, map, nat_tests, pair, read, reference-form, refl, rest, rules, run-form, subst, suc, sym, tree, true, type_of, variant, zero, ℕ, ◌*◌, ◌++◌}
-use Rattle.pagable_laws.proofs.{Again.{Looked, all-looked, alone, form-again, here, lower, narrowed, one-looked, part_of}, Related.{entries-two, flag-same, sequence-two, sorted-two}}
-use Rattle.pagable_laws.specs.FormLaws.{HasOnePreimage, IsCanonicalInside, IsKeyOfOneTree, IsLongestPath, IsOneItemKey, IsOneKey, IsStoredKey, IsTreeReadable, StaysInside}
-use Rattle.pagable_laws.{proofs.{Trees.{pattern-along, reference-along, same_some, text-along, tree_is, variant-along}, Words.{◌<◌, ◌∙◌, ◌∷◌, ◌≡◌, ◌≤◌}}, specs.FormLaws.CanonicalHasOneForm}
-use Rattle.pagable_model.specs.Form.{array-form, both-form, case-form, err-form, hash-map-form, json-array-form, json-object-form, list-form, more-entries, more-forms, nested-form, no-entries}
-use Rattle.pagable_model.specs.{Basic.length_form, Blob.preimage, Canonical.{EachType, IsCanonical, IsCanonicalTree, IsCanonicalType, IsClosed, IsReadableType}, Carried.of_entries, Codes.cut}
-use Rattle.pagable_model.specs.{Deep.{HasPath, Kid, height, kind_of_kid, tree_of_kid}, Form.{no-forms, nothing-form, ok-form, placed-map-form, placed-set-form, some-form, sorted-map-form}}
-use Rattle.pagable_model.specs.{Form.{sorted-set-form, static-form, tagged-form}, Keys.code_order, Meaning.sequence, Merkle.{HasOwnKeys, KeyOf, KeysOf, SharesNoKey, StoredAs, TreeForm, key-of}}
-use Rattle.pagable_model.specs.{Merkle.{key_of_ref, kind_of_ref, more-keys, no-keys, unfolded}, Trees.{IsFollowed, KeyRef, ReadsAs, key_ref, pair-followed, reference-followed, variant-followed}}
-use Rattle.std.{proofs.{Common.{◌%◌, ◌/◌, ◌^◌}, Math.Nat.{div-div-eq-div-mul, pow-suc}}, specs.{Int.{byte_at, bytes_low_first, to_le_bytes, w128, w64}, List.{AllByRecursion as Each, flat_map}}}
+use Rattle.pagable_laws.proofs.Trees.{form-along, integer-along, lifted-along, more-two, no-two, none-along, number-along, one-followed, one_tree, pair-along, pattern-along, reference-along}
+use Rattle.pagable_laws.proofs.Words.{ReadsTree, Shape, Throughout, Tree, Types, [], ap, append-nil, arith, blob_of, followed, inl, is_eager, length, length-append, map, nat_tests, pair, read}
+use Rattle.pagable_laws.proofs.{Again.{Looked, all-looked, alone, form-again, here, lower, narrowed, one-looked, part_of}, Trees.{AllTwo, Along, EntryAlong, entries-two, flag-same, followed-on}}
+use Rattle.pagable_laws.proofs.{Trees.{same_some, sequence-two, sorted-two, text-along, tree_is, variant-along}, Words.{Blob, Entries, Entry, Form, Forms, LiesIn, List, Meaning, Ok, Option}}
+use Rattle.pagable_model.specs.Form.{more-forms, nested-form, no-entries, no-forms, nothing-form, ok-form, placed-map-form, placed-set-form, some-form, sorted-map-form, sorted-set-form, static-form}
+use Rattle.pagable_model.specs.{Canonical.{IsCanonicalTree, IsCanonicalType, IsClosed, IsReadableTree, IsReadableType}, Carried.of_entries, Codes.{cut, one-meaning}, Deep.{HasPath, Kid, height}}
+use Rattle.pagable_model.specs.{Deep.{kind_of_kid, tree_of_kid}, Form.{array-form, both-form, case-form, err-form, hash-map-form, json-array-form, json-object-form, list-form, more-entries}}
+use Rattle.pagable_model.specs.{Form.tagged-form, Keys.code_order, Meaning.sequence, Merkle.{HasOwnKeys, KeyOf, KeysOf, SharesNoKey, StoredAs, StoredTree, TreeForm, key-of, key_of_ref, kind_of_ref}}
+use Rattle.std.{proofs.{Common.{◌/◌, ◌^◌}, Math.Nat.{div-div-eq-div-mul, pow-suc}}, specs.{Int.{byte_at, bytes_low_first, to_le_bytes, w128, w64}, List.{AllByRecursion as Each, flat_map}}}
+use Rattle.{pagable_laws.proofs.Words.{reference-form, refl, rest, rules, run-form, subst, suc, sym, tree, true, type_of, variant, zero, ℕ, ◌*◌, ◌++◌, ◌<◌, ◌∙◌, ◌∷◌, ◌≡◌, ◌≤◌}, std.specs.Prelude.◌↔◌}
+use Rattle.{pagable_laws.specs.FormLaws.{CanonicalHasOneForm, IsOneItemKey, TreeLaws}, pagable_model.specs.{Basic.length_form, Blob.{IsBlob, preimage}, Canonical.{EachType, IsCanonical}}}
+use Rattle.{pagable_model.specs.{Merkle.{more-keys, no-keys, unfolded}, Trees.{IsFollowed, KeyRef, ReadsAs, key_ref, pair-followed, reference-followed, variant-followed}}, std.proofs.Common.◌%◌}
 
 -- ---- a meaning of a canonical shape has at most one form
 
@@ -148,12 +148,6 @@ module _ (hash : List ℕ → List ℕ) (types : Types) (nodes M : ℕ → Type 
     all_stay no-keys = tt
     all_stay (more-keys k kids key keys h g) = (λ n. stays h n, all_stay g)
 
-pub stays_inside : StaysInside
-stays_inside hash types nodes t key closed inside h = stays hash types (λ n. nodes n ≡ true) (λ n. nodes n ≡ true) closed (λ n i. i) h inside
-
-pub canonical_inside : IsCanonicalInside
-canonical_inside = record { inside = λ hash types nodes t key closed all inside h. (all t.type inside, stays hash types (λ n. nodes n ≡ true) (IsCanonicalType types) closed all h inside) }
-
 -- ---- different blobs have different preimages
 
 shifted : (j x : ℕ) → x / 256 ^ suc j ≡ x / 256 ^ j / 256
@@ -181,7 +175,7 @@ same-key-lists (k ∷ ks) (l ∷ ls) h g e =
     rw (same-bytes 16 k l (omega (arith, h)) (omega (arith, g)) parts.0, same-key-lists ks ls h.1 g.1 parts.1) refl
 same-key-lists x0 x1 h g e = grind (arith, nat_tests, keys-length)
 
-pub one_preimage : HasOnePreimage
+one_preimage : (a b : Blob) → IsBlob a → IsBlob b → preimage a ≡ preimage b → a ≡ b
 unfolding preimage
 one_preimage a b h g e =
     let counts = cut (to_le_bytes w64 (length a.keys)) (to_le_bytes w64 (length b.keys)) _ _ refl e in
@@ -193,7 +187,7 @@ one_preimage a b h g e =
 
 -- ---- the height of a tree is the length of its longest path
 
-pub longest_path : IsLongestPath
+longest_path : (m : Meaning ⊥) (n : ℕ) → HasPath n m ↔ (n ≤ height m)
 unfolding HasPath height
 longest_path (pair a b) n =
     let p = longest_path a n in let q = longest_path b n in (λ h. grind (arith, nat_tests, p.0, q.0), λ h. grind (arith, nat_tests, p.1, q.1))
@@ -241,7 +235,7 @@ module _ {hash : List ℕ → List ℕ} {types : Types} where
         rw (same-key h h2 c.1 (ap tree_of_kid heads), same-keys g g2 cs tails) refl
     same-keys x0 x1 can e = cc
 
-pub one_key : IsOneKey
+pub one_key : (hash : List ℕ → List ℕ) (types : Types) (t : Tree) (k l : ℕ) → IsCanonicalTree types t → KeyOf hash types t k → KeyOf hash types t l → k ≡ l
 one_key hash types t k l can h g = same-key h g can refl
 
 pub one_item_key : IsOneItemKey
@@ -260,7 +254,7 @@ stored-reads store types type key m can h =
     let whole = rw append-nil at (form-again [] h.form (looked-keys h.refs) (can h.shape h.is)) in
     record { blob = blob_of h.bytes (map key_of_ref h.refs); stored = h.stored; rest = rest [] []; reads = rw h.is whole }
 
-pub tree_readable : IsTreeReadable
+pub tree_readable : (store : ℕ → Option Blob) (types : Types) (t : Tree) (key : ℕ) → IsReadableTree types t → StoredTree store types key t → ReadsTree store types key t
 tree_readable store types t key can h = grind (arith, nat_tests, stored-reads, followed-on)
 
 -- ---- the key of what is stored
@@ -289,8 +283,8 @@ module _ {hash : List ℕ → List ℕ} {types : Types} where
     keys-along (reference-followed r x a o f) = reference-along _ _ (record { kind = refl; key = node-key (type_of r.kind) r.key x a o (keys-along f) })
     keys-along x0 = grind (arith, nat_tests, number-along, integer-along, text-along, pattern-along, none-along)
 
-pub stored_key : IsStoredKey
-stored_key = record { is = λ hash store types t key own_keys h. node-key own_keys t.type key h.own t.meaning h.stands (keys-along own_keys h.follows) }
+stored_key : (hash : List ℕ → List ℕ) (store : ℕ → Option Blob) (types : Types) (t : Tree) (key : ℕ) → HasOwnKeys hash store → StoredTree store types key t → KeyOf hash types t key
+stored_key hash store types t key own_keys h = node-key own_keys t.type key h.own t.meaning h.stands (keys-along own_keys h.follows)
 
 -- ---- keys tell trees apart
 
@@ -300,14 +294,23 @@ module _ {store other : ℕ → Option Blob} {types : Types} (shares : SharesNoK
       let first = stored-reads store types type key m can h in let second = stored-reads other types type key n can g in
       let blobs : first.blob ≡ second.blob = shares key _ _ first.stored second.stored in grind (arith, nat_tests)
 
-pub key_of_one_tree : IsKeyOfOneTree
-key_of_one_tree = record {
-  of_one = λ hash store other types t u k l first second shares type can readable h g. (
+pub tree_laws : TreeLaws
+tree_laws = record {
+  has_one_preimage = one_preimage;
+  is_one_tree = one_tree;
+  is_one_key = one_key;
+  is_stored_key = stored_key;
+  is_tree_readable = tree_readable;
+  is_key_of_one_tree = λ hash store other types t u k l first second shares type can readable h g. (
     λ e.
         let stands = let P : ℕ → ℕ → Type 0 = λ n key. StoredAs other types n key g.own in subst (λ (n : ℕ). P n k) (sym type) (subst (λ (key : ℕ). P u.type key) (sym e) g.stands) in
         tree_is _ _ _ _ type (one-followed (IsReadableType types) (λ t key m n can p q. same-stored shares can p q) readable.1 h.follows g.follows (same-stored shares readable.0 h.stands stands)),
     λ e.
-        let two = let P : Tree → Type 0 = λ x. KeyOf hash types x l in subst P (sym e) (stored_key.is hash other types u l second g) in
-        one_key hash types t k l can (stored_key.is hash store types t k first h) two,
+        let two = let P : Tree → Type 0 = λ x. KeyOf hash types x l in subst P (sym e) (stored_key hash other types u l second g) in
+        one_key hash types t k l can (stored_key hash store types t k first h) two,
   );
+  is_longest_path = longest_path;
+  stays_inside = λ hash types nodes t key closed inside h. stays hash types (λ n. nodes n ≡ true) (λ n. nodes n ≡ true) closed (λ n i. i) h inside;
+  is_canonical_inside = λ hash types nodes t key closed all inside h. (all t.type inside, stays hash types (λ n. nodes n ≡ true) (IsCanonicalType types) closed all h inside);
+  is_one_meaning = one-meaning;
 }

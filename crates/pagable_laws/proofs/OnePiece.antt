@@ -1,16 +1,16 @@
 -- Where each load is done in one piece, one of a cell whose key a page-out set is refused by chance alone: what it has got stays live and its own, each handle once, as long as it
 -- makes its own steps, and so does the handle that began it.
 use Rattle.pagable_laws.proofs.{Chains.{IsGoingOn, along-with, idle-goes}, Coming.updated-at, Decoding.{AreApart, decodes, fine, reads-once}, Effects.{moved-free, named-among, with-one}, Goes.Has}
-use Rattle.pagable_laws.proofs.{Goes.{NotValues, Stands, found-number, has-alike, low-changed, low-whole, new-handle, stands-alike, stands-fell, stands-whole}, GoodReferences.good}
-use Rattle.pagable_laws.proofs.{ReadingSteps.{cached-rows, reading-number, reading-open, reading-stands}, Sound.{IsForm, by-chance, by-handle, by-references, load-cause}, SparingSteps.got-typed}
-use Rattle.pagable_laws.proofs.{Taking.{AllGot, Going, all-more, all-new, first-fits, going-of, pushed, row-held}, Trees.same_some, Words.{Alike, Among, ArcRef, Beginning, Bool, Call, Core, Err}}
-use Rattle.pagable_laws.proofs.Words.{Error, Event, EventReply, Frame, FramesFit, GetsKnown, HandleNumber, HandleRow, HandlesAreWhole, Happens, IsLawful, IsMachineWhole, IsReference, Kind, List}
-use Rattle.pagable_laws.proofs.Words.{LoadAnswer, LoadNumber, MachineState, Mode, Moment, NodeNumber, None, Ok, OpenLoad, Option, OptionalDataKey, Owner, Reading, ReadsItsTypes, Reply, Seen, Some}
-use Rattle.pagable_laws.proofs.Words.{Tree, Values, [], adopted, ap, arith, false, false_from_ne_true, find_row, held, if_there, inl, inr, is_in, is_named_by, is_some, mode_of, nat_tests, next_node}
-use Rattle.pagable_laws.proofs.Words.{of_cell, owner_value, references_fault, refl, root_frame, row_at, rules, slice_get, subst, suc, sym, type_of, with_handle, world_of, zero, ℕ, ◌+◌, ◌<◌, ◌==◌}
-use Rattle.{pagable_laws.{proofs.Words.{◌∙◌, ◌∷◌, ◌≡◌, ◌⊎◌}, specs.{DeepLaws.{HasBegun, IsBeginOf, SoundLaw}, TreeSteps.FramesHeld}}, pagable_world.specs.Calls.{Asked, row_of, with_node}}
-use Rattle.pagable_world.specs.{Events.{LoadSteps, ReadingsAre, Stays, reading_at}, LoadCalls.BeginCall, Loads.{Does, GetsLazy, GoesOn, IsDecoded, MakesNode, gone_on, with_got}}
-use Rattle.pagable_world.specs.{OneWorker.{IsLoadOfPagedOut, IsOfChance, LoadIsSound, StandTogether, of_load, of_nobody, turn_of}, declared.events.LoadReply.LoadReply}
+use Rattle.pagable_laws.proofs.{Goes.{NotValues, Stands, found-number, good, has-alike, low-changed, low-whole, new-handle, stands-alike, stands-fell, stands-whole}, ReadingSteps.cached-rows}
+use Rattle.pagable_laws.proofs.{ReadingSteps.{reading-number, reading-open, reading-stands}, Sound.{IsForm, by-chance, by-handle, by-references, load-cause}, SparingSteps.got-typed, Taking.AllGot}
+use Rattle.pagable_laws.proofs.{Taking.{Going, all-more, all-new, first-fits, going-of, pushed, row-held}, Trees.same_some, Words.{Alike, Among, ArcRef, Beginning, Bool, Call, Core, Err, Error}}
+use Rattle.pagable_laws.proofs.Words.{Event, EventReply, Frame, FramesFit, GetsKnown, HandleNumber, HandleRow, HandlesAreWhole, Happens, IsLawful, IsMachineWhole, IsReference, Kind, List, LoadAnswer}
+use Rattle.pagable_laws.proofs.Words.{LoadNumber, MachineState, Mode, Moment, NodeNumber, None, Ok, OpenLoad, Option, OptionalDataKey, Owner, Reading, ReadsItsTypes, Reply, Seen, Some, Tree, Values}
+use Rattle.pagable_laws.proofs.Words.{[], adopted, ap, arith, false, false_from_ne_true, find_row, held, if_there, inl, inr, is_in, is_named_by, is_some, mode_of, nat_tests, next_node, of_cell}
+use Rattle.pagable_laws.proofs.Words.{owner_value, references_fault, refl, root_frame, row_at, rules, slice_get, subst, suc, sym, type_of, with_handle, world_of, zero, ℕ, ◌+◌, ◌<◌, ◌==◌, ◌∙◌, ◌∷◌}
+use Rattle.{pagable_laws.{proofs.Words.{◌≡◌, ◌⊎◌}, specs.{DeepLaws.{HasBegun, IsBeginOf, SoundLaw}, TreeSteps.FramesHeld}}, pagable_world.specs.{Calls.{Asked, row_of, with_node}, Events.LoadSteps}}
+use Rattle.pagable_world.specs.{Events.{ReadingsAre, Stays, reading_at}, LoadCalls.BeginCall, Loads.{Does, GetsLazy, GoesOn, IsDecoded, MakesNode, gone_on, with_got}, OneWorker.IsLoadOfPagedOut}
+use Rattle.pagable_world.specs.{OneWorker.{IsOfChance, LoadIsSound, StandTogether, of_load, of_nobody, turn_of}, declared.events.LoadReply.LoadReply}
 
 -- ---- each handle once
 

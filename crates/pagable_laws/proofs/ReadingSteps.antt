@@ -1,20 +1,20 @@
 -- The row of a handle that a load has got: it is new, of its node, and its mode fits the kind.
 use Rattle.pagable_laws.proofs.Called.{adopts, adopts-known, asks, begins, begins-key, call-knows, calls-go, clones, closes, ends-load, gets-known as was-known, hands-over, noted, pins, schedules}
-use Rattle.pagable_laws.proofs.Effects.{moves, no-one, none, none-named, one-then, released-free, spares-then, stays, stays-alike, stays-fell, then-alike, then-fell, with-key, worker-apart}
-use Rattle.pagable_laws.proofs.Goes.{Quiet, alike, at-updated, fell-anyhow, find-both, found-left, goes-quiet, le-self, low-changed, low-whole, next-above, none-in-new, parts, quiet-then, rows-self}
-use Rattle.pagable_laws.proofs.Words.{Does, Err, Error, Event, EventReply, Frame, GetsKnown, HandleNumber, HandleRow, HandlesAreWhole, Happens, IsMachineWhole, KeepsOpen, Kind, Last, List, LoadAnswer}
-use Rattle.pagable_laws.proofs.Words.{LoadNumber, MachineState, NodeNumber, None, Ok, OpenLoad, Option, OptionalDataKey, Owner, Reading, ReadingFeels, Result, Seen, Site, Some, Task, Todo, Took}
-use Rattle.pagable_laws.proofs.Words.{Values, Walking, WorkerAnswer, WorkerNumber, WorkerReply, WorkerSteps, World, [], adopted, answer_after, ap, arith, bears_known, false, find_row, first_key, give}
-use Rattle.pagable_laws.proofs.Words.{inl, inr, is_named_by, is_some, mode_of, moved, nat_tests, next_node, nothing_felt, owner_value, owner_worker, refl, row_at, rules, step_of, subst, sym, to_fail}
-use Rattle.pagable_laws.proofs.{Called.stores, GoodReferences.{alike-away, good}, Standing.{AllWait, WaitsWell}, Words.{Alike, Among, ArcRef, Beginning, Blob, Bool, Change, Claim, CloneCall, Core}}
-use Rattle.pagable_laws.proofs.{Decoding.among-left, Effects.{Effect, IsApart, IsHeldFor, IsMine, Lasts, Spares, ended-free, entry, fell, held-fell}, Goes.stands-new, Trees.{same_some, self-number}}
-use Rattle.pagable_laws.proofs.{Goes.{AreUpTo, Goes, KnowsNext, NotLoads}, Words.{to_load, to_pin, to_release, to_set, to_start, true, updated, world_of, ℕ, ◌++◌, ◌+◌, ◌<◌, ◌∙◌, ◌∷◌, ◌≡◌, ◌≤◌, ◌⊎◌}}
-use Rattle.pagable_laws.specs.TreeSteps.{EventFeels, GetsRow, IsFresh, IsSteppedReading, KeepsReadings, Needs, NewNode, SameNode, StaysAway, StepsReading, by-call, by-key, by-nothing, by-reading}
-use Rattle.pagable_world.specs.{Calls.{SetKeyCall, StoreCall, row_of, with_cached_if_open, with_known}, Events.{Ends, KeyStarted, LoadSteps, ReadingsAre, Starts, Stays, new_walking, reading_after}}
-use Rattle.pagable_world.specs.{Cascade.{FallsAnyhow, only_handle}, Kinds.is_loose, declared.{answers.Pinning.Pinning, events.{LoadReply.LoadReply, PinStep.PinStep, TableNumber.TableNumber}}}
-use Rattle.pagable_world.specs.{Events.{reading_at, with_worker}, OneWorker.LeavesCache, Pager.{EventBrings, IsNewNode, IsReadingOf, IsWhole, OwnersAreThere, TodoBrings, of_caller, of_worker}}
-use Rattle.pagable_world.specs.{Loads.{MakesNode, ReadingDoes, gone_on, with_got}, Workers.{GivesBack, PinRefused, PinsAtOnce, PinsByLoad, fresh, give_known, next_start, without_worker}}
-use Rattle.{pagable_laws.specs.TreeSteps.{gets-known, gets-lazy, makes-known, makes-node, reading-ends, reads-blob, reads-root, sets_key}, pagable_world.specs.World.{Cell, digest, usable}}
+use Rattle.pagable_laws.proofs.Goes.{NotLoads, Quiet, alike, alike-away, at-updated, fell-anyhow, find-both, find-left, goes-quiet, good, le-self, low-changed, low-whole, next-above, none-in-new}
+use Rattle.pagable_laws.proofs.Words.{Change, Claim, CloneCall, Core, Does, Err, Error, Event, EventReply, Frame, GetsKnown, HandleNumber, HandleRow, HandlesAreWhole, Happens, IsMachineWhole}
+use Rattle.pagable_laws.proofs.Words.{KeepsOpen, Kind, Last, List, LoadAnswer, LoadNumber, MachineState, NodeNumber, None, Ok, OpenLoad, Option, OptionalDataKey, Owner, Reading, ReadingFeels, Result}
+use Rattle.pagable_laws.proofs.Words.{Seen, Site, Some, Task, Todo, Took, Values, Walking, WorkerAnswer, WorkerNumber, WorkerReply, WorkerSteps, World, [], adopted, answer_after, ap, arith}
+use Rattle.pagable_laws.proofs.Words.{bears_known, false, find_row, first_key, give, inl, inr, is_named_by, is_some, mode_of, moved, nat_tests, next_node, nothing_felt, owner_value, owner_worker}
+use Rattle.pagable_laws.proofs.Words.{refl, row_at, rules, step_of, subst, sym, to_fail, to_load, to_pin, to_release, to_set, to_start, true, updated, world_of, ℕ, ◌++◌, ◌+◌, ◌<◌, ◌∙◌, ◌∷◌, ◌≡◌, ◌≤◌}
+use Rattle.pagable_laws.proofs.{Called.stores, Decoding.among-left, Effects.{Effect, IsApart, IsHeldFor, IsMine, Lasts, Spares, ended-free, entry, fell, held-fell, moves, no-one, none, none-named}}
+use Rattle.pagable_laws.proofs.{Effects.{one-then, released-free, spares-then, stays, stays-alike, stays-fell, then-alike, then-fell, with-key, worker-apart}, Goes.{AreUpTo, Goes, KnowsNext}}
+use Rattle.pagable_laws.proofs.{Goes.{parts, quiet-then, rows-self, stands-new}, Standing.{AllWait, WaitsWell}, Trees.{same_some, self-number}, Words.{Alike, Among, ArcRef, Beginning, Blob, Bool}}
+use Rattle.pagable_laws.{proofs.Words.◌⊎◌, specs.TreeSteps.{EventFeels, GetsRow, IsFresh, IsSteppedReading, KeepsReadings, Needs, NewNode, SameNode, StaysAway, StepsReading, by-call, by-key}}
+use Rattle.pagable_world.specs.declared.{answers.Pinning.Pinning, events.{PinStep.PinStep, TableNumber.TableNumber}}
+use Rattle.pagable_world.specs.{Calls.{StoreCall, row_of, with_cached_if_open, with_known}, Cascade.{FallsAnyhow, only_handle}, Events.{Ends, ReadingsAre, Starts, Stays, new_walking, reading_after}}
+use Rattle.pagable_world.specs.{Events.{reading_at, with_worker}, Kinds.is_loose, Loads.{MakesNode, ReadingDoes, gone_on, with_got}, OneWorker.LeavesCache, Pager.{EventBrings, IsNewNode, IsReadingOf}}
+use Rattle.pagable_world.specs.{Pager.{IsWhole, OwnersAreThere, TodoBrings, of_caller, of_worker}, Refusals.Owns, Workers.{fresh, give_known, next_start, without_worker}, World.{Cell, digest, usable}}
+use Rattle.{pagable_laws.specs.TreeSteps.{by-nothing, by-reading, gets-known, gets-lazy, makes-known, makes-node, reading-ends, reads-blob, reads-root, sets_key}, pagable_world.specs.Calls.SetKeyCall}
 
 -- ---- what is found at a new number
 
@@ -38,7 +38,7 @@ module _ {w w' : Core} (whole : HandlesAreWhole w) (kind : Kind) (k : HandleNumb
 
   -- of such a one, where others were given up then
   pub got-fallen : (n : ℕ) (owner : Owner) {before : Core} {given : ℕ → Bool} → FallsAnyhow before (with_known w kind n owner) given w' → GetsRow w w' kind n row
-  got-fallen n owner f = grind (arith, nat_tests, find-both, gets w.rows (record { 0 = n }) owner (low-whole whole), next-above, found-left, none-in-new)
+  got-fallen n owner f = grind (arith, nat_tests, find-both, gets w.rows (record { 0 = n }) owner (low-whole whole), next-above, find-left, none-in-new)
 
   -- of the next node
   pub got-born : (l : LoadNumber) (key : ℕ) (own : OptionalDataKey) (references : List ArcRef) → Alike (adopted w l kind key own references) w' → GetsRow w w' kind (w.last.node + 1) row
@@ -80,12 +80,6 @@ read-after u u' New are same callers workers after (of_worker n place walking r 
   | inl old ↦ inl (of_worker n place walking r through below old todo)
   | inr new ↦ inr (new (ap front_reading todo))
 ]
-
--- ---- a load of the caller's
-
-pub steps-load : {N : Type 0} {v : Values N} {u u' : World} {l : LoadNumber} {reply : LoadReply N} (s : LoadSteps v u l reply u') → StepsReading u s.reading reply.ended s.frames u'
-steps-load {u = u} {u'} {l} {reply} s = read-after u u' (λ after. (reply.ended ≡ None) × (after ≡ gone_on s.reading s.frames)) s.readings s.work.walkings (λ q after is.
-    grind (arith, nat_tests, at-updated l.0 (reading_after reply.ended s.reading s.frames) u.work.readings q after is, same_some)) (λ n w after there. inl there)
 
 -- ---- a load of a worker's
 
@@ -215,7 +209,6 @@ pub started : (place : ℕ) (rs : List ArcRef) (x : Todo) (below : List Todo) �
 started place x1 x below x4 = grind (arith, nat_tests)
 
 given : (r : ArcRef) (key height : ℕ) (below : List Todo) → AllWait below → front_reading (give r key height below) ≡ None
-unfolding AllWait
 given r key height x3 well = grind (arith, nat_tests, started)
 
 given-known : (r : ArcRef) (key height : ℕ) (below : List Todo) → AllWait below → front_reading (give_known r key height below) ≡ None
@@ -229,8 +222,7 @@ pub data WalkFeels {N B W : Type 0} (m : Seen N B W) (v : ℕ) (s s' : Site) (to
       → (t : LoadsTodo m.values (owner_worker v) s s' reading) → (t.answer ≡ None → (load : OpenLoad) × (s.core.loads reading.load.0 ≡ Some load))
       → (HandlesAreWhole s.core → ReadingFeels m.values s.core reading t.answer t.frames s'.core c) → WalkFeels m v s s' todo c
   walk-sets : (r : ArcRef) (through : HandleNumber) (key height : ℕ) (below : List Todo) (row : HandleRow)
-      → todo ≡ to_set r through key height ∷ below → row_at s.core through ≡ Some row → row.owner ≡ owner_worker v → is_loose row.mode ≡ true
-      → LoadsAnew s' → WalkFeels m v s s' todo (sets_key row.node.0 key)
+      → todo ≡ to_set r through key height ∷ below → Owns s.core (owner_worker v) through is_loose row → LoadsAnew s' → WalkFeels m v s s' todo (sets_key row.node.0 key)
   walk-rests : ((n : ℕ) (x : N) → TodoBrings m.values s.core todo n x → ⊥) → LoadsAnew s' → WalkFeels m v s s' todo nothing_felt
 
 -- the load that stands at the front is the worker's own
@@ -247,34 +239,14 @@ pub record WalkFelt {N B W : Type 0} (m : Seen N B W) (v : ℕ) (s s' : Site) (t
   pub knows : HandlesAreWhole s.core → KnowsNext change s.core
 
 module _ {Asks : Type 0} {w w' : Core} (v : ℕ) where
-  gives-back : (back : Option HandleNumber) → GivesBack w v back w' → Effect (owner_worker v) false Asks (Unit {0}) false nothing_felt w w'
-  gives-back None a = stays a
-  gives-back (Some h) (told, c) = schedules (works-free v) h told c
-
   -- a handle is cloned, and something is done then
   then-clone : {m : Core} {h k : HandleNumber} → CloneCall w (owner_worker v) h (Ok k) m → Effect (owner_worker v) false Asks (Unit {0}) false nothing_felt m w' → Effect (owner_worker v) false Asks (Unit {0}) false nothing_felt w w'
   then-clone {m} c rest = one-then (λ kind key n h. record { row = h.row; live = subst (λ rows. Among rows h.row) (sym c.made.3.rows) (among-left w.rows _ h.live.0 h.row h.live.1); at = h.at; pins_it = h.pins_it })
       (λ a. a) (clones (Ok _) c) rest
 
-  at-once : (r : ArcRef) (through k : HandleNumber) → PinsAtOnce w (owner_worker v) r through k w' → Effect (owner_worker v) false Asks (Unit {0}) false nothing_felt w w'
-  at-once r through k does = elim does [ inl (row, is, clone) ↦ clones (Ok k) clone | inr (row, (mid, clone, pin)) ↦ then-clone clone (pins (works-free v) (Ok (Pinning.Pinned k)) pin) ]
-
-  pin-refused : (r : ArcRef) (e : Error) → PinRefused w (owner_worker v) r e w' → Effect (owner_worker v) false Asks (Unit {0}) false nothing_felt w w'
-  pin-refused r e does = elim does [
-    | inl clone ↦ clones (Err e) clone
-    | inr (row, (mid, through, clone, inl pin)) ↦ then-clone clone (pins (works-free v) (Err e) pin)
-    | inr (row, (mid, through, clone, inr begin)) ↦ then-clone clone (begins (Err e) begin)
-  ]
-
 module _ {N B W : Type 0} (m : Seen N B W) (v : ℕ) (s s' : Site) where
   abbrev WE : List Todo → Change → Type 0
   WE todo c = Effect (owner_worker v) false (FrontMine s.core (owner_worker v) todo) (Unit {0}) false c s.core s'.core
-
-  unmoved : Alike s.core s'.core → Effect (owner_worker v) false (Unit {0}) (Unit {0}) false nothing_felt s.core s'.core
-  unmoved a = stays a
-
-  stored : {blob : Blob} (r : Result ℕ Error) → StoreCall (digest m.values) s.core blob r s'.core → Effect (owner_worker v) false (Unit {0}) (Unit {0}) false nothing_felt s.core s'.core
-  stored r c = stores r c
 
   -- nothing is felt
   quiet : {todo : List Todo} → ((n : ℕ) (x : N) → TodoBrings m.values s.core todo n x → ⊥) → (s.todo ≡ todo → WaitsWell todo → LoadsAnew s') → WE todo nothing_felt → WalkFelt m v s s' todo
@@ -302,28 +274,37 @@ module _ {N B W : Type 0} (m : Seen N B W) (v : ℕ) (s s' : Site) where
       change = sets_key row.node.0 key;
       does = e;
       goes = e.goes;
-      feels = λ front well. walk-sets r through key height below row refl owns.live owns.own loose (no-load s' next is other);
+      feels = λ front well. walk-sets r through key height below row refl (record { live = owns.live; own = owns.own; as_asked = loose }) (no-load s' next is other);
       knows = λ whole k q n known. absurd known;
     }
   ]
 
-  load-begins : (r : ArcRef) (place t : ℕ) (below : List Todo) (through : HandleNumber) (l : LoadNumber) → PinsByLoad s.core (owner_worker v) r through l s'.core
-      → s'.todo ≡ to_load r place through (fresh l t) ∷ below → WalkFelt m v s s' (to_pin r place ∷ below)
-  load-begins r place t below through l (row, (mid, key, clone, begin)) is =
-      let next = begin.begins.2.2.above in let last = ap (λ (x : Last). x.load) begin.begins.2.4.2.last in
-      quiet (λ n x b. b) (λ front well reading e. grind (arith, nat_tests)) (then-clone v clone (begins (Ok (Beginning.Load l key)) begin))
-
   pub walk-goes : (todo : List Todo) (step : Took W) → Does m v s todo step s' → WalkFelt m v s s' todo
   walk-goes (to_start r place ∷ below) (Took.Claim i (Ok Claim.Waiting)) (is, c) = let t = c.finds.1.2 in
       quiet (λ n x b. b) (λ front well. no-load s' _ (t.list_is ∙ front) refl) (stays t.pager_stays)
-  walk-goes (to_pin r place ∷ below) (Took.Pin i (Ok (PinStep.Held k))) (is, p) = rests _ (λ n x b. b) p.pins.2.list_is (λ well. refl) (at-once v r p.pins.0 k p.pins.1)
-  walk-goes (to_pin r place ∷ below) (Took.Pin i (Ok (PinStep.LoadBegun l))) (is, p) = load-begins r place _ below p.pins.0 l p.pins.1 p.pins.2.list_is
-  walk-goes (to_pin r place ∷ below) (Took.Pin i (Err f)) (is, p) = rests _ (λ n x b. b) p.refused.1.list_is (λ well. refl) (pin-refused v r f p.refused.0)
+  walk-goes (to_pin r place ∷ below) (Took.Pin i (Ok (PinStep.Held k))) (is, p) = rests _ (λ n x b. b) p.pins.2.list_is (λ well. refl) (elim p.pins.1 [
+    | inl (row, same, clone) ↦ clones (Ok k) clone
+    | inr (row, (mid, clone, pin)) ↦ then-clone v clone (pins (works-free v) (Ok (Pinning.Pinned k)) pin)
+  ])
+  walk-goes (to_pin r place ∷ below) (Took.Pin i (Ok (PinStep.LoadBegun l))) (is, p) =
+      let (mid, key, clone, begin) = p.pins.1.1 in let list = p.pins.2.list_is in
+      let next = begin.begins.2.2.above in let last = ap (λ (x : Last). x.load) begin.begins.2.4.2.last in
+      quiet (λ n x b. b) (λ front well reading e. grind (arith, nat_tests)) (then-clone v clone (begins (Ok (Beginning.Load l key)) begin))
+  walk-goes (to_pin r place ∷ below) (Took.Pin i (Err f)) (is, p) = rests _ (λ n x b. b) p.refused.1.list_is (λ well. refl) (elim p.refused.0 [
+    | inl clone ↦ clones (Err f) clone
+    | inr (row, (mid, through, clone, inl pin)) ↦ then-clone v clone (pins (works-free v) (Err f) pin)
+    | inr (row, (mid, through, clone, inr begin)) ↦ then-clone v clone (begins (Err f) begin)
+  ])
   walk-goes (to_set r through key height ∷ below) (Took.SetKey i (Ok u)) (is, p) = sets r through key height below _ (Ok u) p.sets p.goes.list_is refl
   walk-goes (to_set r through key height ∷ below) (Took.SetKey i (Err f)) (is, p) = sets r through key height below _ (Err f) p.sets p.refused.list_is refl
   walk-goes (to_release r key height ∷ below) (Took.Release i) (is, falls, g) = rests _ (λ n x b. b) g.list_is (given r key height below) (fell (none s.core) falls.falls (λ mine o. released-free mine o.apart v o.other s.core r.node.0))
-  walk-goes (to_fail fault back ∷ below) Took.Fail (gives, shelf, list_is) = rests _ (λ n x b. b) list_is (λ well. refl) (gives-back v back gives)
-  walk-goes _ step does = grind (arith, nat_tests, rests, unmoved, stored, given-known, loads-on, started)
+  walk-goes (to_fail fault None ∷ below) Took.Fail (same, shelf, list_is) = rests _ (λ n x b. b) list_is (λ well. refl) (stays same)
+  walk-goes (to_fail fault (Some h) ∷ below) Took.Fail ((told, c), shelf, list_is) = rests _ (λ n x b. b) list_is (λ well. refl) (schedules (works-free v) h told c)
+  walk-goes _ step does =
+      let unmoved : Alike s.core s'.core → Effect (owner_worker v) false (Unit {0}) (Unit {0}) false nothing_felt s.core s'.core = stays in
+      let stored : (blob : Blob) (r : Result ℕ Error) → StoreCall (digest m.values) s.core blob r s'.core → Effect (owner_worker v) false (Unit {0}) (Unit {0}) false nothing_felt s.core s'.core =
+      λ blob r c. stores r c in
+      grind (arith, nat_tests, rests, unmoved, stored, given-known, loads-on, started)
 
 -- What trees feel of each event that doesn't close the storage.
 
@@ -406,14 +387,6 @@ module _ {N B W : Type 0} (m : Seen N B W) (u u' : World) where
     knows = λ whole leaves k q n known. absurd known;
   }
 
-  key-starts : (key t : ℕ) (r : Result Beginning Error) → KeyStarted u key t r u' → EventGoes m u (Event.LoadKey key t) (EventReply.Started r) u'
-  key-starts key t (Err e) is = event-rests (λ n x b. absurd b) (keeps-all u u' is.refused is.work.walkings) (begins-key (Err e) is.step)
-  key-starts key t (Ok Beginning.InMemory) is = absurd is.step.begins
-  key-starts key t (Ok (Beginning.Load l k)) is =
-      let next = is.step.begins.1.above in let last = ap (λ (x : Last). x.load) is.step.begins.2.last in
-      event-rests (λ n x b. absurd b) (read-after u u' (λ r. IsFresh u'.core r) is.begun is.work.walkings
-      (λ q r there. grind (arith, nat_tests, at-updated l.0 (Some (fresh l t)) u.work.readings, same_some, next, last)) (λ n w r there. inl there)) (begins-key (Ok (Beginning.Load l k)) is.step)
-
   module _ (k : WorkerNumber) (reply : WorkerReply W) (s : WorkerSteps m u k reply u') where
     now : LoadsAnew s.after → KeepsReadings u u'
     now anew =
@@ -429,8 +402,8 @@ module _ {N B W : Type 0} (m : Seen N B W) (u u' : World) where
         by-reading c reading t.answer t.frames (s.walking, r, place, through, below, s.at, todo) opens (feels-alike (feels whole.handles) last)
         (read-after u u' (λ after. (t.answer ≡ None) × (after ≡ gone_on reading t.frames)) s.readings s.work.same_walkings (λ q after is. inl is) (λ n w after there.
         grind (arith, nat_tests, at-updated k.0 (Some (record s.walking { todo = s.after.todo; steps = reply.steps; answer = reply.answer })) u.work.walkings, same_some, t.next)))
-    worker-feels c (walk-sets r through key height below row todo live own loose anew) whole =
-        by-key k key row refl (record { walking = s.walking; r = r; through = through; height = height; below = below; there = s.at; sets = todo; live = live; own = own; loose = loose }) (now anew)
+    worker-feels c (walk-sets r through key height below row todo owns anew) whole =
+        by-key k key row refl (record { walking = s.walking; r = r; through = through; height = height; below = below; there = s.at; sets = todo; owns = owns }) (now anew)
     worker-feels c (walk-rests none anew) whole =
         by-nothing (λ n x (walking, at, brings). absurd (none n x (subst (λ (z : Walking). TodoBrings m.values u.core z.todo n x) (same_some _ _ (sym at ∙ s.at)) brings))) (now anew)
 
@@ -456,15 +429,23 @@ module _ {N B W : Type 0} (m : Seen N B W) (u u' : World) where
   event-goes (Event.LoadStep l) (EventReply.LoadMoved (Ok reply)) open_still is =
       let x = is.moves in
       let f = reading-feels m u.core Owner.Caller caller-free u'.core x.reading reply.ended x.frames x.does in
+      let steps : StepsReading u x.reading reply.ended x.frames u' = read-after u u' (λ after. (reply.ended ≡ None) × (after ≡ gone_on x.reading x.frames)) x.readings x.work.walkings
+      (λ q r there. grind (arith, nat_tests, at-updated l.0 (reading_after reply.ended x.reading x.frames) u.work.readings q r there, same_some)) (λ n w r there. inl there) in
       felt f.does (λ left. tt)
-      (λ whole well. by-reading f.change x.reading reply.ended x.frames (x.at, reading-stands u whole l x.reading x.at) f.opens (f.feels whole.handles) (steps-load x))
+      (λ whole well. by-reading f.change x.reading reply.ended x.frames (x.at, reading-stands u whole l x.reading x.at) f.opens (f.feels whole.handles) steps)
       (λ whole leaves. reading-knows (f.feels whole.handles))
   event-goes (Event.LoadStart h) (EventReply.Started r) open_still is = event-rests (λ n x b. absurd b) (keeps-all u u' is.readings is.work.walkings) (begins r is.step)
+  event-goes (Event.LoadKey key t) (EventReply.Started (Err e)) open_still is = event-rests (λ n x b. absurd b) (keeps-all u u' is.refused is.work.walkings) (begins-key (Err e) is.step)
+  event-goes (Event.LoadKey key t) (EventReply.Started (Ok Beginning.InMemory)) open_still is = absurd is.step.begins
+  event-goes (Event.LoadKey key t) (EventReply.Started (Ok (Beginning.Load l k))) open_still is =
+      let next = is.step.begins.1.above in let last = ap (λ (x : Last). x.load) is.step.begins.2.last in
+      event-rests (λ n x b. absurd b) (read-after u u' (λ r. IsFresh u'.core r) is.begun is.work.walkings
+      (λ q r there. grind (arith, nat_tests, at-updated l.0 (Some (fresh l t)) u.work.readings, same_some, next, last)) (λ n w r there. inl there)) (begins-key (Ok (Beginning.Load l k)) is.step)
   event-goes Event.TableNew (EventReply.TableMade (Ok t)) open_still is = let x = is.made in event-rests (λ n x b. absurd b) (keeps-all u u' x.2 x.3.same_walkings) (stays x.1)
   event-goes (Event.WorkerItem t item) (EventReply.WorkerMade (Ok v)) open_still is = starts (λ n x b. b) t _ u.core v (none u.core) is.starts
   event-goes (Event.WorkerListed t i) (EventReply.WorkerMade (Ok v)) open_still is = let x = is.starts in
       starts (λ n x b. b) t _ _ v (moves (none u.core) (only_handle x.0) (Owner.Worker v) _ (λ l is. absurd (cc)) (entry refl i x.0 x.3.listed)) x.5
-  event-goes event reply open_still is = grind (arith, nat_tests, same, key-starts, worker-steps)
+  event-goes event reply open_still is = grind (arith, nat_tests, same, worker-steps)
 
 -- ---- the plain world, as trees feel it
 

@@ -2,25 +2,26 @@
 -- An event leaves each handle of a worker as it is that doesn't make it, and what the cache gives for a kind and a key, where the node is held before and after. What a worker's step
 -- does leaves the handles of the list too, so that this gets no shorter.
 -- Two kinds or keys never get one identity through one cache, and one kind and key gets the same for as long as its node is held.
-use Rattle.pagable_laws.proofs.Goes.{a-handle, adopts, alike, among-found, fell-anyhow, found-number, goes-quiet, none-found, once, quiet-goes, quiet-then, stands-changed, stands-fell, stands-whole}
-use Rattle.pagable_laws.proofs.ReadingSteps.{cached-rows, caller-free, ends-spare, event-goes, got-born, got-fallen, got-known, is-cached, reading-feels, reading-open, reading-stands, readings-on}
-use Rattle.pagable_laws.proofs.Words.{Alike, Among, ArcRef, AreMoments, Blob, Bool, Call, Change, Core, Error, Event, EventReply, Frame, FramesFit, GetsKnown, HandleNumber, HandleRow, HandlesAreWhole}
-use Rattle.pagable_laws.proofs.Words.{Happens, IsIdle, IsLawful, IsMachineWhole, IsReference, KeepsOpen, Kind, Last, List, LoadAnswer, LoadNumber, MachineState, Moment, NodeNumber, None, Ok, OpenLoad}
-use Rattle.pagable_laws.proofs.Words.{Option, OptionalDataKey, Owner, PagerState, Reading, ReadingFeels, ReadsItsTypes, ReadsRoot, Represents, Result, Seen, Site, Some, Took, Tree, Types, Values}
-use Rattle.pagable_laws.proofs.Words.{WellFormed, WorkerAnswer, World, [], adopted, and_parts, ap, arith, false, find_row, first_key, held, inl, inr, is_eager, is_handle, is_in, is_owned_by, length}
-use Rattle.pagable_laws.proofs.Words.{mode_of, moved, nat_tests, next_in, next_node, not, nothing_felt, one, owner_worker, refl, root_frame, rules, slice_get_within, state_after, step_of, subst, suc}
-use Rattle.pagable_laws.proofs.{Called.{gets-known as was-known, releases}, Effects.{Effect, IsHeldFor, IsOther, Lasts, can-use, list-apart, named, stays-alike, stays-fell}, ReadingSteps.walk-goes}
-use Rattle.pagable_laws.proofs.{Decoding.{asks-by-kinds, decodes, kinds-pushed, kinds_of}, Following.{handles-once, one-less}, Goes.{Goes, IsShut, KnowsNext, Stands}, GoodReferences.same-owner}
-use Rattle.pagable_laws.proofs.{ReadingSteps.AllWaitWell, Words.{sum_by-cons, sym, times, true, type_of, with_handle, world_of, zero, ℕ, ◌&&◌, ◌*◌, ◌++◌, ◌+◌, ◌<◌, ◌==◌, ◌∙◌, ◌∷◌, ◌≡◌, ◌≤◌, ◌⊎◌}}
-use Rattle.pagable_laws.proofs.{Taking.{Going, adopted-over, asked, eager-nested, first-fits, frames-stay, given-nodes, going-of, root-right, row-held, was-open}, Trees.{at-most-sum, counted}}
-use Rattle.pagable_laws.specs.TreeSteps.{EventFeels, GetsRow, HandsOver, IsFresh, KeepsStored, Needs, gets-known, gets-lazy, makes-known, makes-node, reading-ends, reads-blob, reads-root}
-use Rattle.pagable_world.specs.{Events.Ends, Headline.{LoadsHaveStepsLeft, ReadGives, ReadIsRight, StepIsWithin}, OneWorker.{GetsReference, IsFilledByReading, LeavesCache, OneIdentityLaw, StaysAlive}}
-use Rattle.pagable_world.specs.{Events.LoadSteps, Loads.{Does as LoadDoes, asks, gone_on, handles_of, need_of, needs_nested, nested_frame, to_adopt, with_got}, Runs.Does, World.{type_at, usable}}
-use Rattle.pagable_world.specs.{LoadCalls.{HandOverCall, is_owned_in, numbers_of}, Pager.{FrameFits, IsReadingOf, IsWhole, OwnersAreThere, SameTrees, StandsFor}, declared.events.LoadReply.LoadReply}
-use Rattle.{pagable_laws.proofs.Trees.{one-true, same-number, same_some, self-number, sum-le}, std.{proofs.{Common.get_or, lemmas.List.{Edits.length-remove, Sums.sum_by-remove}}, specs.List.remove}}
-use Rattle.{pagable_world.specs.{Calls.{ReleaseCall, with_node}, Order.{IsWithinBound, Unfolds, UnfoldsFrom, after_kinds, unfolds}}, std.proofs.lemmas.Option.{get_or_from_slice_get, slice_get-get_or}}
-pub use Rattle.pagable_laws.proofs.Effects.{IsEntered, Spares, both-none as neither, entered-of, named-among, spares-then}
+use Rattle.pagable_laws.proofs.Goes.{among-found, fell-anyhow, found-number, goes-quiet, none-found, once, quiet-goes, quiet-then, same-owner, stands-changed, stands-fell, stands-whole}
+use Rattle.pagable_laws.proofs.ReadingSteps.{AllWaitWell, cached-rows, caller-free, ends-spare, event-goes, got-born, got-fallen, got-known, is-cached, reading-feels, reading-open, reading-stands}
+use Rattle.pagable_laws.proofs.Words.{Event, EventReply, Frame, FramesFit, GetsKnown, HandleNumber, HandleRow, HandlesAreWhole, Happens, IsIdle, IsLawful, IsMachineWhole, IsReference, KeepsOpen, Kind}
+use Rattle.pagable_laws.proofs.Words.{Last, List, LoadAnswer, LoadNumber, MachineState, Moment, NodeNumber, None, Ok, OpenLoad, Option, OptionalDataKey, Owner, PagerState, Reading, ReadingFeels}
+use Rattle.pagable_laws.proofs.Words.{ReadsItsTypes, ReadsRoot, ReadsTree, Represents, Result, Seen, Site, Some, Took, Tree, Types, Values, WellFormed, WorkerAnswer, World, [], adopted, and_parts, ap}
+use Rattle.pagable_laws.proofs.Words.{arith, false, find_row, first_key, held, inl, inr, is_eager, is_handle, is_in, is_owned_by, length, mode_of, moved, nat_tests, next_in, next_node, not}
+use Rattle.pagable_laws.proofs.Words.{nothing_felt, one, owner_worker, refl, root_frame, rules, slice_get_within, state_after, step_of, subst, suc, sum_by-cons, sym, times, true, type_of, with_handle}
+use Rattle.pagable_laws.proofs.{Called.{gets-known as was-known, releases}, Decoding.{asks-by-kinds, decodes, kinds-pushed, kinds_of, read_stands}, Effects.{Effect, IsHeldFor, IsOther, can-use}}
+use Rattle.pagable_laws.proofs.{Effects.{list-apart, named, stays-alike, stays-fell}, Following.{given-of, handles-once, one-less}, Goes.{Goes, IsShut, KnowsNext, Stands, a-handle, adopts, alike}}
+use Rattle.pagable_laws.proofs.{ReadingSteps.{readings-on, walk-goes}, Taking.{Going, adopted-over, asked, eager-nested, first-fits, frames-stay, given-nodes, going-of, root-key, row-held, was-open}}
+use Rattle.pagable_laws.proofs.{Trees.{at-most-sum, counted, one-true, same-number, same_some, self-number, sum-le}, Words.{Alike, Among, ArcRef, AreMoments, Blob, Bool, Call, Change, Core, Error}}
+use Rattle.pagable_laws.{proofs.Words.{world_of, zero, ℕ, ◌&&◌, ◌*◌, ◌++◌, ◌+◌, ◌<◌, ◌==◌, ◌∙◌, ◌∷◌, ◌≡◌, ◌≤◌, ◌⊎◌}, specs.TreeSteps.{EventFeels, GetsRow, HandsOver, IsFresh, KeepsStored, Needs}}
+use Rattle.pagable_world.specs.{Events.LoadSteps, Headline.{LoadsHaveStepsLeft, ReadGives, ReadIsRight, StepIsWithin}, LoadCalls.{HandOverCall, is_owned_in, numbers_of}, Loads.Does as LoadDoes}
+use Rattle.pagable_world.specs.{Loads.{asks, gone_on, handles_of, need_of, needs_nested, nested_frame, to_adopt, with_got}, OneWorker.{GetsReference, IsFilledByReading, LeavesCache, OneIdentityLaw}}
+use Rattle.pagable_world.specs.{OneWorker.StaysAlive, Order.{IsWithinBound, Unfolds, UnfoldsFrom, after_kinds, unfolds}, Pager.{FrameFits, IsReadingOf, IsWhole, NodeStands, OwnersAreThere, SameTrees}}
+use Rattle.std.{proofs.lemmas.{List.Sums.sum_by-remove, Option.{get_or_from_slice_get, slice_get-get_or}}, specs.List.remove}
+use Rattle.{pagable_laws.specs.TreeSteps.{gets-known, gets-lazy, makes-known, makes-node, reading-ends, reads-blob, reads-root}, pagable_world.specs.{Calls.{ReleaseCall, with_node}, Events.Ends}}
+use Rattle.{pagable_world.specs.{Pager.StandsFor, Runs.Does, World.{type_at, usable}, declared.events.LoadReply.LoadReply}, std.proofs.{Common.get_or, lemmas.List.Edits.length-remove}}
 use Rattle.pagable_world.specs.Workers as workers
+pub use Rattle.pagable_laws.proofs.Effects.{IsEntered, Spares, both-none as neither, entered-of, named-among, spares-then}
 
 -- A load of a key that answers a value hands over the value's references: each was the load's, and is the caller's then.
 
@@ -32,17 +33,14 @@ in-numbers x0 r x2 = grind (arith, nat_tests, self-number)
 -- ---- what is handed over
 
 pub hands : {w w' : Core} (l : LoadNumber) (references : List ArcRef) → HandlesAreWhole w → HandOverCall w Owner.Caller l (handles_of references) (Ok tt) w' → HandsOver w l references w'
-hands {w} {w'} l references whole c =
-    record {
-      each = λ r among.
-          let hs = handles_of references in let numbered = in-numbers references r among in
-          let n = named w (Owner.Load l) [] hs (grind (arith, nat_tests, neither)) r.handle numbered in
-          let stood = stands-changed (λ (row : HandleRow). is_in (numbers_of hs) row.number.0) (λ row. record row { owner = Owner.Caller }) (λ h. refl) (stands-whole whole r.handle.0 n.row n.live) in
-          let moves : is_in (numbers_of hs) n.row.number.0 ≡ true = ap (is_in (numbers_of hs)) (found-number r.handle.0 w.rows n.row n.live) ∙ numbered in
-          let now : Stands w.last.handle (moved (is_in (numbers_of hs)) Owner.Caller w.rows) r.handle.0 (record n.row { owner = Owner.Caller }) = rw moves at stood in
-          let stays : (is_owned_in w (Owner.Load l) r.handle.0 && not (is_in (numbers_of hs) r.handle.0)) ≡ false = grind (arith, nat_tests) in
-          let after = stands-fell c.hands.1.falls (λ n e. cc) stays now in (n.row, n.live, n.own, after.live);
-    }
+hands {w} {w'} l references whole c r among =
+    let hs = handles_of references in let numbered = in-numbers references r among in
+    let n = named w (Owner.Load l) [] hs (grind (arith, nat_tests, neither)) r.handle numbered in
+    let stood = stands-changed (λ (row : HandleRow). is_in (numbers_of hs) row.number.0) (λ row. record row { owner = Owner.Caller }) (λ h. refl) (stands-whole whole r.handle.0 n.row n.live) in
+    let moves : is_in (numbers_of hs) n.row.number.0 ≡ true = ap (is_in (numbers_of hs)) (found-number r.handle.0 w.rows n.row n.live) ∙ numbered in
+    let now : Stands w.last.handle (moved (is_in (numbers_of hs)) Owner.Caller w.rows) r.handle.0 (record n.row { owner = Owner.Caller }) = rw moves at stood in
+    let stays : (is_owned_in w (Owner.Load l) r.handle.0 && not (is_in (numbers_of hs) r.handle.0)) ≡ false = grind (arith, nat_tests) in
+    let after = stands-fell c.hands.1.falls (λ n e. cc) stays now in (n.row, n.live, n.own, after.live)
 
 -- A value that a load of a key answers stands for the tree that the key reads as, and the caller has its references.
 
@@ -66,14 +64,22 @@ module _ {N E : Type 0} {v : Values N} (lawful : IsLawful v) (readable : ReadsIt
       let fits = first-fits v.types load.key reading.node_type s.core.stored trees root.root [] here in
       let got = (decodes lawful readable root.root x fits root.decoded).got r among in
       let front : Among reading.frames root.root = subst (λ fs. Among fs root.root) (sym root.frames) (zero, refl) in
-      let moved = hands.each r among in let row : HandleRow = moved.0 in let there = g.held root.root r front got in
+      let moved = hands r among in let row : HandleRow = moved.0 in let there = g.held root.root r front got in
       let stood = there.is row moved.1 moved.2 in
       let live = row-held s'.core r.handle (record row { owner = Owner.Caller }) moved.3 in
       let typed : type_at s'.core r.node.0 ≡ Some (trees' r.node.0).type = stands'.typed r.node.0 (subst (λ (n : NodeNumber). 0 < held n.0 s'.core.rows) stood.0 live) in
       let kept : trees' r.node.0 ≡ trees r.node.0 = same r.node.0 there.node_given in
       let of_kind : type_at s'.core r.node.0 ≡ Some (type_of r.kind.0) = typed ∙ ap (λ (t : Tree). Some t.type) kept ∙ ap (λ (t : ℕ). Some t) (got-typed root.root fits r got) in
       record { row = record row { owner = Owner.Caller }; live = moved.3; at = stood.0; owned = refl; fits = stood.1; typed = of_kind } in
-      root-right lawful readable s' trees' reading x load.key whole' stands' after root owned
+      let here = subst (λ fs. FramesFit v.types s'.core.stored trees' load.key reading.node_type fs) root.frames after in
+      let fits = first-fits v.types load.key reading.node_type s'.core.stored trees' root.root [] here in
+      let nodes_stand : (r : ArcRef) → Among (v.references x) r → NodeStands v s' r.node.0 (trees' r.node.0) =
+      λ r among. stands'.stands r.node.0 (given-of whole'.whole.handles r.node.0 (owned r among).typed).0 in
+      let under = sym (root-key v.types s'.core.stored trees' load.key reading.node_type root.root here) in record {
+        stands = λ t typed reads_tree. read_stands lawful readable s' trees' root.root x t fits root.decoded nodes_stand (typed ∙ root.decoded.typed)
+            (subst (λ n. ReadsTree s'.core.stored v.types n t) under reads_tree);
+        own = owned;
+      }
 
 module _ {N E B W : Type 0} (m : Seen N B W) (lawful : IsLawful m.values) (readable : ReadsItsTypes m.values.types) (s s' : MachineState N E) (trees trees' : ℕ → Tree)
     (whole : IsMachineWhole m.values s) (whole' : IsMachineWhole m.values s') (readings : (reading : Reading) → IsReadingOf s.work reading → Going m.values s.pager trees reading)
@@ -212,9 +218,7 @@ module _ {N E B W : Type 0} (m : Seen N B W) (s s' : MachineState N E) (whole : 
   bounded-of all reading (inr new) = fresh-bounded m.values.types (world_of s) reading new
 
   kept-bounded : {c : Change} → Goes c s.pager.core s'.pager.core → (reading : Reading) → IsBounded m.values.types (world_of s) reading → IsBounded m.values.types (world_of s') reading
-  kept-bounded goes reading b =
-      let few = b.0 in let more = goes.loads_last in
-      (omega (arith, few, more), λ load is_open store after. b.1 load (was-open goes reading.load.0 load b.0 is_open) store (λ q x is. after q x (goes.stored q x is)))
+  kept-bounded goes reading b = grind (arith, nat_tests, was-open)
 
   -- all loads go on so
   all-on : {event : Event N B W} {reply : EventReply N B W} {c : Change} → Goes c s.pager.core s'.pager.core → AllBounded m.values.types (world_of s)
@@ -261,10 +265,6 @@ event-spares m v u u' there event reply others still h = (event-goes m u u' even
 
 pub keeps-open : {N B W : Type 0} (event : Event N B W) → LeavesCache event → KeepsOpen event
 keeps-open x0 leaves = grind (arith, nat_tests)
-
-pub event-lasts : (kind key n : ℕ) {N B W : Type 0} (m : Seen N B W) (u u' : World) (event : Event N B W) (reply : EventReply N B W) → LeavesCache event → Happens m u event reply u'
-    → Lasts kind key n u.core u'.core
-event-lasts kind key n m u u' event reply leaves h = (event-goes m u u' event reply (keeps-open event leaves) h).lasts leaves kind key n
 
 -- ---- the list
 
@@ -389,21 +389,19 @@ once-got {w} {w'} kind key n whole filled (got-new none next l own references a)
 
 module _ {N B W E : Type 0} (m : Seen N B W) (kind : Kind) (key n : ℕ) where
   along : (s : MachineState N E) (xs : List (Moment N E B W)) → IsMachineWhole m.values s → AreMoments m s xs → ((x : Moment N E B W) → Among xs x → LeavesCache x.event)
-      → IsKnownOnce kind.0 key n s.pager.core
-      → IsMachineWhole m.values (state_after s xs) × IsKnownOnce kind.0 key n (state_after s xs).pager.core
+      → IsKnownOnce kind.0 key n s.pager.core → IsMachineWhole m.values (state_after s xs) × IsKnownOnce kind.0 key n (state_after s xs).pager.core
       × (StaysAlive kind n xs → IsEntered kind.0 key n s.pager.core.cache s.pager.core.cells → IsHeldFor kind.0 key n s.pager.core.rows → usable (state_after s xs).pager.core kind.0 key ≡ Some n)
   unfolding state_after
   along s [] whole chain leaves once = (whole, once, λ alive e h. can-use kind.0 key n s.pager.core e h)
   along s (x ∷ xs) whole (does, more) leaves once =
       let kept = leaves x (zero, refl) in
       let g = event-goes m (world_of s) (world_of x.after) x.event x.reply (keeps-open x.event kept) does.step.happens in
-      let l = event-lasts kind.0 key n m (world_of s) (world_of x.after) x.event x.reply kept does.step.happens in
       let (whole', once', used) = along x.after xs does.whole more (λ y (i, is). leaves y (suc i, is)) (once-goes kind.0 key n g.goes (g.knows whole.pager.whole kept) once) in (
         whole',
         once',
         λ (a, alive) e h.
             let h' : IsHeldFor kind.0 key n x.after.pager.core.rows = record { row = a.row; live = a.live; at = a.at; pins_it = λ is. grind (arith, nat_tests) } in
-            used alive (l.lasts e h h') h',
+            used alive ((g.lasts kept kind.0 key n).lasts e h h') h',
       )
 
 -- ---- the law

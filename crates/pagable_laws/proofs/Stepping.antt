@@ -207,12 +207,9 @@ module _ {N B W : Type 0} (m : Seen N B W) (n : ℕ) {g g' : Ground} (task : Tas
         search (known', there, right, small, all-low s'.shelf o.height o.written.references o.keys all first, most) in
         (record { slot = a.0; written = o.written; claimed = a.1; wrote = wrote; stands = stands }, reach, still o.reference below (expects, waits))
 
-  abbrev Puts : ArcRef → Slot → Type 0
-  Puts r slot = PutsSlot s.shelf.slots s'.shelf.slots (identity_of r) slot
-
   writes : (r : ArcRef) (place : ℕ) (through : HandleNumber) (below : List Todo) (written : Written) (claim : HasClaim s.shelf n (identity_of r) (λ w. w ≡ None))
-      → WroteTree m.values.types g r.node.0 written
-      → Puts r (record claim.slot { written = Some written }) → Placed s.shelf task r place below → s'.todo ≡ open_node r place through written below → Fits
+      → WroteTree m.values.types g r.node.0 written → PutsSlot s.shelf.slots s'.shelf.slots (identity_of r) (record claim.slot { written = Some written })
+      → Placed s.shelf task r place below → s'.todo ≡ open_node r place through written below → Fits
   unfolding Waits
   writes r place through below written claim w puts (at, few, above) e =
       let fit = fits (identity_of r) claim.slot claim.claimed in

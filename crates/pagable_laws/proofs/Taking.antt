@@ -1,12 +1,16 @@
 -- What a load reads goes on fitting, whatever it gets, and fits after its step; and a node whose value is in memory gives its tree, as does what a load of a key answers.
-use Rattle.pagable_laws.proofs.Words.{IsReference, Kind, List, LoadNumber, MachineState, None, OpenLoad, Option, OptionalDataKey, Owner, PagerState, Reading, ReadingFeels, ReadingFits, ReadsItsTypes}
-use Rattle.pagable_laws.proofs.Words.{ReadsRoot, ReadsTree, Represents, Some, Tree, Types, ValueStands, Values, WellFormed, [], ap, arith, bears_known, held, inl, inr, is_eager, is_pinning, length}
-use Rattle.pagable_laws.proofs.Words.{length-append, nat_tests, next_in, one, pins, refl, root_frame, row_at, slice_get, slice_get_within, subst, suc, sym, true, type_of, zero, ℕ, ◌++◌, ◌+◌, ◌<◌, ◌∙◌}
-use Rattle.pagable_laws.proofs.{Decoding.{FramesAsked, asks_next, decodes, none-got, one-got, read_stands}, Trees.{at-most-sum, followed-all, same_some, self-number}, Words.{◌∷◌, ◌≡◌, ◌≤◌, ◌⊎◌}}
-use Rattle.pagable_laws.proofs.{Following.{cell-of, given-of}, Goes.among-found, Words.{Among, ArcRef, Blob, Change, Core, Frame, FramesFit, HandleNumber, HandleRow, HandlesAreWhole, IsLawful}}
-use Rattle.pagable_laws.specs.TreeSteps.{ChangeFits, CoreGoes, Decoded, FramesGiven, FramesHeld, GetsRow, GotStands, IsFresh, KeepsStored, Needs, gets-known, gets-lazy, makes-known, makes-node}
-use Rattle.pagable_world.specs.{Loads.{need_at, need_of, needs_lazy, needs_nested, nested_frame, to_adopt, with_got}, Pager.{FrameFits, IsReadingOf, IsWhole, NodeStands, ReadsNodeTree, SameTrees}}
-use Rattle.{pagable_laws.specs.TreeSteps.{reading-ends, reads-blob, reads-root}, pagable_world.specs.{Headline.{GivesTree, ReadIsRight}, Kinds.{is_at, is_pin}, Loads.{Next, ReadsNode, asks, gone_on}}}
+use Rattle.pagable_laws.proofs.Words.{Among, ArcRef, Blob, Change, Core, Frame, FramesFit, HandleNumber, HandleRow, HandlesAreWhole, IsLawful, Kind, List, LoadNumber, MachineState, None, OpenLoad}
+use Rattle.pagable_laws.proofs.Words.{Option, PagerState, Reading, ReadingFeels, ReadingFits, ReadsItsTypes, ReadsTree, Represents, Some, Tree, Types, ValueStands, Values, WellFormed, [], ap, arith}
+use Rattle.pagable_laws.proofs.Words.{held, inl, inr, is_eager, is_pinning, length, length-append, nat_tests, next_in, one, pins, refl, root_frame, row_at, slice_get, slice_get_within, subst, suc}
+use Rattle.pagable_laws.proofs.{Decoding.{FramesAsked, asks_next, decodes, none-got, one-got}, Following.cell-of, Goes.among-found, Trees.{at-most-sum, followed-all, same_some, self-number}}
+use Rattle.pagable_laws.{proofs.Words.{sym, true, type_of, zero, ℕ, ◌++◌, ◌+◌, ◌<◌, ◌∙◌, ◌∷◌, ◌≡◌, ◌≤◌, ◌⊎◌}, specs.TreeSteps.{ChangeFits, CoreGoes, Decoded, FramesHeld, GetsRow, GotStands, IsFresh}}
+use Rattle.pagable_world.specs.Pager.{IsReadingOf, NodeStands, ReadsNodeTree, SameTrees}
+use Rattle.pagable_world.specs.{Kinds.{is_at, is_pin}, Loads.{Next, ReadsNode, asks, gone_on, need_at, need_of, needs_lazy, needs_nested, nested_frame, to_adopt, with_got}, Pager.FrameFits}
+use Rattle.{pagable_laws.specs.TreeSteps.{KeepsStored, Needs, gets-known, gets-lazy, makes-known, makes-node, reading-ends, reads-blob, reads-root}, pagable_world.specs.Headline.GivesTree}
+
+-- what holds of each reference that was got
+abbrev pub AllGot : (ArcRef → Type 0) → List Frame → Type 0
+AllGot P frames = (frame : Frame) (r : ArcRef) → Among frames frame → Among frame.got r → P r
 
 pub asked : (below : List Frame) (next : Next) (kind : Kind) (key : ℕ) → (need_at below next ≡ needs_nested kind key) ⊎ (need_at below next ≡ needs_lazy kind key) → next ≡ asks kind key
 asked x0 x1 kind key x4 = grind (arith, nat_tests)
@@ -33,17 +37,16 @@ module _ {types : Types} {stored : ℕ → Option Blob} {trees : ℕ → Tree} w
 
   got-fits : (frame : Frame) (q : ArcRef) (key : ℕ) → slice_get frame.blob.keys (length frame.got) ≡ Some key → ReadsNodeTree types stored trees key (type_of q.kind.0) q.node.0
       → FrameFits types stored trees frame → FrameFits types stored trees (record frame { got = frame.got ++ q ∷ [] })
-  got-fits frame q key next read h =
-      record {
-        is = h.is;
-        few = let a = length-append frame.got (q ∷ []) in let b = slice_get_within frame.blob.keys (length frame.got) key next in omega (arith, a, b);
-        got = λ place k r is at. elim (pushed frame.got q place r is) [ inl old ↦ h.got place k r old at | inr new ↦ let same : k ≡ key = cc in rw (same, ← new.1) read ];
-      }
+  got-fits frame q key next read h = record {
+    is = h.is;
+    few = let a = length-append frame.got (q ∷ []) in let b = slice_get_within frame.blob.keys (length frame.got) key next in omega (arith, a, b);
+    got = λ place k r is at. elim (pushed frame.got q place r is) [ inl old ↦ h.got place k r old at | inr new ↦ let same : k ≡ key = cc in rw (same, ← new.1) read ];
+  }
 
 module _ (types : Types) (root_key root_type : ℕ) where
   -- what was read goes on fitting where what was stored stays and each node that was given keeps its tree
-  pub frames-stay : (stored stored' : ℕ → Option Blob) (trees trees' : ℕ → Tree) (last : ℕ) (frames : List Frame) → KeepsStored stored stored' → SameTrees last trees trees' → FramesGiven last frames
-      → FramesFit types stored trees root_key root_type frames → FramesFit types stored' trees' root_key root_type frames
+  pub frames-stay : (stored stored' : ℕ → Option Blob) (trees trees' : ℕ → Tree) (last : ℕ) (frames : List Frame) → KeepsStored stored stored' → SameTrees last trees trees'
+      → AllGot (λ r. r.node.0 ≤ last) frames → FramesFit types stored trees root_key root_type frames → FramesFit types stored' trees' root_key root_type frames
   unfolding FramesFit
   frames-stay stored stored' trees trees' last [] kept same given h = tt
   frames-stay stored stored' trees trees' last (frame ∷ []) kept same given (fits, key, typed) = (frame-stays kept last same (λ r among. given frame r (zero, refl) among) fits, key, typed)
@@ -52,33 +55,14 @@ module _ (types : Types) (root_key root_type : ℕ) where
       (frame-stays kept last same (λ r among. given frame r (zero, refl) among) fits, typed, next_is, below)
 
   module _ (stored : ℕ → Option Blob) (trees : ℕ → Tree) where
-    -- and with what a step adds to it: the root's blob, the blob of the reference that it needs, or a handle of a node whose tree the key reads as
-    pub root-fits : (blob : Blob) → stored root_key ≡ Some blob → FramesFit types stored trees root_key root_type (root_frame root_key root_type blob ∷ [])
-    unfolding FramesFit
-    root-fits blob is = (new-fits (root_frame root_key root_type blob) refl is, refl, refl)
-
-    pub nested-fits : (frames : List Frame) (kind : Kind) (key : ℕ) (blob : Blob) → FramesFit types stored trees root_key root_type frames → need_of types frames ≡ needs_nested kind key
-        → stored key ≡ Some blob → FramesFit types stored trees root_key root_type (nested_frame kind key blob ∷ frames)
-    unfolding FramesFit
-    nested-fits x0 kind key blob h needs is = grind (arith, nat_tests, new-fits, asked)
-
-    grown-fits : (frame : Frame) (below : List Frame) (kind : Kind) (key : ℕ) (row : HandleRow) → FramesFit types stored trees root_key root_type (frame ∷ below) → next_in types frame ≡ asks kind key
-        → ReadsNodeTree types stored trees key (type_of kind.0) row.node.0 → FramesFit types stored trees root_key root_type (with_got kind row (frame ∷ below))
-    unfolding FramesFit
-    grown-fits frame [] kind key row (fits, key_is, typed) next read = (got-fits frame _ key (asks_next types frame kind key next) read fits, key_is, typed)
-    grown-fits frame (under ∷ rest) kind key row (fits, typed, next_is, more) next read = (got-fits frame _ key (asks_next types frame kind key next) read fits, typed, next_is, more)
-
-    pub needed-fits : (frames : List Frame) (kind : Kind) (key : ℕ) (row : HandleRow) → FramesFit types stored trees root_key root_type frames → Needs types frames kind key
-        → ReadsNodeTree types stored trees key (type_of kind.0) row.node.0 → FramesFit types stored trees root_key root_type (with_got kind row frames)
-    unfolding FramesFit
-    needed-fits [] kind key row h needs read = tt
-    needed-fits (top ∷ below) kind key row h needs read = grown-fits top below kind key row h (asked below (next_in types top) kind key needs) read
-
-    pub made-fits : (top : Frame) (below : List Frame) (row : HandleRow) → FramesFit types stored trees root_key root_type (top ∷ below)
-        → ReadsNodeTree types stored trees top.key (type_of top.kind.0) row.node.0 → FramesFit types stored trees root_key root_type (with_got top.kind row below)
-    unfolding FramesFit
-    made-fits top [] row h read = tt
-    made-fits top (frame ∷ below) row (fits, typed, next_is, more) read = grown-fits frame below top.kind top.key row more next_is read
+    -- and with a handle that the innermost blob gets, of a node whose tree the key reads as
+    grown : (frame : Frame) (below : List Frame) (kind : Kind) (key : ℕ) (row : HandleRow) → next_in types frame ≡ asks kind key → ReadsNodeTree types stored trees key (type_of kind.0) row.node.0
+        → FramesFit types stored trees root_key root_type (frame ∷ below) → FramesAsked types (frame ∷ below)
+        → FramesFit types stored trees root_key root_type (with_got kind row (frame ∷ below)) × FramesAsked types (with_got kind row (frame ∷ below))
+    unfolding FramesFit FramesAsked
+    grown frame [] kind key row next read (fits, key_is, typed) got = ((got-fits frame _ key (asks_next types frame kind key next) read fits, key_is, typed), one-got frame.got _ _ key got next refl)
+    grown frame (under ∷ rest) kind key row next read (fits, typed, over, more) (got, eager, asked, below) =
+        ((got-fits frame _ key (asks_next types frame kind key next) read fits, typed, over, more), (one-got frame.got _ _ key got next refl, eager, asked, below))
 
     pub first-fits : (top : Frame) (below : List Frame) → FramesFit types stored trees root_key root_type (top ∷ below) → FrameFits types stored trees top
     unfolding FramesFit
@@ -87,11 +71,6 @@ module _ (types : Types) (root_key root_type : ℕ) where
     pub first-typed : (top frame : Frame) (below : List Frame) → FramesFit types stored trees root_key root_type (top ∷ frame ∷ below) → top.node_type ≡ type_of top.kind.0
     unfolding FramesFit
     first-typed top frame below h = h.1
-
--- ---- what holds of each reference that was got
-
-abbrev pub AllGot : (ArcRef → Type 0) → List Frame → Type 0
-AllGot P frames = (frame : Frame) (r : ArcRef) → Among frames frame → Among frame.got r → P r
 
 module _ (P : ArcRef → Type 0) where
   pub all-none : (frames : List Frame) → frames ≡ [] → AllGot P frames
@@ -135,40 +114,6 @@ pin_stands {N} s trees k row whole represents live pinning =
 pub eager-nested : (below : List Frame) (next : Next) (kind : Kind) (key : ℕ) → need_at below next ≡ needs_nested kind key → is_eager kind.0 ≡ true
 eager-nested x0 x1 kind key is = grind (arith, nat_tests)
 
-module _ (types : Types) where
-  -- one more reference was got that the innermost blob asked for
-  with-asked : (frame : Frame) (below : List Frame) (kind : Kind) (key : ℕ) (row : HandleRow) → FramesAsked types (frame ∷ below) → next_in types frame ≡ asks kind key
-      → FramesAsked types (with_got kind row (frame ∷ below))
-  unfolding FramesAsked
-  with-asked frame [] kind key row got next = one-got frame.got _ _ key got next refl
-  with-asked frame (under ∷ rest) kind key row (got, eager, asked_below, more) next = (one-got frame.got _ _ key got next refl, eager, asked_below, more)
-
-  pub needed-asked : (frames : List Frame) (kind : Kind) (key : ℕ) (row : HandleRow) → FramesAsked types frames → Needs types frames kind key → FramesAsked types (with_got kind row frames)
-  unfolding FramesAsked
-  needed-asked x0 kind key row got needs = grind (arith, nat_tests, with-asked, asked)
-
-  pub nested-asked : (frames : List Frame) (kind : Kind) (key : ℕ) (blob : _) → FramesAsked types frames → need_of types frames ≡ needs_nested kind key
-      → FramesAsked types (nested_frame kind key blob ∷ frames)
-  unfolding FramesAsked
-  nested-asked x0 kind key blob got needs = grind (arith, nat_tests, none-got, eager-nested, asked)
-
-  pub made-asked : (top : Frame) (below : List Frame) (row : HandleRow) → FramesAsked types (top ∷ below) → FramesAsked types (with_got top.kind row below)
-  unfolding FramesAsked
-  made-asked top x1 row x3 = grind (arith, nat_tests, with-asked)
-
-  pub root-asked : (key t : ℕ) (blob : _) → FramesAsked types (root_frame key t blob ∷ [])
-  unfolding FramesAsked
-  root-asked key t blob = none-got [] refl
-
--- What holds about a step of a load: its nodes keep their trees, what the cache knew is read as the nodes' trees, and a node that is born is of a tree as which its key reads.
-pub record AtStep {N : Type 0} (v : Values N) (c : Change) (w w' : Core) (trees trees' : ℕ → Tree) : Type 0 where
-  pub goes : CoreGoes c w w'
-  pub same : SameTrees w.last.node trees trees'
-  pub before : IsWhole w
-  pub after : IsWhole w'
-  pub cache : (kind key n : ℕ) → w.cache kind key ≡ Some n → ReadsNodeTree v.types w.stored trees key (type_of kind) n
-  pub born : (kind key : ℕ) (own : OptionalDataKey) → c ≡ bears_known kind key own → ReadsNodeTree v.types w'.stored trees' key (type_of kind) (w.last.node + 1)
-
 -- ---- what a load got names nodes as it should
 
 frames-on : {c : Change} {w w' : Core} → CoreGoes c w w' → (l : LoadNumber) (frames : List Frame) → FramesHeld w l frames → FramesHeld w' l frames
@@ -193,51 +138,8 @@ pub record FitAfter {N : Type 0} (v : Values N) (w : Core) (trees : ℕ → Tree
 abbrev pub FitOf : {N : Type 0} → Values N → Core → (ℕ → Tree) → Reading → OpenLoad → List Frame → Type 0
 FitOf v w trees reading load frames = FitAfter v w trees reading.load load.key reading.node_type frames
 
-pub given-nodes : {w : Core} {l : LoadNumber} (frames : List Frame) → FramesHeld w l frames → FramesGiven w.last.node frames
+pub given-nodes : {w : Core} {l : LoadNumber} (frames : List Frame) → FramesHeld w l frames → AllGot (λ r. r.node.0 ≤ w.last.node) frames
 given-nodes frames held frame r among got = (held frame r among got).node_given
-
-module _ {N : Type 0} {v : Values N} {w w' : Core} {trees trees' : ℕ → Tree} where
-  known-reads : {c : Change} → AtStep v c w w' trees trees' → (kind : Kind) (key n : ℕ) → w.cache kind.0 key ≡ Some n → ReadsNodeTree v.types w'.stored trees' key (type_of kind.0) n
-  known-reads h kind key n known = node-stays h.goes.stored (h.same n (h.before.cache kind.0 key n known).given) (h.cache kind.0 key n known)
-
-  module _ (l : LoadNumber) (k t : ℕ) {c : Change} (h : AtStep v c w w' trees trees') where
-    -- what it had read fits still
-    pub fit-still : (frames : List Frame) → FitAfter v w trees l k t frames → FitAfter v w' trees' l k t frames
-    fit-still frames f = search (frames-stay, h.goes.stored, h.same, given-nodes, f.held, f.fit, frames-on, h.goes, f.asked)
-
-    fit-got : (frames : List Frame) (kind : Kind) (key n : ℕ) (row : HandleRow) → Needs v.types frames kind key → GetsRow w w' kind n row
-        → ReadsNodeTree v.types w'.stored trees' key (type_of kind.0) n → FitAfter v w' trees' l k t frames → FitAfter v w' trees' l k t (with_got kind row frames)
-    fit-got frames kind key n row needs got reads_n f =
-        let read = subst (λ m. ReadsNodeTree v.types w'.stored trees' key (type_of kind.0) m) (sym got.at) reads_n in
-        let held = all-more (GotStands w' l) frames kind row (got-new l kind n row h.after.handles got) f.held in
-        search (needed-fits v.types k t w'.stored trees' frames kind key row f.fit needs read, held, needed-asked v.types frames kind key row f.asked needs)
-
-    fit-made : (reading : Reading) (x : N) (made : ReadsNode v reading x) (n : ℕ) (row : HandleRow) → GetsRow w w' made.top.kind n row
-        → ReadsNodeTree v.types w'.stored trees' made.top.key (type_of made.top.kind.0) n → FitAfter v w' trees' l k t reading.frames
-        → FitAfter v w' trees' l k t (with_got made.top.kind row made.below)
-    fit-made reading x made n row got reads_n f =
-        let read = subst (λ m. ReadsNodeTree v.types w'.stored trees' made.top.key (type_of made.top.kind.0) m) (sym got.at) reads_n in
-        let g = subst (FitAfter v w' trees' l k t) made.frames f in
-        let held = all-more (GotStands w' l) made.below made.top.kind row (got-new l made.top.kind n row h.after.handles got) (λ frame r among there. g.held frame r (suc among.0, among.1) there) in
-        search (made-fits v.types k t w'.stored trees' made.top made.below row g.fit read, held, made-asked v.types made.top made.below row g.asked)
-
-  felt-after : (reading : Reading) (load : OpenLoad) (frames : List Frame) {c : Change} → AtStep v c w w' trees trees' → w.loads reading.load.0 ≡ Some load
-      → ReadingFeels v w reading None frames w' c → FitOf v w' trees' reading load reading.frames → FitOf v w' trees' reading load frames
-  felt-after reading load frames h open_load (reads-root l blob none_read at stored answer is) g =
-      grind (arith, nat_tests, same_some, root_frame, root-fits, held, all-new, all-none, asked, root-asked)
-  felt-after reading load frames h open_load (reads-blob kind key blob needs stored answer is) g =
-      let fit = nested-fits v.types load.key reading.node_type w'.stored trees' reading.frames kind key blob g.fit needs (h.goes.stored key blob stored) in
-      let held = all-new (GotStands w' reading.load) (nested_frame kind key blob) reading.frames refl g.held in
-      subst (FitOf v w' trees' reading load) (sym is) (search (fit, held, nested-asked v.types reading.frames kind key blob g.asked needs))
-  felt-after reading load frames h open_load (gets-known kind key n row needs known got answer is) g =
-      subst (FitOf v w' trees' reading load) (sym is) (fit-got reading.load load.key reading.node_type h reading.frames kind key n row needs got (known-reads h kind key n known) g)
-  felt-after reading load frames h open_load (gets-lazy kind key row needs got answer is) g =
-      subst (FitOf v w' trees' reading load) (sym is) (fit-got reading.load load.key reading.node_type h reading.frames kind key _ row (inr needs) got (h.born kind.0 key _ refl) g)
-  felt-after reading load frames h open_load (makes-known x made n row known got answer is) g =
-      subst (FitOf v w' trees' reading load) (sym is) (fit-made reading.load load.key reading.node_type h reading x made n row got (known-reads h made.top.kind made.top.key n known) g)
-  felt-after reading load frames h open_load (makes-node x made row got answer is) g =
-      subst (FitOf v w' trees' reading load) (sym is) (fit-made reading.load load.key reading.node_type h reading x made _ row got (h.born made.top.kind.0 made.top.key _ refl) g)
-  felt-after reading load frames h open_load (reading-ends end answer is) g = absurd (cc)
 
 pub record Going {N E : Type 0} (v : Values N) (s : PagerState N E) (trees : ℕ → Tree) (reading : Reading) : Type 0 where
   pub within : reading.load.0 ≤ s.core.last.load
@@ -260,32 +162,84 @@ going-of s trees readings reading (inr new) = going-new s.pager trees reading ne
 pub was-open : {c : Change} {w w' : Core} → CoreGoes c w w' → (l : ℕ) (load : OpenLoad) → l ≤ w.last.load → w'.loads l ≡ Some load → w.loads l ≡ Some load
 was-open goes l load within is = elim (goes.loads l load is) [ inl was ↦ was | inr (above, begins) ↦ absurd (omega (arith, within, above)) ]
 
-module _ {N E : Type 0} {v : Values N} {s s' : PagerState N E} {trees trees' : ℕ → Tree} {comes : ℕ → N → Type 0} {c : Change} (whole : WellFormed v s) (whole' : WellFormed v s')
-    (stands : Represents v s trees) (goes : CoreGoes c s.core s'.core) (fits : ChangeFits v c comes s s' trees trees') where
-  at-step : AtStep v c s.core s'.core trees trees'
-  at-step =
-      let born : (kind key : ℕ) (own : OptionalDataKey) → c ≡ bears_known kind key own → ReadsNodeTree v.types s'.core.stored trees' key (type_of kind) (s.core.last.node + 1) =
-      λ kind key own is. let f = subst (λ z. ChangeFits v z comes s s' trees trees') is fits in f.knows kind key (s.core.last.node + 1) (refl, refl, refl) in
-      search (goes, fits.same, whole.whole, whole'.whole, stands.cache, born)
+module _ {N E : Type 0} {v : Values N} {s s' : PagerState N E} {trees trees' : ℕ → Tree} (whole : WellFormed v s) (whole' : WellFormed v s') (stands : Represents v s trees) where
+  module _ (l : LoadNumber) (k t : ℕ) where
+    -- the blob of the reference that it needs is read
+    fit-nested : (frames : List Frame) (kind : Kind) (key : ℕ) (blob : Blob) → need_of v.types frames ≡ needs_nested kind key → s'.core.stored key ≡ Some blob
+        → FitAfter v s'.core trees' l k t frames → FitAfter v s'.core trees' l k t (nested_frame kind key blob ∷ frames)
+    unfolding FramesFit FramesAsked
+    fit-nested [] kind key blob needs is f = absurd (cc)
+    fit-nested (top ∷ below) kind key blob needs is f =
+        let next = asked below (next_in v.types top) kind key (inl needs) in
+        let held = all-new (GotStands s'.core l) (nested_frame kind key blob) (top ∷ below) refl f.held in
+        let asked = eager-nested below (next_in v.types top) kind key needs in
+        record { fit = (new-fits (nested_frame kind key blob) refl is, refl, next, f.fit); held = held; asked = (none-got [] refl, asked, next, f.asked) }
 
-  still-within : (l : ℕ) → l ≤ s.core.last.load → l ≤ s'.core.last.load
-  still-within l within = let a = goes.loads_last in omega (arith, a, within)
+    -- the innermost blob gets what it asks for next
+    fit-grown : (top : Frame) (below : List Frame) (kind : Kind) (key n : ℕ) (row : HandleRow) → next_in v.types top ≡ asks kind key → GetsRow s.core s'.core kind n row
+        → ReadsNodeTree v.types s'.core.stored trees' key (type_of kind.0) n → FitAfter v s'.core trees' l k t (top ∷ below) → FitAfter v s'.core trees' l k t (with_got kind row (top ∷ below))
+    fit-grown top below kind key n row next got reads_n f =
+        let read = subst (λ m. ReadsNodeTree v.types s'.core.stored trees' key (type_of kind.0) m) (sym got.at) reads_n in
+        let held = all-more (GotStands s'.core l) (top ∷ below) kind row (got-new l kind n row whole'.whole.handles got) f.held in
+        let both = grown v.types k t s'.core.stored trees' top below kind key row next read f.fit f.asked in search (both.0, held, both.1)
 
-  pub going-on : (reading : Reading) → Going v s trees reading → Going v s' trees' reading
-  going-on reading g =
-      let fits : ReadingFits v s' trees' reading = λ load is. let was = was-open goes reading.load.0 load g.within is in
-      (fit-still reading.load load.key reading.node_type at-step reading.frames (record { fit = g.fits load was; held = g.held; asked = g.asked })).fit in
-      search (still-within reading.load.0 g.within, fits, frames-on goes reading.load reading.frames g.held, g.asked)
+    fit-got : (frames : List Frame) (kind : Kind) (key n : ℕ) (row : HandleRow) → Needs v.types frames kind key → GetsRow s.core s'.core kind n row
+        → ReadsNodeTree v.types s'.core.stored trees' key (type_of kind.0) n → FitAfter v s'.core trees' l k t frames → FitAfter v s'.core trees' l k t (with_got kind row frames)
+    fit-got [] kind key n row needs got reads_n f = f
+    fit-got (top ∷ below) kind key n row needs got reads_n f = fit-grown top below kind key n row (asked below (next_in v.types top) kind key needs) got reads_n f
 
-  -- and where the load makes a step and goes on
-  pub going-step : (reading : Reading) (frames : List Frame) (load : OpenLoad) → s.core.loads reading.load.0 ≡ Some load → Going v s trees reading
-      → ReadingFeels v s.core reading None frames s'.core c → Going v s' trees' (gone_on reading frames)
-  going-step reading frames load opened g feels =
-      let before = fit-still reading.load load.key reading.node_type at-step reading.frames (record { fit = g.fits load opened; held = g.held; asked = g.asked }) in
-      let after = felt-after reading load frames at-step opened feels before in
-      let fits : ReadingFits v s' trees' (gone_on reading frames) = λ other at.
-      subst (λ (z : OpenLoad). FramesFit v.types s'.core.stored trees' z.key reading.node_type frames) (same_some _ _ (sym opened ∙ was-open goes reading.load.0 other g.within at)) after.fit in
-      search (still-within reading.load.0 g.within, fits, after.held, after.asked)
+    fit-made : (top : Frame) (below : List Frame) (n : ℕ) (row : HandleRow) → GetsRow s.core s'.core top.kind n row → ReadsNodeTree v.types s'.core.stored trees' top.key (type_of top.kind.0) n
+        → FitAfter v s'.core trees' l k t (top ∷ below) → FitAfter v s'.core trees' l k t (with_got top.kind row below)
+    unfolding FramesFit FramesAsked
+    fit-made top [] n row got reads_n f = record { fit = tt; held = all-none (GotStands s'.core l) [] refl; asked = tt }
+    fit-made top (next ∷ below) n row got reads_n f = fit-grown next below top.kind top.key n row f.fit.2 got reads_n
+        (record { fit = f.fit.3; held = λ frame r among there. f.held frame r (suc among.0, among.1) there; asked = f.asked.3 })
+
+  module _ {c : Change} {comes : ℕ → N → Type 0} (goes : CoreGoes c s.core s'.core) (fits : ChangeFits v c comes s s' trees trees') where
+    known-reads : (kind : Kind) (key n : ℕ) → s.core.cache kind.0 key ≡ Some n → ReadsNodeTree v.types s'.core.stored trees' key (type_of kind.0) n
+    known-reads kind key n known = node-stays goes.stored (fits.same n (whole.whole.cache kind.0 key n known).given) (stands.cache kind.0 key n known)
+
+    -- what it had read fits still
+    fit-still : (l : LoadNumber) (k t : ℕ) (frames : List Frame) → FitAfter v s.core trees l k t frames → FitAfter v s'.core trees' l k t frames
+    fit-still l k t frames f = search (frames-stay, goes.stored, fits.same, given-nodes, f.held, f.fit, frames-on, goes, f.asked)
+
+  felt-after : (reading : Reading) (load : OpenLoad) (frames : List Frame) {c : Change} {comes : ℕ → N → Type 0} → CoreGoes c s.core s'.core → ChangeFits v c comes s s' trees trees'
+      → s.core.loads reading.load.0 ≡ Some load → ReadingFeels v s.core reading None frames s'.core c → FitOf v s'.core trees' reading load reading.frames → FitOf v s'.core trees' reading load frames
+  unfolding FramesFit FramesAsked
+  felt-after reading load frames goes fits open_load (reads-root l blob none_read at stored answer is) g = grind (arith, nat_tests, same_some, root_frame, new-fits, none-got, held, all-new, all-none)
+  felt-after reading load frames goes fits open_load (reads-blob kind key blob needs stored answer is) g =
+      subst (FitOf v s'.core trees' reading load) (sym is) (fit-nested reading.load load.key reading.node_type reading.frames kind key blob needs (goes.stored key blob stored) g)
+  felt-after reading load frames goes fits open_load (gets-known kind key n row needs known got answer is) g = subst (FitOf v s'.core trees' reading load) (sym is)
+      (fit-got reading.load load.key reading.node_type reading.frames kind key n row needs got (known-reads goes fits kind key n known) g)
+  felt-after reading load frames goes fits open_load (gets-lazy kind key row needs got answer is) g = subst (FitOf v s'.core trees' reading load) (sym is)
+      (fit-got reading.load load.key reading.node_type reading.frames kind key _ row (inr needs) got (fits.knows kind.0 key _ (refl, refl, refl)) g)
+  felt-after reading load frames goes fits open_load (makes-known x made n row known got answer is) g =
+      subst (FitOf v s'.core trees' reading load) (sym is) (fit-made reading.load load.key reading.node_type made.top made.below n row got
+      (known-reads goes fits made.top.kind made.top.key n known) (subst (FitOf v s'.core trees' reading load) made.frames g))
+  felt-after reading load frames goes fits open_load (makes-node x made row got answer is) g =
+      subst (FitOf v s'.core trees' reading load) (sym is) (fit-made reading.load load.key reading.node_type made.top made.below _ row got
+      (fits.knows made.top.kind.0 made.top.key _ (refl, refl, refl)) (subst (FitOf v s'.core trees' reading load) made.frames g))
+  felt-after reading load frames goes fits open_load (reading-ends end answer is) g = absurd (cc)
+
+  module _ {c : Change} {comes : ℕ → N → Type 0} (goes : CoreGoes c s.core s'.core) (fits : ChangeFits v c comes s s' trees trees') where
+    still-within : (l : ℕ) → l ≤ s.core.last.load → l ≤ s'.core.last.load
+    still-within l within = let a = goes.loads_last in omega (arith, a, within)
+
+    pub going-on : (reading : Reading) → Going v s trees reading → Going v s' trees' reading
+    going-on reading g =
+        let fit : ReadingFits v s' trees' reading = λ load is. let was = was-open goes reading.load.0 load g.within is in
+        (fit-still goes fits reading.load load.key reading.node_type reading.frames (record { fit = g.fits load was; held = g.held; asked = g.asked })).fit in
+        search (still-within reading.load.0 g.within, fit, frames-on goes reading.load reading.frames g.held, g.asked)
+
+    -- and where the load makes a step and goes on
+    pub going-step : (reading : Reading) (frames : List Frame) (load : OpenLoad) → s.core.loads reading.load.0 ≡ Some load → Going v s trees reading
+        → ReadingFeels v s.core reading None frames s'.core c → Going v s' trees' (gone_on reading frames)
+    going-step reading frames load opened g feels =
+        let before = fit-still goes fits reading.load load.key reading.node_type reading.frames (record { fit = g.fits load opened; held = g.held; asked = g.asked }) in
+        let after = felt-after reading load frames goes fits opened feels before in
+        let fit : ReadingFits v s' trees' (gone_on reading frames) = λ other at.
+        subst (λ (z : OpenLoad). FramesFit v.types s'.core.stored trees' z.key reading.node_type frames) (same_some _ _ (sym opened ∙ was-open goes reading.load.0 other g.within at)) after.fit in
+        search (still-within reading.load.0 g.within, fit, after.held, after.asked)
 
 pub adopted-over : (below : List Frame) (next : Next) → need_at below next ≡ to_adopt → (frame : Frame) × (rest : List Frame) × (below ≡ frame ∷ rest)
 adopted-over x0 x1 is = grind (arith, nat_tests)
@@ -299,14 +253,3 @@ module _ {N : Type 0} {v : Values N} (lawful : IsLawful v) (readable : ReadsItsT
   pub node-decoded : (stored : ℕ → Option Blob) (trees : ℕ → Tree) (k t : ℕ) (reading : Reading) (x : N) (r : ReadsNode v reading x) → FramesFit v.types stored trees k t reading.frames
       → Decoded v stored trees r.top x × (r.top.node_type ≡ type_of r.top.kind.0)
   node-decoded stored trees k t reading x r fit = grind (arith, nat_tests, adopted-over, decodes, first-fits, first-typed)
-
-  -- what a load of a key answers stands for the tree that the key reads as
-  pub root-right : {E : Type 0} (s : PagerState N E) (trees : ℕ → Tree) (reading : Reading) (x : N) (key : ℕ) → WellFormed v s → Represents v s trees
-      → FramesFit v.types s.core.stored trees key reading.node_type reading.frames
-      → ReadsRoot v reading x → ((r : ArcRef) → Among (v.references x) r → IsReference s.core Owner.Caller r) → ReadIsRight v s key x
-  root-right s trees reading x key whole represents fit root own =
-      let here = subst (λ fs. FramesFit v.types s.core.stored trees key reading.node_type fs) root.frames fit in
-      let fits = first-fits v.types key reading.node_type s.core.stored trees root.root [] here in
-      let nodes_stand : (r : ArcRef) → Among (v.references x) r → NodeStands v s r.node.0 (trees r.node.0) =
-      λ r among. represents.stands r.node.0 (given-of whole.whole.handles r.node.0 (own r among).typed).0 in
-      record { stands = λ t typed reads_tree. read_stands lawful readable s trees root.root x t fits root.decoded nodes_stand (typed ∙ root.decoded.typed) (subst (λ n. ReadsTree s.core.stored v.types n t) (sym (root-key v.types s.core.stored trees key reading.node_type root.root here)) reads_tree); own = own }

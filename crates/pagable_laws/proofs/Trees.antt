@@ -1,19 +1,19 @@
 -- Sums over the elements of a list, and what they count. And one key spells one tree, and one tree of canonical types has one key.
-use Rattle.pagable_laws.proofs.Words.{Among, AreMoments, Blob, Bool, Entries, Entry, Form, Forms, List, MachineState, Meaning, Moment, None, Option, ReadsTree, Seen, Shape, Site, Took, Tree, Types}
-use Rattle.pagable_laws.proofs.Words.{Values, WalkDoes, [], ap, arith, code, cond, false, followed, inl, inr, length, map, nat_tests, none, one, pair, put_all, reference, reference-form}
-use Rattle.pagable_laws.proofs.Words.{references_in, refl, rename, rules, run-form, state_after, subst, suc, sum_by-cons, sym, tree, true, type_of, variant, zero, ℕ, ℤ, ◌++◌, ◌+◌, ◌<◌, ◌==◌, ◌∙◌}
-use Rattle.{pagable_laws.{proofs.Words.{◌∷◌, ◌≡◌, ◌≤◌, ◌⊎◌}, specs.{FallLaws.{ChainsJoin, NewIsWhole, PinsAreAFilter}, FormLaws.{IsAnyOrder, IsOneKeyMeaning}}}, pagable_model.specs.Basic.length_form}
-use Rattle.pagable_model.specs.{Basic.longest, Canonical.{EachType, HasNoReference}, Carried.{of_entries, of_hash_map}, Codes.one-meaning, Form.{array-form, both-form, case-form, duration-form}}
-use Rattle.pagable_model.specs.Form.{err-form, flag-form, hash-map-form, json-array-form, json-flag-form, json-null-form, json-number-form, json-object-form, json-text-form, letter-form, list-form}
-use Rattle.pagable_model.specs.Form.{more-entries, more-forms, nested-form, no-entries, no-forms, none-form, nothing-form, ok-form, pattern-form, placed-map-form, placed-set-form, signed-form}
-use Rattle.pagable_model.specs.{Form.{some-form, sorted-map-form, sorted-set-form, static-form, tagged-form, text-form, unsigned-form}, Keys.{AllAfter, Apart, Ascends, Differ, KeyOrder, code_order}}
-use Rattle.pagable_model.specs.{Keys.{last_value, ordered, put_sorted, same_key, text_order}, Meaning.{integer, lifted, number, pattern, plain, sequence, text}, Trees.{IsFollowed, KeyRef, ReadsAs}}
-use Rattle.pagable_model.specs.Trees.{integer-followed, none-followed, number-followed, pair-followed, pattern-followed, reference-followed, text-followed, variant-followed}
-use Rattle.{pagable_world.specs.{Kinds.is_pin, Order.Follows}, std.proofs.{Common.sum_by, Math.Dec.T, lemmas.{Map.{Lookups.exact_bytes, Text.is_eq-slice_cmp}, Slice.Eq.bytes_eq-Decides}}}
-use Rattle.std.specs.{Cmp.Lexicographic.on_texts, FinMap.Entries.{find, find-put, is_sorted, is_sorted-put, put, same_entries}, List.AllByRecursion as Each, Option.option_or, Ordering.eq_by_cmp}
-use Rattle.std.specs.{Ordering.match_ordering, declared.cmp.Ordering.Ordering}
-pub use Rattle.{pagable_world.proofs.Elements.{at-most-sum, counted, sum-none as sum-zero}, std.proofs.lemmas.{Bool.eqb-true as same-number, Option.same_Some as same_some}}
+use Rattle.pagable_laws.proofs.Words.{Among, AreMoments, Blob, Bool, Entries, Entry, Form, Forms, HandleRow, List, MachineState, Meaning, Moment, None, Option, ReadsTree, Seen, Shape, Site, Took}
+use Rattle.pagable_laws.proofs.Words.{Tree, Types, Values, WalkDoes, [], ap, arith, code, cond, false, filter, followed, inl, inr, is_pinning, length, map, nat_tests, none, one, pair, pins, put_all}
+use Rattle.pagable_laws.proofs.Words.{reference, reference-form, references_in, refl, rename, rules, run-form, state_after, subst, suc, sum_by-cons, sym, tree, true, type_of, variant, zero, ℕ, ℤ}
+use Rattle.pagable_laws.{proofs.Words.{◌&&◌, ◌++◌, ◌+◌, ◌<◌, ◌==◌, ◌∙◌, ◌∷◌, ◌≡◌, ◌≤◌, ◌⊎◌}, specs.{FallLaws.{ChainsJoin, NewIsWhole}, FormLaws.{IsAnyOrder, IsOneKeyMeaning}}}
+use Rattle.pagable_model.specs.Form.{duration-form, err-form, flag-form, hash-map-form, json-array-form, json-flag-form, json-null-form, json-number-form, json-object-form, json-text-form}
+use Rattle.pagable_model.specs.Form.{letter-form, list-form, more-entries, more-forms, nested-form, no-entries, no-forms, none-form, nothing-form, ok-form, pattern-form, placed-map-form}
+use Rattle.pagable_model.specs.Trees.{IsFollowed, KeyRef, ReadsAs, integer-followed, none-followed, number-followed, pair-followed, pattern-followed, reference-followed, text-followed}
+use Rattle.pagable_model.specs.{Basic.{length_form, longest}, Canonical.{EachType, HasNoReference}, Carried.{of_entries, of_hash_map}, Codes.one-meaning, Form.{array-form, both-form, case-form}}
+use Rattle.pagable_model.specs.{Form.{placed-set-form, signed-form, some-form, sorted-map-form, sorted-set-form, static-form, tagged-form, text-form, unsigned-form}, Keys.{AllAfter, Apart, Ascends}}
+use Rattle.pagable_model.specs.{Keys.{Differ, KeyOrder, code_order, last_value, ordered, put_sorted, same_key, text_order}, Meaning.{integer, lifted, number, pattern, plain, sequence, text}}
+use Rattle.std.specs.{List.AllByRecursion as Each, Option.option_or, Ordering.{eq_by_cmp, match_ordering}, declared.cmp.Ordering.Ordering}
+use Rattle.std.{proofs.lemmas.{Map.Text.is_eq-slice_cmp, Slice.Eq.bytes_eq-Decides}, specs.{Cmp.Lexicographic.on_texts, FinMap.Entries.{find, find-put, is_sorted, is_sorted-put, put, same_entries}}}
+use Rattle.{pagable_model.specs.Trees.variant-followed, pagable_world.specs.{Kinds.is_pin, Order.Follows}, std.proofs.{Common.sum_by, Math.Dec.T, lemmas.Map.Lookups.exact_bytes}}
 use Rattle.pagable_model.specs.Meaning as meanings
+pub use Rattle.{pagable_world.proofs.Elements.{at-most-sum, counted, sum-none as sum-zero}, std.proofs.lemmas.{Bool.eqb-true as same-number, Option.same_Some as same_some}}
 
 -- A form goes along: where each reference is replaced by one of the same kind, the bytes are a form of what results.
 -- JSON numbers that have no form, and the entries of a hash map in whatever order they come.
@@ -38,7 +38,7 @@ pub sum-plus : {X : Type 0} (f g : X → ℕ) (xs : List X) → sum_by (λ x. f 
 sum-plus f g [] = refl
 sum-plus f g (x ∷ xs) = search (rules, sum_by-cons, sum-plus f g xs)
 
-pub pins_filter : PinsAreAFilter
+pub pins_filter : (n : ℕ) (rows : List HandleRow) → pins n rows ≡ length (filter (λ h. h.node.0 == n && is_pinning h.mode) rows)
 pins_filter n [] = refl
 pins_filter n (h ∷ hs) = sum_by-cons (λ x. one (is_pin n x)) h hs ∙ (ap (λ k. one (is_pin n h) + k) (pins_filter n hs) ∙ (grind (arith, nat_tests)))
 
@@ -195,6 +195,21 @@ then_to p f = record { refs = p.refs; each = p.each; form = f p.refs p.form }
 two_to : {A B : Type 0} {R : A → B → Type 0} {k l : List A} {G H K : List B → Type 0} → To R k G → To R l H → ((refs more : List B) → G refs → H more → K (refs ++ more)) → To R (k ++ l) K
 two_to p q f = record { refs = p.refs ++ q.refs; each = append-two p.each q.each; form = f p.refs q.refs p.form q.form }
 
+pub one-two : {X Y : Type 0} {V : X → Y → Type 0} (x : X) (y : Y) → V x y → AllTwo V (x ∷ []) (y ∷ [])
+one-two x y v = more-two x y [] [] v no-two
+
+-- what is put into lists that go along goes along, where it does in front of what goes along behind
+module _ {X Y : Type 0} {V : X → Y → Type 0} (put : List X → X → List X) (put2 : List Y → Y → List Y) (first : (x : X) (y : Y) → V x y → AllTwo V (put [] x) (put2 [] y))
+    (later : (x u : X) (y w : Y) (acc : List X) (acc2 : List Y) → V x y → V u w → AllTwo V acc acc2 → AllTwo V (put acc x) (put2 acc2 y) → AllTwo V (put (u ∷ acc) x) (put2 (w ∷ acc2) y)) where
+  put-two : (x : X) (y : Y) → V x y → {acc : List X} {acc2 : List Y} → AllTwo V acc acc2 → AllTwo V (put acc x) (put2 acc2 y)
+  put-two x y v no-two = first x y v
+  put-two x y v (more-two u w acc acc2 g h) = later x u y w acc acc2 v g h (put-two x y v h)
+
+  pub put_all-two : {xs : List X} {ys : List Y} {acc : List X} {acc2 : List Y} → AllTwo V xs ys → AllTwo V acc acc2 → AllTwo V (put_all put acc xs) (put_all put2 acc2 ys)
+  unfolding put_all
+  put_all-two no-two h = h
+  put_all-two (more-two x y xs ys v g) h = put_all-two g (put-two x y v h)
+
 module _ {A B : Type 0} {F : Type 0} {R : A → B → Type 0} where
   pub plain-along : {m : Meaning A} {n : Meaning B} → Along F R m n → plain m ≡ plain n
   unfolding plain
@@ -211,6 +226,21 @@ module _ {A B : Type 0} {F : Type 0} {R : A → B → Type 0} where
   lifted-along (followed kind a) (inl f) = followed-along _ _ _ f (lifted-along a (inl f))
   lifted-along (followed kind a) (inr h) = absurd h
   lifted-along m h = search (number-along, integer-along, text-along, pattern-along, none-along)
+
+  pub sequence-two : {ms : List (Meaning A)} {ns : List (Meaning B)} → AllTwo (Along F R) ms ns → Along F R (sequence ms) (sequence ns)
+  sequence-two no-two = none-along
+  sequence-two (more-two m n ms ns h g) = pair-along _ _ _ _ h (sequence-two g)
+
+  pub entries-two : {es : List (Entry A)} {fs : List (Entry B)} → AllTwo (EntryAlong F R) es fs → Along F R (of_entries es) (of_entries fs)
+  entries-two no-two = none-along
+  entries-two (more-two e f es fs h g) = pair-along _ _ _ _ (pair-along _ _ _ _ h.key h.value) (entries-two g)
+
+  pub sorted-two : (order : KeyOrder) {es : List (Entry A)} {fs : List (Entry B)} → AllTwo (EntryAlong F R) es fs
+      → Along F R (of_entries (put_all (put_sorted order) [] es)) (of_entries (put_all (put_sorted order) [] fs))
+  sorted-two order h = entries-two (put_all-two _ _ one-two (λ x u y w acc acc2 v g k l. search (rules, more-two, plain-along)) h no-two)
+
+  pub flag-same : (b : Bool) → Along F R (meanings.flag b) (meanings.flag b)
+  flag-same x0 = grind (arith, nat_tests, variant-along, none-along)
 
   pub sequence-along : (ms : List (Meaning A)) {n : Meaning B} → Along F R (sequence ms) n → Made (Along F R) sequence ms n
   sequence-along [] none-along = record { items = []; each = no-two; whole = refl }

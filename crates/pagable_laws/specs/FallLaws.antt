@@ -66,36 +66,27 @@ lone_listed stored = record (lone stored) {
 abbrev pub lone_unlisted : (ℕ → Option Blob) → Core
 lone_unlisted stored = record (lone stored) { rows = row_of 1 first_node Mode.LooseUnpinned Owner.Caller ∷ [] }
 
--- Whatever is given up, and whatever entries come to the list, there is a least set.
-abbrev pub IsThere : Type 0
-IsThere = (rows : List HandleRow) (keyed : ℕ → Bool) (entries : List HandleRow) (given : ℕ → Bool) → (s : ℕ → Bool) × IsLeast rows keyed entries given s
-
--- Two least sets have the same live handles.
-pub record IsOne : Type 0 where
-  pub same : (rows : List HandleRow) (keyed : ℕ → Bool) (entries : List HandleRow) (given s t : ℕ → Bool) (h : HandleRow)
-      → IsLeast rows keyed entries given s → IsLeast rows keyed entries given t → Among rows h → s h.number.0 ≡ t h.number.0
-
 -- no value owns a handle
 abbrev pub OwnsNothing : List HandleRow → Type 0
 OwnsNothing rows = (n : ℕ) → times (is_owned_by (owner_value n)) rows ≡ 0
 
--- Where no value owns a handle, the given handles fall and no more.
-pub record IsGivenAlone : Type 0 where
-  pub same : (rows : List HandleRow) (keyed : ℕ → Bool) (entries : List HandleRow) (given s : ℕ → Bool) (h : HandleRow)
+-- The laws of what falls when handles are given up.
+pub record FallLaws : Type 0 where
+  -- Whatever is given up, and whatever entries come to the list, there is a least set.
+  pub least_set_is_there : (rows : List HandleRow) (keyed : ℕ → Bool) (entries : List HandleRow) (given : ℕ → Bool) → (s : ℕ → Bool) × IsLeast rows keyed entries given s
+  -- Two least sets have the same live handles.
+  pub least_set_is_one : (rows : List HandleRow) (keyed : ℕ → Bool) (entries : List HandleRow) (given s t : ℕ → Bool) (h : HandleRow)
+      → IsLeast rows keyed entries given s → IsLeast rows keyed entries given t → Among rows h → s h.number.0 ≡ t h.number.0
+  -- Where no value owns a handle, the given handles fall and no more.
+  pub given_fall_alone : (rows : List HandleRow) (keyed : ℕ → Bool) (entries : List HandleRow) (given s : ℕ → Bool) (h : HandleRow)
       → OwnsNothing rows → IsLeast rows keyed entries given s → Among rows h → s h.number.0 ≡ given h.number.0
-
--- The sum that counts pins in proofs is the length of the filtered list of handles.
-abbrev pub PinsAreAFilter : Type 0
-PinsAreAFilter = (n : ℕ) (rows : List HandleRow) → pins n rows ≡ length (filter (λ h. h.node.0 == n && is_pinning h.mode) rows)
-
--- Of a value of two levels whose cells have keys, both handles fall with the outer one. The outer one alone is no such set.
-pub record TwoLevelsFall : Type 0 where
-  pub falls : IsLeast two_rows both [] outer both
+  -- The sum that counts pins in proofs is the length of the filtered list of handles.
+  pub pins_are_a_filter : (n : ℕ) (rows : List HandleRow) → pins n rows ≡ length (filter (λ h. h.node.0 == n && is_pinning h.mode) rows)
+  -- Of a value of two levels whose cells have keys, both handles fall with the outer one. The outer one alone is no such set.
+  pub two_levels_fall : IsLeast two_rows both [] outer both
   pub not_less : ¬ IsLeast two_rows both [] outer outer
-
--- Unpinning a lone cell without a key lists it; to leave the entry out, where places and numbers are left, is no such step.
-pub record LoneIsListed : Type 0 where
-  pub listed : (stored : ℕ → Option Blob) → UnpinCall (lone stored) Owner.Caller first (Ok tt) (lone_listed stored)
+  -- Unpinning a lone cell without a key lists it; to leave the entry out, where places and numbers are left, is no such step.
+  pub lone_is_listed : (stored : ℕ → Option Blob) → UnpinCall (lone stored) Owner.Caller first (Ok tt) (lone_listed stored)
   pub not_unlisted : (stored : ℕ → Option Blob) → ¬ UnpinCall (lone stored) Owner.Caller first (Ok tt) (lone_unlisted stored)
 
 -- A chain goes on with another.

@@ -32,10 +32,6 @@ IsPrefixFree A parts s = (kind_of : A → ℕ) (left : ℕ) (m n : Meaning A) (b
 abbrev pub CanonicalHasOneForm : Type 0 → Type 0
 CanonicalHasOneForm A = (kind_of : A → ℕ) (parts : ℕ → Shape) (s : Shape) → Throughout IsCanonical parts s → HasOneForm kind_of parts s
 
--- Different blobs have different preimages.
-abbrev pub HasOnePreimage : Type 0
-HasOnePreimage = (a b : Blob) → IsBlob a → IsBlob b → preimage a ≡ preimage b → a ≡ b
-
 -- the same with more after it
 abbrev pub with_more : {A : Type 0} → Rest A → List ℕ → List A → Rest A
 with_more r bytes refs = rest (r.bytes ++ bytes) (r.refs ++ refs)
@@ -88,49 +84,36 @@ IsReadThrough A B C D = (f : A → C) (g : B → D) (look : Look A B) (other : L
     → ((kind : ℕ) (a : A) (b : B) → look kind a ≡ Ok b → other kind (f a) ≡ Ok (g b))
     → read (at levels look parts) s input ≡ Ok (m, after) → read (at levels other parts) s (rest input.bytes (map f input.refs)) ≡ Ok (rename g m, rest after.bytes (map f after.refs))
 
--- The store spells at most one tree of a type under a key.
-pub record IsOneTree : Type 0 where
-  pub one : (store : ℕ → Option Blob) (types : Types) (key : ℕ) (t u : Tree) → t.type ≡ u.type → ReadsTree store types key t → ReadsTree store types key u → t ≡ u
-
--- A tree has at most one key, if its type and the types of all that it reaches are canonical.
-abbrev pub IsOneKey : Type 0
-IsOneKey = (hash : List ℕ → List ℕ) (types : Types) (t : Tree) (k l : ℕ) → IsCanonicalTree types t → KeyOf hash types t k → KeyOf hash types t l → k ≡ l
+-- The laws of trees, of their keys and of the store.
+pub record TreeLaws : Type 0 where
+  -- Different blobs have different preimages.
+  pub has_one_preimage : (a b : Blob) → IsBlob a → IsBlob b → preimage a ≡ preimage b → a ≡ b
+  -- The store spells at most one tree of a type under a key.
+  pub is_one_tree : (store : ℕ → Option Blob) (types : Types) (key : ℕ) (t u : Tree) → t.type ≡ u.type → ReadsTree store types key t → ReadsTree store types key u → t ≡ u
+  -- A tree has at most one key, if its type and the types of all that it reaches are canonical.
+  pub is_one_key : (hash : List ℕ → List ℕ) (types : Types) (t : Tree) (k l : ℕ) → IsCanonicalTree types t → KeyOf hash types t k → KeyOf hash types t l → k ≡ l
+  -- A tree that is stored has the key that it is stored under, where each blob stands under its own key.
+  pub is_stored_key : (hash : List ℕ → List ℕ) (store : ℕ → Option Blob) (types : Types) (t : Tree) (key : ℕ) → HasOwnKeys hash store → StoredTree store types key t → KeyOf hash types t key
+  -- A tree that is stored reads back.
+  pub is_tree_readable : (store : ℕ → Option Blob) (types : Types) (t : Tree) (key : ℕ) → IsReadableTree types t → StoredTree store types key t → ReadsTree store types key t
+  -- Trees of one type that are stored, in one store or in two that don't contradict each other, have one key exactly if
+  -- they are one tree. It is asked of the first tree alone that its types are canonical and read.
+  pub is_key_of_one_tree : (hash : List ℕ → List ℕ) (store other : ℕ → Option Blob) (types : Types) (t u : Tree) (k l : ℕ) → HasOwnKeys hash store → HasOwnKeys hash other
+      → SharesNoKey store other → t.type ≡ u.type → IsCanonicalTree types t → IsReadableTree types t → StoredTree store types k t → StoredTree other types l u → (k ≡ l) ↔ (t ≡ u)
+  -- The height of a tree is the length of its longest path.
+  pub is_longest_path : (m : Meaning ⊥) (n : ℕ) → HasPath n m ↔ (n ≤ height m)
+  -- Where a set of node types is closed, a tree of one of them that has a key reaches types of the set alone. So it is canonical, if the types of the set are.
+  pub stays_inside : (hash : List ℕ → List ℕ) (types : Types) (nodes : ℕ → Bool) (t : Tree) (key : ℕ) → IsClosed types (λ n. nodes n ≡ true) → nodes t.type ≡ true → KeyOf hash types t key
+      → EachType (λ n. nodes n ≡ true) t.meaning
+  pub is_canonical_inside : (hash : List ℕ → List ℕ) (types : Types) (nodes : ℕ → Bool) (t : Tree) (key : ℕ) → IsClosed types (λ n. nodes n ≡ true)
+      → ((n : ℕ) → nodes n ≡ true → IsCanonicalType types n) → nodes t.type ≡ true → KeyOf hash types t key → IsCanonicalTree types t
+  -- Meanings with one code are one meaning.
+  pub is_one_meaning : (a b : Meaning ⊥) → code a ≡ code b → a ≡ b
 
 -- A canonical item has at most one key.
 pub record IsOneItemKey : Type 0 where
   pub one : (hash : List ℕ → List ℕ) (types : Types) (bytes : List ℕ) (kids : List Kid) (k l : ℕ) → IsCanonicalItem types bytes kids → KeyOfItem hash types bytes kids k
       → KeyOfItem hash types bytes kids l → k ≡ l
-
--- A tree that is stored has the key that it is stored under, where each blob stands under its own key.
-pub record IsStoredKey : Type 0 where
-  pub is : (hash : List ℕ → List ℕ) (store : ℕ → Option Blob) (types : Types) (t : Tree) (key : ℕ) → HasOwnKeys hash store → StoredTree store types key t → KeyOf hash types t key
-
--- A tree that is stored reads back.
-abbrev pub IsTreeReadable : Type 0
-IsTreeReadable = (store : ℕ → Option Blob) (types : Types) (t : Tree) (key : ℕ) → IsReadableTree types t → StoredTree store types key t → ReadsTree store types key t
-
--- Trees of one type that are stored, in one store or in two that don't contradict each other, have one key exactly if
--- they are one tree. It is asked of the first tree alone that its types are canonical and read.
-pub record IsKeyOfOneTree : Type 0 where
-  pub of_one : (hash : List ℕ → List ℕ) (store other : ℕ → Option Blob) (types : Types) (t u : Tree) (k l : ℕ) → HasOwnKeys hash store → HasOwnKeys hash other → SharesNoKey store other
-      → t.type ≡ u.type → IsCanonicalTree types t → IsReadableTree types t → StoredTree store types k t → StoredTree other types l u → (k ≡ l) ↔ (t ≡ u)
-
--- The height of a tree is the length of its longest path.
-abbrev pub IsLongestPath : Type 0
-IsLongestPath = (m : Meaning ⊥) (n : ℕ) → HasPath n m ↔ (n ≤ height m)
-
--- Where a set of node types is closed, a tree of one of them that has a key reaches types of the set alone. So it is canonical, if the types of the set are.
-abbrev pub StaysInside : Type 0
-StaysInside = (hash : List ℕ → List ℕ) (types : Types) (nodes : ℕ → Bool) (t : Tree) (key : ℕ) → IsClosed types (λ n. nodes n ≡ true) → nodes t.type ≡ true → KeyOf hash types t key
-    → EachType (λ n. nodes n ≡ true) t.meaning
-
-pub record IsCanonicalInside : Type 0 where
-  pub inside : (hash : List ℕ → List ℕ) (types : Types) (nodes : ℕ → Bool) (t : Tree) (key : ℕ) → IsClosed types (λ n. nodes n ≡ true) → ((n : ℕ) → nodes n ≡ true → IsCanonicalType types n)
-      → nodes t.type ≡ true → KeyOf hash types t key → IsCanonicalTree types t
-
--- Meanings with one code are one meaning.
-pub record IsOneMeaning : Type 0 where
-  pub same : (a b : Meaning ⊥) → code a ≡ code b → a ≡ b
 
 -- Keys are the same exactly if they mean the same; what is referred to is no part of a key.
 abbrev pub IsOneKeyMeaning : Type 0 → Type 0

@@ -44,46 +44,6 @@ types_of nodes = record { nodes = nodes; parts = no_parts }
 abbrev pub only_cat : List ℕ → Shape
 only_cat tag = if bytes_eq tag (codes "Cat") then nothing else unwritten
 
-abbrev pub NumbersAreSpelled : Type 0
-NumbersAreSpelled =
-    (unsigned_form w16 300 ≡ 0xAC ∷ 0x02 ∷ [])
-    × (signed_form w64 (negsuc (2 ^ 63 - 1)) ≡ 0xFF ∷ 0xFF ∷ 0xFF ∷ 0xFF ∷ 0xFF ∷ 0xFF ∷ 0xFF ∷ 0xFF ∷ 0xFF ∷ 0x01 ∷ [])
-    × (duration_form 1 500000000 ≡ 0x01 ∷ 0x80 ∷ 0xCA ∷ 0xB5 ∷ 0xEE ∷ 0x01 ∷ [])
-
-abbrev pub NumbersAreRead : Type 0
-NumbersAreRead =
-    Means (unsigned w16) (0x80 ∷ 0x80 ∷ 0x00 ∷ []) (number 0) []
-    × Means (unsigned w16) (0xFF ∷ 0xFF ∷ 0x03 ∷ []) (number 65535) []
-    × IsRefused (unsigned w16) (0xFF ∷ 0xFF ∷ 0x04 ∷ []) Error.BadVarint
-    × IsRefused (unsigned w16) (0x80 ∷ 0x80 ∷ 0x80 ∷ []) Error.BadVarint
-    × IsRefused (unsigned w16) (0x80 ∷ []) Error.UnexpectedEnd
-    × IsRefused (unsigned w64) (0xFF ∷ 0xFF ∷ 0xFF ∷ 0xFF ∷ 0xFF ∷ 0xFF ∷ 0xFF ∷ 0xFF ∷ 0xFF ∷ 0x02 ∷ []) Error.BadVarint
-    × Means (unsigned w128) (0xFF ∷ 0xFF ∷ 0xFF ∷ 0xFF ∷ 0xFF ∷ 0xFF ∷ 0xFF ∷ 0xFF ∷ 0xFF ∷ 0xFF ∷ 0xFF ∷ 0xFF ∷ 0xFF ∷ 0xFF ∷ 0xFF ∷ 0xFF ∷ 0xFF ∷ 0xFF ∷ 0x03 ∷ []) (number (2 ^ 128 - 1)) []
-    × IsRefused (unsigned w128) (0xFF ∷ 0xFF ∷ 0xFF ∷ 0xFF ∷ 0xFF ∷ 0xFF ∷ 0xFF ∷ 0xFF ∷ 0xFF ∷ 0xFF ∷ 0xFF ∷ 0xFF ∷ 0xFF ∷ 0xFF ∷ 0xFF ∷ 0xFF ∷ 0xFF ∷ 0xFF ∷ 0x04 ∷ []) Error.BadVarint
-
-abbrev pub CasesAreSpelled : Type 0
-CasesAreSpelled =
-    Spells (optional (unsigned w8)) (present (number 7)) (0x01 ∷ 0x07 ∷ [])
-    × Spells (optional (unsigned w8)) absent (0x00 ∷ [])
-    × IsRefused (optional (unsigned w8)) (0x02 ∷ []) Error.BadBool
-    × Means (outcome shapes.text shapes.text) (0x01 ∷ 0x07 ∷ codes "success") (success (text (codes "success"))) []
-
-abbrev pub ListsAreSpelled : Type 0
-ListsAreSpelled =
-    Spells (list (signed w32)) (sequence (integer (negsuc 0) ∷ integer (pos 1) ∷ [])) (0x02 ∷ 0x01 ∷ 0x02 ∷ [])
-    × Spells (run (signed w32)) (sequence (integer (negsuc 0) ∷ integer (pos 1) ∷ [])) (0x01 ∷ 0x02 ∷ [])
-    × Means (array 2 (unsigned w8)) (0x02 ∷ 0x61 ∷ 0x61 ∷ []) (sequence (number 2 ∷ number 97 ∷ [])) (0x61 ∷ [])
-    × Means (thin (unsigned w8) (unsigned w8)) (0x07 ∷ 0x02 ∷ 0x01 ∷ 0x02 ∷ []) (pair (number 7) (sequence (number 1 ∷ number 2 ∷ []))) []
-    × IsRefused (list (unsigned w8)) (0xFF ∷ 0xFF ∷ 0xFF ∷ 0xFF ∷ 0x0F ∷ []) Error.UnexpectedEnd
-    × IsRefused (list nothing) (0x80 ∷ 0x80 ∷ 0x80 ∷ 0x80 ∷ 0x10 ∷ []) Error.TooLong
-    × Means (list nothing) (0x03 ∷ []) (sequence (none ∷ none ∷ none ∷ [])) []
-
-abbrev pub MapsAreRead : Type 0
-MapsAreRead =
-    Means (placed_map shapes.text (unsigned w8)) (0x03 ∷ 0x01 ∷ 0x61 ∷ 0x01 ∷ 0x01 ∷ 0x62 ∷ 0x02 ∷ 0x01 ∷ 0x61 ∷ 0x03 ∷ [])
-    (sequence (pair (text (codes "a")) (number 3) ∷ pair (text (codes "b")) (number 2) ∷ [])) []
-    × Means (sorted_map number_order (unsigned w8) (unsigned w8)) (0x02 ∷ 0x02 ∷ 0x01 ∷ 0x01 ∷ 0x02 ∷ []) (sequence (pair (number 1) (number 2) ∷ pair (number 2) (number 1) ∷ [])) []
-
 -- arrays in arrays, the innermost empty
 abbrev pub nest : ℕ → List ℕ
 nest zero = 0x04 ∷ 0x00 ∷ []
@@ -93,13 +53,85 @@ abbrev pub nested_value : ℕ → Meaning KeyRef
 nested_value zero = variant 4 none
 nested_value (suc n) = variant 4 (pair (nested_value n) none)
 
-abbrev pub JsonIsRead : Type 0
-JsonIsRead =
+-- numbers, a duration, a character, cases and lists
+abbrev pub BytesAreSpelled : Type 0
+BytesAreSpelled =
+    (unsigned_form w16 300 ≡ 0xAC ∷ 0x02 ∷ [])
+    × (signed_form w64 (negsuc (2 ^ 63 - 1)) ≡ 0xFF ∷ 0xFF ∷ 0xFF ∷ 0xFF ∷ 0xFF ∷ 0xFF ∷ 0xFF ∷ 0xFF ∷ 0xFF ∷ 0x01 ∷ [])
+    × (duration_form 1 500000000 ≡ 0x01 ∷ 0x80 ∷ 0xCA ∷ 0xB5 ∷ 0xEE ∷ 0x01 ∷ [])
+    × (char_form 0xE9 ≡ 0x02 ∷ 0xC3 ∷ 0xA9 ∷ [])
+    × Spells (optional (unsigned w8)) (present (number 7)) (0x01 ∷ 0x07 ∷ [])
+    × Spells (optional (unsigned w8)) absent (0x00 ∷ [])
+    × Spells (list (signed w32)) (sequence (integer (negsuc 0) ∷ integer (pos 1) ∷ [])) (0x02 ∷ 0x01 ∷ 0x02 ∷ [])
+    × Spells (run (signed w32)) (sequence (integer (negsuc 0) ∷ integer (pos 1) ∷ [])) (0x01 ∷ 0x02 ∷ [])
+
+-- a JSON number, registrations, and a tag that isn't registered
+abbrev pub NamesAreSpelled : Type 0
+NamesAreSpelled =
     Spells json (variant 2 (integer (negsuc 0))) (0x02 ∷ 0x00 ∷ 0x01 ∷ [])
+    × Spells (static_value words) (text (codes "hello")) (0x01 ∷ [])
+    × Spells (static_value words) (text (codes "world")) (0x02 ∷ [])
+    × Spells (static_value words) (text []) (0x00 ∷ [])
+    × Spells (shapes.tagged (λ tag. nothing) (λ tag. false) (λ tag. nothing)) (of_tagged (codes "Dog") none) (0x03 ∷ 0x44 ∷ 0x6F ∷ 0x67 ∷ [])
+
+-- numbers, cases, lists, maps, JSON, texts and characters
+abbrev pub BytesAreRead : Type 0
+BytesAreRead =
+    Means (unsigned w16) (0x80 ∷ 0x80 ∷ 0x00 ∷ []) (number 0) []
+    × Means (unsigned w16) (0xFF ∷ 0xFF ∷ 0x03 ∷ []) (number 65535) []
+    × IsRefused (unsigned w16) (0xFF ∷ 0xFF ∷ 0x04 ∷ []) Error.BadVarint
+    × IsRefused (unsigned w16) (0x80 ∷ 0x80 ∷ 0x80 ∷ []) Error.BadVarint
+    × IsRefused (unsigned w16) (0x80 ∷ []) Error.UnexpectedEnd
+    × IsRefused (unsigned w64) (0xFF ∷ 0xFF ∷ 0xFF ∷ 0xFF ∷ 0xFF ∷ 0xFF ∷ 0xFF ∷ 0xFF ∷ 0xFF ∷ 0x02 ∷ []) Error.BadVarint
+    × Means (unsigned w128) (0xFF ∷ 0xFF ∷ 0xFF ∷ 0xFF ∷ 0xFF ∷ 0xFF ∷ 0xFF ∷ 0xFF ∷ 0xFF ∷ 0xFF ∷ 0xFF ∷ 0xFF ∷ 0xFF ∷ 0xFF ∷ 0xFF ∷ 0xFF ∷ 0xFF ∷ 0xFF ∷ 0x03 ∷ []) (number (2 ^ 128 - 1)) []
+    × IsRefused (unsigned w128) (0xFF ∷ 0xFF ∷ 0xFF ∷ 0xFF ∷ 0xFF ∷ 0xFF ∷ 0xFF ∷ 0xFF ∷ 0xFF ∷ 0xFF ∷ 0xFF ∷ 0xFF ∷ 0xFF ∷ 0xFF ∷ 0xFF ∷ 0xFF ∷ 0xFF ∷ 0xFF ∷ 0x04 ∷ []) Error.BadVarint
+    × IsRefused (optional (unsigned w8)) (0x02 ∷ []) Error.BadBool
+    × Means (outcome shapes.text shapes.text) (0x01 ∷ 0x07 ∷ codes "success") (success (text (codes "success"))) []
+    × Means (array 2 (unsigned w8)) (0x02 ∷ 0x61 ∷ 0x61 ∷ []) (sequence (number 2 ∷ number 97 ∷ [])) (0x61 ∷ [])
+    × Means (thin (unsigned w8) (unsigned w8)) (0x07 ∷ 0x02 ∷ 0x01 ∷ 0x02 ∷ []) (pair (number 7) (sequence (number 1 ∷ number 2 ∷ []))) []
+    × IsRefused (list (unsigned w8)) (0xFF ∷ 0xFF ∷ 0xFF ∷ 0xFF ∷ 0x0F ∷ []) Error.UnexpectedEnd
+    × IsRefused (list nothing) (0x80 ∷ 0x80 ∷ 0x80 ∷ 0x80 ∷ 0x10 ∷ []) Error.TooLong
+    × Means (list nothing) (0x03 ∷ []) (sequence (none ∷ none ∷ none ∷ [])) []
+    × Means (placed_map shapes.text (unsigned w8)) (0x03 ∷ 0x01 ∷ 0x61 ∷ 0x01 ∷ 0x01 ∷ 0x62 ∷ 0x02 ∷ 0x01 ∷ 0x61 ∷ 0x03 ∷ [])
+    (sequence (pair (text (codes "a")) (number 3) ∷ pair (text (codes "b")) (number 2) ∷ [])) []
+    × Means (sorted_map number_order (unsigned w8) (unsigned w8)) (0x02 ∷ 0x02 ∷ 0x01 ∷ 0x01 ∷ 0x02 ∷ []) (sequence (pair (number 1) (number 2) ∷ pair (number 2) (number 1) ∷ [])) []
     × IsRefused json (0x02 ∷ 0x01 ∷ []) Error.JsonNumber
     × IsRefused json (0x06 ∷ []) Error.JsonCase
     × Means json (nest 127) (nested_value 127) []
     × IsRefused json (nest 128) Error.TooDeep
+    × IsRefused shapes.text (0x02 ∷ 0x61 ∷ []) Error.UnexpectedEnd
+    × IsRefused shapes.text (0x01 ∷ 0xFF ∷ []) Error.BadUtf8
+    × IsRefused shapes.text (0x80 ∷ 0x80 ∷ 0x80 ∷ 0x80 ∷ 0x10 ∷ []) Error.TooLong
+    × Means shapes.text (0x83 ∷ 0x00 ∷ 0x61 ∷ 0x62 ∷ 0x63 ∷ []) (text (codes "abc")) []
+    × Means letter (0x02 ∷ 0xC3 ∷ 0xA9 ∷ []) (number 0xE9) []
+    × IsRefused letter (0x02 ∷ 0x61 ∷ 0x62 ∷ []) Error.BadChar
+    × IsRefused letter (0x05 ∷ 0x61 ∷ []) Error.UnexpectedEnd
+
+-- durations, types that are spelled as others are, registrations, references, which take keys, and tags and cases that aren't registered
+abbrev pub NamedTypesAreRead : Type 0
+NamedTypesAreRead =
+    Means duration (0x01 ∷ 0x80 ∷ 0x94 ∷ 0xEB ∷ 0xDC ∷ 0x03 ∷ []) (of_duration 2 0) []
+    × IsRefused duration (0xFF ∷ 0xFF ∷ 0xFF ∷ 0xFF ∷ 0xFF ∷ 0xFF ∷ 0xFF ∷ 0xFF ∷ 0xFF ∷ 0x01 ∷ 0x80 ∷ 0x94 ∷ 0xEB ∷ 0xDC ∷ 0x03 ∷ []) Error.BadDuration
+    × Means path_text (0x01 ∷ 0x61 ∷ []) (text (codes "a")) []
+    × IsRefused path_text (0x01 ∷ 0xFF ∷ []) Error.BadUtf8
+    × Means atomic_i64 (0x01 ∷ []) (integer (negsuc 0)) []
+    × IsRefused atomic_i64 [] Error.UnexpectedEnd
+    × Means (once_lock (unsigned w16)) (0x01 ∷ 0xAC ∷ 0x02 ∷ []) (present (number 300)) []
+    × IsRefused (once_lock (unsigned w16)) (0x02 ∷ []) Error.BadBool
+    × Means (triple (unsigned w8) (unsigned w8) (unsigned w8)) (0x01 ∷ 0x02 ∷ 0x03 ∷ []) (pair (number 1) (pair (number 2) (number 3))) []
+    × IsRefused (triple (unsigned w8) (unsigned w8) (unsigned w8)) (0x01 ∷ 0x02 ∷ []) Error.UnexpectedEnd
+    × Means (list (unsigned w8)) (0x02 ∷ 0x01 ∷ 0x02 ∷ []) (of_list number (1 ∷ 2 ∷ [])) []
+    × Means (sorted_map integer_order (signed w16) (unsigned w8)) (0x02 ∷ 0x02 ∷ 0x05 ∷ 0x01 ∷ 0x06 ∷ []) (sequence (pair (integer (negsuc 0)) (number 6) ∷ pair (integer (pos 1)) (number 5) ∷ [])) []
+    × IsRefused (static_value words) (0x03 ∷ []) Error.BadStaticIndex
+    × Means (tagged_by only_cat cats) (0x03 ∷ 0x43 ∷ 0x61 ∷ 0x74 ∷ []) (of_tagged (codes "Cat") none) []
+    × IsRefused (tagged_by only_cat cats) (0x03 ∷ 0x44 ∷ 0x6F ∷ 0x67 ∷ []) Error.UnknownTag
+    × Means (tagged_by only_cat ((codes "Cat", nothing) ∷ (codes "Cat", unsigned w8) ∷ [])) (0x03 ∷ 0x43 ∷ 0x61 ∷ 0x74 ∷ 0x05 ∷ []) (of_tagged (codes "Cat") (number 5)) []
+    × IsRefused (optional (reference 1)) (0x01 ∷ []) Error.NoMoreKeys
+    × Means (optional (reference 1)) (0x00 ∷ 0xFF ∷ []) absent (0xFF ∷ [])
+    × (read (blob_context (types_of (λ n. None))) (optional (reference 1)) (rest (0x01 ∷ []) (5 ∷ 6 ∷ [])) ≡ Ok (present (meanings.reference (key_ref 1 5)), rest [] (6 ∷ [])))
+    × IsRefused (shapes.tagged (λ tag. nothing) (λ tag. false) (λ tag. nothing)) (0x03 ∷ 0x44 ∷ 0x6F ∷ 0x67 ∷ []) Error.UnknownTag
+    × Means (cases w8 (λ n. n == 2) (λ n. unsigned w8)) (0x02 ∷ 0x09 ∷ []) (variant 2 (number 9)) []
+    × IsRefused (cases w8 (λ n. n == 2) (λ n. unsigned w8)) (0x03 ∷ 0x09 ∷ []) Error.UnknownTag
 
 abbrev pub weighed : List ℕ → List ℕ → ℕ
 weighed bytes keys = key_of weigh_hash (blob_of bytes keys)
@@ -116,60 +148,6 @@ KeysAreWeighed =
     × (weighed (0x00 ∷ 0x09 ∷ []) [] ≡ 90)
     × (weighed (0x0A ∷ 0x00 ∷ []) [] ≡ 90)
     × (weighed [] (7908 ∷ 7908 ∷ []) ≡ 8834)
-
-abbrev pub TextsAreRead : Type 0
-TextsAreRead =
-    IsRefused shapes.text (0x02 ∷ 0x61 ∷ []) Error.UnexpectedEnd
-    × IsRefused shapes.text (0x01 ∷ 0xFF ∷ []) Error.BadUtf8
-    × IsRefused shapes.text (0x80 ∷ 0x80 ∷ 0x80 ∷ 0x80 ∷ 0x10 ∷ []) Error.TooLong
-    × Means shapes.text (0x83 ∷ 0x00 ∷ 0x61 ∷ 0x62 ∷ 0x63 ∷ []) (text (codes "abc")) []
-    × (char_form 0xE9 ≡ 0x02 ∷ 0xC3 ∷ 0xA9 ∷ [])
-    × Means letter (0x02 ∷ 0xC3 ∷ 0xA9 ∷ []) (number 0xE9) []
-    × IsRefused letter (0x02 ∷ 0x61 ∷ 0x62 ∷ []) Error.BadChar
-    × IsRefused letter (0x05 ∷ 0x61 ∷ []) Error.UnexpectedEnd
-
-abbrev pub DurationsAreRead : Type 0
-DurationsAreRead =
-    Means duration (0x01 ∷ 0x80 ∷ 0x94 ∷ 0xEB ∷ 0xDC ∷ 0x03 ∷ []) (of_duration 2 0) []
-    × IsRefused duration (0xFF ∷ 0xFF ∷ 0xFF ∷ 0xFF ∷ 0xFF ∷ 0xFF ∷ 0xFF ∷ 0xFF ∷ 0xFF ∷ 0x01 ∷ 0x80 ∷ 0x94 ∷ 0xEB ∷ 0xDC ∷ 0x03 ∷ []) Error.BadDuration
-
--- types that are spelled as others are, three numbers in turn, and a map whose keys have a sign
-abbrev pub NamedTypesAreRead : Type 0
-NamedTypesAreRead =
-    Means path_text (0x01 ∷ 0x61 ∷ []) (text (codes "a")) []
-    × IsRefused path_text (0x01 ∷ 0xFF ∷ []) Error.BadUtf8
-    × Means atomic_i64 (0x01 ∷ []) (integer (negsuc 0)) []
-    × IsRefused atomic_i64 [] Error.UnexpectedEnd
-    × Means (once_lock (unsigned w16)) (0x01 ∷ 0xAC ∷ 0x02 ∷ []) (present (number 300)) []
-    × IsRefused (once_lock (unsigned w16)) (0x02 ∷ []) Error.BadBool
-    × Means (triple (unsigned w8) (unsigned w8) (unsigned w8)) (0x01 ∷ 0x02 ∷ 0x03 ∷ []) (pair (number 1) (pair (number 2) (number 3))) []
-    × IsRefused (triple (unsigned w8) (unsigned w8) (unsigned w8)) (0x01 ∷ 0x02 ∷ []) Error.UnexpectedEnd
-    × Means (list (unsigned w8)) (0x02 ∷ 0x01 ∷ 0x02 ∷ []) (of_list number (1 ∷ 2 ∷ [])) []
-    × Means (sorted_map integer_order (signed w16) (unsigned w8)) (0x02 ∷ 0x02 ∷ 0x05 ∷ 0x01 ∷ 0x06 ∷ []) (sequence (pair (integer (negsuc 0)) (number 6) ∷ pair (integer (pos 1)) (number 5) ∷ [])) []
-
-abbrev pub RegistriesAreRead : Type 0
-RegistriesAreRead =
-    Spells (static_value words) (text (codes "hello")) (0x01 ∷ [])
-    × Spells (static_value words) (text (codes "world")) (0x02 ∷ [])
-    × Spells (static_value words) (text []) (0x00 ∷ [])
-    × IsRefused (static_value words) (0x03 ∷ []) Error.BadStaticIndex
-    × Means (tagged_by only_cat cats) (0x03 ∷ 0x43 ∷ 0x61 ∷ 0x74 ∷ []) (of_tagged (codes "Cat") none) []
-    × IsRefused (tagged_by only_cat cats) (0x03 ∷ 0x44 ∷ 0x6F ∷ 0x67 ∷ []) Error.UnknownTag
-    × Means (tagged_by only_cat ((codes "Cat", nothing) ∷ (codes "Cat", unsigned w8) ∷ [])) (0x03 ∷ 0x43 ∷ 0x61 ∷ 0x74 ∷ 0x05 ∷ []) (of_tagged (codes "Cat") (number 5)) []
-
-abbrev pub ReferencesTakeKeys : Type 0
-ReferencesTakeKeys =
-    IsRefused (optional (reference 1)) (0x01 ∷ []) Error.NoMoreKeys
-    × Means (optional (reference 1)) (0x00 ∷ 0xFF ∷ []) absent (0xFF ∷ [])
-    × (read (blob_context (types_of (λ n. None))) (optional (reference 1)) (rest (0x01 ∷ []) (5 ∷ 6 ∷ [])) ≡ Ok (present (meanings.reference (key_ref 1 5)), rest [] (6 ∷ [])))
-
--- A tag that isn't registered is written, and not read; so is a case.
-abbrev pub UnknownTagsAreWritten : Type 0
-UnknownTagsAreWritten =
-    Spells (shapes.tagged (λ tag. nothing) (λ tag. false) (λ tag. nothing)) (of_tagged (codes "Dog") none) (0x03 ∷ 0x44 ∷ 0x6F ∷ 0x67 ∷ [])
-    × IsRefused (shapes.tagged (λ tag. nothing) (λ tag. false) (λ tag. nothing)) (0x03 ∷ 0x44 ∷ 0x6F ∷ 0x67 ∷ []) Error.UnknownTag
-    × Means (cases w8 (λ n. n == 2) (λ n. unsigned w8)) (0x02 ∷ 0x09 ∷ []) (variant 2 (number 9)) []
-    × IsRefused (cases w8 (λ n. n == 2) (λ n. unsigned w8)) (0x03 ∷ 0x09 ∷ []) Error.UnknownTag
 
 -- texts of type 0, and links of type 1, which may refer to a link
 abbrev pub links : Types

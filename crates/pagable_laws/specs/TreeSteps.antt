@@ -9,7 +9,7 @@ use Rattle.pagable_world.specs.{Loads.{needs_nested, nested_frame, root_frame, w
 use Rattle.pagable_world.specs.{Pager.{SameTrees, world_of}, Plain.{Among, ArcRef, Blob, HandleNumber, Identity, Kind, LoadNumber, Meaning, NodeNumber, OptionalDataKey, ReadsTree, Tree, Types}}
 use Rattle.pagable_world.specs.{Plain.{WorkerNumber, above, is_loose_kind, longest_path, times, type_of}, Refusals.{IsReference, Owns}, Workers.{IsPublished, place_below}, World.{Cell, Core, Frame}}
 use Rattle.pagable_world.specs.{World.{to_finish, to_item, to_load, to_pin, to_publish, to_release, to_set, to_start, to_write, type_at}, declared.{answers.Pinning.Pinning, calls.Call.Call}}
-use Rattle.{pagable_model.specs.{References.references_in, Shape.Shape, Writing.kind_of_arc}, pagable_world.specs.{Events.reading_at, Headline.{AnswerIsKey, AnswerLeavesAll, AreKeysOf, PublishIsKey}}}
+use Rattle.{pagable_model.specs.{References.references_in, Shape.Shape, Writing.kind_of_arc}, pagable_world.specs.{Events.reading_at, Headline.AreKeysOf}}
 
 -- The meaning leads to this one: each reference, of which P is so, is followed to its node's tree. One that is followed already stands in it only if F.
 pub data LeadsBy (F : Type 0) (P : ArcRef → Type 0) (trees : ℕ → Tree) : Meaning ArcRef → Meaning ⊥ → Type 0 where
@@ -45,10 +45,6 @@ pub record Decoded {N : Type 0} (v : Values N) (stored : ℕ → Option Blob) (t
   pub reads : ReadsTree stored v.types frame.key t
   pub leads : ValueLeads v trees x t
   pub got : (r : ArcRef) → Among (v.references x) r → Among frame.got r
-
--- each reference that one of the frames got is of a node that was given
-abbrev pub FramesGiven : ℕ → List Frame → Type 0
-FramesGiven last frames = (frame : Frame) (r : ArcRef) → Among frames frame → Among frame.got r → r.node.0 ≤ last
 
 -- the load needs a reference of this kind under this key, whether what it leads to is read or not
 abbrev pub Needs : Types → List Frame → Kind → ℕ → Type 0
@@ -228,9 +224,7 @@ pub record SetsThrough (u : World) (k : WorkerNumber) (key : ℕ) (row : HandleR
   pub below : List Todo
   pub there : u.work.walkings k.0 ≡ Some walking
   pub sets : walking.todo ≡ to_set r through key height ∷ below
-  pub live : row_at u.core through ≡ Some row
-  pub own : row.owner ≡ owner_worker k.0
-  pub loose : is_loose row.mode ≡ true
+  pub owns : Owns u.core (owner_worker k.0) through is_loose row
 
 -- What trees feel of an event. The values of a step that isn't a call or a load's come to no node.
 pub data EventFeels {N B W : Type 0} (v : Values N) (u : World) (event : Event N B W) (reply : EventReply N B W) (u' : World) : Change → Type 0 where
@@ -248,8 +242,9 @@ pub record HasPin (w : Core) (k : HandleNumber) : Type 0 where
   pub live : row_at w k ≡ Some row
   pub is : is_pinning row.mode ≡ true
 
-pub record HandsOver (w : Core) (l : LoadNumber) (references : List ArcRef) (w' : Core) : Type 0 where
-  pub each : (r : ArcRef) → Among references r → (row : HandleRow) × (row_at w r.handle ≡ Some row) × (row.owner ≡ Owner.Load l) × (row_at w' r.handle ≡ Some (record row { owner = Owner.Caller }))
+abbrev pub HandsOver : Core → LoadNumber → List ArcRef → Core → Type 0
+HandsOver w l references w' = (r : ArcRef) → Among references r
+    → (row : HandleRow) × (row_at w r.handle ≡ Some row) × (row.owner ≡ Owner.Load l) × (row_at w' r.handle ≡ Some (record row { owner = Owner.Caller }))
 
 abbrev pub PinHolds : {N B W : Type 0} → Event N B W → EventReply N B W → Core → Type 0
 PinHolds (Event.Call (Call.Pin h)) (EventReply.CallReply (Reply.Pin (Ok (Pinning.Pinned k)))) w' = HasPin w' k
@@ -316,13 +311,6 @@ AllHold w v (x ∷ below) = Holds w v x × WaitsHeld w below
 pub record KeysHeld (u : World) : Type 0 where
   pub walks : (n : ℕ) (walking : Walking) → u.work.walkings n ≡ Some walking → AllHold u.core n walking.todo
   pub slots : (t : ℕ) (i : Identity) (key height : ℕ) → IsPublished (u.work.shelves t) i key height → is_loose_kind i.kind.0 ≡ true → KeyIsSet u.core i.node.0
-
--- What keys are of one event: each that is published is its tree's, and a cell had one by then; each that is answered is its task's, and what was met then is left paged out, with keys of its cells.
-pub record KeysAreRight {N E B W : Type 0} (v : Values N) (s : MachineState N E) (trees : ℕ → Tree) (event : Event N B W) (reply : EventReply N B W) (s' : MachineState N E)
-    (trees' : ℕ → Tree) : Type 0 where
-  pub publishes : PublishIsKey v s trees event reply s' trees'
-  pub key : AnswerIsKey v s trees event reply s' trees'
-  pub leaves : AnswerLeavesAll v s trees event reply s' trees'
 
 -- what is stored, the last node, and the trees of nodes
 pub record Ground : Type 0 where
@@ -394,17 +382,12 @@ KeysSoFar shelf height rs [] = Unit {0}
 KeysSoFar shelf height [] (k ∷ ks) = ⊥
 KeysSoFar shelf height (r ∷ rs) (k ∷ ks) = ((below : ℕ) × IsPublished shelf (identity_of r) k below × (above r.kind.0 below ≤ height)) × KeysSoFar shelf height rs ks
 
--- the reference is that of the task's entry
-abbrev pub IsOfEntry : Task → ArcRef → Type 0
-IsOfEntry (of_entry h i) r = identity_of r ≡ i
-IsOfEntry (of_item written) r = ⊥
-
 -- what waits below is for this reference, the next one after those whose keys are known; and where nothing waits, it is that of the task's entry
 abbrev pub Expects : Task → ArcRef → List Todo → Type 0
-Expects task r [] = IsOfEntry task r
 Expects task r (to_finish o ∷ below) = (more : List ArcRef) × (drop (length o.keys) o.written.references ≡ r ∷ more)
 Expects task r (to_item written keys ∷ below) = (more : List ArcRef) × (drop (length keys) written.references ≡ r ∷ more)
-Expects task r (x ∷ below) = ⊥
+Expects (of_entry h i) r [] = identity_of r ≡ i
+Expects task r below = ⊥
 
 -- the place of a reference over what waits for it
 abbrev pub place_over : ArcRef → List Todo → ℕ

@@ -1,32 +1,20 @@
 -- A chain of moments of two levels. A value is a leaf, of the type 1, which has no byte; or a parent, of the type 0, which is a reference to a leaf through a loose handle. Both are born, an item that
 -- refers to the parent is paged out, the parent is evicted with its child and is read again, and the child's key is read.
 use Rattle.std.specs.Prelude.{Bool, List, None, Ok, Option, Some, [], if◌then◌else◌, length, not, suc, zero, ℕ, ◌&&◌, ◌++◌, ◌+◌, ◌==◌, ◌∷◌, ◌≡◌}
-use Rattle.{pagable_laws.specs.FallLaws.{empty, no_work, outer}, pagable_model.specs.{Meaning.{none, reference}, Merkle.blob_of}, pagable_world.specs.Calls.{is_named_by, moved, next_node}}
+use Rattle.pagable_world.specs.declared.{calls.{Call.Call, Reply.Reply}, events.{Claim.Claim, Event.Event, EventReply.EventReply, LoadAnswer.LoadAnswer, PinStep.PinStep, Took.Took}}
+use Rattle.pagable_world.specs.declared.{events.WorkerAnswer.WorkerAnswer, handles.Owner.Owner, rows.Mode.Mode}
 use Rattle.pagable_world.specs.{Calls.{with_handle, with_key, with_mode, with_node}, Cascade.{fallen, nobody}, Events.{no_shelf, with_worker}, Headline.Headline, Kinds.{identity_of, owner_value}}
 use Rattle.pagable_world.specs.{Kinds.{owner_worker, pins}, LoadCalls.{adopted, is_owned_in, with_load, with_pin, without_load}, Loads.{gone_on, root_frame}, Pager.{IsIdle, IsMachineWhole}}
-use Rattle.pagable_world.specs.{Pager.{MachineState, StandsFor}, Plain.{ArcRef, Blob, HandleNumber, LoadNumber, Meaning, NodeNumber, OptionalDataKey, Tree, Types, if_there, is_in, updated}}
-use Rattle.pagable_world.specs.{Runs.{AreMoments, HoldsSettled, IsPremised, Moment, ReadsItsTypes}, Workers.{answer_after, first_todo, fresh, give, is_workers, is_workers_at, open_node}}
-use Rattle.pagable_world.specs.{Workers.{with_changed_slot, with_outcome, with_slot, with_wait, without_worker}, World.{Core, IsLawful, Reading, Seen, Shelf, Todo, Values, Walking, Work, Written}}
-use Rattle.pagable_world.specs.World.{digest, no_result, of_cell, of_item, of_key, published, to_finish, to_item, to_pin, to_publish, to_release, to_set, to_start, to_write}
-use Rattle.pagable_world.specs.declared.{answers.Beginning.Beginning, calls.{Call.Call, Reply.Reply}, events.{Claim.Claim, Event.Event, EventReply.EventReply, LoadAnswer.LoadAnswer, PinStep.PinStep}}
-use Rattle.pagable_world.specs.declared.{events.{Took.Took, WorkerAnswer.WorkerAnswer}, handles.Owner.Owner, rows.Mode.Mode}
+use Rattle.pagable_world.specs.{Pager.{MachineState, StandsFor}, Plain.{ArcRef, Blob, HandleNumber, LoadNumber, NodeNumber, OptionalDataKey, Tree, Types, if_there, is_in, updated}, Runs.AreMoments}
+use Rattle.pagable_world.specs.{Runs.{HoldsSettled, IsPremised, Moment, ReadsItsTypes}, Workers.{answer_after, first_todo, fresh, give, is_workers, is_workers_at, open_node, with_changed_slot}}
+use Rattle.pagable_world.specs.{Workers.{with_outcome, with_slot, with_wait, without_worker}, World.{Core, IsLawful, Reading, Seen, Shelf, Todo, Values, Walking, Work, Written, digest, no_result}}
+use Rattle.pagable_world.specs.{World.{of_cell, of_item, of_key, published, to_finish, to_item, to_pin, to_publish, to_release, to_set, to_start, to_write}, declared.answers.Beginning.Beginning}
+use Rattle.{pagable_laws.specs.FallLaws.{empty, no_work, outer}, pagable_model.specs.{Meaning.{none, reference}, Merkle.blob_of}, pagable_world.specs.Calls.{is_named_by, moved, next_node}}
 use Rattle.pagable_model.specs.Shape as shapes
 
-pub data Sample : Type 0 where
-  leaf : Sample
-  parent : ArcRef → Sample
-
-abbrev pub sample_type : Sample → ℕ
-sample_type leaf = 1
-sample_type (parent r) = 0
-
-abbrev pub sample_references : Sample → List ArcRef
-sample_references leaf = []
-sample_references (parent r) = r ∷ []
-
-abbrev pub sample_meaning : Sample → Meaning ArcRef
-sample_meaning leaf = none
-sample_meaning (parent r) = reference r
+-- a leaf is nothing, and a parent its reference
+abbrev pub Sample : Type 0
+Sample = Option ArcRef
 
 abbrev pub sample_shapes : ℕ → Option shapes.Shape
 sample_shapes zero = Some (shapes.reference 4)
@@ -39,9 +27,9 @@ sample_types = record { nodes = sample_shapes; parts = λ n. shapes.nothing }
 abbrev pub sample : Values Sample
 sample =
     record {
-      node_type = sample_type;
-      references = sample_references;
-      means = λ x own. own ≡ sample_meaning x;
+      node_type = if_there (λ r. 0) 1;
+      references = if_there (λ r. r ∷ []) [];
+      means = λ x own. own ≡ if_there reference none x;
       read_causes = λ t e. ⊥;
       write_causes = λ t e. ⊥;
       types = sample_types;
@@ -66,34 +54,34 @@ to_leaf n h = record { kind = record { 0 = 4 }; node = node n; handle = handle h
 
 -- what is written of a value, and of the item, which refers to the parent; their blobs have the keys 8, 24 and 25
 abbrev pub sample_written : Sample → Written
-sample_written x = record { bytes = []; references = sample_references x }
+sample_written x = record { bytes = []; references = sample.references x }
 
 abbrev pub item : Written
 item = record { bytes = 0 ∷ []; references = record { kind = record { 0 = 1 }; node = node 2; handle = handle 2 } ∷ [] }
 
 abbrev pub born : Core → Sample → Core
-born w x = with_handle (with_node w (sample_type x) OptionalDataKey.None (sample_references x)) (next_node w) Mode.LoosePinned Owner.Caller
+born w x = with_handle (with_node w (sample.node_type x) OptionalDataKey.None (sample.references x)) (next_node w) Mode.LoosePinned Owner.Caller
 
 abbrev pub new_core : Core
 new_core = empty (λ key. None) (record { handles = 9; entries = 0 })
 
 abbrev pub child_born : Core
-child_born = born new_core leaf
+child_born = born new_core None
 
 abbrev pub both_born : Core
-both_born = born child_born (parent (to_leaf 1 1))
+both_born = born child_born (Some (to_leaf 1 1))
 
 -- the value at a node, of a list from the node 0 on; all values at first, and after the load of the parent
-unfoldable pub value_at : List (Option Sample) → ℕ → Option Sample
+abbrev pub value_at : List (Option Sample) → ℕ → Option Sample
 value_at [] n = None
 value_at (x ∷ xs) zero = x
 value_at (x ∷ xs) (suc n) = value_at xs n
 
 abbrev pub two_values : List (Option Sample)
-two_values = None ∷ Some leaf ∷ Some (parent (to_leaf 1 1)) ∷ []
+two_values = None ∷ Some None ∷ Some (Some (to_leaf 1 1)) ∷ []
 
 abbrev pub last_values : List (Option Sample)
-last_values = None ∷ None ∷ Some (parent (to_leaf 3 8)) ∷ []
+last_values = None ∷ None ∷ Some (Some (to_leaf 3 8)) ∷ []
 
 -- ---- the page-out: what each step of the worker 1 does
 
@@ -120,7 +108,7 @@ with_blob w blob = record w { stored = λ q. if q == digest sample blob then Som
 
 -- the value of a node, if it has one, or else a leaf
 abbrev pub value_of : NodeNumber → Sample
-value_of n = if_there (λ x. x) leaf (value_at two_values n.0)
+value_of n = if_there (λ x. x) None (value_at two_values n.0)
 
 -- what a step takes; and what it leaves of pager, table and list
 abbrev pub next_step : Core → Shelf → List Todo → Took Written × Core × Shelf × List Todo
@@ -143,8 +131,7 @@ next_step w s todo = (Took.Fail, w, s, [])
 
 -- with its answer the worker ends
 abbrev pub ended : Option WorkerAnswer → Core → Core
-ended None w = w
-ended (Some answer) w = fallen (without_worker w 1) (is_workers w 1) []
+ended answer w = if_there (λ (a : WorkerAnswer). fallen (without_worker w 1) (is_workers w 1) []) w answer
 
 abbrev pub next : Working → Working
 next x =
@@ -176,11 +163,12 @@ child_got = adopted loading (load_number 1) (record { 0 = 4 }) 8 (OptionalDataKe
 abbrev pub installed : Core → Core
 installed w = with_pin (record (without_load w (load_number 1)) { rows = moved (is_named_by (to_leaf 3 8 ∷ [])) (owner_value 2) w.rows }) (handle 2) (node 2) Owner.Caller
 
-abbrev pub given_up : Core → ℕ → Bool
-given_up w q = is_owned_in w (Owner.Load (load_number 1)) q && not (is_named_by (to_leaf 3 8 ∷ []) q)
+-- what the load of this number owns and doesn't hand on
+abbrev pub left_over : Core → ℕ → (ℕ → Bool) → ℕ → Bool
+left_over w l handed q = is_owned_in w (Owner.Load (load_number l)) q && not (handed q)
 
 abbrev pub loaded : Core
-loaded = let w = child_got in fallen (installed w) (given_up w) []
+loaded = let w = child_got in fallen (installed w) (left_over w 1 (is_named_by (to_leaf 3 8 ∷ []))) []
 
 -- the caller's load of the child's key, which ends with no handle
 abbrev pub key_loading : Core
@@ -189,11 +177,8 @@ key_loading = with_load loaded 8 of_key Owner.Caller
 abbrev pub handed : Core → Core
 handed w = record (without_load w (load_number 2)) { rows = moved (is_in []) Owner.Caller w.rows }
 
-abbrev pub not_handed : Core → ℕ → Bool
-not_handed w q = is_owned_in w (Owner.Load (load_number 2)) q && not (is_in [] q)
-
 abbrev pub read_back : Core
-read_back = let w = key_loading in fallen (handed w) (not_handed w) []
+read_back = let w = key_loading in fallen (handed w) (left_over w 2 (is_in [])) []
 
 abbrev pub parent_fetched : Reading
 parent_fetched = gone_on (fresh (load_number 1) 0) (root_frame 24 0 (blob_of [] (8 ∷ [])) ∷ [])
@@ -206,8 +191,7 @@ child_fetched = gone_on (fresh (load_number 2) 1) (root_frame 8 1 (blob_of [] []
 
 -- the one table and the one worker, and what is read, each if it is there
 abbrev pub reads : Option Reading → ℕ → Option Reading
-reads None l = None
-reads (Some r) l = updated r.load.0 (Some r) (λ q. None) l
+reads reading l = if_there (λ (r : Reading). updated r.load.0 (Some r) (λ q. None) l) None reading
 
 abbrev pub work_of : Shelf → Option Walking → Option Reading → Work
 work_of shelf walking reading = record { shelves = updated 1 shelf (λ t. no_shelf); last_table = 1; readings = reads reading; walkings = updated 1 walking (λ v. None) }
@@ -233,8 +217,8 @@ moment event reply after = record { event = event; reply = reply; after = after 
 abbrev pub births : List Happening
 births =
     moment Event.TableNew (EventReply.TableMade (Ok (record { 0 = 1 }))) (machine new_core [] (work_of no_shelf None None))
-    ∷ moment (Event.Call (Call.NewLoose leaf)) (EventReply.CallReply (Reply.Made (Ok (handle 1)))) (machine child_born (None ∷ Some leaf ∷ []) (work_of no_shelf None None))
-    ∷ moment (Event.Call (Call.NewLoose (parent (to_leaf 1 1)))) (EventReply.CallReply (Reply.Made (Ok (handle 2)))) (machine both_born two_values (work_of no_shelf None None))
+    ∷ moment (Event.Call (Call.NewLoose None)) (EventReply.CallReply (Reply.Made (Ok (handle 1)))) (machine child_born (None ∷ Some None ∷ []) (work_of no_shelf None None))
+    ∷ moment (Event.Call (Call.NewLoose (Some (to_leaf 1 1)))) (EventReply.CallReply (Reply.Made (Ok (handle 2)))) (machine both_born two_values (work_of no_shelf None None))
     ∷ moment (Event.WorkerItem (record { 0 = 1 }) item) (EventReply.WorkerMade (Ok (record { 0 = 1 }))) (at_work begun)
     ∷ []
 
@@ -263,7 +247,7 @@ loads =
     ∷ read_step 1 (Some (LoadAnswer.Pinned (handle 9))) 3 (afterwards loaded last_values None)
     ∷ moment (Event.LoadKey 8 1) (EventReply.Started (Ok (Beginning.Load (load_number 2) 8))) (afterwards key_loading last_values (Some (fresh (load_number 2) 1)))
     ∷ read_step 2 None 1 (afterwards key_loading last_values (Some child_fetched))
-    ∷ read_step 2 (Some (LoadAnswer.Read leaf)) 2 (afterwards read_back last_values None)
+    ∷ read_step 2 (Some (LoadAnswer.Read None)) 2 (afterwards read_back last_values None)
     ∷ []
 
 -- and how many pin the parent

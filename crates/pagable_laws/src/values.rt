@@ -1,138 +1,62 @@
-//! The laws of the definitions of values: each is the contract of a function that does nothing.
-#![tactic(auto, using(crate::proofs::Laws::value_laws, crate::proofs::Laws::form_laws))]
+//! The laws of the definitions of values, and worked rows: each is a clause of a function that does nothing.
+#![tactic(auto, using(crate::proofs::Laws::value_laws))]
 
-ghost use Rattle.std.specs.Prelude.{ℕ};
-ghost use Rattle.pagable_model.specs.{Canonical.{IsReadable, Throughout}, Shape.Shape};
-ghost use Rattle.pagable_laws.specs.FormLaws.{IsReadAgain, IsPrefixFree, CanonicalHasOneForm, HasOnePreimage, IsLocal, IsUsed, IsLasting, IsNatural, IsReadOver, IsRenamed, IsReadThrough, KeepsForms};
-ghost use Rattle.pagable_laws.specs.FormLaws.{IsOneMeaning, IsOneKeyMeaning, IsAnyOrder, FloatHasNoForm, WholeIsBounded};
-ghost use Rattle.pagable_laws.specs.FormLaws.{IsOneTree, IsOneKey, IsOneItemKey, IsStoredKey, IsTreeReadable, IsKeyOfOneTree, IsLongestPath, StaysInside, IsCanonicalInside};
+ghost use Rattle.{std.specs.Prelude.ℕ, pagable_model.specs.{Canonical.{IsReadable, Throughout}, Shape.Shape}};
+ghost use Rattle.pagable_laws.specs.FormLaws.{IsReadAgain, IsPrefixFree, CanonicalHasOneForm, IsLocal, IsUsed, IsLasting, IsNatural, IsReadOver, IsRenamed, IsReadThrough, KeepsForms};
+ghost use Rattle.pagable_laws.specs.FormLaws.{IsOneKeyMeaning, IsAnyOrder, FloatHasNoForm, WholeIsBounded, TreeLaws, IsOneItemKey};
+ghost use Rattle.pagable_laws.specs.Rows.{BytesAreSpelled, NamesAreSpelled, BytesAreRead, NamedTypesAreRead, KeysAreWeighed, TreesHaveKeys, ShapesAreMet};
 
-/// A form of a shape that is read throughout is read again, whatever follows it.
-pub fn is_read_again<A, B>()
-    ensures { (parts : ℕ → Shape) (s : Shape) → Throughout IsReadable parts s → IsReadAgain A B parts s }
+/// Of forms, and of the keys of maps:
+/// - A form of a shape that is read throughout is read again, whatever follows it.
+/// - No form of one meaning begins a form of another.
+/// - A meaning of a canonical shape has at most one form.
+/// - A form of a value that holds references of one sort is one of the same value with references of another sort.
+/// - Keys are the same exactly if they mean the same.
+/// - The entries of a hash map have one meaning in whatever order they come.
+/// - A JSON float has no form, whatever its value.
+/// - A whole JSON number that has a form is one of 64 bits with a sign.
+pub fn forms<A, B>()
+    ensures is_read_again { (parts : ℕ → Shape) (s : Shape) → Throughout IsReadable parts s → IsReadAgain A B parts s }
+    ensures is_prefix_free { (parts : ℕ → Shape) (s : Shape) → Throughout IsReadable parts s → IsPrefixFree A parts s }
+    ensures canonical_has_one_form { CanonicalHasOneForm A }
+    ensures keeps_forms { KeepsForms A B }
+    ensures is_one_key_meaning { IsOneKeyMeaning A }
+    ensures is_any_order { IsAnyOrder A }
+    ensures float_has_no_form { FloatHasNoForm A }
+    ensures whole_is_bounded { WholeIsBounded A }
 {}
 
-/// No form of one meaning begins a form of another.
-pub fn is_prefix_free<A>()
-    ensures { (parts : ℕ → Shape) (s : Shape) → Throughout IsReadable parts s → IsPrefixFree A parts s }
+/// Of reading, whatever stands for references:
+/// - What is read of a front is read of the whole, whatever follows.
+/// - What was used reads alone, and leaves nothing.
+/// - A fault stays the first fault whatever follows, unless it is that the input ends.
+/// - Reading does the same whatever stands for references.
+/// - Reading over what stands for references is reading with what it stands for.
+/// - Reading with what is looked up renamed is renaming what is read.
+/// - What is read is read by whoever finds all that was found.
+pub fn reading<A, B, C, D>()
+    ensures is_local { IsLocal A B }
+    ensures is_used { IsUsed A B }
+    ensures is_lasting { IsLasting A B }
+    ensures is_natural { IsNatural A B C D }
+    ensures is_read_over { IsReadOver A B C }
+    ensures is_renamed { IsRenamed A B D }
+    ensures is_read_through { IsReadThrough A B C D }
 {}
 
-/// A meaning of a canonical shape has at most one form.
-pub fn canonical_has_one_form<A>()
-    ensures { CanonicalHasOneForm A }
+/// Of trees, their keys and the store: each field is a law. A canonical item has at most one key.
+pub fn trees()
+    ensures all { TreeLaws }
+    ensures is_one_item_key { IsOneItemKey }
 {}
 
-/// Different blobs have different preimages.
-pub fn has_one_preimage()
-    ensures { HasOnePreimage }
-{}
-
-/// The store spells at most one tree of a type under a key.
-pub fn is_one_tree()
-    ensures { IsOneTree }
-{}
-
-/// A tree of canonical types has at most one key.
-pub fn is_one_key()
-    ensures { IsOneKey }
-{}
-
-/// A canonical item has at most one key.
-pub fn is_one_item_key()
-    ensures { IsOneItemKey }
-{}
-
-/// A tree that is stored has the key that it stands under.
-pub fn is_stored_key()
-    ensures { IsStoredKey }
-{}
-
-/// A tree that is stored, each value as a form under its key, reads back.
-pub fn is_tree_readable()
-    ensures { IsTreeReadable }
-{}
-
-/// Stored trees have equal keys exactly if they are equal.
-pub fn is_key_of_one_tree()
-    ensures { IsKeyOfOneTree }
-{}
-
-/// What is read of a front is read of the whole, whatever follows.
-pub fn is_local<A, B>()
-    ensures { IsLocal A B }
-{}
-
-/// What was used reads alone, and leaves nothing.
-pub fn is_used<A, B>()
-    ensures { IsUsed A B }
-{}
-
-/// A fault stays the first fault whatever follows, unless it is that the input ends.
-pub fn is_lasting<A, B>()
-    ensures { IsLasting A B }
-{}
-
-/// Reading does the same whatever stands for references.
-pub fn is_natural<A, B, C, D>()
-    ensures { IsNatural A B C D }
-{}
-
-/// Reading over what stands for references is reading with what it stands for.
-pub fn is_read_over<A, B, C>()
-    ensures { IsReadOver A B C }
-{}
-
-/// Reading with what is looked up renamed is renaming what is read.
-pub fn is_renamed<A, B, D>()
-    ensures { IsRenamed A B D }
-{}
-
-/// What is read is read by whoever finds all that was found.
-pub fn is_read_through<A, B, C, D>()
-    ensures { IsReadThrough A B C D }
-{}
-
-/// A form of a value that holds references of one sort is one of the same value with references of another sort.
-pub fn keeps_forms<A, B>()
-    ensures { KeepsForms A B }
-{}
-
-/// The height of a tree is the length of its longest path.
-pub fn is_longest_path()
-    ensures { IsLongestPath }
-{}
-
-/// Meanings with one code are one meaning.
-pub fn is_one_meaning()
-    ensures { IsOneMeaning }
-{}
-
-/// Keys are the same exactly if they mean the same.
-pub fn is_one_key_meaning<A>()
-    ensures { IsOneKeyMeaning A }
-{}
-
-/// The entries of a hash map have one meaning in whatever order they come.
-pub fn is_any_order<A>()
-    ensures { IsAnyOrder A }
-{}
-
-/// A JSON float has no form, whatever its value.
-pub fn float_has_no_form<A>()
-    ensures { FloatHasNoForm A }
-{}
-
-/// A whole JSON number that has a form is one of 64 bits with a sign.
-pub fn whole_is_bounded<A>()
-    ensures { WholeIsBounded A }
-{}
-
-/// A tree of a closed set of types that has a key reaches types of the set alone.
-pub fn stays_inside()
-    ensures { StaysInside }
-{}
-
-/// A tree of a closed set of canonical types that has a key is canonical.
-pub fn is_canonical_inside()
-    ensures { IsCanonicalInside }
+/// What was worked out elsewhere is what the definitions make of the bytes, by computation.
+pub fn worked_examples()
+    ensures spelled { BytesAreSpelled }
+    ensures names { NamesAreSpelled }
+    ensures bytes_read { BytesAreRead }
+    ensures named { NamedTypesAreRead }
+    ensures keys { KeysAreWeighed }
+    ensures trees { TreesHaveKeys }
+    ensures shapes { ShapesAreMet }
 {}

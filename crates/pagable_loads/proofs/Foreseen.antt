@@ -1,61 +1,13 @@
 -- What a blob asks for is told by kinds alone: with references of the same kinds it is read side by side, up to where one of the two readings asks for a reference that wasn't got.
-use Rattle.pagable_loads.specs.{Ahead.{AsksNext, Foresees, GotMore, IsAhead, Kept, RowTells, kinds_of}, Decoding.is_asking, Ending.{LeadsOn, left_behind, left_in, many, to_do, weight, weight_on}}
-use Rattle.pagable_model.specs.{Basic.{bool_at, char_at, duration_at, length_at, longest, nanos_of_second, text_at}, Blob.Blob, Carried.{of_entries, of_hash_map, of_tagged}, Deep.is_eager}
-use Rattle.pagable_model.specs.{Keys.{put_all, put_sorted, text_order}, Meaning.{Meaning, absent, entry, failure, integer, lifted, present, sequence, success, variant}, Numbers.Read}
-use Rattle.pagable_model.specs.{Numbers.{signed_at, unsigned_at, varint_at}, Reading.{Deeper, Gets, JsonCase, Rest, array_case, below, bytes_of, choose, counted, deepest, enter, flag_case, items}}
-use Rattle.pagable_model.specs.{Reading.{json_case, json_part, null_case, number_case, object_case, read, read_typed, read_with, reference_at, registered, seen, text_case, two}, Shape.{Shape, array}}
-use Rattle.pagable_model.specs.Shape.{both, cases, duration, flag, hash_map, json, letter, list, nested, nothing, optional, outcome, placed_map, placed_set, run, signed, sorted_map, sorted_set}
-use Rattle.pagable_model.specs.{Shape.{static_value, tagged, unsigned}, Standing.{Answer, answer_at, handles_at}, Steps.◌>>=◌, declared.{error.Error.Error, numbers.{ArcRef.ArcRef, Kind.Kind}}}
-use Rattle.pagable_world.specs.{Loads.{Need, answer_of, answers_from, asks, need_at, need_of, needs_lazy, needs_nested, next_by, next_of, read_with as read_blob}, Plain.Types, World.Frame}
-use Rattle.std.proofs.Common.{Bool, Err, List, None, Ok, Option, Result, Some, [], ap, arith, drop, false, if◌then◌else◌, inl, inr, length, refl, slice_get, subst, suc, sym, true, zero, ℕ, ◌*◌, ◌++◌}
-use Rattle.std.proofs.{Common.{◌+◌, ◌-◌, ◌/◌, ◌<◌, ◌==◌, ◌^◌, ◌∙◌, ◌∷◌, ◌≡◌, ◌≤◌, ◌⊎◌}, Math.Nat.mul-le-mul_right, lemmas.{Bool.Decides.nat_tests, List.{append_assoc, at_drop_all, at_drop_more}}}
-use Rattle.std.{proofs.lemmas.{List.{length-append, length-map, map-append}, Option.{slice_get-get_or, slice_get_cases, slice_get_within}}, specs.{Int.{Width, w32, w64}, Prelude.{nat_le, nat_lt}}}
+use Rattle.pagable_laws.proofs.{Related.{Out, SameRest, Sober, both-faulty, both-given, both-refused, first-refused, typed_par}, Trees.{Along, reference-along}}
+use Rattle.pagable_loads.specs.{Decoding.{AsksNext, Foresees, GotMore, IsAhead, Kept, RowTells, kinds_of}, Ending.{LeadsOn, left_behind, left_in, many, to_do, weight, weight_on}}
+use Rattle.pagable_model.specs.{Blob.Blob, Deep.is_eager, Meaning.Meaning, Reading.{Rest, reference_at}, Standing.{Answer, answer_at}, Steps.◌>>=◌, declared.{error.Error.Error, numbers.ArcRef.ArcRef}}
+use Rattle.std.proofs.lemmas.{Bool.{cases_Bool, eqb-true}, Option.slice_get_within}
+use Rattle.std.proofs.lemmas.{Bool.Decides.nat_tests, List.{append_assoc, at_drop_all, at_drop_more, length-append, length-map, map-append}, Option.{slice_get-get_or, slice_get_cases}}
+use Rattle.std.proofs.{Common.{if◌then◌else◌, inl, inr, length, refl, slice_get, subst, suc, sym, zero, ℕ, ◌*◌, ◌++◌, ◌+◌, ◌-◌, ◌<◌, ◌==◌, ◌^◌, ◌∙◌, ◌∷◌, ◌≡◌, ◌≤◌, ◌⊎◌}, Math.Nat.mul-le-mul_right}
+use Rattle.{pagable_model.specs.declared.numbers.Kind.Kind, pagable_world.specs.Loads.{Need, answer_of, answers_from, asks, need_at, need_of, needs_lazy, needs_nested, next_by, next_of}}
+use Rattle.{pagable_world.specs.{Loads.read_with as read_blob, Plain.Types, World.Frame}, std.proofs.Common.{Bool, Err, List, None, Ok, Option, Result, Some, [], ap, arith, drop, false}}
 use Rattle.pagable_model.specs.Meaning as meanings
-use Rattle.pagable_model.specs.Shape as shapes
-
--- ---- no fault of the bytes is the name by which a reference is asked for
-
-abbrev pub Sober : {A : Type 0} → Result A Error → Type 0
-Sober (Ok x) = Unit {0}
-Sober (Err e) = is_asking e ≡ false
-
-sober_then : {A B : Type 0} (r : Result A Error) (f : A → Result B Error) → Sober r → ((x : A) → Sober (f x)) → Sober (r >>= f)
-sober_then r f h k = grind (arith, nat_tests)
-
-sober_if : {A : Type 0} (b : Bool) (r q : Result A Error) → Sober r → Sober q → Sober (if b then r else q)
-sober_if b r q h k = grind (arith, nat_tests)
-
-sober_varint : (more last : ℕ) (bytes : List ℕ) → Sober (varint_at more last bytes)
-unfolding varint_at
-sober_varint zero last [] = refl
-sober_varint (suc more) last [] = refl
-sober_varint zero last (b ∷ bytes) = sober_if (nat_le b last) _ _ tt refl
-sober_varint (suc more) last (b ∷ bytes) = sober_if (nat_lt b 128) _ _ tt (sober_then (varint_at more last bytes) _ (sober_varint more last bytes) (λ x. tt))
-
-sober_unsigned : (w : Width) (bytes : List ℕ) → Sober (unsigned_at w bytes)
-sober_unsigned w bytes = grind (arith, nat_tests, sober_varint)
-
-sober_signed : (w : Width) (bytes : List ℕ) → Sober (signed_at w bytes)
-sober_signed w bytes = sober_then (unsigned_at w bytes) _ (sober_unsigned w bytes) (λ x. tt)
-
-sober_length : (bytes : List ℕ) → Sober (length_at bytes)
-unfolding length_at
-sober_length bytes = sober_then (unsigned_at w64 bytes) _ (sober_unsigned w64 bytes) (λ n. sober_if (nat_le n.0 longest) _ _ tt refl)
-
-sober_parts : (bytes : List ℕ) → Sober (bool_at bytes) × Sober (text_at bytes) × Sober (char_at bytes) × Sober (duration_at bytes)
-unfolding bool_at text_at char_at duration_at
-sober_parts bytes = (
-  grind (arith, nat_tests),
-  grind (arith, nat_tests, sober_length),
-  grind (arith, nat_tests, sober_length),
-  sober_then (unsigned_at w64 bytes) _ (sober_unsigned w64 bytes)
-      (λ s. sober_then (unsigned_at w32 s.1) _ (sober_unsigned w32 s.1) (λ n. sober_if (nat_lt (s.0 + n.0 / nanos_of_second) (2 ^ 64)) _ _ tt refl)),
-)
-
-sober_registered : (registry : List (Meaning ⊥)) (i : ℕ) → Sober (registered registry i)
-sober_registered [] i = refl
-sober_registered (m ∷ ms) zero = tt
-sober_registered (m ∷ ms) (suc i) = sober_registered ms i
 
 -- ---- kinds that are asked for
 
@@ -74,200 +26,62 @@ from xs place = elim (slice_get_cases xs place).1 [
 ]
 
 -- some kind is left
-some-left : (ks back : List ℕ) (k : ℕ) → (ks ++ k ∷ back ≡ ks ++ k ∷ back) × (0 < length (ks ++ k ∷ back))
-some-left ks back k = let l = length-append ks (k ∷ back) in (refl, omega (arith, l))
+some-left : (ks back : List ℕ) (k : ℕ) → 1 ≡ suc (length (ks ++ k ∷ back)) → ⊥
+some-left ks back k is = omega (arith, is, length-append ks (k ∷ back))
 
--- ---- two readings side by side: of a row after which a reference of this kind is asked for, and of what was got, which begins alike and after which one of the kind k comes
+-- ---- two readings side by side: of what was got, after which one of the kind k comes, and of a row, which begins alike and after which one of this kind is asked for
+
+-- what both give isn't asked
+abbrev Aside : Meaning ArcRef → Meaning ArcRef → Type 0
+Aside = Along (Unit {0}) (λ r q. Unit {0})
 
 module _ (xs got : List ArcRef) (kind k : ℕ) (back : List ℕ) where
   -- they are at the same place
-  record Beside (i j : Rest Answer) : Type 0 where
+  record Beside (own row : List Answer) : Type 0 where
     place : ℕ
     keys : List ℕ
-    bytes : j.bytes ≡ i.bytes
-    row : i.refs ≡ answers_from xs place keys
-    own : j.refs ≡ answers_from got place keys
+    own_is : own ≡ answers_from got place keys
+    row_is : row ≡ answers_from xs place keys
     left : kinds_of (drop place xs) ++ kind ∷ [] ≡ kinds_of (drop place got) ++ k ∷ back
 
-  -- Where the first goes on the second does, or stops at the kind k; and where the first stops at its kind, the second stops at k.
-  abbrev Goes : {X : Type 0} → Result (X × Rest Answer) Error → Result (X × Rest Answer) Error → Type 0
-  Goes (Ok p) (Ok q) = Beside p.1 q.1
-  Goes (Ok p) (Err e) = e ≡ Error.Storage k
-  Goes (Err e) r = e ≡ Error.Storage kind → r ≡ Err (Error.Storage k)
+  -- where the row's reading stops at its kind, the other stops at k
+  abbrev Stops : Error → Error → Type 0
+  Stops e f = f ≡ Error.Storage kind → e ≡ Error.Storage k
 
-  record Traced {X : Type 0} (get : Gets Answer X) : Type 0 where
-    on : (i j : Rest Answer) → Beside i j → Goes (get i) (get j)
+  abbrev Sided : Result (Meaning ArcRef × Rest Answer) Error → Result (Meaning ArcRef × Rest Answer) Error → Type 0
+  Sided = Out Stops Beside Aside
 
-  stopped : {X : Type 0} (r q : Result (X × Rest Answer) Error) → Goes r q → r ≡ Err (Error.Storage kind) → q ≡ Err (Error.Storage k)
-  stopped (Ok p) q h is = absurd (cc)
-  stopped (Err e) q h is = let same : e ≡ Error.Storage kind = cc in h same
-
-  -- a fault of the bytes
-  faulty : {X : Type 0} (e : Error) (q : Result (X × Rest Answer) Error) → is_asking e ≡ false → Goes (Err e) q
-  faulty e q sober at = absurd (cc)
-
-  views : {X Y : Type 0} (view other : X → Y) (r q : Result (X × Rest Answer) Error) → Goes r q
-      → Goes (r >>= λ x. let o : Result (Y × Rest Answer) Error = Ok (view x.0, x.1) in o) (q >>= λ x. let o : Result (Y × Rest Answer) Error = Ok (other x.0, x.1) in o)
-  views view other r q h = grind (arith, nat_tests)
-
-  sees : {X Y : Type 0} (view : X → Y) {get : Gets Answer X} → Traced get → Traced (seen view get)
-  sees view {get} h = record { on = λ i j b. views view view (get i) (get j) (h.on i j b) }
-
-  -- one after the other
-  module _ {X Y Z : Type 0} {first : Gets Answer X} {second : Gets Answer Y} (pair : X → Y → Z) (h : Traced first) (g : Traced second) where
-    abbrev after_first : X × Rest Answer → Result (Z × Rest Answer) Error
-    after_first x = second x.1 >>= λ y. Ok (pair x.0 y.0, y.1)
-
-    abbrev both_read : Gets Answer Z
-    both_read i = first i >>= after_first
-
-    joined : (r q : Result (X × Rest Answer) Error) → Goes r q → Goes (r >>= after_first) (q >>= after_first)
-    joined (Ok p) (Ok q) b = views (pair p.0) (pair q.0) (second p.1) (second q.1) (g.on p.1 q.1 b)
-    joined r q b = grind (arith, nat_tests)
-
-    join : Traced both_read
-    join = record { on = λ i j b. joined (first i) (first j) (h.on i j b) }
-
-  gives : {X : Type 0} (x : X) → Traced (λ (i : Rest Answer). let r : Result (X × Rest Answer) Error = Ok (x, i) in r)
-  gives x = record { on = λ i j b. b }
-
-  refuses : {X : Type 0} (e : Error) → is_asking e ≡ false → Traced (λ (i : Rest Answer). let r : Result (X × Rest Answer) Error = Err e in r)
-  refuses e sober = record { on = λ i j b. faulty e (Err e) sober }
-
-  -- bytes, and then what they say
-  module _ {X Z : Type 0} (read : List ℕ → Read Z) (sober : (bytes : List ℕ) → Sober (read bytes)) where
-    abbrev then_by : (Z → Gets Answer X) → Rest Answer → Read Z → Result (X × Rest Answer) Error
-    then_by f i r = (r >>= λ z. let o : Result (Z × Rest Answer) Error = Ok (z.0, record i { bytes = z.1 }) in o) >>= λ p. f p.0 p.1
-
-    after_bytes : (f : Z → Gets Answer X) → ((z : Z) → Traced (f z)) → Traced (λ i. bytes_of read (λ z. z) i >>= λ p. f p.0 p.1)
-    after_bytes f h = record { on = λ i j b. rw b.bytes (by i j b (read i.bytes) (sober i.bytes)) }
-      where
-        by : (i j : Rest Answer) → Beside i j → (r : Read Z) → Sober r → Goes (then_by f i r) (then_by f j r)
-        by i j b (Ok z) s = (h z.0).on _ _ (record { place = b.place; keys = b.keys; bytes = refl; row = b.row; own = b.own; left = b.left })
-        by i j b (Err e) s = faulty e (Err e) s
-
-    of_bytes : (view : Z → X) → Traced (bytes_of read view)
-    of_bytes view = record { on = λ i j b. rw b.bytes (by i j b (read i.bytes) (sober i.bytes)) }
-      where
-        by : (i j : Rest Answer) → Beside i j → (r : Read Z) → Sober r
-            → Goes (r >>= λ z. let o : Result (X × Rest Answer) Error = Ok (view z.0, record i { bytes = z.1 }) in o)
-            (r >>= λ z. let o : Result (X × Rest Answer) Error = Ok (view z.0, record j { bytes = z.1 }) in o)
-        by i j b (Ok z) s = record { place = b.place; keys = b.keys; bytes = refl; row = b.row; own = b.own; left = b.left }
-        by i j b (Err e) s = faulty e (Err e) s
-
-  choice : {X : Type 0} (b : Bool) {get other : Gets Answer X} → Traced get → Traced other → Traced (choose b get other)
-  choice true h g = h
-  choice false h g = g
-
-  both_of : {X Y : Type 0} {get : Gets Answer X} {other : Gets Answer Y} → Traced get → Traced other → Traced (two get other)
-  both_of h g = join (λ x y. (x, y)) h g
-
-  each_of : {X : Type 0} {get : Gets Answer X} → Traced get → (n : ℕ) → Traced (λ i. items get n i)
-  unfolding items
-  each_of h zero = gives []
-  each_of h (suc n) = join (λ x xs. x ∷ xs) h (each_of h n)
-
-  as_many : {X : Type 0} {get : Gets Answer X} → Traced get → Traced (counted get)
-  as_many {get = get} h = after_bytes length_at sober_length (λ n i. items get n i) (λ n. each_of h n)
-
-  at_one : (o p : Option ArcRef) (n : ℕ) (os ps : List ℕ) (i j : Rest Answer) → headed o os ++ kind ∷ [] ≡ headed p ps ++ k ∷ back → (os ++ kind ∷ [] ≡ ps ++ k ∷ back → Beside i j)
-      → Goes (answer_of o n >>= λ x. let r : Result (Meaning ArcRef × Rest Answer) Error = Ok (meanings.reference x, i) in r)
-      (answer_of p n >>= λ x. let r : Result (Meaning ArcRef × Rest Answer) Error = Ok (meanings.reference x, j) in r)
-  at_one o p n os ps i j is more = grind (arith, nat_tests, some-left)
+  at_one : (p o : Option ArcRef) (n : ℕ) (ps os : List ℕ) (i j : Rest Answer) → headed o os ++ kind ∷ [] ≡ headed p ps ++ k ∷ back → (os ++ kind ∷ [] ≡ ps ++ k ∷ back → SameRest Beside i j)
+      → Sided (answer_of p n >>= λ x. let r : Result (Meaning ArcRef × Rest Answer) Error = Ok (meanings.reference x, i) in r)
+      (answer_of o n >>= λ x. let r : Result (Meaning ArcRef × Rest Answer) Error = Ok (meanings.reference x, j) in r)
+  at_one None None n ps os i j is more = both-refused (Error.Storage n) (Error.Storage n) (λ at. cc)
+  at_one (Some g) None n ps os i j is more = absurd (some-left ps back k (ap length is))
+  at_one None (Some x) n ps os i j is more = elim (cases_Bool (x.kind.0 == n)) [
+    | inl e ↦ let same : x.kind.0 ≡ n = eqb-true _ _ e in first-refused (Error.Storage n) _ (λ f at. cc)
+    | inr e ↦ rw e (both-refused (Error.Storage n) Error.WrongKind (λ at. cc))
+  ]
+  at_one (Some g) (Some x) n ps os i j is more =
+      let same : g.kind.0 ≡ x.kind.0 = cc in
+      let alike : (g.kind.0 == n) ≡ (x.kind.0 == n) = ap (λ m. m == n) same in
+      elim (cases_Bool (x.kind.0 == n)) [ inl e ↦ rw (alike, e) (both-given _ _ (reference-along g x tt) (more (cc))) | inr e ↦ rw (alike, e) (both-faulty Error.WrongKind tt) ]
 
   at_key : (n place : ℕ) (keys : List ℕ) (i j : Rest Answer) → j.bytes ≡ i.bytes → kinds_of (drop place xs) ++ kind ∷ [] ≡ kinds_of (drop place got) ++ k ∷ back
-      → Goes (reference_at answer_at n (answers_from xs place keys) i) (reference_at answer_at n (answers_from got place keys) j)
+      → Sided (reference_at answer_at n (answers_from got place keys) i) (reference_at answer_at n (answers_from xs place keys) j)
   unfolding answers_from
-  at_key n place [] i j bytes is = faulty Error.NoMoreKeys (Err Error.NoMoreKeys) refl
+  at_key n place [] i j bytes is = both-faulty Error.NoMoreKeys tt
   at_key n place (key ∷ keys) i j bytes is =
-      at_one (slice_get xs place) (slice_get got place) n (kinds_of (drop (place + 1) xs)) (kinds_of (drop (place + 1) got)) _ _
+      at_one (slice_get got place) (slice_get xs place) n (kinds_of (drop (place + 1) got)) (kinds_of (drop (place + 1) xs)) _ _
       (ap (λ zs. zs ++ kind ∷ []) (sym (from xs place)) ∙ is ∙ ap (λ zs. zs ++ k ∷ back) (from got place))
-      (λ rest. record { place = place + 1; keys = keys; bytes = bytes; row = refl; own = refl; left = rest })
+      (λ rest. record { bytes = bytes; refs = record { place = place + 1; keys = keys; own_is = refl; row_is = refl; left = rest } })
 
-  asks_one : (n : ℕ) → Traced (λ (i : Rest Answer). reference_at answer_at n i.refs i)
-  asks_one n = record { on = λ i j b. rw (b.row, b.own) (at_key n b.place b.keys _ _ b.bytes b.left) }
+  beside : (n : ℕ) (i j : Rest Answer) → SameRest Beside i j → Sided (reference_at answer_at n i.refs i) (reference_at answer_at n j.refs j)
+  beside n i j b = let s = b.refs in rw (s.own_is, s.row_is) (at_key n s.place s.keys _ _ b.bytes s.left)
 
-  -- ---- values
-
-  data DeeperTraced : Deeper Answer ArcRef → Type 0 where
-    no-deeper : DeeperTraced None
-    one-deeper : (get : Shape → Gets Answer (Meaning ArcRef)) → ((s : Shape) → Traced (get s)) → DeeperTraced (Some get)
-
-  entering : {X : Type 0} {d : Deeper Answer ArcRef} (part : (Shape → Gets Answer (Meaning ArcRef)) → Gets Answer X) → DeeperTraced d
-      → ((get : Shape → Gets Answer (Meaning ArcRef)) → ((s : Shape) → Traced (get s)) → Traced (part get)) → Traced (enter d part)
-  entering part no-deeper k = refuses Error.TooDeep refl
-  entering part (one-deeper get h) k = k get h
-
-  json_traced : {d : Deeper Answer ArcRef} → DeeperTraced d → (case : JsonCase) → Traced (λ i. json_part d case i)
-  json_traced h null_case = gives (variant 0 meanings.none)
-  json_traced h flag_case = of_bytes bool_at (λ bytes. (sober_parts bytes).0) (λ b. variant 1 (meanings.flag b))
-  json_traced h number_case =
-      after_bytes bool_at (λ bytes. (sober_parts bytes).0) (λ float. choose float (λ r. Err Error.JsonNumber) (bytes_of (signed_at w64) (λ z. variant 2 (integer z))))
-      (λ float. choice float (refuses Error.JsonNumber refl) (of_bytes (signed_at w64) (sober_signed w64) (λ z. variant 2 (integer z))))
-  json_traced h text_case = of_bytes text_at (λ bytes. (sober_parts bytes).1) (λ t. variant 3 (meanings.text t))
-  json_traced {d} h array_case =
-      after_bytes length_at sober_length (λ count. enter d (λ get. seen (λ ms. variant 4 (sequence ms)) (items (get json) count)))
-      (λ count. entering _ h (λ get g. sees (λ ms. variant 4 (sequence ms)) (each_of (g json) count)))
-  json_traced {d} h object_case =
-      after_bytes length_at sober_length (λ count. enter d (λ get. seen (λ es. variant 5 (of_entries (put_all (put_sorted text_order) [] es))) (items (two (get shapes.text) (get json)) count)))
-      (λ count. entering _ h (λ get g. sees (λ es. variant 5 (of_entries (put_all (put_sorted text_order) [] es))) (each_of (both_of (g shapes.text) (g json)) count)))
-
-  known : {X Z : Type 0} (c : Result Z Error) (f : Z → Gets Answer X) → Sober c → ((z : Z) → Traced (f z)) → Traced (λ i. c >>= λ z. f z i)
-  known (Ok z) f s h = h z
-  known (Err e) f s h = refuses e s
-
-  sober_case : (n : ℕ) → Sober (json_case n)
-  sober_case n = sober_if (n == 0) _ _ tt (sober_if (n == 1) _ _ tt (sober_if (n == 2) _ _ tt (sober_if (n == 3) _ _ tt (sober_if (n == 4) _ _ tt (sober_if (n == 5) _ _ tt refl)))))
-
-  module _ (parts : ℕ → Shape) where
-    with_traced : {d : Deeper Answer ArcRef} → DeeperTraced d → (s : Shape) → Traced (λ i. read_with answer_at parts d s i)
-    unfolding read_with
-    with_traced h nothing = gives meanings.none
-    with_traced h (unsigned w) = of_bytes (unsigned_at w) (sober_unsigned w) _
-    with_traced h (signed w) = of_bytes (signed_at w) (sober_signed w) _
-    with_traced h flag = of_bytes bool_at (λ bytes. (sober_parts bytes).0) _
-    with_traced h shapes.text = of_bytes text_at (λ bytes. (sober_parts bytes).1) _
-    with_traced h letter = of_bytes char_at (λ bytes. (sober_parts bytes).2) _
-    with_traced h duration = of_bytes duration_at (λ bytes. (sober_parts bytes).3) _
-    with_traced h shapes.pattern = of_bytes text_at (λ bytes. (sober_parts bytes).1) _
-    with_traced {d} h json =
-        after_bytes (unsigned_at w64) (sober_unsigned w64) (λ n i. json_case n >>= λ case. json_part d case i) (λ n. known (json_case n) (λ case i. json_part d case i) (sober_case n) (json_traced h))
-    with_traced {d} h (optional s) =
-        after_bytes bool_at (λ bytes. (sober_parts bytes).0) (λ some. choose some (seen present (read_with answer_at parts d s)) (λ r. Ok (absent, r)))
-        (λ some. choice some (sees present (with_traced h s)) (gives absent))
-    with_traced {d} h (outcome s t) =
-        after_bytes bool_at (λ bytes. (sober_parts bytes).0) (λ ok. choose ok (seen success (read_with answer_at parts d s)) (seen failure (read_with answer_at parts d t)))
-        (λ ok. choice ok (sees success (with_traced h s)) (sees failure (with_traced h t)))
-    with_traced h (list s) = sees sequence (as_many (with_traced h s))
-    with_traced h (run s) = refuses Error.WrongKind refl
-    with_traced h (array n s) = sees sequence (each_of (with_traced h s) n)
-    with_traced h (both s t) = sees entry (both_of (with_traced h s) (with_traced h t))
-    with_traced h (sorted_map order s t) = sees _ (as_many (both_of (with_traced h s) (with_traced h t)))
-    with_traced h (placed_map s t) = sees _ (as_many (both_of (with_traced h s) (with_traced h t)))
-    with_traced h (hash_map s t) = sees of_hash_map (as_many (both_of (with_traced h s) (with_traced h t)))
-    with_traced h (sorted_set order s) = sees _ (as_many (with_traced h s))
-    with_traced h (placed_set s) = sees _ (as_many (with_traced h s))
-    with_traced h (static_value registry) =
-        after_bytes (unsigned_at w32) (sober_unsigned w32) (λ n i. registered registry n >>= λ m. Ok (lifted m, i))
-        (λ n. known (registered registry n) (λ m i. Ok (lifted m, i)) (sober_registered registry n) (λ m. gives (lifted m)))
-    with_traced {d} h (tagged written known body) =
-        after_bytes text_at (λ bytes. (sober_parts bytes).1) (λ tag. choose (known tag) (seen (of_tagged tag) (read_with answer_at parts d (body tag))) (λ r. Err Error.UnknownTag))
-        (λ tag. choice (known tag) (sees (of_tagged tag) (with_traced h (body tag))) (refuses Error.UnknownTag refl))
-    with_traced {d} h (cases w known part) =
-        after_bytes (unsigned_at w) (sober_unsigned w) (λ n. choose (known n) (seen (variant n) (read_with answer_at parts d (part n))) (λ r. Err Error.UnknownTag))
-        (λ n. choice (known n) (sees (variant n) (with_traced h (part n))) (refuses Error.UnknownTag refl))
-    with_traced h (shapes.reference kind) = asks_one kind
-    with_traced h (nested n) = entering _ h (λ get g. g (parts n))
-
-    below_traced : (levels : ℕ) → DeeperTraced (below answer_at parts levels)
-    unfolding below
-    below_traced zero = no-deeper
-    below_traced (suc levels) = one-deeper _ (with_traced (below_traced levels))
-
-    typed_traced : (o : Option Shape) → Traced (λ i. read_typed (handles_at 0 parts) o i)
-    unfolding read
-    typed_traced None = refuses Error.WrongKind refl
-    typed_traced (Some s) = with_traced (below_traced (deepest - 0)) s
+  stopped : {own row : Result (Meaning ArcRef × Rest Answer) Error} → Sided own row → row ≡ Err (Error.Storage kind) → own ≡ Err (Error.Storage k)
+  stopped (both-given p q v s) is = absurd (cc)
+  stopped (both-faulty e sober) is = absurd (let at : e ≡ Error.Storage kind = cc in subst Sober at sober)
+  stopped (both-refused e f c) is = ap Err (c (cc))
+  stopped (first-refused e r c) is = ap Err (c (Error.Storage kind) refl)
 
 -- ---- what comes next
 
@@ -285,8 +99,10 @@ module _ (types : Types) (t : ℕ) (blob : Blob) where
       omega (arith, within, ap length is, length-append (kinds_of xs) (kind.0 ∷ []), length-append (kinds_of got) (k ∷ back), many xs, many got) in
       let there = slice_get-get_or blob.keys (length got) 0 short in
       let input : List ArcRef → Rest Answer = λ gs. record { bytes = blob.bytes; refs = answers_from gs 0 blob.keys } in
-      let goes = (typed_traced xs got kind.0 k back types.parts (types.nodes t)).on (input xs) (input got) (record { place = 0; keys = blob.keys; bytes = refl; row = refl; own = refl; left = is }) in
-      let err = stopped xs got kind.0 k back (read_blob types t blob xs) (read_blob types t blob got) goes s.0 in
+      let goes =
+      typed_par {E = Stops xs got kind.0 k back} {F = Unit {0}} {T = Beside xs got kind.0 k back} {R = λ r q. Unit {0}} {parts = types.parts} answer_at answer_at (beside xs got kind.0 k back)
+      0 (types.nodes t) (λ o is. inl tt) (input got) (input xs) (record { bytes = refl; refs = record { place = 0; keys = blob.keys; own_is = refl; row_is = refl; left = is } }) in
+      let err : read_blob types t blob got ≡ Err (Error.Storage k) = stopped xs got kind.0 k back goes s.0 in
       record { key = _; there = there; next = ap (next_by (slice_get blob.keys (length got))) err ∙ ap (λ o. next_by o (Err (Error.Storage k))) there }
 
 -- a row that was found by stand-ins, the last of which is asked for after all others

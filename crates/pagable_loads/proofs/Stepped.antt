@@ -1,7 +1,7 @@
 -- What a load needs next, what the calls of its steps did, and whole pins and readings.
 use Rattle.{either.specs.declared.Either.Either, pagable_core.specs.{Context.at_front, Data.blob_of}, pagable_loads.specs.{Decoding.{IsReadAs, Needs}, Frames.{IsLoadOf, frame_of}}}
 use Rattle.pagable_loads.specs.{Frames.{frames_of, onto, reading_of}, Got.{Lends, LendsEach, answer_at, lent_at}, Starting.{PinsFirst, Shares, StartsPin, TakesBack, Unpins}}
-use Rattle.pagable_loads.specs.{Stepping.{Drops, HasGone, IsSameLoad, Met, Runs, Steps, Tries}, Telling.{Acting, Acts, ActsThen, AdoptsValue, AsksFor, Brings, IsMade, TakesLazily, Tells}}
+use Rattle.pagable_loads.specs.{Stepping.{Drops, HasGone, IsSameLoad, Met, Runs, Tries}, Telling.{Acting, Acts, ActsThen, AdoptsValue, AsksFor, Brings, IsMade, TakesLazily, Tells}}
 use Rattle.{pagable_loads.specs.declared.{reading.{Frame.Frame as Held, Need.Need, Reading.Reading as Own}, access.PinStart.PinStart}, pagable_model.specs.Blob.Blob}
 use Rattle.pagable_model.specs.{Deep.{is_eager, longest_path}, Meaning.Meaning, Reading.{Rest, read_typed}, Shape.Shape, Standing.{Answer, GivesSome, Standing, handles_at, rest_at}}
 use Rattle.{pagable_model.specs.declared.{error.Error.Error, numbers.{ArcRef.ArcRef, HandleNumber.HandleNumber, Kind.Kind, LoadNumber.LoadNumber}}, pagable_world.specs.Access.{Called, IsUnpinnedBack}}
@@ -216,18 +216,17 @@ module _ {N : Type 0} (E : Type 0) (v : Values N) (me : Owner) (own : Own) where
   stays_open w w' e m = grind (arith, common_steps, nat_tests)
 
   pub gives_up : (e : Error) (l : LoadNumber) (frames none : List Frame) → l ≡ own.load → none ≡ [] → (s mid t : PagerState N E) → Tries v me own s (Err e) frames mid → Drops v me l mid t
-      → Steps v me own s (Some (LoadAnswer.Refused e)) none t
-  gives_up e l frames none at is s mid t tried dropped = record {
-    does = λ o.
-        let d = subst (λ n. Drops v me n mid t) at dropped in
-        let m = tried.meets o in
-        let open_load : OwnsLoad mid.core me own.load o.load = record { stands_open = stays_open s.core mid.core e m.meets ∙ o.owned.stands_open; own = o.owned.own } in
-        record {
-          does = record { does = (inl (record { mid = mid.core; meets = m.meets; told = d.told; closes = grind (arith, nat_tests) }), is) };
-          moves = moves_then m.moves d.call.moves;
-          whole = d.call.whole;
-        };
-  }
+      → Tries v me own s (Ok (Some (LoadAnswer.Refused e))) none t
+  gives_up e l frames none at is s mid t tried dropped =
+      goes (λ o.
+      let d = subst (λ n. Drops v me n mid t) at dropped in
+      let m = tried.meets o in
+      let open_load : OwnsLoad mid.core me own.load o.load = record { stands_open = stays_open s.core mid.core e m.meets ∙ o.owned.stands_open; own = o.owned.own } in
+      record {
+        does = record { does = (inl (record { mid = mid.core; meets = m.meets; told = d.told; closes = grind (arith, nat_tests) }), is) };
+        moves = moves_then m.moves d.call.moves;
+        whole = d.call.whole;
+      })
 
 pub ruleset giving_up = (nat_tests, acts_then, gives_up)
 
@@ -273,7 +272,7 @@ module _ {N : Type 0} (v : Values N) (me : Owner) where
 
 module _ {N E : Type 0} (v : Values N) (me : Owner) where
   module _ (own now : Own) (s m t : PagerState N E) (gone : HasGone v me own now s m) where
-    pub went_on : (next : Own) (frames : List Frame) → IsSameLoad now next (one_more now.steps) → frames ≡ frames_of next.top next.below.items → Steps v me now m None frames t → HasGone v me own next s t
+    pub went_on : (next : Own) (frames : List Frame) → IsSameLoad now next (one_more now.steps) → frames ≡ frames_of next.top next.below.items → Tries v me now m (Ok None) frames t → HasGone v me own next s t
     went_on next frames is_same is step = record { open_still = still; then = λ o answer u run. gone.then o answer u (load-goes-on (reading_of now) frames answer m t u (step.does (gone.open_still o)) (subst (λ r. LoadRun v me r t answer u) same run)) }
       where
         same : reading_of next ≡ gone_on (reading_of now) frames
@@ -282,7 +281,7 @@ module _ {N E : Type 0} (v : Values N) (me : Owner) where
         still : IsLoadOf s.core me own → IsLoadOf t.core me next
         still o = grind (arith, nat_tests, goes_open)
 
-    pub ends_so : (answer : LoadAnswer N) (frames : List Frame) → Steps v me now m (Some answer) frames t → Runs v me own s answer t
+    pub ends_so : (answer : LoadAnswer N) (frames : List Frame) → Tries v me now m (Ok (Some answer)) frames t → Runs v me own s answer t
     ends_so answer frames step = first_of (grind (arith, common_steps, nat_tests), grind (arith, nat_tests, load-ends), search (rules, load-ends))
 
 pub ruleset driving = (nat_tests, acts_then, went_on, ends_so)

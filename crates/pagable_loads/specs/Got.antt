@@ -35,15 +35,11 @@ pub may_refuse : (found : Option ArcRef) (kind : ℕ) (e : Error) → answer_of 
 may_refuse None kind e is = let same : e ≡ Error.Storage kind = cc in cc
 may_refuse (Some r) kind e is = choice (r.kind.0 == kind) r e is
 
--- ---- what those who answer with stand-ins stand for
-
 abbrev pub stand_in : ℕ → ArcRef
 stand_in kind = record { kind = record { 0 = kind }; node = record { 0 = 0 }; handle = record { 0 = 0 } }
 
-abbrev pub answered_or : Bool → Result ArcRef Error → ℕ → Result ArcRef Error
-answered_or true r kind = r
-answered_or false r kind = Ok (stand_in kind)
-
-pub or_may_refuse : (b : Bool) (found : Option ArcRef) (kind : ℕ) (e : Error) → answered_or b (answer_of found kind) kind ≡ Err e → may_refuse_reference e ≡ true
-or_may_refuse true found kind e is = may_refuse found kind e is
-or_may_refuse false found kind e is = cc
+-- what was found at a place; and where it is noted what is asked for, a stand-in for what is read later and wasn't got
+abbrev pub found_or : Bool → Option ArcRef → ℕ → Option ArcRef
+found_or false found kind = found
+found_or true (Some r) kind = Some r
+found_or true None kind = if is_eager kind then None else Some (stand_in kind)

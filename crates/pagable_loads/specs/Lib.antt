@@ -5,5 +5,4 @@ pub mod Frames
 pub mod Stepping
 pub mod Working
 pub mod Ending
-pub mod Ahead
 pub mod Starting

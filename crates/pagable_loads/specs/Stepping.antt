@@ -9,14 +9,10 @@ pub record Met {N E : Type 0} (v : Values N) (me : Owner) (reading : Reading) (s
   pub meets : Meets v s.core me reading e t.core
   pub moves : Moves (ReadingBrings v s.core reading) s t
 
--- A step, up to the refusal that it met. It is asked that the load is open, and what its own side says.
+-- A step, up to the refusal that it met; with an answer it is a whole one. It is asked that the load is open, and what its own side says.
 pub record Tries {N E : Type 0} (v : Values N) (me : Owner) (own : Own) (s : PagerState N E) (r : Result (Option (LoadAnswer N)) Error) (frames : List Frame) (t : PagerState N E) : Type 0 where
   pub does : IsLoadOf s.core me own → IfOk r (λ answer. ReadingStep v me (reading_of own) s answer frames t)
   pub meets : IsLoadOf s.core me own → IfErr r (λ e. Met v me (reading_of own) s e t)
-
--- A whole step of a load that is open, and is what its own side says.
-pub record Steps {N E : Type 0} (v : Values N) (me : Owner) (own : Own) (s : PagerState N E) (answer : Option (LoadAnswer N)) (frames : List Frame) (t : PagerState N E) : Type 0 where
-  pub does : IsLoadOf s.core me own → ReadingStep v me (reading_of own) s answer frames t
 
 -- the load is given up, whatever that is told
 pub record Drops {N E : Type 0} (v : Values N) (me : Owner) (l : LoadNumber) (s t : PagerState N E) : Type 0 where

@@ -1,8 +1,8 @@
 //! A blob is read from its front, with the references that were got so far. And a row of references that the innermost blob asks for, one after the other, is known before they are got: it is found by
 //! two readings with stand-ins for the references that are read later: one that notes what is asked for, and one that asks for the last of them with all that are before it.
 
-ghost use Rattle.std.specs.Prelude.{IfOk, IfSome, IsSome, ◌≡◌};
-ghost use Rattle.{pagable_core.specs.Data.blob_of, pagable_loads.specs.{Ahead.{IsAhead, Kept, RowTells}, Decoding.{Decodes, ReadsWith}, Frames.frames_of, Telling.values_at}};
+ghost use Rattle.std.specs.Prelude.{IfOk, IfSome, IsSome, None, ◌≡◌};
+ghost use Rattle.{pagable_core.specs.Data.blob_of, pagable_loads.specs.{Decoding.{Decodes, IsAhead, Kept, ReadsWith, RowTells}, Frames.frames_of, Telling.values_at}};
 ghost use Rattle.pagable_world.specs.Plain.{Types};
 
 use crate::access::Access;
@@ -14,7 +14,8 @@ use std::alloc::Global;
 use std::sync::Arc;
 
 /// Answers for a blob's references from a list of those that were got so far, the first of the blob's first. One that wasn't got is refused with Storage of its kind, and one that was got as another
-/// kind with WrongKind. It lends the value of the reference that it answered last, from a list of values by the references' places, which may be shorter.
+/// kind with WrongKind. It lends the value of the reference that it answered last, from a list of values by the references' places, which may be shorter. Where it notes what is asked for, it answers
+/// for a reference that is read later and wasn't got with a stand-in of its kind.
 #[derive(Drop)]
 pub struct GotReferences<'g, E: Env> {
     env: &'g E,
@@ -23,19 +24,22 @@ pub struct GotReferences<'g, E: Env> {
     lent: &'g [Option<Arc<E::Node>>],
     // The place of the reference that was answered last.
     last: usize,
+    noted: Option<Vec<ArcRef>>,
 }
 
 impl<'g, E: Env> GotReferences<'g, E> {
-    /// These references with these values, in this environment and session.
+    /// These references with these values, in this environment and session; and what was noted so far, if it notes.
     pub fn new(
         env: &'g E,
         session: &'g SessionContext<E::CtxKey, E::CtxValue>,
         got: &'g [ArcRef],
         lent: &'g [Option<Arc<E::Node>>],
+        noted: Option<Vec<ArcRef>>,
     ) -> GotReferences<'g, E>
         ensures env { result.env.now ≡ env.now }
         ensures got { result.got.now ≡ got.now }
         ensures lent { result.lent.now ≡ lent.now }
+        ensures noted { result.noted ≡ noted }
     {
         GotReferences {
             env,
@@ -43,21 +47,23 @@ impl<'g, E: Env> GotReferences<'g, E> {
             got,
             lent,
             last: 0,
+            noted,
         }
     }
 }
 
 impl<'g, E: Env> References<E> for GotReferences<'g, E> {
-    ghost use Rattle.std.specs.{Prelude.slice_get, Arc.arc_value};
-    ghost use Rattle.pagable_loads.specs.Got.{answer_at, lent_by, may_refuse};
+    ghost use Rattle.std.specs.{Arc.arc_value, Option.is_some, Prelude.slice_get};
+    ghost use Rattle.pagable_world.specs.Loads.{answer_of};
+    ghost use Rattle.pagable_loads.specs.Got.{found_or, lent_by, may_refuse};
 
     ghost environment = { λ s. s.env.now };
 
-    ghost answer = { λ s place key kind. answer_at s.got.now place key kind };
+    ghost answer = { λ s place key kind. answer_of (found_or (is_some s.noted) (slice_get s.got.now place) kind) kind };
 
     ghost lends = { λ s reference. lent_by arc_value s.got.now s.lent.now s.last reference };
 
-    ghost refusals = { λ s place key kind e is. may_refuse (slice_get s.got.now place) kind e is };
+    ghost refusals = { λ s place key kind e is. may_refuse (found_or (is_some s.noted) (slice_get s.got.now place) kind) kind e is };
 
     fn env(&self) -> &E {
         self.env
@@ -68,17 +74,28 @@ impl<'g, E: Env> References<E> for GotReferences<'g, E> {
     }
 
     fn reference(&mut self, place: usize, _key: DataKey, kind: Kind) -> Result<ArcRef, Error> {
-        if place >= self.got.len() {
+        let got = self.got;
+        if place < got.len() {
+            let found = got[place];
+            if found.kind.0 != kind.0 {
+                return Err(Error::WrongKind);
+            }
+            self.last = place;
+            return Ok(found);
+        }
+        if is_read_at_once(kind) {
             return Err(Error::Storage(kind.0));
         }
-        let got = self.got;
-        let found = got[place];
-        if found.kind.0 == kind.0 {
-            self.last = place;
-            Ok(found)
-        } else {
-            Err(Error::WrongKind)
-        }
+        let Some(noted) = &mut self.noted else {
+            return Err(Error::Storage(kind.0));
+        };
+        let reference = ArcRef {
+            kind,
+            node: NodeNumber(0),
+            handle: HandleNumber(0),
+        };
+        let _told = noted.push(reference);
+        Ok(reference)
     }
 
     fn shared(&self, reference: ArcRef) -> Option<&E::Node> {
@@ -109,7 +126,7 @@ pub enum Decoded<N: Drop> {
     Refused(Error),
 }
 
-// Reads the blob, in a session of its own.
+// Reads the blob, in a session of its own, and gives back what was noted besides.
 fn read_got<E: Env>(
     env: &E,
     alloc: Global,
@@ -117,19 +134,21 @@ fn read_got<E: Env>(
     node_type: u32,
     got: &[ArcRef],
     lent: &[Option<Arc<E::Node>>],
-) -> Result<E::Node, Error>
+    noted: Option<Vec<ArcRef>>,
+) -> (Result<E::Node, Error>, Option<Vec<ArcRef>>)
 where
     E::Node: NodeSet<E>,
-    ensures asked { IfOk result (λ x. E.Node.type_of x ≡ node_type) }
-    ensures reads { ReadsWith (values_at E.Node.NodeSet E.Env E.Hash.KeyHash env.now) node_type (blob_of blob.now) got.now result }
+    ensures asked { IfOk result.0 (λ x. E.Node.type_of x ≡ node_type) }
+    ensures reads { noted ≡ None → ReadsWith (values_at E.Node.NodeSet E.Env E.Hash.KeyHash env.now) node_type (blob_of blob.now) got.now result.0 }
 {
     let session = SessionContext::new(alloc);
     let mut deserializer = PagableDeserializerImpl::new(
         blob.bytes.as_slice(),
         blob.arcs.as_slice(),
-        GotReferences::new(env, &session, got, lent),
+        GotReferences::new(env, &session, got, lent, noted),
     );
-    E::Node::read(node_type, alloc, &mut deserializer)
+    let read = E::Node::read(node_type, alloc, &mut deserializer);
+    (read, deserializer.finish().noted)
 }
 
 /// Reads a blob from its front as a value of this type, with the references that were got for it so far, whose values are lent by their places. Nothing that
@@ -146,7 +165,8 @@ where
     E::Node: NodeSet<E>,
     ensures decodes { Decodes (values_at E.Node.NodeSet E.Env E.Hash.KeyHash env.now) node_type (blob_of blob.now) got.now result }
 {
-    match read_got(env, alloc, blob, node_type, got, lent) {
+    let (read, _) = read_got(env, alloc, blob, node_type, got, lent, None);
+    match read {
         Ok(value) => Decoded::Read(value),
         Err(Error::Storage(kind)) => {
             let arcs = blob.arcs.as_slice();
@@ -161,53 +181,6 @@ where
 }
 
 // ---- what is asked for ahead
-
-/// Answers as `GotReferences` does, but for a reference that is read later and wasn't got with a stand-in of its kind, which it notes.
-#[derive(Drop)]
-pub struct StandIns<'g, E: Env> {
-    got: GotReferences<'g, E>,
-    // How many were got.
-    count: usize,
-    noted: Vec<ArcRef>,
-}
-
-impl<'g, E: Env> References<E> for StandIns<'g, E> {
-    ghost use Rattle.std.specs.{Prelude.{◌||◌, nat_lt, slice_get}, Arc.arc_value};
-    ghost use Rattle.{pagable_model.specs.Deep.is_eager, pagable_loads.specs.Got.{answer_at, answered_or, lent_by, or_may_refuse}};
-
-    ghost environment = { λ s. s.got.env.now };
-
-    ghost answer = { λ s place key kind. answered_or (nat_lt place s.count || is_eager kind) (answer_at s.got.got.now place key kind) kind };
-
-    ghost lends = { λ s reference. lent_by arc_value s.got.got.now s.got.lent.now s.got.last reference };
-
-    ghost refusals = { λ s place key kind e is. or_may_refuse (nat_lt place s.count || is_eager kind) (slice_get s.got.got.now place) kind e is };
-
-    fn env(&self) -> &E {
-        self.got.env()
-    }
-
-    fn session_context(&self) -> &SessionContext<E::CtxKey, E::CtxValue> {
-        self.got.session_context()
-    }
-
-    fn reference(&mut self, place: usize, key: DataKey, kind: Kind) -> Result<ArcRef, Error> {
-        if place < self.count || is_read_at_once(kind) {
-            return self.got.reference(place, key, kind);
-        }
-        let reference = ArcRef {
-            kind,
-            node: NodeNumber(0),
-            handle: HandleNumber(0),
-        };
-        let _told = self.noted.push(reference);
-        Ok(reference)
-    }
-
-    fn shared(&self, reference: ArcRef) -> Option<&E::Node> {
-        self.got.shared(reference)
-    }
-}
 
 /// The row is as it was if the reference is of this kind, and else empty.
 pub(crate) fn keep_if(row: &mut Vec<ArcRef>, kind: Kind, reference: ArcRef)
@@ -247,18 +220,11 @@ impl Reading {
         let blob = top.blob.as_ref();
         let got = top.got.as_slice();
         // The blob's reader may ask otherwise than the blob is spelled: none of what it notes is trusted.
-        let session = SessionContext::new(alloc);
-        let mut deserializer = PagableDeserializerImpl::new(
-            blob.bytes.as_slice(),
-            blob.arcs.as_slice(),
-            StandIns {
-                got: GotReferences::new(env, &session, got, lent),
-                count: got.len(),
-                noted: Vec::new(alloc),
-            },
-        );
-        let _read = E::Node::read(top.node_type, alloc, &mut deserializer);
-        let noted = deserializer.finish().noted;
+        let noting = Some(Vec::new(alloc));
+        let (_read, noted) = read_got(env, alloc, blob, top.node_type, got, lent, noting);
+        let Some(noted) = noted else {
+            return row;
+        };
         if row.extend_from_slice(got).is_err() || row.extend_from_slice(noted.as_slice()).is_err() {
             return Vec::new(alloc);
         }

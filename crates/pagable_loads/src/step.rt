@@ -1,8 +1,8 @@
 //! A load's steps, over an access to a pager, and a load that is driven to its end. And whole operations over an access: a pin, with the load that it may need, and the reading of a key.
 
 ghost use Rattle.std.specs.{Arc.arc_value, Prelude.{[], IfOk, IsSome, length, Ok, ◌<◌, ◌≡◌}};
-ghost use Rattle.pagable_loads.specs.{Ahead.{goes_on_with, GotMore, IsAhead}, Decoding.Needs, Ending.LeadsOn, Frames.{frames_of, reading_of}, Starting.{PinsFirst, Unpins}, Stepping.Drops};
-ghost use Rattle.{pagable_loads.specs.{Stepping.{IsSameLoad, Runs, Steps, Tries}, Telling.{Acts, values_at}}, pagable_world.specs.{Access.{PinsOver, ReadsOver}, declared.handles.Owner.Owner}};
+ghost use Rattle.pagable_loads.specs.{Decoding.{goes_on_with, GotMore, IsAhead, Needs}, Ending.LeadsOn, Frames.{frames_of, reading_of}, Starting.{PinsFirst, Unpins}, Stepping.Drops};
+ghost use Rattle.{pagable_loads.specs.{Stepping.{IsSameLoad, Runs, Tries}, Telling.{Acts, values_at}}, pagable_world.specs.{Access.{PinsOver, ReadsOver}, declared.handles.Owner.Owner}};
 ghost use Rattle.pagable_world.specs.{Loads.{need_of, needs_lazy, ReadsNode, ReadsRoot}, World.{one_more, seen_as}};
 
 use crate::access::{Access, PinStart};
@@ -176,7 +176,7 @@ impl Reading {
     ) -> Option<LoadAnswer<E::Node>>
     where
         E::Node: NodeSet<E>,
-        ensures acts { Acts A.told A.acting access.old access.new (λ a s t. Steps (values_at E.Node.NodeSet E.Env E.Hash.KeyHash a.environment) a.me self.old s result (frames_of self.new.top self.new.below.items) t) }
+        ensures acts { Acts A.told A.acting access.old access.new (λ a s t. Tries (values_at E.Node.NodeSet E.Env E.Hash.KeyHash a.environment) a.me self.old s (Ok result) (frames_of self.new.top self.new.below.items) t) }
         ensures leads { LeadsOn self.old.for_cell (frames_of self.old.top self.old.below.items) (frames_of self.new.top self.new.below.items) (Ok result) }
         ensures same { IsSameLoad self.old self.new (one_more self.old.steps) }
     {
@@ -205,7 +205,7 @@ impl Reading {
     where
         E::Node: NodeSet<E>,
         requires ahead { IsAhead (values_at E.Node.NodeSet E.Env E.Hash.KeyHash (A.acting access.old).environment).types (frames_of self.old.top self.old.below.items) row.old.items }
-        ensures acts { Acts A.told A.acting access.old access.new (λ a s t. Steps (values_at E.Node.NodeSet E.Env E.Hash.KeyHash a.environment) a.me self.old s result (frames_of self.new.top self.new.below.items) t) }
+        ensures acts { Acts A.told A.acting access.old access.new (λ a s t. Tries (values_at E.Node.NodeSet E.Env E.Hash.KeyHash a.environment) a.me self.old s (Ok result) (frames_of self.new.top self.new.below.items) t) }
         ensures leads { LeadsOn self.old.for_cell (frames_of self.old.top self.old.below.items) (frames_of self.new.top self.new.below.items) (Ok result) }
         ensures same { IsSameLoad self.old self.new (one_more self.old.steps) }
         ensures ahead { IsAhead (values_at E.Node.NodeSet E.Env E.Hash.KeyHash (A.acting access.old).environment).types (frames_of self.new.top self.new.below.items) row.new.items }

@@ -1,26 +1,20 @@
 -- What a call does to values. They go with a cascade: where a call has done what it does directly, a value stays exactly where its node is in memory afterwards, and owns what it did. And they come.
-use Rattle.pagable_laws.proofs.{Decoding.among-either, Existing.outlast, Following.one-less, Goes.{NotLoads, NotValues, Stands, among-changed, among-found, among-kept, found-kept, found-number}}
-use Rattle.pagable_laws.proofs.{Goes.{le-more, none-in-new, stands-alike, stands-changed, stands-more, stands-whole}, GoodReferences.{fell-away, good, no-pins, or-none, same-owner}}
-use Rattle.{pagable_laws.proofs.{SparingSteps.{found, named-among, neither}, Taking.row-held, Trees.{at-most-sum, counted, same-number, self-number, sum-le}}, pagable_steps.proofs.Owning.AreFree}
-use Rattle.pagable_steps.proofs.Owning.{At, Has, IsRight, IsShut, Keeps, Leaves, OwnsAlike, Rests, among-named, gets-known, holds_value, listed-free, mode-here, mode-others, mode-owns, moved-pins}
-use Rattle.pagable_steps.proofs.Owning.{not-load, own-free, owned-test, owns-changed, owns-handle, owns-same, owns-then, pinned-here, rests-cached, rests-then, row-here, rowed, same-value, settled}
-use Rattle.pagable_steps.proofs.Owning.{shut-alike, sits, sits-on, spared, spares-handle, spares-keeps, spares-known, spares-moved, spares-same, spares-then, stayed, turned, unmoved}
-use Rattle.pagable_world.specs.Calls.{AwayBirthCall, BirthCall, CloseCall, OfferCall, ReleaseCall, ScheduleCall, SetKeyCall, UnpinCall, is_named_by, moved, next_node, row_of, with_handle, with_key}
-use Rattle.pagable_world.specs.{Calls.{with_mode, with_node}, Cascade.{AreNewEntries, Falls, FallsAnyhow, fallen, is_keyed, is_outside, left_rows, loses_value, only_handle, owned_outside}}
-use Rattle.pagable_world.specs.{Kinds.{find_row, held, is_at, is_loose, is_owned_by, is_owner, is_pin, is_pinning, mode_of, owner_value, owner_worker, pins}, LoadCalls.{Adopts, DropCall, EndCall}}
-use Rattle.pagable_world.specs.{LoadCalls.{HandOverCall, Installs, LazyCall, LoadCloses, MayEnd, is_owned_in, numbers_of, with_pin, without_load}, Pager.{IsWhole, PagerState, WellFormed}}
-use Rattle.pagable_world.specs.{Plain.{Among, ArcRef, Error, HandleNumber, Kind, LoadNumber, NodeNumber, OptionalDataKey, if_there, is_in, one, times, type_of, updated}, Refusals.Owns}
-use Rattle.pagable_world.specs.{Refusals.references_fault, Workers.{WorkerEnds, is_load_of, is_workers_at}, World.{Alike, Cell, Core, OpenLoad, Values, is_here, type_at, usable}}
-use Rattle.{pagable_world.specs.declared.{handles.{HandleRow.HandleRow, Owner.Owner}, rows.Mode.Mode}, std.proofs.Common.{Bool, Err, List, None, Ok, Option, Some, [], ap, arith, false}}
-use Rattle.std.proofs.{Common.{if◌then◌else◌, inl, inr, map, refl, subst, suc, sym, true, ℕ, ◌&&◌, ◌++◌, ◌+◌, ◌<◌, ◌==◌, ◌||◌, ◌∙◌, ◌∷◌, ◌≡◌, ◌≤◌}, lemmas.Bool.{and_parts, cases_Bool}}
-use Rattle.std.{proofs.lemmas.{Bool.{false_from_ne_true, Decides.nat_tests}, List.Sums.{sum_by-append, sum_by-cons, sum_by_push}}, specs.Prelude.{Result, cond, filter, is_some, nat_lt, not}}
-use Rattle.std.specs.Prelude.{slice_get}
+use Rattle.pagable_laws.proofs.{Decoding.among-either, Existing.outlast, Following.one-less, Goes.{NotLoads, NotValues, Stands, among-changed, among-found, fell-away, found-number, good, no-pins}}
+use Rattle.pagable_laws.proofs.{Goes.{or-none, same-owner, stands-changed, stands-left, stands-whole}, SparingSteps.{found, named-among, neither}, Taking.row-held, Trees.{at-most-sum, counted}}
+use Rattle.{pagable_laws.proofs.Trees.{same-number, self-number, sum-le}, pagable_steps.proofs.Owning.{AreFree, At, Has, IsRight, IsShut, Keeps, Leaves, OwnsAlike, Rests, among-named, gets-known}}
+use Rattle.pagable_steps.proofs.Owning.{holds_value, listed-free, mode-here, mode-others, mode-owns, moved-pins, not-load, own-free, owned-test, owns-changed, owns-handle, owns-same, owns-then}
+use Rattle.pagable_steps.proofs.Owning.{pinned-here, rests-cached, rests-then, row-here, rowed, same-value, settled, shut-alike, sits, sits-on, spared, spares-handle, spares-keeps, spares-known}
+use Rattle.{pagable_steps.proofs.Owning.{spares-moved, spares-same, spares-then, stayed, turned, unmoved}, pagable_world.{proofs.Elements.among-left, specs.Calls.{AwayBirthCall, BirthCall}}}
+use Rattle.pagable_world.specs.Calls.{CloseCall, OfferCall, ReleaseCall, ScheduleCall, SetKeyCall, UnpinCall, is_named_by, moved, next_node, row_of, with_handle, with_key, with_mode, with_node}
+use Rattle.pagable_world.specs.{Cascade.{AreNewEntries, Falls, FallsAnyhow, fallen, is_keyed, is_outside, left_rows, loses_value, only_handle, owned_outside}, Kinds.{find_row, held, is_at, is_loose}}
+use Rattle.pagable_world.specs.{Kinds.{is_owned_by, is_owner, is_pin, is_pinning, mode_of, owner_value, owner_worker, pins}, LoadCalls.{Adopts, DropCall, EndCall, HandOverCall, Installs, LazyCall}}
+use Rattle.pagable_world.specs.{LoadCalls.{LoadCloses, MayEnd, is_owned_in, numbers_of, with_pin, without_load}, Pager.{IsWhole, PagerState, WellFormed}, Plain.{Among, ArcRef, Error, HandleNumber}}
+use Rattle.pagable_world.specs.{Plain.{Kind, LoadNumber, NodeNumber, OptionalDataKey, if_there, is_in, one, times, type_of, updated}, Refusals.{Owns, references_fault}, Workers.WorkerEnds}
+use Rattle.pagable_world.specs.{Workers.{is_load_of, is_workers_at}, World.{Alike, Cell, Core, OpenLoad, Values, is_here, type_at, usable}, declared.handles.{HandleRow.HandleRow, Owner.Owner}}
+use Rattle.{pagable_world.specs.declared.rows.Mode.Mode, std.proofs.Common.{Bool, Err, List, None, Ok, Option, Some, [], ap, arith, false, if◌then◌else◌, inl, inr, map, refl, subst, suc, sym, true}}
+use Rattle.std.proofs.{Common.{ℕ, ◌&&◌, ◌++◌, ◌+◌, ◌<◌, ◌==◌, ◌||◌, ◌∙◌, ◌∷◌, ◌≡◌, ◌≤◌}, lemmas.{Bool.{and_parts, cases_Bool, false_from_ne_true, Decides.nat_tests}, List.Sums.sum_by-append}}
+use Rattle.std.{proofs.lemmas.List.Sums.{sum_by-cons, sum_by_push}, specs.Prelude.{Result, filter, is_some, nat_lt, not, slice_get}}
 use Rattle.pagable_laws.proofs.Effects as effects
-
--- what passes the test passes it
-passes : {X : Type 0} (test : X → Bool) (xs : List X) (x : X) → Among (filter test xs) x → test x ≡ true
-passes test [] x among = absurd (cc)
-passes test (y ∷ ys) x among = grind (arith, nat_tests, filter, cond, passes test ys x)
 
 times-left : (t : HandleRow → Bool) (gone : ℕ → Bool) (rows : List HandleRow) → times t (left_rows gone rows) ≡ times (λ h. t h && is_outside gone h) rows
 times-left t gone [] = refl
@@ -56,15 +50,9 @@ module _ {before w w' : Core} {given : ℕ → Bool} {r : _} (f : Falls before w
   -- a row that a value owns was there, and isn't gone
   was : (n : ℕ) (h : HandleRow) → Among w'.rows h → h.owner ≡ owner_value n → Among w.rows h × (f.gone h.number.0 ≡ false)
   was n h (i, at) own = elim (among-either (left_rows f.gone w.rows) f.entries i h (subst (λ rows. slice_get rows i ≡ Some h) f.leaves.rows at)) [
-    | inl left ↦ (among-kept _ w.rows h left, (let p = passes _ w.rows h left in grind (arith, nat_tests)))
+    | inl left ↦ (let (there, passes) = among-left _ w.rows h left in (there, grind (arith, nat_tests)))
     | inr new ↦ absurd (let e : Owner.List ≡ owner_value n = sym (listed w.last.handle f.entries f.new h new) ∙ own in cc)
   ]
-
-  left : {q : ℕ} {row : HandleRow} → f.gone q ≡ false → Stands w.last.handle w.rows q row → Stands w'.last.handle w'.rows q row
-  left {q} {row} kept s =
-      let here : Stands w.last.handle (left_rows f.gone w.rows) q row =
-      record { live = found-kept f.gone q w.rows row kept s.live; only = λ h a is. s.only h (among-kept _ w.rows h a) is; given = s.given } in
-      stands-alike {w = fallen w f.gone f.entries} f.leaves (stands-more f.entries (le-more _ _) (none-in-new w.last.handle q f.entries f.new s.given) here)
 
   same-cell : (n : ℕ) → is_some (w'.cells n) ≡ true → w'.cells n ≡ w.cells n
   same-cell n is = grind (arith, nat_tests)
@@ -120,7 +108,7 @@ module _ {before w w' : Core} {given : ℕ → Bool} {r : _} (f : Falls before w
               typed = same-type n (and_parts (is_some (w'.cells n)) (is_here w' n) still).0 ∙ a.typed;
               names = λ r among.
                   let is = a.names r among in
-                  let s = left (kept n x e still r among) is.stands in
+                  let s = stands-left f (kept n x e still r among) is.stands in
                   let there = held-there r.node.0 _ is.typed (subst (λ (k : _). 0 < held k w'.rows) (ap (λ k. k.0) is.at) (row-held w' r.handle is.row s.live)) in
                   record { row = is.row; stands = s; at = is.at; owned = is.owned; fits = is.fits; typed = same-type r.node.0 there ∙ is.typed };
               once = a.once;

@@ -1,17 +1,16 @@
 -- What a pager's type says of values, row by row: a value owns the one row of each handle that it refers to, and no other; a node without a value owns nothing. And what is done before
 -- handles go, part by part: it leaves what values own as it is.
-use Rattle.pagable_laws.proofs.Effects as effects
-use Rattle.pagable_laws.proofs.{Decoding.among-either, Following.{handles-once, one-less}, Goes.{NotValues, Stands, among-changed, among-found, found-number}, GoodReferences.same-owner}
-use Rattle.pagable_laws.proofs.{Goes.{found-after, only-one, stands-changed, stands-whole}, SparingSteps.{entered-of, found}, Trees.{at-most-sum, counted, one-true, same-number}}
-use Rattle.{pagable_laws.proofs.{Taking.row-pins, Trees.{self-number, sum-le, sum-zero}}, pagable_world.specs.Calls.{Asked, ClearCall, CloneCall, LoosenCall, PinCall, RecallCall, ReserveCall}}
-use Rattle.pagable_world.specs.{Calls.{StoreCall, TakeCall, is_named_by, moved, row_of, with_cached, with_handle, with_known, with_mode}, Cascade.only_handle, Events.with_entry_taken}
-use Rattle.pagable_world.specs.{Events.with_worker, Kinds.{fits_mode, is_at, is_handle, is_in_memory, is_owned_by, is_owner, is_pin, is_pinning, is_share, is_shared, mode_of, owner_value, pins}}
-use Rattle.pagable_world.specs.{LoadCalls.{BeginCall, BeginKeyCall, GetsKnown}, Pager.{HandlesAreWhole, IsWhole, PagerState, WellFormed}, Plain.{Among, ArcRef, Blob, Error, HandleNumber, Kind}}
-use Rattle.pagable_world.specs.{Plain.{LoadNumber, NodeNumber, SameAt, WorkerNumber, changed, is_shared_kind, one, times, type_of}, Refusals.Owns, World.{Alike}}
-use Rattle.pagable_world.specs.{World.{Core, Last, Values, is_here, key_at, row_at, type_at, usable}, declared.{answers.{Beginning.Beginning, Pinning.Pinning}, handles.HandleRow.HandleRow}}
-use Rattle.{pagable_world.specs.declared.{handles.Owner.Owner, rows.Mode.Mode}, std.proofs.Common.{Bool, Err, List, None, Ok, Option, Some, [], ap, arith, false, if◌then◌else◌, length}}
-use Rattle.std.proofs.{Common.{map, refl, subst, suc, sum_by, sym, true, ℕ, ◌&&◌, ◌+◌, ◌<◌, ◌==◌, ◌∙◌, ◌∷◌, ◌≡◌, ◌≤◌}, lemmas.Bool.{and_parts, false_from_ne_true, Decides.nat_tests}}
+use Rattle.pagable_laws.proofs.{Decoding.among-either, Following.{handles-once, one-less}, Goes.{NotValues, Stands, among-changed, among-found, found-after, found-number, only-one, same-owner}}
+use Rattle.pagable_laws.proofs.{Goes.{stands-changed, stands-whole}, SparingSteps.{entered-of, found}, Taking.row-pins, Trees.{at-most-sum, counted, one-true, same-number, self-number, sum-le}}
+use Rattle.pagable_world.specs.{Calls.{with_known, with_mode}, Cascade.only_handle, Events.{with_entry_taken, with_worker}, Kinds.{fits_mode, is_at, is_handle, is_in_memory, is_owned_by, is_owner}}
+use Rattle.pagable_world.specs.{Kinds.{is_pin, is_pinning, is_share, is_shared, mode_of, owner_value, pins}, LoadCalls.{BeginCall, BeginKeyCall, GetsKnown}, Pager.{HandlesAreWhole, IsWhole}}
+use Rattle.pagable_world.specs.{Pager.{PagerState, WellFormed}, Plain.{Among, ArcRef, Error, HandleNumber, Kind, LoadNumber, NodeNumber, SameAt, WorkerNumber, changed, is_shared_kind, one, times}}
+use Rattle.pagable_world.specs.{Plain.type_of, Refusals.Owns, World.{Alike, Core, Last, Values, is_here, key_at, row_at, type_at, usable}, declared.answers.{Beginning.Beginning, Pinning.Pinning}}
+use Rattle.std.proofs.{Common.{length, map, refl, subst, suc, sum_by, sym, true, ℕ, ◌&&◌, ◌+◌, ◌<◌, ◌==◌, ◌∙◌, ◌∷◌, ◌≡◌, ◌≤◌}, lemmas.Bool.{Decides.nat_tests, and_parts, false_from_ne_true}}
 use Rattle.std.{proofs.lemmas.{List.Sums.{sum_by-cons, sum_by_push}, Option.slice_get_within}, specs.Prelude.{Result, is_some, nat_lt, not, slice_get}}
+use Rattle.{pagable_laws.proofs.Trees.sum-zero, pagable_world.specs.Calls.{Asked, CloneCall, LoosenCall, PinCall, RecallCall, TakeCall, is_named_by, moved, row_of, with_cached, with_handle}}
+use Rattle.{pagable_world.specs.declared.{handles.{HandleRow.HandleRow, Owner.Owner}, rows.Mode.Mode}, std.proofs.Common.{Bool, Err, List, None, Ok, Option, Some, [], ap, arith, false, if◌then◌else◌}}
+use Rattle.pagable_laws.proofs.Effects as effects
 
 -- the reference names the one row of a handle that the node's value owns
 pub record Refers (w : Core) (n : ℕ) (r : ArcRef) : Type 0 where
@@ -308,16 +307,7 @@ not-load l n e = cc
 pub asked : {w w' : Core} → Asked w w' → Spares w w'
 asked a = spares-same a.leaves.rows a.leaves.cells (ap (λ (l : Last). l.handle) a.leaves.last)
 
-pub stores : {digest : Blob → ℕ} {w w' : Core} {blob : Blob} (r : Result ℕ Error) → StoreCall digest w blob r w' → Spares w w'
-stores x0 c = grind (arith, nat_tests, asked, spares-same)
-
 module _ {w : Core} (whole : IsWhole w) where
-  pub reserves : {w' : Core} {n : ℕ} {r : Result (Unit {0}) Error} → ReserveCall w n r w' → Rests w w'
-  reserves c = unmoved c.stays whole.shut
-
-  pub clears : {w' : Core} {r : Result (Unit {0}) Error} → ClearCall w r w' → Rests w w'
-  clears c = rests-then (spares-same refl (λ n. refl) refl) c.leaves (λ e. ((whole.shut e).0, λ kind key. refl))
-
   pub begins : {w' : Core} {me : Owner} {h : HandleNumber} (r : Result Beginning Error) → BeginCall w me h r w' → Rests w w'
   begins (Ok (Beginning.Load l key)) c =
       let row : HandleRow = c.begins.0 in

@@ -1,5 +1,5 @@
 -- A path that leads to what is done next goes on so, and each step leaves less to do.
-use Rattle.{pagable_laws.proofs.Trees.same_some, pagable_model.specs.declared.numbers.{ArcRef.ArcRef, HandleNumber.HandleNumber}, pagable_walk.specs.{Due.{IfGoes, LeadsOn, due, far}, Slots.ids_of}}
+use Rattle.{pagable_laws.proofs.Trees.same_some, pagable_model.specs.declared.numbers.{ArcRef.ArcRef, HandleNumber.HandleNumber}, pagable_walk.specs.{Slots.ids_of, Tasks.{IfGoes, LeadsOn, due, far}}}
 use Rattle.pagable_walk.specs.{Tasks.{Awaits, AwaitsLow, Gives, IsWay, TakesNext, back_of, place_of, raised, todo_of, todos, waiting_todo, waits_as}, declared.results.SlotResult.SlotResult}
 use Rattle.{pagable_walk.specs.declared.{results.Trees.Ghosts, tasks.{Node.Node, Task.Task, Turn.Turn, Waiting.Waiting}}, pagable_world.specs.{Kinds.identity_of, Plain.{above, is_eager}}}
 use Rattle.{pagable_world.specs.{Plain.longest_path, Workers.{give, give_known, next_start, place_below, settle}, World.{Open, Todo, Written, to_finish, to_item, to_start}}, std.proofs.Common.Bool}

@@ -1,22 +1,21 @@
 -- A worker's turns, each from what its calls did: they are its steps, and its steps are a run.
-use Rattle.{pagable_core.specs.declared.context.writing.SerializedData.SerializedData, pagable_laws.proofs.{Chains.{claimed-stands, clone-stands, may-claim}, Goes.{AreLow, Goes, Stands}}}
-use Rattle.pagable_laws.proofs.{Goes.{clone-call, low-changed, low-handle, low-whole, new-handle, not-loose, owned-none, stands-alike, stands-fell}, ReadingSteps.walk-goes, Trees.same_some}
+use Rattle.{pagable_core.specs.declared.context.writing.SerializedData.SerializedData, pagable_laws.proofs.{Chains.{claimed-stands, clone-stands, may-claim}, ReadingSteps.walk-goes, Trees.same_some}}
+use Rattle.pagable_laws.proofs.Goes.{Goes, PinOf, clone-call, end-call, low-handle, low-whole, not-loose, pin-call, pins-by}
 use Rattle.{pagable_laws.specs.TreeSteps.{Change, StandsAt}, pagable_loads.{proofs.Stepped.{acts_all, acts_map, acts_on, goes_open, moves_then, none_comes, tells_map}, specs.Frames.IsLoadOf}}
-use Rattle.pagable_loads.specs.{Frames.{frames_of, reading_of}, Starting.Shares, Stepping.{IsSameLoad, Steps}, Working.{BeginsAt, TakesReference}, declared.reading.Reading.Reading as Own}
+use Rattle.pagable_loads.specs.{Frames.{frames_of, reading_of}, Starting.Shares, Stepping.{IsSameLoad, Tries}, Working.{BeginsAt, TakesReference}, declared.reading.Reading.Reading as Own}
 use Rattle.{pagable_loads.specs.declared.access.Taken.Taken, pagable_model.specs.Merkle.blob_of, pagable_walk.specs.Slots.{ClaimsThere, Would, claimed_shelf, keys_of, with_written, written_of}}
 use Rattle.pagable_walk.specs.{Table.{IsFoundOf, found_as}, Tasks.{Gives, IsPlain, IsWay, back_of, fails, fault_of, todo_of, todos, waiting_todo, waits_as}, Turns.{ClaimFits, ClaimLeaves, Closes}}
 use Rattle.pagable_walk.specs.Turns.{Fits, HasWalked, HoldsPin, IsLoading, IsOfKind, LeavesFit, RunsTo, StepsTo, TaskFits, Turned, TurnsTo, answer_in, claim_todo, plain, plain_took, plan, site}
-use Rattle.pagable_walk.specs.{Writing.{Forms, GoesBack, IsForm, IsPinned, IsStored, Stores, WriteRefused, named_by}, declared.{results.Trees.Ghosts, table.{Found.Found, PageOutError.PageOutError}}}
+use Rattle.pagable_walk.specs.{Turns.{Forms, GoesBack, IsForm, IsPinned, IsStored, Stores, WriteRefused, named_by}, declared.{results.Trees.Ghosts, table.{Found.Found, PageOutError.PageOutError}}}
 use Rattle.{pagable_walk.specs.declared.tasks.{Done.Done, Moved.Moved, Node.Node, Task.Task, Turn.Turn, Waiting.Waiting}, pagable_world.specs.Access.{Called, ReadingStep, WalkStep, worker-ends}}
-use Rattle.pagable_world.specs.{Access.worker-goes-on, Calls.{ScheduleCall, SetKeyCall, is_named_by, moved, with_handle, with_mode}, Cascade.FallsAnyhow, Events.Ends, Kinds.{find_row, identity_of}}
-use Rattle.pagable_world.specs.{Kinds.{is_handle, is_loose, is_pinning, owner_value, owner_worker}, LoadCalls.{is_owned_in, with_pin, without_load}, Loads.{EndsPinned, gone_on}, Pager.HandlesAreWhole}
+use Rattle.pagable_world.specs.{Access.worker-goes-on, Calls.{ScheduleCall, SetKeyCall}, Cascade.FallsAnyhow, Events.Ends, Kinds.{identity_of, owner_worker}, Loads.{EndsPinned, gone_on}}
 use Rattle.pagable_world.specs.{Pager.{Moves, PagerState, TodoBrings, TookWrites, ValueCall, WellFormed}, Plain.{ArcRef, Error, HandleNumber, Identity, LoadNumber, NodeNumber, if_there, type_of}}
 use Rattle.pagable_world.specs.Workers.{Claims, Does, Finds, PinsAtOnce, Site, Turns, answer_after, claim_fault, fresh, is_counted_claim, is_workers_at, open_node, with_changed_slot, with_failed}
 use Rattle.pagable_world.specs.{Workers.{with_outcome, with_wait}, World.{Alike, Cell, Core, Frame, OpenLoad, Reading, Root, SameShelf, Shelf, Todo, Values, Written, answer_of_fault, of_cell, of_key}}
 use Rattle.pagable_world.specs.{World.{one_more, published, seen_as, to_load, to_pin, to_publish, to_release, to_start, to_write, was_refused}, declared.events.{Claim.Claim, LoadAnswer.LoadAnswer}}
-use Rattle.{pagable_world.specs.declared.{events.{PinStep.PinStep, Took.Took, WorkerAnswer.WorkerAnswer}, handles.{HandleRow.HandleRow, Owner.Owner}, rows.Mode.Mode}, std.proofs.Common.{Bool, Err}}
+use Rattle.{pagable_world.specs.{Pager.HandlesAreWhole, declared.{events.{PinStep.PinStep, Took.Took, WorkerAnswer.WorkerAnswer}, handles.{HandleRow.HandleRow, Owner.Owner}}}, std.proofs.Common.Err}
 use Rattle.std.proofs.{Common.{List, None, Ok, Result, Some, [], ap, arith, false, inl, inr, refl, subst, sym, true, ℕ, ◌+◌, ◌==◌, ◌∙◌, ◌∷◌, ◌≡◌}, lemmas.{Bool.Decides.nat_tests, Grind.common_steps}}
-use Rattle.std.specs.{Arc.arc_value, Prelude.{IfErr, IfOk, Option, if◌then◌else◌, not, ◌&&◌}, declared.{alloc.Global.Global, sync.Arc.Arc}}
+use Rattle.std.specs.{Arc.arc_value, Prelude.{IfErr, IfOk, Option, if◌then◌else◌}, declared.{alloc.Global.Global, sync.Arc.Arc}}
 
 pub alike : (w : Core) → Alike w w
 alike w = grind (arith, nat_tests, common_steps)
@@ -132,24 +131,16 @@ module _ {c : Change} {w w' : Core} (goes : Goes c w w') where
 
 -- ---- the new pin
 
-pins-by : {last : ℕ} (w : Core) (r : ArcRef) {row : HandleRow} (k : HandleNumber) (q : ℕ) → k.0 ≡ q → Stands last w.rows q row → row.node ≡ r.node → is_pinning row.mode ≡ true
-    → HoldsPin w row.owner r k
-pins-by w r {row} k q is s at pins = record { pins = record { row = row; live = subst (λ n. find_row n w.rows ≡ Some row) (sym is) s.live; at = at; pins = pins }; own = refl }
+pins-as : {w : Core} {me : Owner} {node : NodeNumber} (r : ArcRef) (k : HandleNumber) → PinOf w me node k → node ≡ r.node → HoldsPin w me r k
+pins-as r k p at = record { pins = record { row = p.pin.row; live = p.pin.live; at = p.at ∙ at; pins = p.pin.is }; own = p.own }
 
 pub at-once-pins : (w w' : Core) (me : Owner) (r : ArcRef) (through k : HandleNumber) → HandlesAreWhole w → StandsAt w r r.handle → PinsAtOnce w me r through k w' → HoldsPin w' me r k
 at-once-pins w w' me r through k whole stands does = elim does [
   | inl (is, same, clone) ↦
       let c = clone-call w w' (low-whole whole) me r.handle k clone in
-      let row : HandleRow = c.0 in
-      let is_row : is.row ≡ row = same_some _ _ (sym is.live ∙ c.1) in
-      pins-by w' r k (w.last.handle + 1) clone.made.2.above c.2 (stands.is row c.1).0 (not-loose row.mode (ap (λ (h : HandleRow). is_loose h.mode) (sym is_row) ∙ is.sort))
+      pins-as r k (pins-by w' k (w.last.handle + 1) clone.made.2.above c.2 (not-loose c.0.mode (rw (same_some _ _ (sym is.live ∙ c.1)) at is.sort))) (stands.is c.0 c.1).0
   | inr (is, (mid, copy, pin)) ↦
-      let row : HandleRow = pin.pins.0 in
-      let low = low-handle w mid copy.made.0.node copy.made.0.mode me (low-whole whole) copy.made.3 in
-      let low' = low-changed mid.last.handle mid.rows (is_handle through.0) (λ r. record r { mode = Mode.LoosePinned }) (λ r. refl) low in
-      let s = new-handle (with_mode mid through Mode.LoosePinned) row.node Mode.Pinned me low' in
-      pins-by w' r k (mid.last.handle + 1) pin.pins.2.1.above (stands-alike {w = with_handle (with_mode mid through Mode.LoosePinned) row.node Mode.Pinned me} pin.pins.2.2 s)
-      ((clone-stands whole r through stands copy).is row pin.pins.1.live).0 refl
+      pins-as r k (pin-call mid w' (low-handle w mid _ _ _ (low-whole whole) copy.made.3) me through k pin) ((clone-stands whole r through stands copy).is pin.pins.0 pin.pins.1.live).0
 ]
 
 -- ---- a load that has begun
@@ -182,32 +173,13 @@ node-in other (of_cell node t h) = node
 node-in other of_key = other
 
 module _ (w w' : Core) (n : ℕ) (r : ArcRef) (whole : HandlesAreWhole w) where
-  stays-pinned : (u : Core) (h : HandleNumber) (node : NodeNumber) (k : HandleNumber) (given : ℕ → Bool) → AreLow u → u.last.handle ≡ w.last.handle → k.0 ≡ w.last.handle + 1
-      → given (w.last.handle + 1) ≡ false → node ≡ r.node
-      → FallsAnyhow w (with_pin u h node (owner_worker n)) given w' → HoldsPin w' (owner_worker n) r k
-  stays-pinned u h node k given low same next kept at f =
-      let low' = low-changed u.last.handle u.rows (is_handle h.0) (λ r. record r { mode = Mode.LoosePinned }) (λ r. refl) low in
-      let s = new-handle (with_mode u h Mode.LoosePinned) node Mode.Pinned (owner_worker n) low' in
-      let q : u.last.handle + 1 ≡ w.last.handle + 1 = ap (λ n. n + 1) same in
-      pins-by w' r k (u.last.handle + 1) (next ∙ sym q) (stands-fell f.falls (λ m is. absurd (cc)) (ap given q ∙ kept) s) at refl
-
   pub end-pins : {N : Type 0} (v : Values N) (through : HandleNumber) (own : Own) (k : HandleNumber) → IsLoading w n r through own → EndsPinned v w (owner_worker n) (reading_of own) k w'
       → HoldsPin w' (owner_worker n) r k
   end-pins v through own k is e =
-      let l = own.load in
-      let node : NodeNumber = e.ended.installs.0 in
-      let h : HandleNumber = e.ended.installs.1 in
       let may = e.ended.installs.2 in
-      let i = e.ended.installs.3 in
       let same : may.load ≡ is.is.load = same_some _ _ (sym may.owned.stands_open ∙ is.is.owned.stands_open) in
-      let at : node ≡ r.node = sym (ap (node-in r.node) may.of_node) ∙ ap (λ (x : OpenLoad). node-in r.node x.root) same ∙ ap (node-in r.node) is.root in
-      let references = v.references e.x in
-      let low = low-whole whole in
-      elim i.falls [
-        | inl (away, f) ↦ stays-pinned (record (without_load w l) { rows = moved (is_named_by references) (owner_value node.0) w.rows }) h node k _
-            (low-changed w.last.handle w.rows (λ r. is_named_by references r.number.0) (λ r. record r { owner = owner_value node.0 }) (λ r. refl) low) refl i.next.above (ap (λ b. b && not (is_named_by references (w.last.handle + 1))) (owned-none w w low l)) at f
-        | inr (there, f) ↦ stays-pinned (without_load w l) h node k (is_owned_in w (Owner.Load l)) low refl i.next.above (owned-none w w low l) at f
-      ]
+      let at : e.ended.installs.0 ≡ r.node = sym (ap (node-in r.node) may.of_node) ∙ ap (λ (x : OpenLoad). node-in r.node x.root) same ∙ ap (node-in r.node) is.root in
+      pins-as r k (end-call w w' (low-whole whole) (owner_worker n) own.load e.x _ _ k (λ m is. absurd (cc)) e.ended) at
 
 -- ---- the turns
 
@@ -250,12 +222,12 @@ module _ {X : Type 0} {g : Ghosts X} {N E : Type 0} (v : Values N) (me : Owner) 
   pin-fails e task after plain-task is s t call = grind (arith, nat_tests, common_steps, same-shelf, none_comes, plain-fits)
 
   module _ (through : HandleNumber) (own : Own) where
-    stepped : {s t : PagerState N E} {answer : Option (LoadAnswer N)} {frames : List Frame} → Fits {g = g} v me n (Task.Load r place through own) s → Steps v me own s answer frames t
+    stepped : {s t : PagerState N E} {answer : Option (LoadAnswer N)} {frames : List Frame} → Fits {g = g} v me n (Task.Load r place through own) s → Tries v me own s (Ok answer) frames t
         → ReadingStep v (owner_worker n) (reading_of own) s answer frames t
     stepped {s} {t} {answer} {frames} f steps = subst (λ o. IsLoadOf s.core o own → ReadingStep v o (reading_of own) s answer frames t) f.me_is steps.does f.task_fits.1.is
 
     pub load-goes : (new : Own) (frames : List Frame) → frames ≡ frames_of new.top new.below.items → IsSameLoad own new (one_more own.steps) → (s t : PagerState N E)
-        → Steps v me own s None frames t → TurnsTo {g = g} v me n shelf (Task.Load r place through own) below shelf (record { took = Took.Pin (identity_of r) (Ok PinStep.LoadWent); turn = Turn.Goes (Task.Load r place through new); counted = false }) (to_load r place through (reading_of new) ∷ below) s t
+        → Tries v me own s (Ok None) frames t → TurnsTo {g = g} v me n shelf (Task.Load r place through own) below shelf (record { took = Took.Pin (identity_of r) (Ok PinStep.LoadWent); turn = Turn.Goes (Task.Load r place through new); counted = false }) (to_load r place through (reading_of new) ∷ below) s t
     load-goes new frames at is_same s t call = record {
       counts = refl;
       turns = λ f.
@@ -276,7 +248,7 @@ module _ {X : Type 0} {g : Ghosts X} {N E : Type 0} (v : Values N) (me : Owner) 
           ));
     }
 
-    pub load-pins : (k : HandleNumber) (frames : List Frame) (s t : PagerState N E) → Steps v me own s (Some (LoadAnswer.Pinned k)) frames t
+    pub load-pins : (k : HandleNumber) (frames : List Frame) (s t : PagerState N E) → Tries v me own s (Ok (Some (LoadAnswer.Pinned k))) frames t
         → TurnsTo {g = g} v me n shelf (Task.Load r place through own) below shelf (record { took = Took.Pin (identity_of r) (Ok (PinStep.Held k)); turn = Turn.Goes (Task.Write r place through k); counted = false }) (to_write r place through ∷ below) s t
     load-pins k frames s t call = record {
       counts = refl;
@@ -289,12 +261,12 @@ module _ {X : Type 0} {g : Ghosts X} {N E : Type 0} (v : Values N) (me : Owner) 
     }
 
     pub load-fails : (e : Error) (frames : List Frame) (task : Task X g) (after : List Todo) → IsPlain task → after ≡ fails (was_refused e) (back_of (Some r.handle) below)
-        → (s t : PagerState N E) → Steps v me own s (Some (LoadAnswer.Refused e)) frames t
+        → (s t : PagerState N E) → Tries v me own s (Ok (Some (LoadAnswer.Refused e))) frames t
         → TurnsTo v me n shelf (Task.Load r place through own) below shelf (record { took = Took.Pin (identity_of r) (Err e); turn = Turn.Goes task; counted = false }) after s t
     load-fails e frames task after plain-task is s t call = grind (arith, nat_tests, common_steps, stepped, same-shelf, plain-fits)
 
     -- a load of a cell reads out nothing
-    pub load-reads-none : (x : N) (frames : List Frame) (moved : Moved X g) (after : List Todo) → moved.counted ≡ false → (s t : PagerState N E) → Steps v me own s (Some (LoadAnswer.Read x)) frames t
+    pub load-reads-none : (x : N) (frames : List Frame) (moved : Moved X g) (after : List Todo) → moved.counted ≡ false → (s t : PagerState N E) → Tries v me own s (Ok (Some (LoadAnswer.Read x))) frames t
         → TurnsTo v me n shelf (Task.Load r place through own) below shelf moved after s t
     load-reads-none x frames moved after uncounted s t call = grind (arith, nat_tests, common_steps, stepped, same_some)
 

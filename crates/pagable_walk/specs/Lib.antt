@@ -3,6 +3,4 @@ pub mod Slots
 pub mod Table
 pub mod Tasks
 pub mod Turns
-pub mod Due
-pub mod Writing
 pub mod Over

@@ -1,9 +1,10 @@
 -- The plain claims that a lent table tells; whom each waiting worker waits for; and what a claim finds.
-use Rattle.std.specs.Prelude.{ℕ, zero, suc, List, [], ◌∷◌, map, ◌≡◌, ◌≤◌, ◌+◌, ◌⊎◌, ◌&&◌, Bool, true, false, if◌then◌else◌, Option, Some, None, Result, IfOk, IfErr, nat_eq}
-use Rattle.{indexmap.specs.IndexMap.{IndexMap, get}, pagable_core.specs.declared.context.writing.SerializedData.SerializedData, pagable_world.specs.Workers.{with_slot, with_wait, with_outcome}}
-use Rattle.pagable_world.specs.{Workers.{is_open_outcome, IsOpenSlot, IsPublished, ComesBack, ComesToEnd, IsTooDeep}, Plain.{Error, Identity, if_there, longest_path}, World.{Written, Slot, Shelf}}
-use Rattle.{pagable_world.specs.{World.{no_result, published, failed, SameShelf, is_identity}, declared.events.Claim.Claim}, pagable_walk.specs.declared.results.{SlotResult.SlotResult, Trees.Ghosts}}
-use Rattle.{std.specs.{Arc.arc_value, Option.option_map}, pagable_walk.specs.declared.slots.{ArcSerSlot.ArcSerSlot, Outcome.Outcome, Standing.Standing}}
+use Rattle.std.specs.Prelude.{◌≤◌, ◌⊎◌}
+use Rattle.std.specs.{Arc.arc_value, Option.option_map, Prelude.{Bool, IfErr, IfOk, List, None, Option, Result, Some, [], false, if◌then◌else◌, map, nat_eq, suc, true, zero, ℕ, ◌&&◌, ◌+◌, ◌∷◌, ◌≡◌}}
+use Rattle.pagable_world.specs.{Workers.{ComesBack, ComesToEnd, IsOpenSlot, IsPublished, IsTooDeep, is_open_outcome, with_outcome, with_slot, with_wait}, World.{SameShelf, Shelf, Slot, Written}}
+use Rattle.pagable_world.specs.{World.{failed, is_identity, no_result, published}, declared.events.Claim.Claim}
+use Rattle.{indexmap.specs.IndexMap.{IndexMap, get}, pagable_core.specs.declared.context.writing.SerializedData.SerializedData, pagable_walk.specs.declared.results.SlotResult.SlotResult}
+use Rattle.{pagable_walk.specs.declared.{results.Trees.Ghosts, slots.{ArcSerSlot.ArcSerSlot, Outcome.Outcome, Standing.Standing}}, pagable_world.specs.Plain.{Error, Identity, if_there, longest_path}}
 use Rattle.pagable_world.specs.World as world
 
 abbrev pub is_same : ℕ × ℕ → ℕ × ℕ → Bool

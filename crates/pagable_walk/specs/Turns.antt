@@ -1,12 +1,13 @@
 -- A worker's turn over the pager's plain state and its table: what it needs to hold, what it does, and what it leaves to be done.
-use Rattle.std.specs.{Prelude.{ℕ, ◌≡◌, ◌≤◌, ◌+◌, true, List, [], ◌∷◌, Option, Some, None, Result, Ok, Err}, Arc.arc_value, declared.{alloc.Global.Global, sync.Arc.Arc}}
-use Rattle.{pagable_model.specs.declared.{error.Error.Error, numbers.{ArcRef.ArcRef, HandleNumber.HandleNumber}}, pagable_world.specs.World.{Core, Shelf, Todo, to_start, to_pin, was_failed, of_cell}}
-use Rattle.pagable_world.specs.{World.{Written, Values, Seen, seen_as, row_at, type_at}, Workers.{Site, WalkDoes, WorkerEnds, give_known, failing, failing_by, answer_after, is_counted}, Access.Called}
-use Rattle.pagable_world.specs.{Access.{WalkStep, WorkerRun}, Kinds.{is_pinning, owner_worker, identity_of}, Pager.{PagerState, WellFormed, Moves, TodoBrings, TookWrites}}
-use Rattle.{pagable_world.specs.declared.{events.{Claim.Claim, Took.Took, WorkerAnswer.WorkerAnswer}, handles.{HandleRow.HandleRow, Owner.Owner}}, pagable_loads.specs.Frames.IsLoadOf}
-use Rattle.{pagable_laws.specs.TreeSteps.StandsAt, pagable_loads.specs.{Telling.{Acting, as_caller}, declared.reading.Reading.Reading as Own}, pagable_world.specs.Plain.{Blob, longest_path, type_of}}
+use Rattle.std.specs.{Prelude.{ℕ, ◌≡◌, ◌≤◌, ◌+◌, ◌⊎◌, true, List, [], ◌∷◌, Option, Some, None, Result, Ok, Err, IfOk, IfErr}, Arc.arc_value, declared.{alloc.Global.Global, sync.Arc.Arc}}
+use Rattle.{pagable_model.specs.{Blob.key_of, Refusals.is_writing_fault, declared.{error.Error.Error, numbers.{ArcRef.ArcRef, HandleNumber.HandleNumber}}}, pagable_world.specs.Access.Called}
+use Rattle.pagable_world.specs.World.{Core, Shelf, Todo, to_start, to_pin, to_set, was_failed, of_cell, Alike, HasForm, Open, Written, Values, Seen, seen_as, row_at, type_at}
+use Rattle.pagable_world.specs.{Workers.{Site, WalkDoes, WorkerEnds, give_known, failing, failing_by, answer_after, is_counted}, Access.{WalkStep, WorkerRun}, Calls.{ScheduleCall, StoreCall}}
+use Rattle.pagable_world.specs.{Kinds.{is_pinning, owner_worker, identity_of}, Pager.{PagerState, WellFormed, Moves, TodoBrings, TookWrites, IsWrittenOf, IsFormless, RefusesWriting}}
+use Rattle.pagable_world.specs.{Plain.{Blob, Identity, longest_path, type_of}, declared.{events.{Claim.Claim, Took.Took, WorkerAnswer.WorkerAnswer}, handles.{HandleRow.HandleRow, Owner.Owner}}}
+use Rattle.{pagable_laws.specs.TreeSteps.StandsAt, pagable_loads.specs.{Frames.IsLoadOf, Telling.{Acting, as_caller}, declared.reading.Reading.Reading as Own}}
 use Rattle.{pagable_core.specs.declared.context.writing.SerializedData.SerializedData, pagable_walk.specs.{Slots.written_of, Tasks.{IsPlain, todo_of, todos}, declared.results.Trees.Ghosts}}
-use Rattle.pagable_walk.specs.declared.{table.Found.Found, tasks.{Moved.Moved, Task.Task, Turn.Turn, Waiting.Waiting}}
+use Rattle.pagable_walk.specs.declared.{table.Found.Found, tasks.{Moved.Moved, Node.Node, Task.Task, Turn.Turn, Waiting.Waiting}}
 
 abbrev pub site : Core → Shelf → List Todo → Site
 site core shelf todo = record { core = core; shelf = shelf; todo = todo }
@@ -148,3 +149,59 @@ module _ {X : Type 0} {g : Ghosts X} where
   pub record HasWalked {N E : Type 0} (v : Values N) (me : Owner) (n : ℕ) (shelf : Shelf) (first : Task X g) (below : List Todo) (now_shelf : Shelf) (now : Task X g) (now_below : List Todo) (s t : PagerState N E) : Type 0 where
     pub fits : Fits v me n first s → Fits v me n now t
     pub then : Fits v me n first s → (answer : WorkerAnswer) (u : PagerState N E) (shelf' : Shelf) → Walked v n (todo_of now ∷ now_below) t now_shelf answer u shelf' → Walked v n (todo_of first ∷ below) s shelf answer u shelf'
+
+-- ---- what a worker writes of a node that it has pinned, and what its turns at what it has written do
+
+-- a form of the value, with exactly its references
+pub record IsForm {N : Type 0} (v : Values N) (x : N) (written : Written) : Type 0 where
+  pub form : HasForm v x written
+  pub listed : written.references ≡ v.references x
+
+-- by a cause of the value's type; and by a name that says that it has no form only where it has none
+pub record WriteRefused {N : Type 0} (v : Values N) (x : N) (e : Error) : Type 0 where
+  pub cause : v.write_causes (v.node_type x) e
+  pub formless : is_writing_fault e ≡ true → IsFormless v x
+
+-- the handle pins the reference's node, which is of its kind's type
+pub record IsPinned {N E : Type 0} (v : Values N) (s : PagerState N E) (r : ArcRef) (pin : HandleNumber) : Type 0 where
+  pub whole : WellFormed v s
+  pub kind : IsOfKind s.core r
+  pub pins : PinsAt s.core r pin
+
+-- a form of the value that the handle pins, or why it isn't written
+pub record Forms {N E : Type 0} (v : Values N) (s : PagerState N E) (r : ArcRef) (pin : HandleNumber) (result : Result Written Error) : Type 0 where
+  pub written : IsPinned v s r pin → IfOk result (λ w. IsWrittenOf v s r.node.0 w)
+  pub refused : IsPinned v s r pin → IfErr result (λ e. (v.write_causes (type_of r.kind.0) e ⊎ (e ≡ Error.OutOfMemory)) × RefusesWriting v s r.node.0 e)
+
+-- a node that was just written
+abbrev pub just_open : ArcRef → ℕ → HandleNumber → Written → Open
+just_open r place through written = record { reference = r; place = place; through = through; written = written; keys = []; height = 0 }
+
+-- ---- what was written
+
+-- the blob is stored, or the call is refused
+pub record Stores {N E : Type 0} (v : Values N) (s : PagerState N E) (blob : Blob) (r : Result ℕ Error) (t : PagerState N E) : Type 0 where
+  pub stored : StoreCall (key_of v.hash) s.core blob r t.core
+  pub moves : Moves (λ n x. ⊥) s t
+  pub whole : WellFormed v s → WellFormed v t
+
+-- what a blob names, unless it is an item's
+abbrev pub named_by : Option Node → Option Identity
+named_by None = None
+named_by (Some n) = Some (identity_of n.reference)
+
+-- of a stored node the key is set next, and that of an item is answered
+module _ {X : Type 0} {g : Ghosts X} where
+  abbrev pub IsStored : Option Node → ℕ → Turn X g → Type 0
+  IsStored None key turn = turn ≡ Turn.Answers (WorkerAnswer.Key key)
+  IsStored (Some n) key turn = (task : Task X g) × (turn ≡ Turn.Goes task) × (todo_of task ≡ to_set n.reference n.through key n.height) × IsPlain task
+
+abbrev pub Back : Owner → Option HandleNumber → Core → Core → Type 0
+Back me None w w' = Alike w w'
+Back me (Some h) w w' = (r : Result (Unit {0}) Error) × ScheduleCall w me h r w'
+
+-- an entry goes back to the list, if one is to
+pub record GoesBack {N E : Type 0} (v : Values N) (me : Owner) (back : Option HandleNumber) (s t : PagerState N E) : Type 0 where
+  pub goes : Back me back s.core t.core
+  pub moves : Moves (λ n x. ⊥) s t
+  pub whole : WellFormed v s → WellFormed v t

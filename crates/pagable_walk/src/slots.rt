@@ -57,13 +57,6 @@ impl<E: Trees> ArcSerSlot<E> {
         }
     }
 
-    fn set_written(&mut self, written: Arc<SerializedData>)
-        ensures slot { slot_of self.new ≡ with_written (written_of (arc_value written)) (slot_of self.old) }
-        ensures own { (i : Named) → IsNamed i self.old → IsNamed i self.new }
-    {
-        self.written = Some(written);
-    }
-
     /// Publishes a result, where there is none yet. It takes no memory.
     pub fn set_success(&mut self, found: SlotResult<E>)
         ensures slot { slot_of self.new ≡ with_outcome (published found.key found.height) (slot_of self.old) }
@@ -256,7 +249,7 @@ impl<E: Trees> SlotTable<E> {
         ensures { SameShelf (with_changed_slot (shelf_of self.old) identity (with_written (written_of (arc_value written)))) (shelf_of self.new) }
     {
         if let Some(slot) = self.slots.get_mut(&(identity.kind.0, identity.node.0)) {
-            slot.set_written(written);
+            slot.written = Some(written);
         }
     }
 

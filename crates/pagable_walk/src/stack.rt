@@ -1,7 +1,7 @@
 //! A worker's path: what was written and waits for the next of its references. And what a worker does first.
 
 ghost use Rattle.std.specs.{Arc.arc_value, Prelude.{IfErr, IfOk, OnErr, [], length, vec_capacity, vec_len, ◌*◌, ◌++◌, ◌+◌, ◌<◌, ◌∷◌, ◌≡◌, ◌≤◌}};
-ghost use Rattle.pagable_walk.specs.{Due.due, Slots.{keys_of, written_of}, Tasks.{AwaitsLow, Gives, IsPlain, IsWay, TakesNext, back_of, fails, fault_of, place_of, raised, todo_of, todos, waits_as}};
+ghost use Rattle.pagable_walk.specs.{Slots.{keys_of, written_of}, Tasks.{AwaitsLow, Gives, IsPlain, IsWay, TakesNext, back_of, due, fails, fault_of, place_of, raised, todo_of, todos, waits_as}};
 ghost use Rattle.{pagable_walk.specs.Tasks.waiting_todo, pagable_world.specs.{Kinds.identity_of, Plain.longest_path, World.{of_entry, of_item, was_refused}}};
 ghost use Rattle.pagable_world.specs.Workers.{first_todo, give_known, place_below, settle};
 

@@ -2,7 +2,7 @@
 //! access, each by workers of its own.
 
 ghost use Rattle.std.specs.{Arc.arc_value, Prelude.{◌*◌, ◌+◌, ◌<◌, ◌∷◌, ◌≡◌, ◌≤◌}};
-ghost use Rattle.{pagable_loads.specs.Telling.{Acts, ActsThen, as_caller, values_at}, pagable_walk.specs.{Due.{due, far, IfGoes, LeadsOn}, Over.{answer_of, PagesAt, PagesEntry, PagesItem}}};
+ghost use Rattle.{pagable_loads.specs.Telling.{Acts, ActsThen, as_caller, values_at}, pagable_walk.specs.{Over.{answer_of, PagesAt, PagesEntry, PagesItem}, Tasks.{due, far, IfGoes, LeadsOn}}};
 ghost use Rattle.pagable_walk.specs.{Over.PagesList, Slots.written_of, Table.shelf_of, Tasks.{IsWay, todo_of, todos}, Turns.{acting_then, Closes, plan, RunsTo, StepsTo, TurnsTo}};
 ghost use Rattle.pagable_world.specs.declared.handles.Owner.{Owner};
 

@@ -3,9 +3,9 @@
 
 ghost use Rattle.std.specs.{Arc.arc_value, Prelude.{IfErr, IfOk, length, List, OnOk, vec_capacity, vec_len, ℕ, ◌*◌, ◌+◌, ◌<◌, ◌∷◌, ◌≡◌, ◌≤◌}};
 ghost use Rattle.{pagable_core.specs.Data.blob_of, pagable_loads.specs.{Frames.reading_of, Telling.{Acts, Tells, values_at}, Working.fault_in}, pagable_model.specs.Blob.key_of};
-ghost use Rattle.{pagable_model.specs.Merkle.blob_of as blob_over, pagable_walk.specs.{Due.{due, LeadsOn, most}, Results.HasFormOf, Slots.{keys_of, written_of}, Table.{found_as, shelf_of}}};
-ghost use Rattle.pagable_walk.specs.{Tasks.{Awaits, AwaitsLow, fault_of, IsWay, todo_of, todos, waiting_todo}, Turns.{claim_todo, ClaimFits, ClaimLeaves, plan, site, TurnsTo}, Writing.Forms};
-ghost use Rattle.{pagable_walk.specs.Writing.{GoesBack, IsForm, IsStored, just_open, named_by, Stores, WriteRefused}, pagable_world.specs.{Kinds.identity_of, Plain.longest_path, Workers.claim_fault}};
+ghost use Rattle.{pagable_model.specs.Merkle.blob_of as blob_over, pagable_walk.specs.{Results.HasFormOf, Tasks.{due, LeadsOn, most}, Slots.{keys_of, written_of}, Table.{found_as, shelf_of}}};
+ghost use Rattle.pagable_walk.specs.{Tasks.{Awaits, AwaitsLow, fault_of, IsWay, todo_of, todos, waiting_todo}, Turns.{claim_todo, ClaimFits, ClaimLeaves, Forms, plan, site, TurnsTo}};
+ghost use Rattle.{pagable_walk.specs.Turns.{GoesBack, IsForm, IsStored, just_open, named_by, Stores, WriteRefused}, pagable_world.specs.{Kinds.identity_of, Plain.longest_path, Workers.claim_fault}};
 ghost use Rattle.pagable_world.specs.{Workers.{Claims, is_counted_claim}, World.{answer_of_fault, Core, seen_as, Shelf, to_finish, to_load, to_pin, to_release, to_set, to_start, to_write, Todo}};
 
 use crate::stack::{fail, give, give_known, refuse, settle};

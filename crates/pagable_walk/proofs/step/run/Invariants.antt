@@ -1,4 +1,4 @@
-use Rattle.{std.proofs.Common.{◌∷◌, ◌+◌, ◌*◌}, pagable_loads.specs.Telling.{Acts, values_at}, pagable_walk.specs.{Due.{due, far}, Table.shelf_of, Tasks.{IsWay, todo_of, todos}, Turns.HasWalked}}
+use Rattle.{std.proofs.Common.{◌∷◌, ◌+◌, ◌*◌}, pagable_loads.specs.Telling.{Acts, values_at}, pagable_walk.specs.{Table.shelf_of, Tasks.{IsWay, due, far, todo_of, todos}, Turns.HasWalked}}
 use Rattle.pagable_walk.proofs.step.run.Given as goal
 
 -- the path leads to the task, and a run from here is one from the beginning

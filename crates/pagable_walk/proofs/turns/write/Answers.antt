@@ -1,4 +1,4 @@
-use Rattle.{std.{proofs.Common.{◌∷◌, None, length, ap, ◌∙◌, subst, sym, arith}, specs.Arc.arc_value}, pagable_walk.specs.Writing.just_open, pagable_loads.proofs.Stepped.tells_map}
+use Rattle.{std.{proofs.Common.{◌∷◌, None, length, ap, ◌∙◌, subst, sym, arith}, specs.Arc.arc_value}, pagable_walk.specs.Turns.just_open, pagable_loads.proofs.Stepped.tells_map}
 use Rattle.pagable_world.specs.{Workers.settle, World.{to_finish, was_refused}}
 use Rattle.pagable_walk.{proofs.{Stacks.settle-way, Turning.{same-shelf, write-fails, write-turns}}, specs.{Slots.written_of, Table.shelf_of, Tasks.{IsWay, back_of, fails, todos}}}
 use Rattle.pagable_walk.proofs.turns.write.Goals as goal

@@ -1,4 +1,4 @@
-use Rattle.{std.proofs.Common.◌≡◌, pagable_loads.specs.{Ahead.IsAhead, Ending.to_do, Frames.frames_of, Stepping.HasGone, Telling.{Acts, values_at}}}
+use Rattle.{std.proofs.Common.◌≡◌, pagable_loads.specs.{Decoding.IsAhead, Ending.to_do, Frames.frames_of, Stepping.HasGone, Telling.{Acts, values_at}}}
 use Rattle.pagable_loads.proofs.reading.Reading.run.Given as goal
 
 abbrev pub invariant-loop-answer : goal.invariant-loop-answer

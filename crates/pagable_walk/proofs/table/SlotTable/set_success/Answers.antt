@@ -5,16 +5,13 @@ pub returns-in-Some : goal.returns-in-Some
 returns-in-Some g c =
     let w = c.set_success.new.self in
     let at = ((c.get_mut.follows.holds w).3 (search rules)).0 in
-    let old = c.args.self.now.slots in
-    record { slots = changed-is old (c.get_mut.follows.lender w) c.args.found.identity w at c.in-Some.slot.now c.in-Some.ensures.value _ c.set_success.ensures.slot; waits = λ v. refl }
+    record { slots = changed-is c.args.self.now.slots (c.get_mut.follows.lender w) c.args.found.identity w at _ c.in-Some.ensures.value _ c.set_success.ensures.slot; waits = λ v. refl }
 
 pub invariant_of-self : goal.invariant_of-self
 invariant_of-self g c =
-    let w = c.set_success.new.self in
-    let at = ((c.get_mut.follows.holds w).3 (search rules)).0 in
+    let at = ((c.get_mut.follows.holds c.set_success.new.self).3 (search rules)).0 in
     let old = c.args.self.now in
     let known = published c.args.found.key c.args.found.height in
-    let (own, ends) =
-    changed-table old.slots (c.get_mut.follows.lender w) old.waits c.args.found.identity w c.in-Some.slot.now (with_outcome known)
+    let both = changed-table old.slots (c.get_mut.follows.lender c.set_success.new.self) old.waits c.args.found.identity _ _ (with_outcome known)
     at c.in-Some.ensures.value c.set_success.ensures.slot (outcome-less known refl) c.set_success.ensures.own old.own old.ends in
-    record { own = own; ends = ends }
+    record { own = both.0; ends = both.1 }
