@@ -1,19 +1,18 @@
 -- What leaves the pager in step: values that go with their nodes, calls by which no value comes or goes, what is asked of the storage, and what comes with a value.
-use Rattle.{pagable_laws.proofs.{Goes.NotValues, SparingSteps.entered-of, Taking.row-held, Trees.same_some}, pagable_model.specs.Stored.{Adds, RefusesFetch, RefusesStore}}
-use Rattle.{pagable_model.specs.declared.numbers.{ArcRef.ArcRef, HandleNumber.HandleNumber, Kind.Kind, LoadNumber.LoadNumber, NodeNumber.NodeNumber}, pagable_pager.specs.View.{CallsLess, IsPager}}
-use Rattle.{pagable_pager.specs.View.{OnlyLess, PagerView, PutsIn, Telling, ValuesByNode, core_in, is_at_work, state_in, value_in, with_value}, pagable_steps.proofs.Calls.{adopted_known, adopts-new}}
 use Rattle.pagable_steps.proofs.{Calls.{born, closed, end_refused, installed_away, installed_there}, Owning.{IsRight, IsShut, Leaves, Rests, Spares, asked as spares-asked, known-here, not-load}}
-use Rattle.{pagable_steps.proofs.Owning.{recalls, spared, stayed, stores, unmoved}, pagable_tables.proofs.{Alive.not-so, Installed.{installs-wider, may-wider, so-then}, Worlds.adopted-past}}
 use Rattle.pagable_tables.proofs.Worlds.{adopts-new as made-new, born-past, early-past, fault-by, next-past, refused-memory, refused-new, room-alike, room-fault, still, told-later}
 use Rattle.pagable_tables.specs.{Core.{AreLater, Bears, Does, DoesShed, IsWhole, OnlyRoom, core_of, plain_of}, Falling.{AreKept, Sheds, cell_in, counts_at, has_value, key_in, pins_in}}
 use Rattle.pagable_tables.specs.{Ready.{AsksKnown, IsReady, IsVain, ShedsBeside, early_fault, has_come}, declared.{loading.Ending.Ending, tables.{Counts.Counts, Tables.Tables}}}
-use Rattle.pagable_world.specs.{Calls.{Asked, BirthCall, FetchCall, IsNext, StoreCall, birth_fault}, Kinds.{has_key, held, is_owner, is_pinning, mode_of, pins}, LoadCalls.{AdoptCall, Adopts}}
-use Rattle.pagable_world.specs.{LoadCalls.{AskCall, DropCall, EndCall, EndRefused, Installs, MayEnd, adopt_fault, adopted, first_key, from_cache}, Pager.{IsCellOf, IsNewNode, MayOwnLoad, Moves}}
-use Rattle.pagable_world.specs.{Pager.{PagerState, WellFormed}, Plain.{Blob, Error, if_there, updated}, Refusals.{OwnsLoad, Refused, load_fault, references_fault}, World.{Alike, Core, Last}}
-use Rattle.{pagable_world.specs.{World.{OpenLoad, Values, greatest, is_here, seen_as, usable}, declared.{calls.Want.Want, handles.Owner.Owner, rows.Mode.Mode}}, std.proofs.Common.{Bool, Err, List}}
-use Rattle.std.proofs.Common.{None, Ok, Option, Result, Some, [], ap, arith, false, if◌then◌else◌, inl, inr, nat_eq, not, refl, rules, subst, sym, true, ℕ, ◌&&◌, ◌+◌, ◌<◌, ◌==◌, ◌∙◌, ◌≡◌, ◌≤◌}
-use Rattle.std.{proofs.lemmas.Bool.{cases_Bool, cases_eq, Decides.nat_tests}, specs.{Arc.arc_value, HashMap.get, Option.option_map, Prelude.{IfErr, IfNone, IfOk, IfSome, OnErr, OnOk, is_some}}}
-use Rattle.std.specs.Prelude.{nat_lt, ◌⊎◌}
+use Rattle.pagable_world.specs.{Calls.{Asked, BirthCall, FetchCall, IsNext, StoreCall, birth_fault}, Kinds.{has_key, held, is_owner, is_pinning, mode_of, pins}, LoadCalls.{AdoptCall, Adopts, AskCall}}
+use Rattle.pagable_world.specs.{LoadCalls.{DropCall, EndCall, EndRefused, Installs, MayEnd, adopt_fault, adopted, first_key, from_cache}, Pager.{IsCellOf, IsNewNode, MayOwnLoad, Moves, WellFormed}}
+use Rattle.pagable_world.specs.{Plain.{Blob, Error, if_there, updated}, Refusals.{OwnsLoad, Refused, load_fault, references_fault}, World.{Alike, Core, Last, OpenLoad, Values, greatest, is_here}}
+use Rattle.std.proofs.{Common.{arith, false, if◌then◌else◌, inl, inr, nat_eq, not, refl, rules, subst, sym, true, ℕ, ◌&&◌, ◌+◌, ◌<◌, ◌==◌, ◌∙◌, ◌≡◌, ◌≤◌}, lemmas.Bool.{cases_Bool, cases_eq}}
+use Rattle.std.{proofs.lemmas.Bool.Decides.nat_tests, specs.{Arc.arc_value, HashMap.get, Option.option_map, Prelude.{IfErr, IfNone, IfOk, IfSome, OnErr, OnOk, is_some, nat_lt, ◌⊎◌}}}
+use Rattle.{pagable_laws.proofs.{Goes.NotValues, SparingSteps.entered-of, Taking.row-held, Trees.same_some}, pagable_model.specs.Stored.{Adds, RefusesFetch, RefusesStore}}
+use Rattle.{pagable_model.specs.declared.numbers.{ArcRef.ArcRef, HandleNumber.HandleNumber, Kind.Kind, LoadNumber.LoadNumber, NodeNumber.NodeNumber}, pagable_pager.specs.View.{CallsLess, IsPager}}
+use Rattle.{pagable_pager.specs.View.{OnlyLess, PagerView, PutsIn, Telling, ValuesByNode, core_in, is_at_work, state_in, value_in, with_value}, pagable_steps.proofs.Calls.{adopted_known, adopts-new}}
+use Rattle.{pagable_steps.proofs.Owning.{recalls, spared, spares-same, stayed, unmoved}, pagable_tables.proofs.{Alive.not-so, Installed.{installs-wider, may-wider, so-then}, Worlds.adopted-past}}
+use Rattle.{pagable_world.specs.{World.{seen_as, usable}, declared.{calls.Want.Want, handles.Owner.Owner, rows.Mode.Mode}}, std.proofs.Common.{Bool, Err, List, None, Ok, Option, Result, Some, [], ap}}
 use Rattle.pagable_world.specs.Pager as pager
 
 -- the plain world is whole, whatever is stored, if nothing is listed or known once the storage is closed
@@ -162,7 +161,7 @@ module _ {N S E : Type 0} {tells : Telling S} {says : E → Values N} {p : Pager
     store-call = grind (arith, nat_tests, asked, still)
 
     pub stored-so : IsPager tells says stored-in
-    stored-so = told-in (stores r store-call)
+    stored-so = told-in (let c = store-call in grind (arith, nat_tests, spares-asked, spares-same))
 
 -- the blob, as it is seen
 pub fetch-call : {X : Type 0} (see : X → Blob) (w w' : Core) (key : ℕ) (r : Result X Error) → Asked w w' → IfOk r (λ x. w.stored key ≡ Some (see x)) → IfErr r (RefusesFetch key (w.stored key) w.failures w'.failures) → FetchCall w key (seen_as see r) w'
@@ -288,20 +287,18 @@ module _ {N S E : Type 0} {tells : Telling S} {says : E → Values N} {p q : Pag
 
     module _ (same : (n : ℕ) → value_in mid n ≡ value_in p.values n) (t2 : Tables) (values : ValuesByNode N) {y : N} (shared : y ≡ x)
         (kept : (n : ℕ) → value_in values n ≡ updated t2.last_node (Some y) (value_in mid) n) {k : HandleNumber} {b : Bool} (opens : b ≡ tells.closed p.storage) (left : t1.last_node < greatest)
-        (next : (stored : ℕ → Option Blob) (closed : Bool) (failures : ℕ) → IsNext k (core_of t1 stored closed failures))
-        (comes : (stored : ℕ → Option Blob) (closed : Bool) (failures : ℕ) → not b ≡ not closed → Alike (adopted (core_of t1 stored closed failures) l kind key (first_key kind.0 key) rs)
-        (core_of t2 stored closed failures)) (whole : IsWhole t2) (later : AreLater t2) where
+        (does : Does t1 (λ w w'. IsNext k w × (not b ≡ not w.closed → Alike (adopted w l kind key (first_key kind.0 key) rs) w')) t2) where
       abbrev learned : PagerView N S E
       learned = record p { tables = t2; values = values }
 
       leaves : Alike (adopted (core_in tells p) l kind key (first_key kind.0 key) rs) (core_in tells learned)
-      leaves = adopted-past l kind key (first_key kind.0 key) rs (only-room is mid room) (comes (tells.stored p.storage) (tells.closed p.storage) (tells.failed p.storage) (ap not opens))
+      leaves = adopted-past l kind key (first_key kind.0 key) rs (only-room is mid room) ((does.does (tells.stored p.storage) (tells.closed p.storage) (tells.failed p.storage)).1 (ap not opens))
 
       adopts : Adopts (core_in tells p) me l kind key ((says p.environment).node_type x) ((says p.environment).references x) k (core_in tells learned)
       adopts =
           subst (λ z. Adopts (core_in tells p) me l kind key ((says p.environment).node_type x) z k (core_in tells learned)) listed
           (made-new (core_in tells p) me l kind key ((says p.environment).node_type x) rs (fresh-in _ _ _) unknown-in k (subst (λ (u : Core). u.last.node < greatest) (only-room is mid room).same left)
-          (next-past (only-room is mid room) (next (tells.stored p.storage) (tells.closed p.storage) (tells.failed p.storage))) leaves)
+          (next-past (only-room is mid room) (does.does (tells.stored p.storage) (tells.closed p.storage) (tells.failed p.storage)).0) leaves)
 
       last : t2.last_node ≡ p.tables.last_node + 1
       last = let a = leaves in grind (arith, nat_tests)
@@ -312,7 +309,7 @@ module _ {N S E : Type 0} {tells : Telling S} {says : E → Values N} {p q : Pag
 
       pub new-so : IsPager tells says learned
       new-so =
-          in-step learned whole later
+          in-step learned does.whole (does.later (room.later is.later))
           (adopts-new {v = says p.environment} {s = state_in tells p} {s' = state_in tells learned} is.state adopts unknown-in (told is mid room same t2 values x shared kept last))
 
 -- ---- a value comes to a load's cell, and others go with their nodes

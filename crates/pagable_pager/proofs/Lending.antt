@@ -1,17 +1,17 @@
 -- What a handle lends, and what a lent pager's calls tell as those of an access; and a worker comes, for an entry of the list or without one, and takes a reference.
-use Rattle.pagable_laws.proofs.{Goes.{Stands, among-found, found-number, low-changed, low-whole, new-handle, stands-alike, stands-fell}, GoodReferences.good, ReadingSteps.cached-rows}
-use Rattle.{pagable_laws.proofs.{SparingSteps.named-among, Taking.{row-held, row-pins}, Trees.same_some}, pagable_loads.{proofs.Stepped.begun_is, specs.{Starting.StartsPin, Telling.IsMade}}}
-use Rattle.{pagable_loads.specs.{Working.TakesReference, declared.access.{PinStart.PinStart, Taken.Taken}}, pagable_model.specs.declared.data_key.OptionalDataKey.OptionalDataKey}
-use Rattle.pagable_model.specs.declared.numbers.{ArcRef.ArcRef, HandleNumber.HandleNumber, Kind.Kind, LoadNumber.LoadNumber, NodeNumber.NodeNumber, WorkerNumber.WorkerNumber}
-use Rattle.pagable_pager.{proofs.Keeping.{in-step, less, swept}, specs.View.{CallsLess, FewerValues, IsPager, PagerView, PinsClone, SameValues, TakesEntry, Telling, ValuesByNode, core_in, state_in}}
-use Rattle.{pagable_pager.specs.View.value_in, pagable_steps.proofs.{Calls.closed, Owning.{Rests, not-load, pinned-here, rests-then, spares-same, starts-listed, unmoved}}}
-use Rattle.pagable_tables.specs.{Core.{AreLater, BeginsWorker, IsWhole as AreWhole, TakesWorker, core_of}, Falling.{Sheds, counts_at, known_at, load_at, worker_at}, declared.tables.Tables.Tables}
-use Rattle.pagable_world.specs.{Access.{Called, Told}, Calls.{CloneCall, CloseCall, IsNext, Looks, StoreCall, is_named_by, next_node, row_of, with_handle, with_node}, Events.IsEntry}
-use Rattle.pagable_world.specs.{Events.reading_of_load, Kinds.{HasKinds, find_row, is_loose, is_pinning, loose_kind, mode_of, owner_value}, LoadCalls.{Adopts, BeginCall, GetsKnown, LazyCall}}
-use Rattle.pagable_world.specs.{LoadCalls.{adopted, first_key}, Pager.{HandlesAreWhole, IsNew, IsWhole, PagerState, ValueCall, WellFormed}, Plain.{Blob, Error, type_of}, Workers.RowIs, World.Alike}
-use Rattle.{pagable_world.specs.{World.{Core, Reading, Values, row_at}, declared.{answers.Beginning.Beginning, handles.{HandleRow.HandleRow, Owner.Owner}}}, std.proofs.Common.{Err, List, None, Ok}}
-use Rattle.std.proofs.{Common.{Option, Result, Some, [], ap, arith, false, if◌then◌else◌, inl, inr, nat_eq, refl, subst, sym, true, ℕ, ◌+◌, ◌∙◌, ◌≡◌}, lemmas.Bool.false_from_ne_true}
-use Rattle.std.{proofs.lemmas.{Bool.Decides.nat_tests, Option.slice_get_within}, specs.{HashMap.get, Option.option_map, Prelude.{IfOk, IsSome, is_some}}}
+use Rattle.pagable_laws.proofs.{Goes.{Stands, among-found, found-number, good, low-changed, low-whole, new-handle, stands-alike, stands-fell}, ReadingSteps.cached-rows, SparingSteps.named-among}
+use Rattle.pagable_model.specs.declared.{data_key.OptionalDataKey.OptionalDataKey, numbers.{ArcRef.ArcRef, HandleNumber.HandleNumber, Kind.Kind, LoadNumber.LoadNumber, NodeNumber.NodeNumber}}
+use Rattle.pagable_world.specs.{Calls.{StoreCall, is_named_by, next_node, row_of, with_handle, with_node}, Events.{IsEntry, reading_of_load}, Kinds.{HasKinds, find_row, is_loose, is_pinning}}
+use Rattle.pagable_world.specs.{Kinds.{loose_kind, mode_of, owner_value}, LoadCalls.{Adopts, BeginCall, GetsKnown, LazyCall, adopted, first_key}, Pager.{HandlesAreWhole, IsNew, IsWhole, PagerState}}
+use Rattle.pagable_world.specs.{Pager.{ValueCall, WellFormed}, Plain.{Blob, Error, type_of}, Workers.RowIs, World.{Alike, Core, Reading, Values, row_at}, declared.answers.Beginning.Beginning}
+use Rattle.std.specs.{Option.option_map, Prelude.{IfOk, IsSome, is_some}}
+use Rattle.std.{proofs.{Common.{nat_eq, refl, subst, sym, true, ℕ, ◌+◌, ◌∙◌, ◌≡◌}, lemmas.{Bool.{Decides.nat_tests, false_from_ne_true}, Option.slice_get_within}}, specs.HashMap.get}
+use Rattle.{pagable_laws.proofs.{Taking.{row-held, row-pins}, Trees.same_some}, pagable_loads.{proofs.Stepped.begun_is, specs.{Starting.StartsPin, Telling.IsMade, declared.access.PinStart.PinStart}}}
+use Rattle.{pagable_model.specs.declared.numbers.WorkerNumber.WorkerNumber, pagable_pager.{proofs.Keeping.{in-step, less, swept}, specs.View.{CallsLess, FewerValues, IsPager, PagerView, SameValues}}}
+use Rattle.{pagable_pager.specs.View.{TakesEntry, Telling, ValuesByNode, core_in, state_in, value_in}, pagable_steps.proofs.{Calls.closed, Owning.{Rests, not-load, pinned-here, rests-then}}}
+use Rattle.{pagable_steps.proofs.Owning.{spares-same, starts-listed, unmoved}, pagable_tables.specs.{Core.{AreLater, BeginsWorker, IsWhole as AreWhole, TakesWorker, core_of}, Falling.Sheds}}
+use Rattle.{pagable_tables.specs.{Falling.{counts_at, known_at, load_at, worker_at}, declared.tables.Tables.Tables}, pagable_world.specs.{Access.{Called, Told}, Calls.{CloseCall, IsNext, Looks}}}
+use Rattle.{pagable_world.specs.declared.handles.{HandleRow.HandleRow, Owner.Owner}, std.proofs.Common.{Err, List, None, Ok, Option, Result, Some, [], ap, arith, false, if◌then◌else◌, inl, inr}}
 
 -- what a call does to a pager of which no value comes
 module _ {N S E : Type 0} (tells : Telling S) (v : E → Values N) (p q : PagerView N S E) where
@@ -85,9 +85,7 @@ pub load_starts : {w w' : Core} {me : Owner} {h : HandleNumber} {l : LoadNumber}
     → Some t ≡ option_map (λ (r : Reading). r.node_type) (reading_of_load l (w'.loads l.0)) → StartsPin w me h (Ok (PinStart.Load l key t)) w'
 load_starts c t is = grind (arith, nat_tests, begun_is, pinned-here, row-pins, same_some)
 
-pub ruleset pinning = (nat_tests, load_starts, same_some)
-
-pub ruleset entering = (nat_tests, all_there, called)
+pub ruleset lending = (nat_tests, all_there, called, stored_key, known_live, adopted_live)
 
 module _ {w w' : Core} (whole : IsWhole w) where
   pub begins : (r : Result WorkerNumber Error) → BeginsWorker w r w' → Rests w w'
@@ -103,12 +101,11 @@ pub entry-starts : {w w' : Core} {place type : ℕ} {row : HandleRow} {n : Worke
     → TakesEntry w place n (record { kind = kind; node = row.node; handle = row.number }) w'
 entry-starts {w} {w'} {place} {type} {row} {n} e x0 t = grind (arith, nat_tests, same_some)
 
--- a reference that was claimed is taken by its worker
-pub then_pins : {w mid w' : Core} {me : Owner} {r : ArcRef} {through : HandleNumber} (result : Result Taken Error) → Looks w r.handle (λ b row. b ≡ is_loose row.mode) (Ok true)
-    → CloneCall w me r.handle (Ok through) mid → PinsClone mid me through result w' → TakesReference w me r result w'
-then_pins {w = w} {r = r} result l c s = let sort : RowIs w r.handle true = record { row = l.found.0; live = l.found.1; sort = sym l.found.2 } in grind (arith, nat_tests)
+-- the handle of a reference that was claimed is loose
+pub row_sorted : {w : Core} {h : HandleNumber} → Looks w h (λ b row. b ≡ is_loose row.mode) (Ok true) → RowIs w h true
+row_sorted l = record { row = l.found.0; live = l.found.1; sort = sym l.found.2 }
 
-pub ruleset starting = (nat_tests, entry-starts, slice_get_within)
+pub ruleset handling = (nat_tests, same_some, slice_get_within, made_so, load_starts, entry-starts, row_sorted)
 
 -- ---- what a handle lends, and what is seen of a pager of nothing
 

@@ -1,11 +1,10 @@
 -- What contracts see of a pager and its open loads, and the plain state that it tells.
-use Rattle.std.specs.{Arc.arc_value, Global.Global, HashMap.{HashMap, get}, Option.option_map, Prelude.{Bool, Err, IfErr, IfOk, None, Ok, Option, Result, Some, false, if◌then◌else◌, is_some, nat_eq}}
-use Rattle.std.specs.{Prelude.{true, ℕ, ◌+◌, ◌≡◌, ◌⊎◌}, declared.{hash.{BuildHasherDefault.BuildHasherDefault, FoldHasher.FoldHasher}, sync.Arc.Arc}}
-use Rattle.{either.specs.declared.Either.Either, pagable_loads.specs.declared.access.Taken.Taken, pagable_model.specs.declared.{error.Error.Error, numbers.{ArcRef.ArcRef, HandleNumber.HandleNumber}}}
-use Rattle.{pagable_model.specs.declared.numbers.{LoadNumber.LoadNumber, WorkerNumber.WorkerNumber}, pagable_tables.specs.{Core.{AreLater, core_of}, Falling.{counts_at, has_value, pins_in}}}
-use Rattle.{pagable_tables.specs.declared.tables.Tables.Tables, pagable_world.specs.{Calls.PinCall, Events.{IsEntry, with_entry_taken, with_worker}, Kinds.{HasKinds, loose_kind}}}
-use Rattle.pagable_world.specs.{LoadCalls.{BeginCall, Given, from_cache, from_store}, Pager.{PagerState, WellFormed}, Plain.{Blob, updated}, Refusals.OwnsLoad, World.{Alike, Core, OpenLoad, Root}}
-use Rattle.pagable_world.specs.{World.{Values, of_cell, of_key}, declared.{answers.{Beginning.Beginning, Pinning.Pinning}, handles.{HandleRow.HandleRow, Owner.Owner}}}
+use Rattle.std.specs.declared.{hash.{BuildHasherDefault.BuildHasherDefault, FoldHasher.FoldHasher}, sync.Arc.Arc}
+use Rattle.std.specs.{Arc.arc_value, Global.Global, HashMap.{HashMap, get}, Option.option_map, Prelude.{Bool, None, Option, Some, false, if◌then◌else◌, is_some, nat_eq, true, ℕ, ◌+◌, ◌≡◌}}
+use Rattle.pagable_world.specs.{Events.with_worker, Kinds.{HasKinds, loose_kind}, LoadCalls.{Given, from_cache, from_store}, Pager.{PagerState, WellFormed}, Plain.{Blob, updated}, Refusals.OwnsLoad}
+use Rattle.pagable_world.specs.{World.{Alike, Core, OpenLoad, Root, Values, of_cell, of_key}, declared.handles.{HandleRow.HandleRow, Owner.Owner}}
+use Rattle.{either.specs.declared.Either.Either, pagable_model.specs.declared.numbers.{ArcRef.ArcRef, HandleNumber.HandleNumber, LoadNumber.LoadNumber, WorkerNumber.WorkerNumber}}
+use Rattle.{pagable_tables.specs.{Core.{AreLater, core_of}, Falling.{counts_at, has_value, pins_in}, declared.tables.Tables.Tables}, pagable_world.specs.Events.{IsEntry, with_entry_taken}}
 use Rattle.pagable_tables.specs.Core as tables
 
 abbrev pub ValuesByNode : Type 0 → Type 0
@@ -117,8 +116,6 @@ pub record ReadsAs (w : Core) (l : LoadNumber) (key : ℕ) (t : Option ℕ) : Ty
   pub key_is : load.key ≡ key
   pub type_is : type_of_root load.root ≡ t
 
--- ---- what a lent pager makes: a worker that an entry of the list moves to, and the clone through which it takes a reference
-
 -- the entry at this place moves to a new worker, and is a loose reference to its cell
 pub record TakesEntry (w : Core) (place : ℕ) (n : WorkerNumber) (r : ArcRef) (w' : Core) : Type 0 where
   pub h : HandleNumber
@@ -129,12 +126,3 @@ pub record TakesEntry (w : Core) (place : ℕ) (n : WorkerNumber) (r : ArcRef) (
   pub is : r ≡ record { kind = record { 0 = loose_kind type }; node = row.node; handle = h }
   pub next : n.0 ≡ w.last.worker + 1
   pub leaves : Alike (with_worker (with_entry_taken w place h n)) w'
-
-abbrev pub Pins : Core → Owner → HandleNumber → Taken → Core → Type 0
-Pins w me through (Taken.Held h k) w' = (through ≡ h) × PinCall w me through (Ok (Pinning.Pinned k)) w'
-Pins w me through (Taken.Begun h l key) w' = (through ≡ h) × BeginCall w me through (Ok (Beginning.Load l key)) w'
-
--- the clone is pinned, or a load of its cell begins
-pub record PinsClone (w : Core) (me : Owner) (through : HandleNumber) (r : Result Taken Error) (w' : Core) : Type 0 where
-  pub pins : IfOk r (λ t. Pins w me through t w')
-  pub refused : IfErr r (λ e. PinCall w me through (Err e) w' ⊎ BeginCall w me through (Err e) w')

@@ -1,7 +1,9 @@
-//! A pager that is lent, as an access, and as that of a page-out worker.
+//! A pager that is lent, as an access, and as that of a page-out worker; and the cache of one.
+#![tactic(auto, using(crate::proofs::Lending::lending))]
 
-ghost use Rattle.std.specs.Prelude.{◌≡◌, true};
-ghost use Rattle.{pagable_loads.specs.Telling.values_at, pagable_pager.specs.View.{core_in, state_in, telling, is_at_work}, pagable_world.specs.Pager.WellFormed};
+ghost use Rattle.std.specs.Prelude.{IfOk, true, ◌≡◌};
+ghost use Rattle.{pagable_loads.specs.Telling.values_at, pagable_pager.specs.View.{Calls, CallsLess, core_in, is_at_work, state_in, telling}};
+ghost use Rattle.pagable_world.specs.{Calls.{ClearCall, OfferCall, RecallCall}, Pager.WellFormed, World.seen_as};
 
 use crate::pager::Pager;
 use either::Either;
@@ -101,7 +103,6 @@ where
         self.pager.share(handle)
     }
 
-    #[tactic(auto, using(crate::proofs::Lending::stored_key))]
     fn store(&mut self, alloc: Global, blob: PagableData) -> Result<DataKey, Error> {
         settled(self.pager.store(alloc, blob), self.pager)
     }
@@ -233,7 +234,6 @@ where
         Ok(worker)
     }
 
-    #[tactic(auto, using(crate::proofs::Lending::entering))]
     fn worker_listed(&mut self, place: usize) -> Result<(WorkerNumber, ArcRef), Error> {
         let (worker, reference) = settled(self.pager.worker_listed(place), self.pager)?;
         self.me = Owner::Worker(worker);
@@ -257,5 +257,74 @@ where
 
     fn take_pending(&mut self, place: usize) -> Option<HandleNumber> {
         settled(self.pager.take_pending_by(self.me, place), self.pager)
+    }
+}
+
+/// The cell of a kind and a key, with a handle of the node that the cache knows under them, if it knows one.
+#[derive(Clone, Copy)]
+pub struct ArcCell {
+    pub kind: Kind,
+    pub key: DataKey,
+    pub handle: Option<HandleNumber>,
+}
+
+/// The cache of a pager, which it borrows: which node is known under a kind and a key. It owns no handle. Each call is the pager's own.
+#[derive(Drop)]
+pub struct DeserializedArcCache<'a, E: Env, S: PagableStorage<E>>
+where
+    E::Node: NodeSet<E>,
+{
+    pager: &'a mut Pager<E, S>,
+}
+
+impl<'a, E: Env, S: PagableStorage<E>> DeserializedArcCache<'a, E, S>
+where
+    E::Node: NodeSet<E>,
+{
+    /// The cache of this pager, as it stands.
+    pub fn new(pager: &'a mut Pager<E, S>) -> DeserializedArcCache<'a, E, S>
+        ensures lent { result.pager.ghost_name ≡ pager.entry.ghost_name }
+        ensures same { result.pager.now ≡ pager.old }
+    {
+        DeserializedArcCache { pager }
+    }
+
+    /// A new handle of the node that is known, as `cache_get` answers it. Refused with NumbersSpent and OutOfMemory.
+    pub fn get(&mut self, kind: Kind, key: DataKey) -> Result<Option<HandleNumber>, Error>
+        ensures lent { self.new.pager.ghost_name ≡ self.old.pager.ghost_name }
+        ensures calls { Calls (telling S.stored S.is_closed S.failed) self.old.pager.now (λ w w'. RecallCall w Owner.Caller kind key result w') self.new.pager.now }
+    {
+        self.pager.cache_get(kind, key)
+    }
+
+    /// The cell of a kind and a key, with what `get` answers. A cell that holds nothing takes no room. Refused as `get`.
+    pub fn get_or_create_cell(&mut self, kind: Kind, key: DataKey) -> Result<ArcCell, Error>
+        ensures lent { self.new.pager.ghost_name ≡ self.old.pager.ghost_name }
+        ensures place { IfOk result (λ cell. (cell.kind ≡ kind) × (cell.key ≡ key)) }
+        ensures calls { Calls (telling S.stored S.is_closed S.failed) self.old.pager.now (λ w w'. RecallCall w Owner.Caller kind key (seen_as (λ cell. cell.handle) result) w') self.new.pager.now }
+    {
+        let handle = self.pager.cache_get(kind, key)?;
+        Ok(ArcCell { kind, key, handle })
+    }
+
+    /// The cache learns a handle's node, or another handle is answered, as by the pager's call of this name; refused as that.
+    pub fn on_arc_deserialized(
+        &mut self,
+        kind: Kind,
+        key: DataKey,
+        handle: HandleNumber,
+    ) -> Result<Option<HandleNumber>, Error>
+        ensures lent { self.new.pager.ghost_name ≡ self.old.pager.ghost_name }
+        ensures calls { CallsLess (telling S.stored S.is_closed S.failed) self.old.pager.now (λ w w'. OfferCall w Owner.Caller kind key handle result w') self.new.pager.now }
+    {
+        self.pager.on_arc_deserialized(kind, key, handle)
+    }
+
+    /// The cache forgets all that it knows. It isn't refused.
+    pub fn clear(&mut self) -> Result<(), Error>
+        ensures lent { self.new.pager.ghost_name ≡ self.old.pager.ghost_name }
+        ensures calls { Calls (telling S.stored S.is_closed S.failed) self.old.pager.now (λ w w'. ClearCall w result w') self.new.pager.now }
+    {
+        self.pager.cache_clear()
     }
 }

@@ -1,10 +1,8 @@
 //! The pager over the tables: values in memory while a handle pins them, in step with tables of who holds them, over a storage of blobs.
 #![tactic(auto)]
 
-pub mod cache;
 pub mod lent;
 pub mod pager;
 
-pub use cache::{ArcCell, DeserializedArcCache};
-pub use lent::Lent;
+pub use lent::{ArcCell, DeserializedArcCache, Lent};
 pub use pager::Pager;

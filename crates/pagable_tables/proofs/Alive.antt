@@ -1,11 +1,11 @@
 -- Truth values, and what they count.
 use Rattle.pagable_tables.proofs.Words.{All-push, All-set, AllPairs, AreNewEntries, ArePlaced, AreSound, Bool, GivesUp, HandleNumber, HandleRow, Handles, Holdings, IsBefore, IsFalling, IsNext, Leaves}
 use Rattle.pagable_tables.proofs.Words.{List, Mode, NodeNumber, None, Option, Owner, Place, Some, Tables, [], alive, all_pairs_push, ap, append-nil, arith, cases_eq, changed, entries_of, entry, false}
-use Rattle.pagable_tables.proofs.Words.{filter, find_row, get_or, get_or-set_at, get_or-set_other, get_or_default, get_or_from_slice_get, if_there, if◌then◌else◌, is_handle, is_live_place}
-use Rattle.pagable_tables.proofs.Words.{is_owned_by, is_owner, left_rows, length, length-append, length-set, live, nat_tests, not, one, only_handle, owns_nothing, plain_of, refl, set, slice_get}
-use Rattle.pagable_tables.proofs.Words.{slice_get-get_or, slice_get_within, subst, suc, sum_by, sum_by-append, sum_by-cons, sum_by-le-sum_by, sum_by-set, sum_by_push, sym, take, times, true, unpinned}
-use Rattle.{pagable_tables.{proofs.Words.{zero, ℕ, ◌&&◌, ◌++◌, ◌+◌, ◌<◌, ◌==◌, ◌||◌, ◌∙◌, ◌∷◌, ◌≡◌, ◌≢◌, ◌≤◌, ◌⊎◌}, specs.Core.IsWhole}, pagable_world.proofs.Elements.sum-none}
-use Rattle.std.proofs.lemmas.List.{get_or-take, length-take-le}
+use Rattle.pagable_tables.proofs.Words.{filter, find_row, get_or, get_or-set_at, get_or-set_other, get_or_from_slice_get, if_there, if◌then◌else◌, is_handle, is_live_place, is_owned_by, is_owner}
+use Rattle.pagable_tables.proofs.Words.{left_rows, length, length-append, length-set, live, nat_tests, not, one, only_handle, or_else, owns_nothing, plain_of, refl, set, slice_get, slice_get-get_or}
+use Rattle.pagable_tables.proofs.Words.{slice_get_within, subst, suc, sum_by, sum_by-append, sum_by-cons, sum_by-le-sum_by, sum_by-set, sum_by_push, sym, take, times, true, unpinned, zero, ℕ, ◌&&◌}
+use Rattle.std.proofs.lemmas.List.{length-take-le}
+use Rattle.{pagable_tables.{proofs.Words.{◌++◌, ◌+◌, ◌<◌, ◌==◌, ◌||◌, ◌∙◌, ◌∷◌, ◌≡◌, ◌≤◌, ◌⊎◌}, specs.Core.IsWhole}, pagable_world.proofs.Elements.sum-none, std.proofs.lemmas.List.get_or-take}
 use Rattle.pagable_world.specs.Pager as pager
 
 pub and-left : (a b : Bool) → (a && b) ≡ true → a ≡ true
@@ -89,9 +89,6 @@ gives-sums {old} {new} {x = x} g f = grind (arith, nat_tests, with-entry)
 abbrev pub of_list : ℕ → HandleRow → Bool
 of_list q h = is_handle q h && is_owned_by Owner.List h
 
-abbrev of_other : ℕ → HandleRow → Bool
-of_other q h = is_handle q h && not (is_owned_by Owner.List h)
-
 pub none-listed : {old new : Handles} {x : HandleRow} → Leaves old x false new → is_owned_by Owner.List x ≡ false → times (of_list x.number.0) (live old.places.items) ≡ 0
 none-listed {old} {x = x} leaves owner =
     let rows = ap (times (of_list x.number.0)) leaves.becomes.rows in
@@ -101,15 +98,12 @@ none-listed {old} {x = x} leaves owner =
 
 pub none-entered : (q last : ℕ) (rows left entries : List HandleRow) → rows ≡ left ++ entries → AreNewEntries last entries → times (of_list q) rows ≡ 0 → times (is_handle q) entries ≡ 0
 none-entered q last rows left entries is new none =
-    let e = entries-none (of_other q) (λ h mode owner. let l : is_owned_by Owner.List h ≡ true = ap (is_owner Owner.List) owner in grind (arith, nat_tests)) last entries new in
-    let most = sum-most (λ h. one (is_handle q h)) (λ h. one (of_list q h)) (λ h. one (of_other q h)) entries (λ h. grind (arith, nat_tests)) in
+    let other = λ (h : HandleRow). is_handle q h && not (is_owned_by Owner.List h) in
+    let e = entries-none other (λ h mode owner. let l : is_owned_by Owner.List h ≡ true = ap (is_owner Owner.List) owner in grind (arith, nat_tests)) last entries new in
+    let most = sum-most (λ h. one (is_handle q h)) (λ h. one (of_list q h)) (λ h. one (other h)) entries (λ h. grind (arith, nat_tests)) in
     omega (arith, ap (times (of_list q)) is, sum_by-append (λ h. one (of_list q h)) left entries)
 
 -- ---- the live rows after a place changes, and how halving finds one
-
--- the rows but for one number
-abbrev without : ℕ → List HandleRow → List HandleRow
-without q rows = left_rows (λ n. n == q) rows
 
 -- clearing the dead away leaves the live
 pub live-filter : (ss : List Place) → live (filter is_live_place ss) ≡ live ss
@@ -147,10 +141,23 @@ pub live-append : (xs ys : List Place) → live (xs ++ ys) ≡ live xs ++ live y
 live-append [] ys = refl
 live-append (s ∷ xs) ys = grind (arith, nat_tests, live-append xs ys)
 
--- no place has the number
-none-of : (q : ℕ) (ss : List Place) → ((k : ℕ) (d : Place) → k < length ss → (get_or ss k d).row.number.0 ≢ q) → times (is_handle q) (live ss) ≡ 0
-none-of q [] h = refl
-none-of q (s ∷ ss) h = let a = h 0 s (omega arith) in grind (arith, nat_tests, sum_by-cons, none-of q ss (λ k d lt. h (suc k) d (omega arith)))
+-- where each place of the number is dead, no live row has it
+pub none-live : (q : ℕ) (ss : List Place) → ((k : ℕ) (d : Place) → k < length ss → (get_or ss k d).row.number.0 ≡ q → (get_or ss k d).is_live ≡ false) → find_row q (live ss) ≡ None
+unfolding find_row
+none-live q [] h = refl
+none-live q (s ∷ ss) h = let a = h 0 s (omega arith) in grind (arith, nat_tests, none-live q ss (λ k d lt e. h (suc k) d (omega arith) e))
+
+-- a number that isn't found is counted nowhere
+pub none-found : (q : ℕ) (rows : List HandleRow) → find_row q rows ≡ None → sum_by (λ h. one (is_handle q h)) rows ≡ 0
+unfolding find_row
+none-found q [] e = refl
+none-found q (h ∷ hs) e = grind (arith, nat_tests, none-found q hs)
+
+-- what is found of rows with more behind them
+pub found-append : (q : ℕ) (rows more : List HandleRow) → find_row q (rows ++ more) ≡ or_else (find_row q rows) (find_row q more)
+unfolding find_row
+found-append q [] more = refl
+found-append q (x ∷ xs) more = grind (arith, nat_tests, found-append q xs more)
 
 -- what is done to the rows of one number, where the rows before and after have others
 changed-none : (q : ℕ) (f : HandleRow → HandleRow) (xs : List HandleRow) → times (is_handle q) xs ≡ 0 → changed (is_handle q) f xs ≡ xs
@@ -159,15 +166,16 @@ changed-none q f (x ∷ xs) none = let a = sum_by-cons (λ h. one (is_handle q h
 
 -- A live place has the one row of its number: it is left out where the place is killed, changed where what is done to rows of the number is done to it, and found.
 pub at-place : (ss : List Place) (i : ℕ) (row : HandleRow) → AllPairs IsBefore ss → slice_get ss i ≡ Some (alive row)
-    → (live (set ss i (record { row = row; is_live = false })) ≡ without row.number.0 (live ss))
+    → (live (set ss i (record { row = row; is_live = false })) ≡ left_rows (λ n. n == row.number.0) (live ss))
     × ((f : HandleRow → HandleRow) → live (set ss i (alive (f row))) ≡ changed (is_handle row.number.0) f (live ss)) × (find_row row.number.0 (live ss) ≡ Some row)
 unfolding find_row
 at-place [] i row ordered at = absurd (cc)
 at-place (s ∷ ss) zero row ordered at =
     let same : s ≡ alive row = cc in
     let number : s.row.number.0 ≡ row.number.0 = ap (λ (p : Place). p.row.number.0) same in
-    let none : times (is_handle row.number.0) (live ss) ≡ 0 = none-of row.number.0 ss (λ k d lt e. let o = ordered 0 (suc k) d (omega arith) (omega arith) in omega arith) in
-    (grind (arith, nat_tests, left-none), λ f. grind (arith, nat_tests, changed-none), grind (arith, nat_tests))
+    let none : times (is_handle row.number.0) (live ss) ≡ 0 =
+    none-found row.number.0 (live ss) (none-live row.number.0 ss (λ k d lt e. let o = ordered 0 (suc k) d (omega arith) (omega arith) in absurd (omega arith))) in
+    (grind (arith, nat_tests, left-none row.number.0 (live ss) none), λ f. grind (arith, nat_tests, changed-none), grind (arith, nat_tests))
 at-place (s ∷ ss) (suc i) row ordered at =
     let (kill, change, find) = at-place ss i row (λ j k d less lt. ordered (suc j) (suc k) d (omega arith) (omega arith)) at in
     let lt = slice_get_within ss i (alive row) at in
@@ -194,12 +202,6 @@ pub length-live-set : (ss : List Place) (i : ℕ) (row : HandleRow) (new : Place
 length-live-set ss i row new at =
     omega (arith, sum-live-set (λ _. 1) ss i row new at, ones (live ss), ones (live (set ss i new)))
 
--- where each place of the number is dead, no live row has it
-pub none-live : (q : ℕ) (ss : List Place) → ((k : ℕ) (d : Place) → k < length ss → (get_or ss k d).row.number.0 ≡ q → (get_or ss k d).is_live ≡ false) → find_row q (live ss) ≡ None
-unfolding find_row
-none-live q [] h = refl
-none-live q (s ∷ ss) h = let a = h 0 s (omega arith) in grind (arith, nat_tests, none-live q ss (λ k d lt e. h (suc k) d (omega arith) e))
-
 pub row-got : (ss : List Place) (i : ℕ) (p : Place) (q : ℕ) → AllPairs IsBefore ss → slice_get ss i ≡ Some p → p.is_live ≡ true → p.row.number.0 ≡ q → find_row q (live ss) ≡ Some p.row
 row-got ss i p q ordered at is number =
     subst (λ n. find_row n (live ss) ≡ Some p.row) number (at-place ss i p.row ordered (at ∙ ap (λ b. Some (record { row = p.row; is_live = b })) is)).2
@@ -211,14 +213,8 @@ next-set q ss i row new at same next =
     let is : (get_or ss i new).row.number.0 ≡ row.number.0 = ap (λ (x : Place). x.row.number.0) (get_or_from_slice_get ss i (alive row) new at) in
     All-set (λ (s : Place). s.row.number.0 < q) ss i new (omega arith) next
 
--- a number that isn't found is counted nowhere
-pub none-found : (q : ℕ) (rows : List HandleRow) → find_row q rows ≡ None → sum_by (λ h. one (is_handle q h)) rows ≡ 0
-unfolding find_row
-none-found q [] e = refl
-none-found q (h ∷ hs) e = grind (arith, nat_tests, none-found q hs)
-
 -- what is left has not the number
-sum-without : (q : ℕ) (rows : List HandleRow) → sum_by (λ h. one (is_handle q h)) (without q rows) ≡ 0
+sum-without : (q : ℕ) (rows : List HandleRow) → sum_by (λ h. one (is_handle q h)) (left_rows (λ n. n == q) rows) ≡ 0
 sum-without q [] = refl
 sum-without q (h ∷ hs) = grind (arith, nat_tests, sum-without q hs)
 
@@ -226,33 +222,21 @@ sum-without q (h ∷ hs) = grind (arith, nat_tests, sum-without q hs)
 pub only-row : (f : HandleRow → ℕ) (ss : List Place) (i : ℕ) (row : HandleRow) → AllPairs IsBefore ss → slice_get ss i ≡ Some (alive row)
     → ((h : HandleRow) → f h ≤ one (is_handle row.number.0 h)) → sum_by f (live ss) ≡ f row
 only-row f ss i row ordered at less =
-    let left = sum_by-le-sum_by f (λ h. one (is_handle row.number.0 h)) (without row.number.0 (live ss)) less in
+    let left = sum_by-le-sum_by f (λ h. one (is_handle row.number.0 h)) (left_rows (λ n. n == row.number.0) (live ss)) less in
     grind (arith, nat_tests, ap (sum_by f) (at-place ss i row ordered at).0, sum-without row.number.0 (live ss), sum-live-set)
-
--- all rows up to a smaller one are smaller
-pub smaller-up : {A : Type 0} (f : A → ℕ) (xs : List A) (m q : ℕ) (e : A) → AllPairs (λ a b. f a < f b) xs → m < length xs → f (get_or xs m e) < q → (k : ℕ) (d : A) → k < m + 1 → f (get_or xs k d) < q
-smaller-up f xs m q e ordered lt less k d h =
-    let at : f (get_or xs m e) ≡ f (get_or xs m d) = ap f (get_or_default xs m e d lt) in
-    grind (arith, nat_tests, cases_eq)
 
 pub le_or_lt : (a b : ℕ) → (a ≤ b) ⊎ (b < a)
 le_or_lt a b = grind arith
-
--- each row keeps its number
-number-set : {A : Type 0} (f : A → ℕ) (xs : List A) (i : ℕ) (x y : A) (k : ℕ) (d : A) → slice_get xs i ≡ Some x → f y ≡ f x → k < length xs → f (get_or (set xs i y) k d) ≡ f (get_or xs k d)
-number-set f xs i x y k d at same lt = grind (arith, nat_tests, cases_eq, get_or-set_at, slice_get_within, get_or_from_slice_get, get_or-set_other)
-
--- a row changes, but not its number
-pub rises-set : {A : Type 0} (f : A → ℕ) (xs : List A) (i : ℕ) (x y : A) → AllPairs (λ a b. f a < f b) xs → slice_get xs i ≡ Some x → f y ≡ f x → AllPairs (λ a b. f a < f b) (set xs i y)
-rises-set f xs i x y ordered at same j k d less within =
-    let lt : k < length xs = let n = length-set xs i y in omega arith in
-    omega (arith, number-set f xs i x y j d at same (omega arith), number-set f xs i x y k d at same lt, ordered j k d less lt)
 
 -- places are in order and counted after one of them changes
 pub sound-set : (old new : Handles) (i : ℕ) (row : HandleRow) (p : Place) → AreSound old → slice_get old.places.items i ≡ Some (alive row) → p.row.number.0 ≡ row.number.0
     → new.places.items ≡ set old.places.items i p → new.dead + one p.is_live ≡ old.dead + 1 → AreSound new
 sound-set old new i row p sound at same is dead =
-    let ordered = rises-set (λ (s : Place). s.row.number.0) old.places.items i (alive row) p sound.ordered at same in
+    let ss = old.places.items in
+    let number : (k : ℕ) (d : Place) → k < length ss → (get_or (set ss i p) k d).row.number.0 ≡ (get_or ss k d).row.number.0 =
+    λ k d lt. grind (arith, nat_tests, cases_eq, get_or-set_at, slice_get_within, get_or_from_slice_get, get_or-set_other) in
+    let ordered : AllPairs IsBefore (set ss i p) =
+    λ j k d less lt. let n = length-set ss i p in omega (arith, number j d (omega arith), number k d (omega arith), sound.ordered j k d less (omega arith)) in
     grind (arith, nat_tests, ap (λ ss. length (live ss)) is, length-set, length-live-set)
 
 -- a row more, above all that are there
@@ -270,11 +254,7 @@ pub ruleset places = (nat_tests, sum-live-set)
 
 pub ruleset pushes = (nat_tests, ordered-push, next-push, live-append, length-append)
 
--- ---- what the tables tell is in its places, since no vector is longer than its capacity
+-- ---- what the tables tell is in its places, since no vector is longer than its capacity: so they are whole where the world is that is in its places
 
-pub placed : (t : Tables) → ArePlaced (plain_of t)
-placed t = grind (arith, nat_tests, length-live-le)
-
--- so they are whole where the world is that is in its places
 pub whole-so : {t : Tables} → IsFalling t.holdings [] owns_nothing → (ArePlaced (plain_of t) → pager.IsWhole (plain_of t)) → IsWhole t
-whole-so {t} steady core = record { steady = steady; core = core (placed t) }
+whole-so {t} steady core = record { steady = steady; core = core (grind (arith, nat_tests, length-live-le)) }

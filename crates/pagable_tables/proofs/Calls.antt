@@ -1,16 +1,16 @@
 -- Calls by which handles go to the list, come from it or fall keep the world whole.
-use Rattle.pagable_tables.proofs.{Alive.of_list, Kept.{GoOn, IsIn, alike-rows, among-both, among-last, among-map, among-one, changed-sum, counted, found-among, found-so, holder-in, is-in}}
-use Rattle.pagable_tables.proofs.{Kept.{keeps-whole, loads-stay, may-own, once, same-rows, stays-old, there-then}, Told.{Goes, GoesOn, IsMine, beside, born-whole, falls-lost, lone-falling}}
-use Rattle.pagable_tables.proofs.Told.{loose-unshared, mine-of, moved-free, moved-on, moved-so, moved-to-value, named-own, named-unlisted, newer-falls, newer-moved, newer-then, not-list, opened}
-use Rattle.pagable_tables.proofs.{Told.{pin-comes, roomy, roomy-whole, settled, settles, stays-on, then-on}, Words.{Alike, AllPairs, Among, ArcRef, ArePlaced, BeginCall, BeginKeyCall, Beginning}}
+use Rattle.pagable_tables.proofs.Told.{loose-unshared, moved-free, moved-on, moved-so, moved-to-value, named-own, named-unlisted, newer-falls, newer-moved, newer-then, not-list, opened, own-of}
 use Rattle.pagable_tables.proofs.Words.{Bool, CloseCall, Core, Error, Falls, HandOverCall, HandleNumber, HandleRow, Installs, IsEntryWhole, IsHandleBefore, IsRootWhole, IsWhole, Kind, List}
 use Rattle.pagable_tables.proofs.Words.{LoadCloses, LoadNumber, MayEnd, MayHold, MayOwnLoad, Mode, NodeNumber, None, Ok, OpenLoad, OptionalDataKey, Owner, Owns, Result, Root, ScheduleCall, Some}
-use Rattle.pagable_tables.proofs.Words.{Suits, TakeCall, [], adopted, ap, arith, cell_fault, earlier, false, fits_mode, get_or_from_slice_get, greatest, hand_over_fault, has_key, if_there}
+use Rattle.pagable_tables.proofs.Words.{Suits, TakeCall, [], adopted, ap, arith, cases_eq, cell_fault, earlier, false, fits_mode, get_or_from_slice_get, greatest, hand_over_fault, has_key, if_there}
 use Rattle.pagable_tables.proofs.Words.{if◌then◌else◌, inl, inr, is_handle, is_in, is_loose, is_named_by, is_owned_by, is_owned_in, is_owner, is_shared, is_shared_kind, is_workers, load_fault}
 use Rattle.pagable_tables.proofs.Words.{mode_of, moved, named_fault, nat_tests, next_node, not, numbers_of, of_cell, of_key, one, only_handle, owner_value, owner_worker, references_fault, refl}
 use Rattle.pagable_tables.proofs.Words.{row_of, shut, slice_get_within, subst, sum_by-remove, sum_by_push, sym, times, true, type_at, type_of, usable, with_cached, with_handle, with_key, with_load}
+use Rattle.pagable_tables.proofs.{Alive.of_list, Kept.{GoOn, IsIn, alike-rows, among-both, among-last, among-map, among-one, changed-sum, counted, found-among, found-so, holder-in, is-in}}
+use Rattle.pagable_tables.proofs.{Kept.{keeps-whole, loads-stay, may-own, once, same-rows, stays-old, there-then}, Newer.no-load, Told.{Goes, GoesOn, beside, born-whole, falls-lost, lone-falling}}
+use Rattle.pagable_tables.proofs.{Told.{pin-comes, roomy, roomy-whole, settled, settles, stays-on, then-on}, Words.{Alike, AllPairs, Among, ArcRef, ArePlaced, BeginCall, BeginKeyCall, Beginning}}
 use Rattle.pagable_tables.proofs.{Words.{with_mode, with_node, with_pin, with_worker, without_load, without_worker, ℕ, ◌&&◌, ◌++◌, ◌+◌, ◌<◌, ◌==◌, ◌||◌, ◌∙◌, ◌∷◌, ◌≡◌, ◌≤◌}, Worlds.both-none}
-use Rattle.{pagable_tables.proofs.Worlds.{fault-by, found-there, one-fault, owner-same}, pagable_world.specs.Workers.{WorkerEnds, is_load_of}, std.specs.List.remove}
+use Rattle.{pagable_tables.proofs.Worlds.{fault-by, found-map, one-fault, owner-self}, pagable_world.specs.Workers.{WorkerEnds, is_load_of}, std.specs.List.remove}
 
 -- The handle h of this row alone moves: what the list's handles of a number are then.
 lists-moved : {w : Core} → IsWhole w → (h : HandleNumber) (row : HandleRow) (owner : Owner) → Among w.rows row → row.number.0 ≡ h.0 → (q : ℕ)
@@ -145,17 +145,12 @@ closes {before} {u} l given whole on gives falls placed =
 -- what a load owns, it owns by its number too
 owned-in : {w : Core} → IsWhole w → (l : LoadNumber) (x : HandleRow) → Among w.rows x → x.owner ≡ Owner.Load l → is_owned_in w (Owner.Load l) x.number.0 ≡ true
 owned-in {w} whole l x among own =
-    let self : (l.0 == l.0) ≡ true = grind (arith, nat_tests) in
-    ap (if_there (is_owned_by (Owner.Load l)) false) (found-so x.number.0 w.rows x whole.handles.ordered among refl) ∙ ap (is_owner (Owner.Load l)) own ∙ self
+    ap (if_there (is_owned_by (Owner.Load l)) false) (found-so x.number.0 w.rows x whole.handles.ordered among refl) ∙ ap (is_owner (Owner.Load l)) own ∙ owner-self (Owner.Load l)
 
 pub load-closes : {w w' : Core} (l : LoadNumber) (r : Result (Unit {0}) Error) → IsWhole (opened w) → LoadCloses w l r w' → ArePlaced (opened w') → IsWhole (opened w')
 load-closes {w} l r whole falls placed = closes l (is_owned_in w (Owner.Load l)) (roomy-whole whole) (stays-on w) (owned-in whole l) falls placed
 
 -- ---- a load ends
-
--- who owns a load isn't one
-not-load : (w : Core) (o : Owner) (l : LoadNumber) → MayOwnLoad w o → o ≡ Owner.Load l → ⊥
-not-load w o l may is = subst (MayOwnLoad w) is may
 
 -- A handle of m is pinned, a Pinned one is made and the load closes, where m is what w has become.
 module _ (before m : Core) (whole : IsWhole (roomy m)) (on : GoesOn before m) (me : Owner) (may : MayOwnLoad m me) (l : LoadNumber) (h : HandleNumber) (row : HandleRow)
@@ -164,7 +159,7 @@ module _ (before m : Core) (whole : IsWhole (roomy m)) (on : GoesOn before m) (m
   pinned-gives : (x : HandleRow) → Among (with_pin m h row.node me).rows x → x.owner ≡ Owner.Load l → given x.number.0 ≡ true
   pinned-gives x among own = elim (among-both (with_mode m h Mode.LoosePinned).rows _ x among) [
     | inl old ↦ let (z, there, is) = among-map (λ y. if is_handle h.0 y then record y { mode = Mode.LoosePinned } else y) m.rows x old in grind (arith, nat_tests, gives z there)
-    | inr new ↦ absurd (not-load m me l may (ap (λ (z : HandleRow). z.owner) (sym (among-one _ x new)) ∙ own))
+    | inr new ↦ let is : me ≡ Owner.Load l = ap (λ (z : HandleRow). z.owner) (sym (among-one _ x new)) ∙ own in grind (arith, nat_tests, no-load m me l may)
   ]
 
   pub ends-goes : {w' : Core} {r : Result (Unit {0}) Error} (node : NodeNumber) → row.node ≡ node → Falls before (without_load (with_pin m h node me) l) given r w' → Goes m w'
@@ -174,7 +169,7 @@ module _ (before m : Core) (whole : IsWhole (roomy m)) (on : GoesOn before m) (m
       record { whole = closes {u = with_pin m h row.node me} l given pinned (then-on on more) pinned-gives fell; newer = newer-then newer (newer-falls fell) }
 
 -- what the load still owns once handles have moved to another is given
-left-given : {w : Core} → IsWhole w → (l : LoadNumber) (s : ℕ → Bool) (o : Owner) → (o ≡ Owner.Load l → ⊥) → (y : HandleRow) → Among (moved s o w.rows) y → y.owner ≡ Owner.Load l
+left-given : {w : Core} → IsWhole w → (l : LoadNumber) (s : ℕ → Bool) (o : Owner) → is_owner (Owner.Load l) o ≡ false → (y : HandleRow) → Among (moved s o w.rows) y → y.owner ≡ Owner.Load l
     → (is_owned_in w (Owner.Load l) y.number.0 && not (s y.number.0)) ≡ true
 left-given {w} whole l s o other y among own =
     let (z, there, is) = among-map (λ z. if s z.number.0 then record z { owner = o } else z) w.rows y among in
@@ -190,7 +185,7 @@ installs-goes {w} me l node h k node_type refs whole ends i =
           let m : Core = record w { rows = moved s (owner_value node.0) w.rows } in
           let goes = ends-goes w m (moved-to-value whole s (named-unlisted whole (Owner.Load l) refs refl (fault-by w (opened w) (Owner.Load l) [] refs ∙ ends.good)) node.0)
           (moved-on whole s (owner_value node.0)) me (may-own w m (λ v at. at) me may) l h i.row (kept-own may) i.next.is_left
-          (λ q. is_owned_in w (Owner.Load l) q && not (is_named_by refs q)) (left-given whole l s (owner_value node.0) (λ own. absurd (cc))) node i.at falls.falls in
+          (λ q. is_owned_in w (Owner.Load l) q && not (is_named_by refs q)) (left-given whole l s (owner_value node.0) refl) node i.at falls.falls in
           record { whole = goes.whole; newer = newer-then (newer-moved w s (owner_value node.0) refl) goes.newer }
       | inr (here, falls) ↦
           ends-goes w w (roomy-whole whole) (stays-on w) me may l h i.row (record { live = i.owned.live; own = i.owned.own; as_asked = i.owned.as_asked }) i.next.is_left
@@ -203,27 +198,24 @@ installs-goes {w} me l node h k node_type refs whole ends i =
         let row = i.row in
         let owns = i.owned in
         let mine = named-own w whole.handles.ordered (Owner.Load l) refs ends.good row (found-among h.0 w.rows row owns.live).0 in
-        let none = not-load w me l may in
+        let none = no-load w me l may in
         let spared : is_named_by refs row.number.0 ≡ false = grind (arith, nat_tests) in
-        let same = found-there (λ y. if is_named_by refs y.number.0 then record y { owner = owner_value node.0 } else y) (λ y. grind (arith, nat_tests)) in
-        let live = same h.0 w.rows row owns.live in grind (arith, nat_tests)
+        let same = found-map (λ y. if is_named_by refs y.number.0 then record y { owner = owner_value node.0 } else y) (λ y. grind (arith, nat_tests)) h.0 w.rows in
+        let live = owns.live in grind (arith, nat_tests)
 
 -- ---- a load of a key hands over
 
-pub handed-mine : (w : Core) (owner : Owner) (seen : List ℕ) (hs : List HandleNumber) → named_fault w owner seen hs ≡ None → (q : ℕ) → is_in (numbers_of hs) q ≡ true → IsMine w owner q
+pub handed-mine : (w : Core) (owner : Owner) (seen : List ℕ) (hs : List HandleNumber) → named_fault w owner seen hs ≡ None → (q : ℕ) → is_in (numbers_of hs) q ≡ true → is_owned_in w owner q ≡ true
 unfolding named_fault is_in
 handed-mine w owner seen [] good q named = absurd (cc)
 handed-mine w owner seen (h ∷ hs) good q named =
     let parts = both-none (one-fault w owner seen h) (named_fault w owner (h.0 ∷ seen) hs) good in
-    mine-of w owner h.0 q (h.0 == q) (is_in (numbers_of hs) q) refl named (let a = parts.0 in grind (arith, nat_tests, owner-same)) (λ n. handed-mine w owner (h.0 ∷ seen) hs parts.1 q n)
+    let a = parts.0 in grind (arith, nat_tests, cases_eq h.0 q, handed-mine w owner (h.0 ∷ seen) hs parts.1 q)
 
 -- what is handed over is the load's
 pub handed-own : (w : Core) → AllPairs IsHandleBefore w.rows → (l : LoadNumber) (hs : List HandleNumber) → named_fault w (Owner.Load l) [] hs ≡ None → (x : HandleRow) → Among w.rows x
     → is_in (numbers_of hs) x.number.0 ≡ true → x.owner ≡ Owner.Load l
-handed-own w ordered l hs good x among named =
-    let m = handed-mine w (Owner.Load l) [] hs good x.number.0 named in
-    let a = found-among x.number.0 w.rows m.row m.live in
-    ap (λ (y : HandleRow). y.owner) (once w.rows ordered x m.row among a.0 (sym a.1)) ∙ m.own
+handed-own w ordered l hs good x among named = own-of w ordered (Owner.Load l) x among (handed-mine w (Owner.Load l) [] hs good x.number.0 named)
 
 -- what is true where a load may hand over
 pub record MayHand (w : Core) (me : Owner) (l : LoadNumber) (hs : List HandleNumber) : Type 0 where
@@ -253,7 +245,7 @@ hand-over-whole {w} me l hs whole call placed =
     let s = is_in (numbers_of hs) in
     let m : Core = record w { rows = moved s me w.rows } in
     closes {u = m} l (λ (q : ℕ). is_owned_in w (Owner.Load l) q && not (s q)) (handed-whole whole me l hs can) (moved-on whole s me)
-    (left-given whole l s me (not-load w me l can.may)) falls.falls placed
+    (left-given whole l s me (no-load w me l can.may)) falls.falls placed
 
 -- ---- the close of the storage
 

@@ -1,14 +1,14 @@
 -- A node comes, and the handles that its value refers to are the value's. And it comes with its handles to a node that is there, has no value and is pinned.
-use Rattle.pagable_tables.proofs.{Alive.and-left, Calls.may-hold, Fitting.{begun, held-here, is_owned, owned-by, owned-by-none, pin-here, turned, unmixed}, Kept.{among-map, at-most-sum, found-among}}
-use Rattle.pagable_tables.proofs.{Kept.{once, only-at, ordered-map, sum-map, sum-none}, Newer.{load-closed, moved-times, no-load, not-named, owned-given, seen-before, stays-pinned}, Next.found-first}
-use Rattle.pagable_tables.proofs.{Next.{passes-here, passes-none}, Told.{OnlyNewer, moved-to-value, named-mine, named-own, named-unlisted, newer-falls, newer-handle, newer-mode, newer-moved}}
-use Rattle.pagable_tables.proofs.{Told.{newer-then, not-a-value, or-none, owned-mode, owned-moved}, Words.{Alike, AllPairs, Among, ArcRef, Blob, Bool, Core, Counts, Ending, Error, Falls, Fits}}
-use Rattle.pagable_tables.proofs.Words.{HandleNumber, HandleRow, Holdings, Installs, IsHandleBefore, IsReady, Last, List, LoadNumber, LoadRow, MayEnd, MayOwnLoad, Mode, NodeNumber, None, OnlyRoom}
-use Rattle.pagable_tables.proofs.Words.{Option, Owner, Places, Result, Right, SoFar, Some, Tables, [], ap, arith, cases_eq, cell_in, changed, core_of, counts_at, false, find_row, has_come, has_value}
-use Rattle.pagable_tables.proofs.Words.{if◌then◌else◌, inl, inr, is_at, is_handle, is_in, is_named_by, is_owned_by, is_owned_in, is_pin, is_pinning, is_plain_pin, is_share, is_valued, length, live}
-use Rattle.pagable_tables.proofs.Words.{load_at, load_in, map, moved, named, nat_tests, nobody, not, one, option_map, owner_value, owns_nothing, pins, plain_of, reference_fault, references_fault}
-use Rattle.pagable_tables.proofs.Words.{refl, row_of, sharing, subst, sum_by, sum_by-cons, sum_by_push, sym, times, true, vec_capacity, with_handle, with_mode, with_pin, with_tables, without_load, ℕ}
-use Rattle.pagable_tables.{proofs.{Words.{◌&&◌, ◌++◌, ◌+◌, ◌<◌, ◌==◌, ◌∙◌, ◌∷◌, ◌≡◌, ◌≢◌, ◌≤◌, ◌⊎◌}, Worlds.fault-by}, specs.Core.IsWhole}
+use Rattle.pagable_tables.proofs.Words.{Alike, AllPairs, Among, ArcRef, Blob, Bool, Core, Counts, Ending, Error, Falls, Fits, HandleNumber, HandleRow, Holdings, Installs, IsHandleBefore, IsReady}
+use Rattle.pagable_tables.proofs.Words.{Last, List, LoadNumber, LoadRow, MayEnd, MayOwnLoad, Mode, NodeNumber, None, OnlyRoom, Option, Owner, Places, Result, Right, SoFar, Some, Tables, [], ap, arith}
+use Rattle.pagable_tables.proofs.Words.{cases_eq, cell_in, changed, core_of, counts_at, false, find_row, has_come, has_value, if◌then◌else◌, inl, inr, is_at, is_handle, is_in, is_named_by}
+use Rattle.pagable_tables.proofs.Words.{is_owned_by, is_owned_in, is_pin, is_pinning, is_plain_pin, is_share, is_valued, length, live, load_at, load_in, map, moved, named, nat_tests, nobody, not, one}
+use Rattle.pagable_tables.proofs.Words.{option_map, owner_value, owns_nothing, pins, plain_of, reference_fault, references_fault, refl, row_of, sharing, subst, sum_by, sum_by-cons, sum_by_push, sym}
+use Rattle.pagable_tables.proofs.Words.{times, true, vec_capacity, with_handle, with_mode, with_pin, with_tables, without_load, ℕ, ◌&&◌, ◌++◌, ◌+◌, ◌<◌, ◌==◌, ◌∙◌, ◌∷◌, ◌≡◌, ◌≢◌, ◌≤◌, ◌⊎◌}
+use Rattle.pagable_tables.proofs.{Alive.{and-left, there-is}, Calls.may-hold, Fitting.{begun, held-here, is_owned, owned-by, owned-by-none, pin-here, turned, unmixed}, Kept.{among-map, at-most-sum}}
+use Rattle.pagable_tables.proofs.{Kept.{found-among, once, only-at, ordered-map, sum-map, sum-none}, Newer.{load-closed, moved-times, no-load, not-named, owned-given, seen-before, stays-pinned}}
+use Rattle.pagable_tables.proofs.{Next.{found-first, passes-here, passes-none}, Told.{moved-to-value, named-mine, named-own, named-unlisted, not-a-value, or-none, owned-mode, owned-moved}}
+use Rattle.pagable_tables.{proofs.Worlds.fault-by, specs.Core.IsWhole}
 
 -- what is named wasn't named before
 unseen : (w : Core) (me : Owner) (seen : List ℕ) (rs : List ArcRef) → references_fault w me seen rs ≡ None → (q : ℕ) → is_named_by rs q ≡ true → is_in seen q ≡ false
@@ -28,9 +28,6 @@ module _ (w : Core) (me : Owner) (n : ℕ) (rs : List ArcRef) (ordered : AllPair
   abbrev to : HandleRow → HandleRow
   to h = if is_named_by rs h.number.0 then owned-by (owner_value n) h else h
 
-  same-weight : (f : HandleRow → ℕ) → ((h : HandleRow) → f (owned-by (owner_value n) h) ≡ f h) → sum_by f (map to w.rows) ≡ sum_by f w.rows
-  same-weight f same = grind (arith, nat_tests, sum-map, owned-by)
-
   -- a row that is named isn't a value's
   named-free : (h : HandleRow) → Among w.rows h → is_named_by rs h.number.0 ≡ true → is_valued h.owner ≡ false
   named-free h among is = ap is_valued (named-own w ordered me rs fit h among is) ∙ unvalued
@@ -43,9 +40,9 @@ module _ (w : Core) (me : Owner) (n : ℕ) (rs : List ArcRef) (ordered : AllPair
 
   sum-both : (q : ℕ) (b : Bool) → is_named_by rs q ≡ b → sum_by (both q) w.rows ≡ one b
   sum-both q true is =
-      let o = named-mine w me [] rs fit q is in
-      let (there, number) = found-among q w.rows o.row o.live in
-      let a = only-at (both q) w.rows o.row ordered there (λ x other. grind (arith, nat_tests)) in
+      let (row, live, own) = there-is (is_owned_by me) (find_row q w.rows) (named-mine w me [] rs fit q is) in
+      let (there, number) = found-among q w.rows row live in
+      let a = only-at (both q) w.rows row ordered there (λ x other. grind (arith, nat_tests)) in
       grind (arith, nat_tests)
   sum-both q false is = sum-none (both q) w.rows (λ h among. grind (arith, nat_tests))
 
@@ -66,9 +63,6 @@ module _ (w : Core) (me : Owner) (rs : List ArcRef) (ordered : AllPairs IsHandle
   abbrev rows' : List HandleRow
   rows' = given-rows ++ x ∷ []
 
-  given-weight : (f : HandleRow → ℕ) → ((h : HandleRow) → f (owned-by (owner_value n) h) ≡ f h) → sum_by f rows' ≡ sum_by f w.rows + f x
-  given-weight f same = let s = same-weight w me n rs ordered fit unvalued f same in let l = sum_by_push f given-rows x in omega arith
-
   owned-here : (q : ℕ) → named q (refs' n) + owns_nothing n q ≡ sum_by (is_owned n q) rows'
   owned-here q =
       let l = sum_by_push (is_owned n q) given-rows x in
@@ -81,8 +75,8 @@ module _ (w : Core) (me : Owner) (rs : List ArcRef) (ordered : AllPairs IsHandle
   pub born-fits : Fits at' refs' rows' top [] owns_nothing
   born-fits =
       record {
-        pinned = λ m. grind (arith, nat_tests, cases_eq, pin-here, given-weight (λ h. one (is_pin m h)) (λ h. refl));
-        holding = λ m. grind (arith, nat_tests, cases_eq, held-here, given-weight (λ h. one (is_at m h)) (λ h. refl));
+        pinned = λ m. grind (arith, nat_tests, cases_eq, pin-here, sum_by_push (λ h. one (is_pin m h)) given-rows x, moved-times (is_pin m) (is_named_by rs) (owner_value n) w.rows (λ h. refl));
+        holding = λ m. grind (arith, nat_tests, cases_eq, held-here, sum_by_push (λ h. one (is_at m h)) given-rows x, moved-times (is_at m) (is_named_by rs) (owner_value n) w.rows (λ h. refl));
         owned = λ m q. let free = owned-by-none m q x (ap is_valued owner ∙ unvalued) in
             grind (arith, nat_tests, cases_eq, owned-here q, sum_by_push (is_owned m q) given-rows x, free, same m, others-own w me n rs ordered fit unvalued m q);
         chain = fits.chain;
@@ -143,11 +137,8 @@ ready-owner t me l node_type refs e whole r = subst (MayOwnLoad (plain_of t)) r.
 
 -- Of other nodes the same handles pin, and are Shared.
 module _ (h : HandleNumber) (node : NodeNumber) (rows : List HandleRow) (of : (y : HandleRow) → Among rows y → is_handle h.0 y ≡ true → y.node ≡ node) (n : ℕ) (other : (node.0 == n) ≡ false) where
-  pub other-pins : pins n (changed (is_handle h.0) turned rows) ≡ pins n rows
-  other-pins = grind (arith, nat_tests, sum-map, of)
-
-  pub other-shares : sharing n (changed (is_handle h.0) turned rows) ≡ sharing n rows
-  other-shares = grind (arith, nat_tests, sum-map, of)
+  other-same : (pins n (changed (is_handle h.0) turned rows) ≡ pins n rows) × (sharing n (changed (is_handle h.0) turned rows) ≡ sharing n rows)
+  other-same = (grind (arith, nat_tests, sum-map, of), grind (arith, nat_tests, sum-map, of))
 
 row-of : (rows : List HandleRow) → AllPairs IsHandleBefore rows → (row : HandleRow) → find_row row.number.0 rows ≡ Some row → (z : HandleRow) → Among rows z → is_handle row.number.0 z ≡ true
     → z.node ≡ row.node
@@ -159,9 +150,6 @@ module _ (t t1 : Tables) (stored : ℕ → Option Blob) (closed lists : Bool) (f
     (good : references_fault (plain_of t) (Owner.Load l) [] rs ≡ None)
     (a : Alike (with_handle (with_mode (core_of t stored closed failures) row.number Mode.LoosePinned) row.node Mode.Pinned me) (core_of t1 stored closed failures))
     (same : t1 ≡ record t { holdings = t1.holdings }) where
-  abbrev h : HandleNumber
-  h = row.number
-
   abbrev s : ℕ → Bool
   s = is_named_by rs
 
@@ -184,20 +172,20 @@ module _ (t t1 : Tables) (stored : ℕ → Option Blob) (closed lists : Bool) (f
   rows0 = moved s o w.rows
 
   abbrev mid : List HandleRow
-  mid = changed (is_handle h.0) turned rows0
+  mid = changed (is_handle row.number.0) turned rows0
 
   abbrev u : Core
-  u = with_pin (record (without_load w l) { rows = rows0 }) h row.node me
+  u = with_pin (record (without_load w l) { rows = rows0 }) row.number row.node me
 
   abbrev given : ℕ → Bool
   given q = is_owned_in w (Owner.Load l) q && not (s q)
 
-  of : (y : HandleRow) → Among rows0 y → is_handle h.0 y ≡ true → y.node ≡ row.node
+  of : (y : HandleRow) → Among rows0 y → is_handle row.number.0 y ≡ true → y.node ≡ row.node
   of y among is =
       grind (arith, nat_tests, row-of, among-map (λ (z : HandleRow). if s z.number.0 then record z { owner = o } else z) w.rows y among)
 
   come : moved s o (live t1.holdings.handles.places.items) ≡ u.rows
-  come = ap (moved s o) a.rows ∙ moved-turned s o h.0 x w.rows spared
+  come = ap (moved s o) a.rows ∙ moved-turned s o row.number.0 x w.rows spared
 
   as-moved : (f : HandleRow → Bool) → ((y : HandleRow) → f (record y { owner = o }) ≡ f y) → times f u.rows ≡ times f (live t1.holdings.handles.places.items)
   as-moved f keeps = ap (times f) (sym come) ∙ moved-times f s o (live t1.holdings.handles.places.items) keeps
@@ -206,7 +194,7 @@ module _ (t t1 : Tables) (stored : ℕ → Option Blob) (closed lists : Bool) (f
   list-has q =
       let b = sum_by_push (λ (h : HandleRow). one (is_handle q h && is_owned_by Owner.List h)) mid x in
       let had = (moved-to-value was.core s (named-unlisted was.core (Owner.Load l) rs refl good) row.node.0).owners_there.listed q in
-      grind (arith, nat_tests, turned-sum (λ (h : HandleRow). one (is_handle q h && is_owned_by Owner.List h)) h.0 rows0 (λ y. refl), had)
+      grind (arith, nat_tests, turned-sum (λ (h : HandleRow). one (is_handle q h && is_owned_by Owner.List h)) row.number.0 rows0 (λ y. refl), had)
 
   module _ (k : Holdings) (rows : live k.handles.places.items ≡ moved s o (live t1.holdings.handles.places.items)) (list : k.list ≡ t1.holdings.list) (last : k.last_handle ≡ t1.holdings.last_handle)
       (capacity : vec_capacity k.handles.places ≡ vec_capacity t1.holdings.handles.places) (cells : (n : ℕ) → cell_in (counts_at k.nodes n) ≡ cell_in (counts_at t1.holdings.nodes n)) where
@@ -221,7 +209,7 @@ module _ (t t1 : Tables) (stored : ℕ → Option Blob) (closed lists : Bool) (f
 
     owned-pinned : (q : ℕ) → is_owned_in u (Owner.Load l) q ≡ given q
     owned-pinned q = found-first (is_owned_by (Owner.Load l)) q mid (x ∷ []) (let none = no-load (plain_of t) me l may in grind (arith, nat_tests, passes-here, passes-none))
-        ∙ owned-mode (Owner.Load l) q (is_handle h.0) Mode.LoosePinned rows0 ∙ owned-moved s o (Owner.Load l) q w.rows refl
+        ∙ owned-mode (Owner.Load l) q (is_handle row.number.0) Mode.LoosePinned rows0 ∙ owned-moved s o (Owner.Load l) q w.rows refl
 
     ordered : AllPairs IsHandleBefore u.rows
     ordered = grind (arith, nat_tests, come, ordered-map)
@@ -233,8 +221,8 @@ module _ (t t1 : Tables) (stored : ℕ → Option Blob) (closed lists : Bool) (f
         let more = sum_by_push (λ y. one (is_pin n y)) mid x in
         let z : one (is_pin n x) ≡ 0 = (let b = stays.0 in omega arith) in
         let other : (row.node.0 == n) ≡ false = grind (arith, nat_tests) in (
-          stays.0 ∙ other-pins h row.node rows0 of n other ∙ moved-times (is_pin n) s o w.rows (λ y. refl),
-          stays.1 ∙ other-shares h row.node rows0 of n other ∙ moved-times (is_share n) s o w.rows (λ y. refl),
+          stays.0 ∙ (other-same row.number row.node rows0 of n other).0 ∙ moved-times (is_pin n) s o w.rows (λ y. refl),
+          stays.1 ∙ (other-same row.number row.node rows0 of n other).1 ∙ moved-times (is_share n) s o w.rows (λ y. refl),
         )) falls
 
     -- what gives up all that a load owns does it here
@@ -266,7 +254,7 @@ module _ (t t1 : Tables) (stored : ℕ → Option Blob) (closed : Bool) (failure
       → has_value (counts_at t1.holdings.nodes n) ≡ has_come (counts_at t.holdings.nodes) row.node n
   has-come was whole found n =
       let rows = live t.holdings.handles.places.items in
-      let same = other-pins row.number row.node rows (row-of rows was.core.handles.ordered row found) n in
+      let same = λ (other : (row.node.0 == n) ≡ false). (other-same row.number row.node rows (row-of rows was.core.handles.ordered row found) n other).0 in
       grind (arith, nat_tests, cases_eq n row.node.0, pins-here, sum_by_push, same, a.rows, a.cells n, was.steady.fits.pinned n, whole.steady.fits.pinned n)
 
 -- what is true with more places is true without them

@@ -1,10 +1,10 @@
 -- Rows, one by one and counted, as they come and change, and what is left as handles go.
-use Rattle.pagable_tables.proofs.{Alive.none-found, Words.{AllPairs, Among, AreNewEntries, Bool, Cell, Core, HandleNumber, HandleRow, HandlesAreWhole, IsEntryWhole, IsHandleBefore, IsRootWhole}}
 use Rattle.pagable_tables.proofs.Words.{IsWhole, IsWithin, List, LoadNumber, MayHold, MayOwnLoad, Mode, NodeNumber, None, OpenLoad, Option, OptionalDataKey, Owner, SameAt, Some, [], all_pairs_push}
 use Rattle.pagable_tables.proofs.Words.{and-true, ap, append-nil, append_assoc, arith, changed, false, filter, find_row, get_or, get_or-map, get_or_from_slice_get, greatest, has_key, held, if_there}
 use Rattle.pagable_tables.proofs.Words.{if◌then◌else◌, inl, inr, is_at, is_handle, is_loose, is_owned_by, is_share, is_shared, is_some, length, length-map, map, nat_lt, nat_tests, not, of_cell, one}
 use Rattle.pagable_tables.proofs.Words.{refl, sharing, slice_get-get_or, slice_get_within, subst, suc, sum_by, sum_by-cons, sum_by-le-sum_by, sym, times, true, zero, ℕ, ◌&&◌, ◌++◌, ◌+◌, ◌<◌, ◌==◌}
-use Rattle.pagable_tables.proofs.Words.{◌∙◌, ◌∷◌, ◌≡◌, ◌≤◌, ◌⊎◌}
+use Rattle.pagable_tables.proofs.{Alive.none-found, Words.{AllPairs, Among, AreNewEntries, Bool, Cell, Core, HandleNumber, HandleRow, HandlesAreWhole, IsEntryWhole, IsHandleBefore, IsRootWhole}}
+use Rattle.{pagable_tables.proofs.Words.{◌∙◌, ◌∷◌, ◌≡◌, ◌≤◌, ◌⊎◌}, std.proofs.lemmas.List.map-id}
 pub use Rattle.pagable_world.proofs.Elements.{among-left, among-map, among-one, at-most-sum, counted, found-among, once, sum-none}
 
 -- ---- one by one
@@ -37,15 +37,14 @@ pub sum-less : {X : Type 0} (f g : X → ℕ) (xs : List X) (x : X) → ((y : X)
 sum-less f g (y ∷ ys) x le (suc i, is) lt = grind (arith, nat_tests, sum_by-le-sum_by, sum_by-cons, sum-less f g ys x le (i, is) lt)
 sum-less f g x2 x le x5 lt = grind (arith, nat_tests, sum_by-le-sum_by, sum_by-cons)
 
--- two sums that are the same at each element
-pub same-sum : {X : Type 0} (f g : X → ℕ) (xs : List X) → ((x : X) → Among xs x → f x ≡ g x) → sum_by f xs ≡ sum_by g xs
-same-sum f g [] h = refl
-same-sum f g (x ∷ xs) h = grind (arith, nat_tests, sum_by-cons, same-sum f g xs (λ y among. h y (suc among.0, among.1)))
-
 -- the sum after each element changed
 pub sum-map : {X : Type 0} (f g : X → ℕ) (to : X → X) (xs : List X) → ((x : X) → Among xs x → f (to x) ≡ g x) → sum_by f (map to xs) ≡ sum_by g xs
 sum-map f g to [] h = refl
 sum-map f g to (x ∷ xs) h = grind (arith, nat_tests, sum_by-cons, sum-map f g to xs (λ y among. h y (suc among.0, among.1)))
+
+-- two sums that are the same at each element
+pub same-sum : {X : Type 0} (f g : X → ℕ) (xs : List X) → ((x : X) → Among xs x → f x ≡ g x) → sum_by f xs ≡ sum_by g xs
+same-sum f g xs h = ap (sum_by f) (sym (map-id xs)) ∙ sum-map f g (λ x. x) xs h
 
 -- ---- numbers
 
@@ -55,12 +54,6 @@ ordered-map to rows same ordered j k d less lt = grind (arith, nat_tests, length
 
 pub ordered-push : (rows : List HandleRow) (row : HandleRow) → ((h : HandleRow) → Among rows h → h.number.0 < row.number.0) → AllPairs IsHandleBefore rows → AllPairs IsHandleBefore (rows ++ row ∷ [])
 ordered-push rows row above ordered = all_pairs_push IsHandleBefore rows row ordered (λ k d lt. above (get_or rows k d) (k, slice_get-get_or rows k d lt))
-
--- what is found of rows with one more
-pub found-push : (q : ℕ) (rows : List HandleRow) (x row : HandleRow) → find_row q (rows ++ x ∷ []) ≡ Some row → (find_row q rows ≡ Some row) ⊎ (row ≡ x)
-unfolding find_row
-found-push q [] x row found = grind (arith, nat_tests)
-found-push q (h ∷ hs) x row found = grind (arith, nat_tests, found-push q hs x row)
 
 -- the first has the smallest number
 first-less : (x : HandleRow) (xs : List HandleRow) → AllPairs IsHandleBefore (x ∷ xs) → (y : HandleRow) → Among xs y → x.number.0 < y.number.0
@@ -98,8 +91,7 @@ found-so q rows row ordered among number = at (find_row q rows) refl
   where
     at : (found : Option HandleRow) → find_row q rows ≡ found → find_row q rows ≡ Some row
     at (Some y) e = let a = found-among q rows y e in e ∙ ap (λ (x : HandleRow). Some x) (once rows ordered y row a.0 among (a.1 ∙ sym number))
-    at None e =
-        absurd (grind (arith, nat_tests, none-found q rows e, at-most-sum (λ h. one (is_handle q h)) rows row among))
+    at None e = absurd (grind (arith, nat_tests, none-found q rows e, at-most-sum (λ h. one (is_handle q h)) rows row among))
 
 -- ---- what is left
 

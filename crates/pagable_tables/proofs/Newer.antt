@@ -1,19 +1,19 @@
 -- A load is closed or hands handles over, or a worker leaves, and what they still own is given up.
-use Rattle.{pagable_model.specs.declared.numbers.WorkerNumber.WorkerNumber, pagable_tables.proofs.Alive.{and-left, at-place, le_or_lt, of_list, smaller-up, there-is, times-left, whole-so}}
-use Rattle.pagable_tables.proofs.{Fitting.{begun, is_owned, list-owner, no-value, none-came, not-closed, owned-by-none, rows-told, unmixed}, Kept.{among-last, at-most-sum, found-among, once}}
-use Rattle.pagable_tables.proofs.{Kept.{sum-map, sum-none}, Next.{and_owned, no-entry, none-falls-in, owned, passes-here, passes-left, passes-none, regiven, sheds-still}, Told.{Goes, IsNewer}}
-use Rattle.pagable_tables.proofs.{Told.{OnlyNewer, alike-goes, born-whole, named-mine, newer-handle, newer-moved, newer-then, no-references, not-list, owned-moved, settled}, Words.{Alike, AllPairs}}
-use Rattle.pagable_tables.proofs.Words.{Among, ArcRef, AreLater, ArePlaced, AwayBirthCall, Bears, Blob, Bool, Core, Error, Falls, Fits, Giving, HandleNumber, HandleRow, Handles, HandlesAreWhole}
-use Rattle.pagable_tables.proofs.Words.{HasRoom, Holdings, InReach, IndexMap, IsBefore, IsClosed, IsFalling, IsHandleBefore, IsLeast, IsNoLess, Last, List, LoadNumber, LoadRow, MayHold, MayOwnLoad}
-use Rattle.pagable_tables.proofs.Words.{Mode, NodeNumber, NodeRow, None, Ok, OnlyRoom, OpenLoad, Option, OptionalDataKey, Owner, Place, Places, Reach, Result, Sheds, SoFar, Some, Tables, TakeCall}
-use Rattle.pagable_tables.proofs.Words.{ValueStays, [], alive, and_parts, ap, arith, cases_Bool, cases_eq, cell_in, changed, core_of, counts_at, false, find_row, get, get_or, gives_row, greatest}
-use Rattle.pagable_tables.proofs.Words.{has_key, has_value, held, if_there, if◌then◌else◌, inl, inr, is_at, is_handle, is_keyed, is_loose_kind, is_named_by, is_outside, is_owned_by, is_owned_in}
-use Rattle.pagable_tables.proofs.Words.{is_owner, is_pin, is_pinning, is_plain_pin, is_shared, is_some, is_valued, is_workers_load, key_in, known_at, left_rows, length, live, load_at, load_in}
-use Rattle.pagable_tables.proofs.Words.{loses_value, mode_of, moved, nat_eq, nat_lt, nat_tests, next_node, nobody, not, one, option_map, owner_value, owner_worker, owns_nothing, passes_in, pins}
-use Rattle.pagable_tables.proofs.Words.{plain_of, reach_at, references_fault, refl, refs_at, row_of, sharing, slice_get, slice_get-get_or, subst, suc, sum_by, sum_by-append, sum_by-cons}
-use Rattle.pagable_tables.proofs.Words.{sum_by-le-sum_by, sum_by_push, sym, take, times, true, updated, with_handle, with_mode, with_node, with_worker, ℕ, ◌&&◌, ◌++◌, ◌+◌, ◌-◌, ◌<◌, ◌==◌, ◌||◌, ◌∙◌}
-use Rattle.pagable_tables.{proofs.{Words.{◌∷◌, ◌≡◌, ◌≢◌, ◌≤◌, ◌⊎◌}, Worlds.{born-past, named-none, named-take, next-past, owner-same, owner-self, room-alike, same-cache}}, specs.Core.Does}
-use Rattle.{pagable_tables.specs.{Core.{DoesShed, IsWhole, TakesWorker, gives}, Falling.{Becomes, Widens}}, pagable_world.specs.Workers.is_load_of}
+use Rattle.pagable_tables.proofs.Words.{ArcRef, AreLater, ArePlaced, AwayBirthCall, Bears, Blob, Bool, Core, Error, Falls, Fits, Giving, HandleNumber, HandleRow, Handles, HandlesAreWhole, HasRoom}
+use Rattle.pagable_tables.proofs.Words.{Holdings, InReach, IndexMap, IsBefore, IsClosed, IsFalling, IsHandleBefore, IsLeast, IsNoLess, Last, List, LoadNumber, LoadRow, MayHold, MayOwnLoad, Mode}
+use Rattle.pagable_tables.proofs.Words.{NodeNumber, NodeRow, None, Ok, OnlyRoom, OpenLoad, Option, OptionalDataKey, Owner, Place, Places, Reach, Result, Sheds, SoFar, Some, Tables, TakeCall}
+use Rattle.pagable_tables.proofs.Words.{ValueStays, [], alive, and_parts, ap, arith, cases_Bool, cases_eq, cell_in, changed, core_of, counts_at, false, find_row, get, get_or, get_or_default}
+use Rattle.pagable_tables.proofs.Words.{gives_row, greatest, has_key, has_value, held, if_there, if◌then◌else◌, inl, inr, is_at, is_handle, is_keyed, is_loose_kind, is_named_by, is_outside}
+use Rattle.pagable_tables.proofs.Words.{is_owned_by, is_owned_in, is_owner, is_pin, is_pinning, is_plain_pin, is_shared, is_some, is_valued, key_in, known_at, left_rows, length, live, load_at}
+use Rattle.pagable_tables.proofs.Words.{load_in, loses_value, mode_of, moved, nat_eq, nat_lt, nat_tests, next_node, nobody, not, one, only_handle, option_map, or_else, owner_value, owner_worker}
+use Rattle.pagable_tables.proofs.Words.{owns_nothing, passes_in, pins, plain_of, reach_at, references_fault, refl, refs_at, row_of, sharing, slice_get, slice_get-get_or, subst, suc, sum_by}
+use Rattle.pagable_tables.proofs.Words.{sum_by-append, sum_by-cons, sum_by-le-sum_by, sum_by_push, sym, take, times, true, updated, with_handle, with_mode, with_node, with_worker, ℕ, ◌&&◌, ◌++◌, ◌+◌}
+use Rattle.pagable_tables.proofs.{Fitting.{begun, is_owned, list-owner, no-value, none-came, not-closed, owned-by-none, rows-told, unmixed}, Kept.{among-last, at-most-sum, found-among, once, sum-map}}
+use Rattle.pagable_tables.proofs.{Kept.sum-none, Next.{and_owned, no-entry, none-falls-in, owned, passes-here, passes-left, passes-none, regiven, sheds-still}, Told.{Goes, IsNewer, OnlyNewer}}
+use Rattle.pagable_tables.proofs.{Told.{alike-goes, born-whole, named-mine, newer-handle, newer-moved, newer-then, no-references, not-list, owned-moved, settled}, Words.{Alike, AllPairs, Among}}
+use Rattle.pagable_tables.proofs.{Words.{◌-◌, ◌<◌, ◌==◌, ◌||◌, ◌∙◌, ◌∷◌, ◌≡◌, ◌≢◌, ◌≤◌, ◌⊎◌}, Worlds.{born-past, found-map, moved-twice, named-none, named-take, next-past, owner-same, owner-self}}
+use Rattle.{pagable_model.specs.declared.numbers.WorkerNumber.WorkerNumber, pagable_tables.proofs.Alive.{and-left, at-place, found-append, le_or_lt, of_list, there-is, times-left, whole-so}}
+use Rattle.{pagable_tables.{proofs.Worlds.{room-alike, same-cache}, specs.{Core.{Does, DoesShed, IsWhole, TakesWorker, gives}, Falling.{Becomes, Widens}}}, pagable_world.specs.Workers.is_load_of}
 use Rattle.pagable_world.specs.Pager as pager
 
 -- what is counted of handles whoever owns them
@@ -61,12 +61,8 @@ in-reach t whole later v q is = let (row, e, passes) = there-is (gives_row w (Gi
     w : Core
     w = plain_of t
 
-    lent : (l : LoadNumber) (load : Option LoadRow) → load_at t.loads l.0 ≡ load → is_owned_in w (Owner.Load l) q ≡ true → is_workers_load v.0 (option_map load_in load) ≡ true → InReach (reach_at t.workers v.0) q
-    lent l None e own of = absurd (cc)
-    lent l (Some load) e own of = let a = later.since l.0 load q e own in let b = later.loads v.0 l.0 load e of in (omega arith, inl (omega arith))
-
     of-load : (o : Owner) → is_owned_in w o q ≡ true → is_load_of w v.0 o ≡ true → InReach (reach_at t.workers v.0) q
-    of-load (Owner.Load l) own of = lent l (load_at t.loads l.0) refl own of
+    of-load (Owner.Load l) own of = let a = λ (load : LoadRow) (e : load_at t.loads l.0 ≡ Some load). later.since l.0 load q e own in grind (arith, nat_tests, later.loads v.0 l.0)
     of-load _ own of = absurd (cc)
 
 -- loads are told anew
@@ -143,9 +139,8 @@ later-begun {t} {t'} whole later same v new here others =
 
 -- a handle that doesn't move is owned as before
 owned-unmoved : (s : ℕ → Bool) (o a : Owner) (q : ℕ) (rows : List HandleRow) → s q ≡ false → owned a q (moved s o rows) ≡ owned a q rows
-unfolding find_row
-owned-unmoved s o a q [] stays = refl
-owned-unmoved s o a q (x ∷ xs) stays = grind (arith, nat_tests, owned-unmoved s o a q xs stays)
+owned-unmoved s o a q rows stays =
+    let is = found-map (λ x. if s x.number.0 then record x { owner = o } else x) (λ x. grind (arith, nat_tests)) q rows in grind (arith, nat_tests, found-among q rows)
 
 module _ (t : Tables) (later : AreLater t) (s : ℕ → Bool) (me : Owner) (other : (l : LoadNumber) → is_owner (Owner.Load l) me ≡ false) (rows : List HandleRow) (are : rows ≡ moved s me (plain_of t).rows) where
   pub load-kept : (l q : ℕ) → owned (Owner.Load (record { 0 = l })) q rows ≡ true → owned (Owner.Load (record { 0 = l })) q (plain_of t).rows ≡ true
@@ -207,21 +202,12 @@ stays-pinned w u w' given r x rows ordered plain kept falls n none =
 pub eager-pins : (kind : ℕ) → is_loose_kind kind ≡ false → is_pinning (mode_of kind) ≡ true
 eager-pins kind eager = grind (arith, nat_tests)
 
--- who is found stays found when more rows come
-found-more : (q : ℕ) (rows more : List HandleRow) (row : HandleRow) → find_row q rows ≡ Some row → find_row q (rows ++ more) ≡ Some row
-unfolding find_row
-found-more q [] more row is = absurd (cc)
-found-more q (h ∷ hs) more row is = grind (arith, nat_tests, found-more q hs more row)
-
 pub loaded-append : (l : LoadNumber) (q : ℕ) (rows more : List HandleRow) → owned (Owner.Load l) q rows ≡ true → owned (Owner.Load l) q (rows ++ more) ≡ true
-loaded-append l q rows more own = grind (arith, nat_tests, found-more)
+loaded-append l q rows more own = grind (arith, nat_tests, found-append q rows more)
 
--- what references name that are good is the load's, and was given
-pub named-loaded : (w : Core) (l : LoadNumber) (refs : List ArcRef) → references_fault w (Owner.Load l) [] refs ≡ None → (q : ℕ) → is_named_by refs q ≡ true → is_owned_in w (Owner.Load l) q ≡ true
-named-loaded w l refs good q named = grind (arith, nat_tests, named-mine w (Owner.Load l) [] refs good q named, owner-self)
-
+-- what references name that are good was given
 pub not-named : (w : Core) (l : LoadNumber) (refs : List ArcRef) → HandlesAreWhole w → references_fault w (Owner.Load l) [] refs ≡ None → (q : ℕ) → w.last.handle < q → is_named_by refs q ≡ false
-not-named w l refs whole good q above = grind (arith, nat_tests, owned-given w (Owner.Load l) q whole, named-loaded w l refs good q)
+not-named w l refs whole good q above = grind (arith, nat_tests, owned-given w (Owner.Load l) q whole, named-mine w (Owner.Load l) [] refs good q)
 
 pub swapped : (w : Core) (node : NodeNumber) (mode : Mode) (me : Owner) → AllPairs IsHandleBefore (with_handle w node mode me).rows
     → is_valued me ≡ false → {w' : Core} {given : ℕ → Bool} {r : Result (Unit {0}) Error}
@@ -263,7 +249,7 @@ pub pinned-alike : (w u w' : Core) (h : HandleNumber) (node : NodeNumber) (me : 
 pinned-alike w u w' h node me given cache a b = grind (arith, nat_tests, changed-push, same-cache)
 
 pub found-again : (q : ℕ) (rows rows' more : List HandleRow) (row : HandleRow) (o : Option HandleRow) → find_row q rows ≡ Some row → rows' ≡ rows ++ more → find_row q rows' ≡ o → o ≡ Some row
-found-again q rows rows' more row o is came again = sym again ∙ ap (find_row q) came ∙ found-more q rows more row is
+found-again q rows rows' more row o is came again = sym again ∙ ap (find_row q) came ∙ found-append q rows more ∙ ap (λ o. or_else o (find_row q more)) is
 
 -- ---- a birth, by what it is made of
 
@@ -364,12 +350,9 @@ pub none-from : (test : HandleRow → Bool) (ss : List Place) (p q left : ℕ) �
 none-from test ss p q left below within above = grind (arith, nat_tests, none-passes, le_or_lt p)
 
 module _ (ss : List Place) (m : ℕ) (p : Place) (within : m < length ss) (is : p ≡ get_or ss m p) where
-  number : p.row.number.0 ≡ (get_or ss m p).row.number.0
-  number = ap (λ (x : Place). x.row.number.0) is
-
   -- all places up to one that isn't above a number are below each greater one
   pub below-to : (since q : ℕ) → AllPairs IsBefore ss → p.row.number.0 ≤ since → since < q → (k : ℕ) (d : Place) → k < m + 1 → (get_or ss k d).row.number.0 < q
-  below-to since q ordered up over = let n = number in smaller-up (λ (x : Place). x.row.number.0) ss m q p ordered within (omega arith)
+  below-to since q ordered up over k d h = let at = ap (λ (x : Place). x.row.number.0) (is ∙ get_or_default ss m p d within) in grind (arith, nat_tests, cases_eq)
 
   pub place-got : p.is_live ≡ true → slice_get ss m ≡ Some (alive p.row)
   place-got lives = slice_get-get_or ss m p within ∙ ap Some (sym is) ∙ ap (λ b. Some (record { row = p.row; is_live = b })) lives
@@ -395,9 +378,15 @@ module _ (before w : Core) (lists : Bool) (t : Holdings) (l : LoadNumber) (rs : 
 
 pub ruleset places = (nat_tests, place-got, row-there)
 
--- handles move after others
-pub moved-then : {old mid new : Handles} {rows to : List HandleRow} (s : ℕ → Bool) (o : Owner) → Becomes old rows mid → Becomes mid (moved s o (live mid.places.items)) new → moved s o rows ≡ to → Becomes old to new
-moved-then s o a b is = record { sound = b.sound; rows = b.rows ∙ ap (moved s o) a.rows ∙ is; capacity = b.capacity ∙ a.capacity; next = λ q next. b.next q (a.next q next) }
+-- one more moves, after others
+pub moved-then : {old mid new : Handles} (s s' : ℕ → Bool) (h : HandleNumber) (o : Owner) (rows : List HandleRow) → Becomes old (moved s o rows) mid
+    → Becomes mid (moved (only_handle h) o (live mid.places.items)) new → ((q : ℕ) → (h.0 == q || s q) ≡ s' q) → Becomes old (moved s' o rows) new
+moved-then s s' h o rows a b next = record {
+  sound = b.sound;
+  rows = b.rows ∙ ap (moved (only_handle h) o) a.rows ∙ moved-twice s h o rows ∙ ap (λ (u : ℕ → Bool). moved u o rows) (λ i q. next q i);
+  capacity = b.capacity ∙ a.capacity;
+  next = λ q next. b.next q (a.next q next);
+}
 
 -- ---- calls that leave the tables whole, as their steps leave the plain world
 
@@ -470,3 +459,8 @@ pub does-as : {old new : Tables} {one two : Core → Core → Type 0} → Does o
     → ((stored : ℕ → Option Blob) (closed : Bool) (failures : ℕ) → one (core_of old stored closed failures) (core_of new stored closed failures)
     → two (core_of old stored closed failures) (core_of new stored closed failures)) → Does old two new
 does-as step so = record { does = λ stored closed failures. so stored closed failures (step.does stored closed failures); whole = step.whole; later = step.later }
+
+pub sheds-as : {X S : Type 0} {lists : Bool} {old new : Tables} {values values' : IndexMap ℕ X S} {one two : Core → Core → Type 0} → DoesShed lists old values one new values'
+    → ((stored : ℕ → Option Blob) (closed : Bool) (failures : ℕ) → one (core_of old stored closed failures) (core_of new stored closed failures)
+    → two (core_of old stored closed failures) (core_of new stored closed failures)) → DoesShed lists old values two new values'
+sheds-as step so = record { does = λ stored closed failures e. so stored closed failures (step.does stored closed failures e); whole = step.whole; later = step.later; sheds = step.sheds }

@@ -1,13 +1,13 @@
 -- Where no node falls any more, all has gone that had to go, and no more. Values that go as nodes fall.
-use Rattle.pagable_tables.proofs.Alive.{and_one, entries-more, entries-none, gives-sums, kept-more, left-more, left-none, none-entered, none-listed, of_list, one-le, ones, sum-most, with-entry}
-use Rattle.pagable_tables.proofs.{Fitting.{cell-keyed, counted, forced, listing-is, no-more, open-then, which}, Words.{Alike, AreNewEntries, Begins, Bool, Cell, Core, Counts, Error, Falls, FallsBy}}
-use Rattle.pagable_tables.proofs.Words.{GivesUp, HandleNumber, HandleRow, HasFallen, HasPlaces, Holdings, IsApart, IsClosed, IsFalling, IsLeast, IsListRefusal, IsUnlisted, IsWithin, List, LoadNumber}
-use Rattle.pagable_tables.proofs.Words.{MustList, NodeNumber, None, Option, Owner, Result, Sheds, SoFar, Some, Steps, TellsListing, ValueStays, [], and_parts, ap, append-nil, append_assoc, arith}
-use Rattle.pagable_tables.proofs.Words.{cases_Bool, cases_eq, cell_in, counts_at, entries_of, entry, fallen, falls_in, false, filter, filter-append, find_row, has_value, held, if◌then◌else◌, inl, inr}
-use Rattle.pagable_tables.proofs.Words.{is_at, is_handle, is_keyed, is_listing, is_outside, is_owned_by, is_owned_in, is_owner, is_pin, is_plain_pin, is_share, is_shared, is_some, is_valued}
-use Rattle.pagable_tables.proofs.Words.{left_rows, length, length-append, live, map-append, nat_tests, not, one, only_handle, or_else, owner_value, owns, owns_nothing, passes_in, pins, pins_in, refl}
-use Rattle.pagable_tables.proofs.Words.{subst, sum_by, sum_by-cons, sum_by-le-sum_by, sym, times, told_by, true, valued, with_tables, ℕ, ◌&&◌, ◌++◌, ◌+◌, ◌<◌, ◌==◌, ◌||◌, ◌∙◌, ◌∷◌, ◌≡◌, ◌≢◌, ◌≤◌, ◌⊎◌}
-use Rattle.{pagable_tables.proofs.Worlds.same-cache, pagable_world.proofs.Elements.{at-most-sum, sum-none}}
+use Rattle.pagable_tables.proofs.Alive.{and_one, entries-more, entries-none, found-append, gives-sums, kept-more, left-more, left-none, none-entered, none-listed, of_list, one-le, ones, sum-most}
+use Rattle.pagable_tables.proofs.Words.{Falls, GivesUp, HandleNumber, HandleRow, HasFallen, HasPlaces, Holdings, IndexMap, IsApart, IsClosed, IsFalling, IsLeast, IsListRefusal, IsUnlisted, IsWithin}
+use Rattle.pagable_tables.proofs.Words.{List, LoadNumber, MustList, NodeNumber, NodeRow, None, Option, Owner, Result, Sheds, SoFar, Some, Steps, TellsListing, ValueStays, [], and_parts, ap}
+use Rattle.pagable_tables.proofs.Words.{append-nil, append_assoc, arith, cases_Bool, cases_eq, cell_in, counts_at, entries_of, entry, fallen, falls_in, false, filter, filter-append, find_row}
+use Rattle.pagable_tables.proofs.Words.{has_value, held, if◌then◌else◌, inl, inr, is_at, is_handle, is_keyed, is_listing, is_outside, is_owned_by, is_owned_in, is_owner, is_pin, is_plain_pin}
+use Rattle.pagable_tables.proofs.Words.{is_share, is_shared, is_some, is_valued, left_rows, length, length-append, live, map-append, nat_tests, not, one, only_handle, or_else, owner_value, owns}
+use Rattle.pagable_tables.proofs.Words.{owns_nothing, passes_in, pins, pins_in, refl, subst, sum_by, sum_by-cons, sum_by-le-sum_by, sym, times, told_by, true, valued, with_tables, ℕ, ◌&&◌, ◌++◌, ◌+◌}
+use Rattle.pagable_tables.proofs.{Alive.with-entry, Fitting.{cell-keyed, counted, forced, listing-is, no-more, open-then, which}, Words.{Alike, AreNewEntries, Begins, Bool, Cell, Core, Counts, Error}}
+use Rattle.{pagable_tables.proofs.{Words.{◌<◌, ◌==◌, ◌||◌, ◌∙◌, ◌∷◌, ◌≡◌, ◌≢◌, ◌≤◌, ◌⊎◌}, Worlds.same-cache}, pagable_world.proofs.Elements.{at-most-sum, sum-none}}
 
 -- nothing falls
 pub none-falls-in : (t : Holdings) → IsFalling t [] owns_nothing → (n : ℕ) → falls_in (counts_at t.nodes n) ≡ false
@@ -82,15 +82,13 @@ list-kept : (gone : ℕ → Bool) (q : ℕ) (rows : List HandleRow) (list : List
 list-kept gone q rows list listed none = grind (arith, nat_tests, sum_by-le-sum_by, kept-more)
 
 -- a handle that the list doesn't own may go apart from it
-unlisted-apart : {before w : Core} {given : ℕ → Bool} {lists : Bool} {t popped new : Holdings} {stack : List ℕ} {x : HandleRow} (f : SoFar before w given lists t) → GivesUp popped stack x false lists new
-    → popped ≡ record t { nodes = popped.nodes } → is_owned_by Owner.List x ≡ false → IsApart before w given lists t f x.number.0
-unlisted-apart {w = w} {t = t} {x = x} f g same owner =
-    let q = x.number.0 in
-    let rows = ap (λ (h : Holdings). live h.handles.places.items) same in
-    let none : times (of_list q) (live t.handles.places.items) ≡ 0 = sym (ap (times (of_list q)) rows) ∙ none-listed g.leaves owner in
+unlisted-apart : {before w : Core} {given : ℕ → Bool} {lists : Bool} {t new : Holdings} {nodes : IndexMap ℕ NodeRow _} {stack : List ℕ} {x : HandleRow} (f : SoFar before w given lists t)
+    → GivesUp (record t { nodes = nodes }) stack x false lists new → is_owned_by Owner.List x ≡ false → IsApart before w given lists t f x.number.0
+unlisted-apart {w = w} {t = t} {x = x} f g owner =
+    let none : times (of_list x.number.0) (live t.handles.places.items) ≡ 0 = none-listed g.leaves owner in
     record {
-      unentered = none-entered q w.last.handle (live t.handles.places.items) (left_rows f.gone w.rows) f.entries f.rows f.new none;
-      kept = list-kept f.gone q w.rows w.list (f.begins.listed q) (omega (arith, counted f (of_list q)));
+      unentered = none-entered x.number.0 w.last.handle (live t.handles.places.items) (left_rows f.gone w.rows) f.entries f.rows f.new none;
+      kept = list-kept f.gone x.number.0 w.rows w.list (f.begins.listed x.number.0) (omega (arith, counted f (of_list x.number.0)));
     }
 
 -- handles are no more
@@ -106,38 +104,26 @@ tells-as : {before w w' : Core} {entries : List HandleRow} (rows : List HandleRo
 tells-as rows cells long x4 tells = grind (arith, nat_tests, must-as)
 
 -- A handle has gone, or it stays without its pin; then an entry may have come.
-module _ {before w : Core} {given : ℕ → Bool} {lists stays : Bool} {t popped new : Holdings} {stack : List ℕ} {x : HandleRow} (f : SoFar before w given lists t)
-    (g : GivesUp popped stack x stays lists new) (same : popped ≡ record t { nodes = popped.nodes }) (counts : (n : ℕ) → counts_at popped.nodes n ≡ counts_at t.nodes n)
+module _ {before w : Core} {given : ℕ → Bool} {lists stays : Bool} {t new : Holdings} {nodes : IndexMap ℕ NodeRow _} {stack : List ℕ} {x : HandleRow} (f : SoFar before w given lists t)
+    (g : GivesUp (record t { nodes = nodes }) stack x stays lists new) (counts : (n : ℕ) → counts_at nodes n ≡ counts_at t.nodes n)
     (pinned : (n : ℕ) → pins_in (counts_at t.nodes n) ≡ pins n (live t.handles.places.items)) (few : length (live t.handles.places.items) ≤ length w.rows) where
-  abbrev gap : Holdings
-  gap = record popped { handles = g.left }
-
-  abbrev came : List HandleNumber
-  came = if g.listed then record { 0 = t.last_handle + 1 } ∷ [] else []
-
   abbrev entries : List HandleRow
   entries = f.entries ++ entries_of g.listed (t.last_handle + 1) x.node
 
   is : counts_at t.nodes x.node.0 ≡ Some g.counts
   is = sym (counts x.node.0) ∙ g.is
 
-  before-rows : live popped.handles.places.items ≡ live t.handles.places.items
-  before-rows = ap (λ (h : Holdings). live h.handles.places.items) same
-
   left : (n : ℕ) → pins n (live new.handles.places.items) + one (is_pin n x) ≡ pins n (live t.handles.places.items)
-  left n = grind (arith, nat_tests, gives-sums g (λ h. one (is_pin n h)), ap (pins n) before-rows)
+  left n = grind (arith, nat_tests, gives-sums g (λ h. one (is_pin n h)))
 
   here : (p : HandleRow → Bool) → one (p x) ≤ times p (live t.handles.places.items)
-  here p = let a = g.leaves.there (λ h. one (p h)) in let b = ap (times p) before-rows in omega arith
-
-  since : popped.last_handle ≡ t.last_handle
-  since = ap (λ (h : Holdings). h.last_handle) same
+  here p = g.leaves.there (λ h. one (p h))
 
   last : new.last_handle ≡ t.last_handle + one g.listed
-  last = let a = ap (λ (h : Holdings). h.last_handle) g.same in let b = g.comes.comes.last in let d = since in omega arith
+  last = let a = ap (λ (h : Holdings). h.last_handle) g.same in let b = g.comes.comes.last in omega arith
 
-  added : new.list.items ≡ t.list.items ++ came
-  added = ap (λ (h : Holdings). h.list.items) g.same ∙ g.comes.comes.list ∙ ap (λ (h : Holdings). h.list.items ++ (if g.listed then record { 0 = h.last_handle + 1 } ∷ [] else [])) same
+  added : new.list.items ≡ t.list.items ++ (if g.listed then record { 0 = t.last_handle + 1 } ∷ [] else [])
+  added = ap (λ (h : Holdings). h.list.items) g.same ∙ g.comes.comes.list
 
   abbrev wanted : Bool
   wanted = lists && is_listing g.counts x.mode
@@ -183,10 +169,10 @@ module _ {before w : Core} {given : ℕ → Bool} {lists stays : Bool} {t popped
   told = by t.unlisted refl f.tells
     where
       kept : (u : Option Error) → t.unlisted ≡ u → (g.listed ≡ true) ⊎ (wanted ≡ false) → new.unlisted ≡ u
-      kept u is s = ap (λ (h : Holdings). h.unlisted) g.same ∙ g.comes.told s ∙ ap (λ (h : Holdings). h.unlisted) same ∙ is
+      kept u is s = ap (λ (h : Holdings). h.unlisted) g.same ∙ g.comes.told s ∙ is
 
-      late : (u : Option Error) → t.unlisted ≡ u → g.listed ≡ false → wanted ≡ true → (e : Error) × IsUnlisted gap e × (new.unlisted ≡ or_else u (Some e))
-      late u is none want = let y = g.comes.why none want in (y.0, y.1, ap (λ (h : Holdings). h.unlisted) g.same ∙ y.2 ∙ ap (λ u. or_else u (Some y.0)) (ap (λ (h : Holdings). h.unlisted) same ∙ is))
+      late : (u : Option Error) → t.unlisted ≡ u → g.listed ≡ false → wanted ≡ true → (e : Error) × IsUnlisted (record t { handles = g.left; nodes = nodes }) e × (new.unlisted ≡ or_else u (Some e))
+      late u is none want = let y = g.comes.why none want in (y.0, y.1, ap (λ (h : Holdings). h.unlisted) g.same ∙ y.2 ∙ ap (λ u. or_else u (Some y.0)) is)
 
       by : (u : Option Error) → t.unlisted ≡ u → TellsListing before w f.entries (told_by u) (with_tables w t) → TellsListing before w entries (told_by new.unlisted) (with_tables w new)
       by (Some e) is tells =
@@ -210,8 +196,8 @@ module _ {before w : Core} {given : ℕ → Bool} {lists stays : Bool} {t popped
             let y = late None is none want in
             let l = ap (λ b. if b then one (is_at x.node.0 (entry (t.last_handle + 1) x.node)) else 0) none in
             let fewer : length (live g.left.places.items) ≤ length w.rows =
-            omega (arith, g.leaves.sums (λ h. 1), ones (live g.left.places.items), ones (live popped.handles.places.items), ap length before-rows, one-le stays) in
-            let why : IsListRefusal w (with_tables w new) y.0 = grind (arith, nat_tests, last, since, added, length-append, fewer, y.1) in
+            omega (arith, g.leaves.sums (λ h. 1), ones (live g.left.places.items), ones (live t.handles.places.items), one-le stays) in
+            let why : IsListRefusal w (with_tables w new) y.0 = grind (arith, nat_tests, last, added, length-append, fewer, y.1) in
             rw y.2 (record { all = tt; not_all = (x.node.0, new-must want, omega (arith, held-more x.node.0, l, none-held want), why) })
       ]
 
@@ -226,11 +212,11 @@ module _ {before w : Core} {given : ℕ → Bool} {lists stays : Bool} {t popped
         begins = begins;
         gone = gone;
         entries = entries;
-        rows = ap (λ (h : Holdings). live h.handles.places.items) g.same ∙ g.comes.comes.rows ∙ ap (λ r. r ++ entries_of g.listed (popped.last_handle + 1) x.node) rest
-            ∙ ap (λ k. (left_rows gone rows ++ f.entries) ++ entries_of g.listed (k + 1) x.node) since ∙ append_assoc (left_rows gone rows) f.entries (entries_of g.listed (t.last_handle + 1) x.node);
+        rows = ap (λ (h : Holdings). live h.handles.places.items) g.same ∙ g.comes.comes.rows ∙ ap (λ r. r ++ entries_of g.listed (t.last_handle + 1) x.node) rest
+            ∙ append_assoc (left_rows gone rows) f.entries (entries_of g.listed (t.last_handle + 1) x.node);
         list = grind (arith, nat_tests, map-append, added, append_assoc);
         last = grind (arith, nat_tests, last, length-append);
-        within = grind (arith, nat_tests, last, since, g.comes.comes.left, f.within);
+        within = grind (arith, nat_tests, last, g.comes.comes.left, f.within);
         places = let p : HasPlaces t new = grind (arith, nat_tests) in let q = f.places in record { handles = omega arith; entries = omega arith };
         cells = λ n there. let s = g.cells n there in s.1 ∙ ap cell_in (counts n) ∙ f.cells n (sym (ap is_some (counts n)) ∙ s.0);
         holds = holds;
@@ -241,18 +227,17 @@ module _ {before w : Core} {given : ℕ → Bool} {lists stays : Bool} {t popped
         few = few';
       }
 
-module _ {before w : Core} {given : ℕ → Bool} {lists : Bool} {t popped new : Holdings} {stack : List ℕ} {x : HandleRow} (given' : ℕ → Bool) (f : SoFar before w given lists t)
-    (g : GivesUp popped stack x false lists new) (same : popped ≡ record t { nodes = popped.nodes }) (counts : (n : ℕ) → counts_at popped.nodes n ≡ counts_at t.nodes n)
+module _ {before w : Core} {given : ℕ → Bool} {lists : Bool} {t new : Holdings} {nodes : IndexMap ℕ NodeRow _} {stack : List ℕ} {x : HandleRow} (given' : ℕ → Bool) (f : SoFar before w given lists t)
+    (g : GivesUp (record t { nodes = nodes }) stack x false lists new) (counts : (n : ℕ) → counts_at nodes n ≡ counts_at t.nodes n)
     (pinned : (n : ℕ) → pins_in (counts_at t.nodes n) ≡ pins n (live t.handles.places.items)) (few : length (live t.handles.places.items) ≤ length w.rows)
     (apart : IsApart before w given lists t f x.number.0) where
   one-goes : IsWithin w.rows given' (and_one f.gone x.number.0) → ((s : ℕ → Bool) (final : List HandleRow)
       → ((n : ℕ) → held n (live new.handles.places.items) ≡ 0 → held n final ≡ 0) → IsWithin w.rows given' s → IsClosed w.rows (is_keyed w) final s
       → IsWithin w.rows (and_one f.gone x.number.0) s) → SoFar before w given' lists new
   one-goes holds least =
-      let rows = before-rows f g same counts pinned few in
-      entered-on f g same counts pinned few w.rows refl given' (and_one f.gone x.number.0) f.begins
-      (rows-leaves w.rows f.entries (live popped.handles.places.items) (live g.left.places.items) f.gone x g.leaves.becomes.rows (rows ∙ f.rows) apart.unentered) apart.kept holds least
-      (λ falls. let a = gives-fewer g in let b = ap length rows in omega arith)
+      entered-on f g counts pinned few w.rows refl given' (and_one f.gone x.number.0) f.begins
+      (rows-leaves w.rows f.entries (live t.handles.places.items) (live g.left.places.items) f.gone x g.leaves.becomes.rows f.rows apart.unentered) apart.kept holds least
+      (λ falls. let a = gives-fewer g in omega arith)
 
 -- no handle comes where there was none
 none-comes : {old new : Holdings} {stack : List ℕ} {x : HandleRow} {lists : Bool} → GivesUp old stack x false lists new → (m : ℕ) → held m (live old.handles.places.items) ≡ 0
@@ -263,17 +248,16 @@ with-one : (gone s : ℕ → Bool) (q : ℕ) (rows : List HandleRow) → s q ≡
 with-one gone s q rows is within = grind (arith, nat_tests)
 
 -- the least set, over the whole step
-least-more : {before w : Core} {given : ℕ → Bool} {lists : Bool} {t new : Holdings} {x : HandleRow} {n : ℕ} (f : SoFar before w given lists t) → FallsBy t x n lists new
+least-more : {before w : Core} {given : ℕ → Bool} {lists : Bool} {t new : Holdings} {nodes : IndexMap ℕ NodeRow _} {stack : List ℕ} {x : HandleRow} {n : ℕ} (f : SoFar before w given lists t)
+    → GivesUp (record t { nodes = nodes }) stack x false lists new → x.owner ≡ owner_value n → HasFallen (counts_at t.nodes) (live t.handles.places.items) n
     → (s : ℕ → Bool) (final : List HandleRow) → ((m : ℕ) → held m (live new.handles.places.items) ≡ 0 → held m final ≡ 0) → IsWithin w.rows given s
     → IsClosed w.rows (is_keyed w) final s → IsWithin w.rows (and_one f.gone x.number.0) s
-least-more {before} {w} {given} {lists} {t} {x = x} {n} f by s final bare has closed =
-    let rows = ap (λ (h : Holdings). live h.handles.places.items) by.same in
-    let bare-before : (m : ℕ) → held m (live t.handles.places.items) ≡ 0 → held m final ≡ 0 = λ m none. bare m (none-comes by.gives m (ap (held m) rows ∙ none)) in
+least-more {w = w} {t = t} {x = x} {n} f g owner fell s final bare has closed =
+    let bare-before : (m : ℕ) → held m (live t.handles.places.items) ≡ 0 → held m final ≡ 0 = λ m none. bare m (none-comes g m none) in
     let rest = f.least s final bare-before has closed in
-    let none = forced f s rest final n (bare-before n) by.fallen closed in
-    let a = by.gives.leaves.there (λ h. one (is_owned_by (owner_value n) h && is_outside s h)) in
-    let b = ap (times (λ h. is_owned_by (owner_value n) h && is_outside s h)) rows in
-    with-one f.gone s x.number.0 w.rows (let own : is_owned_by (owner_value n) x ≡ (n == n) = ap (λ o. is_owner (owner_value n) o) by.owner in grind (arith, nat_tests)) rest
+    let none = forced f s rest final n (bare-before n) fell closed in
+    let a = g.leaves.there (λ h. one (is_owned_by (owner_value n) h && is_outside s h)) in
+    with-one f.gone s x.number.0 w.rows (let own : is_owned_by (owner_value n) x ≡ (n == n) = ap (λ o. is_owner (owner_value n) o) owner in grind (arith, nat_tests)) rest
 
 -- one handle more on both sides, or on the right
 pub within-less : (a b c d : ℕ → Bool) (rows : List HandleRow) → ((r : ℕ) → one (a r && not (b r)) ≤ one (c r && not (d r))) → IsWithin rows c d → IsWithin rows a b
@@ -289,8 +273,9 @@ steps-on before w given lists t new stack r f falling some s =
     elim s.what [
       | inl done ↦ let stay = s.cells in subst (SoFar before w given lists) (sym done.1) (grind (arith, nat_tests, tells-as, must-as))
       | inr (x, n, is, by) ↦
-          one-goes given f by.gives by.same by.counts falling.fits.pinned (f.few some) (unlisted-apart f by.gives by.same (ap (is_owner Owner.List) by.owner))
-          (within-less given (and_one f.gone x.number.0) given f.gone w.rows (λ r. grind (arith, nat_tests)) f.holds) (least-more f by)
+          let g : GivesUp (record t { nodes = by.popped.nodes }) by.stack x false lists new = subst (λ p. GivesUp p by.stack x false lists new) by.same by.gives in
+          one-goes given f g by.counts falling.fits.pinned (f.few some) (unlisted-apart f g (ap (is_owner Owner.List) by.owner))
+          (within-less given (and_one f.gone x.number.0) given f.gone w.rows (λ r. grind (arith, nat_tests)) f.holds) (least-more f g by.owner by.fallen)
     ]
 
 -- a handle is given that the list doesn't own, or one apart from the list
@@ -298,7 +283,7 @@ pub gives-on : (before w : Core) (given : ℕ → Bool) (lists : Bool) (t new : 
     → ((n : ℕ) → pins_in (counts_at t.nodes n) ≡ pins n (live t.handles.places.items)) → (is_owned_by Owner.List x ≡ false) ⊎ IsApart before w given lists t f x.number.0
     → length (live t.handles.places.items) ≤ length w.rows → GivesUp t stack x false lists new → SoFar before w (and_one given x.number.0) lists new
 gives-on before w given lists t new stack x f pinned free few g =
-    one-goes (and_one given x.number.0) f g refl (λ n. refl) pinned few (elim free [ inl other ↦ unlisted-apart f g refl other | inr apart ↦ apart ])
+    one-goes {nodes = t.nodes} (and_one given x.number.0) f g (λ n. refl) pinned few (elim free [ inl other ↦ unlisted-apart {nodes = t.nodes} f g other | inr apart ↦ apart ])
     (within-less (and_one given x.number.0) (and_one f.gone x.number.0) given f.gone w.rows (λ r. grind (arith, nat_tests)) f.holds)
     (λ s final bare has closed. within-both f.gone given s x.number.0 w.rows
     (f.least s final (λ n none. bare n (none-comes g n none)) (within-less given s (and_one given x.number.0) s w.rows (λ r. grind (arith, nat_tests)) has) closed) has)
@@ -343,8 +328,7 @@ module _ (test : HandleRow → Bool) (q : ℕ) where
   found-left gone (x ∷ xs) = grind (arith, nat_tests, passes-here, found-left gone xs)
 
   pub found-first : (rows more : List HandleRow) → passes_in test more q ≡ false → passes_in test (rows ++ more) q ≡ passes_in test rows q
-  found-first [] more none = none ∙ sym passes-none
-  found-first (x ∷ xs) more none = grind (arith, nat_tests, passes-here, found-first xs more none)
+  found-first rows more none = grind (arith, nat_tests, found-append q rows more)
 
   pub passes-left : (gone : ℕ → Bool) (entries rows : List HandleRow) → passes_in test entries q ≡ false → passes_in test (left_rows gone rows ++ entries) q ≡ (not (gone q) && passes_in test rows q)
   passes-left gone entries rows none = found-first (left_rows gone rows) entries none ∙ found-left gone rows

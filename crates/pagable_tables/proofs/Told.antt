@@ -1,22 +1,21 @@
 -- A world that is told alike, or whose rows are changed one by one, stays whole, while rows and list are in their places.
-use Rattle.pagable_tables.proofs.{Alive.{and-left, not-so, of_list}, Kept.{GoOn, HasLike, IsEntry, IsIn, IsNew, IsOld, among-both, among-changed, among-left, among-more, among-one, at-most-sum}}
-use Rattle.pagable_tables.proofs.Kept.{at-then, counted, each-changed, entries-listed, entry-is, found-among, found-push, held-some, holder-in, is-in, keeps-whole, keyed_in, loads-stay, once}
-use Rattle.pagable_tables.proofs.{Kept.{one-left, ordered-entries, ordered-map, ordered-push, same-rows, stays-old, sum-map, sum-none, there-then, type_in, within-goes}, Next.{no-entry, owned}}
-use Rattle.pagable_tables.proofs.{Next.{passes-here, passes-left, unlisting}, Words.{Alike, AllPairs, AllPairs-filter, Among, ArcRef, ArePlaced, Bool, Cell, Core, Err, Error, Falls, HandleNumber}}
-use Rattle.pagable_tables.proofs.Words.{HandleRow, IsEntryWhole, IsHandleBefore, IsWhole, Last, List, Makes, MayHold, MayOwnLoad, Mode, NodeNumber, None, Ok, OpenLoad, Option, OptionalDataKey, Owner}
-use Rattle.pagable_tables.proofs.Words.{Owns, Result, SameAt, Some, Suits, [], ap, arith, changed, fallen, false, filter, find_row, greatest, has_key, held, if◌then◌else◌, inl, inr, is_at, is_handle}
-use Rattle.pagable_tables.proofs.Words.{is_loose, is_named_by, is_owned_by, is_owner, is_pin, is_share, is_shared, is_some, is_valued, left_rows, length, map, moved, nat_lt, nat_tests, next_node}
-use Rattle.pagable_tables.proofs.Words.{not, one, option_map, or_else, owner_value, reference_fault, references_fault, refl, row_at, row_of, subst, sum_by-append, sum_by_push, sym, times, true}
-use Rattle.pagable_tables.proofs.Words.{updated, with_handle, with_mode, with_node, with_pin, ℕ, ◌&&◌, ◌++◌, ◌+◌, ◌<◌, ◌==◌, ◌||◌, ◌∙◌, ◌∷◌, ◌≡◌, ◌≢◌, ◌≤◌, ◌⊎◌}
-use Rattle.std.proofs.lemmas.Option.{slice_get-map}
+use Rattle.pagable_tables.proofs.Kept.{at-most-sum, at-then, counted, each-changed, entries-listed, entry-is, found-among, found-so, held-some, holder-in, is-in, keeps-whole, keyed_in, loads-stay}
+use Rattle.pagable_tables.proofs.Words.{IsEntryWhole, IsHandleBefore, IsWhole, Last, List, Makes, MayHold, MayOwnLoad, Mode, NodeNumber, None, Ok, OpenLoad, Option, OptionalDataKey, Owner, Owns}
+use Rattle.pagable_tables.proofs.Words.{Result, SameAt, Some, Suits, [], ap, arith, cases_eq, changed, fallen, false, filter, find_row, greatest, has_key, held, if_there, if◌then◌else◌, inl, inr}
+use Rattle.pagable_tables.proofs.Words.{is_at, is_handle, is_loose, is_named_by, is_owned_by, is_owned_in, is_owner, is_pin, is_share, is_shared, is_some, is_valued, left_rows, length, map, moved}
+use Rattle.pagable_tables.proofs.Words.{nat_lt, nat_tests, next_node, not, one, option_map, or_else, owner_value, reference_fault, references_fault, refl, row_at, row_of, subst, sum_by-append}
+use Rattle.pagable_tables.proofs.Words.{sum_by_push, sym, times, true, updated, with_handle, with_mode, with_node, with_pin, ℕ, ◌&&◌, ◌++◌, ◌+◌, ◌<◌, ◌==◌, ◌∙◌, ◌∷◌, ◌≡◌, ◌≢◌, ◌≤◌, ◌⊎◌}
+use Rattle.pagable_tables.proofs.{Alive.{and-left, found-append, not-so, of_list}, Kept.{GoOn, HasLike, IsEntry, IsIn, IsNew, IsOld, among-both, among-changed, among-left, among-more, among-one}}
+use Rattle.pagable_tables.proofs.{Kept.{once, one-left, ordered-entries, ordered-map, ordered-push, same-rows, stays-old, sum-map, sum-none, there-then, type_in, within-goes}, Next.{no-entry, owned}}
+use Rattle.pagable_tables.proofs.{Next.{passes-left, unlisting}, Words.{Alike, AllPairs, AllPairs-filter, Among, ArcRef, ArePlaced, Bool, Cell, Core, Err, Error, Falls, HandleNumber, HandleRow}}
+use Rattle.{pagable_tables.proofs.Worlds.{found-map, owner-same}, std.proofs.lemmas.Option.slice_get-map}
 
 -- ---- what loads and workers own is what they owned, or has come since
 
 -- what one owns once handles have moved to another
 pub owned-moved : (s : ℕ → Bool) (o a : Owner) (q : ℕ) (rows : List HandleRow) → is_owner a o ≡ false → owned a q (moved s o rows) ≡ (owned a q rows && not (s q))
-unfolding find_row
-owned-moved s o a q [] other = refl
-owned-moved s o a q (x ∷ xs) other = grind (arith, nat_tests, owned-moved s o a q xs other)
+owned-moved s o a q rows other =
+    let is = found-map (λ x. if s x.number.0 then record x { owner = o } else x) (λ x. grind (arith, nat_tests)) q rows in grind (arith, nat_tests, found-among q rows)
 
 -- loads and workers give up what they have together
 abbrev pub is_giver : Owner → Bool
@@ -38,15 +37,15 @@ pub newer-then : {r s t : List HandleRow} {i j k : ℕ} → IsNewer r s i j → 
 newer-then p q = grind (arith, nat_tests)
 
 pub newer-handle : (w : Core) (node : NodeNumber) (mode : Mode) (owner : Owner) → OnlyNewer w (with_handle w node mode owner)
-newer-handle w node mode owner = record { last = omega arith; kept = λ o q gives own. grind (arith, nat_tests, found-push, found-among) }
+unfolding find_row
+newer-handle w node mode owner = record { last = omega arith; kept = λ o q gives own. grind (arith, nat_tests, found-append, found-among) }
 
 pub newer-moved : (w : Core) (s : ℕ → Bool) (o : Owner) → is_giver o ≡ false → OnlyNewer w (record w { rows = moved s o w.rows })
 newer-moved w s o other = grind (arith, nat_tests, and-left, owned-moved)
 
 -- a handle's mode says nothing of who owns it
 pub owned-mode : (o : Owner) (q : ℕ) (test : HandleRow → Bool) (mode : Mode) (rows : List HandleRow) → owned o q (changed test (λ row. record row { mode = mode }) rows) ≡ owned o q rows
-owned-mode o q test mode [] = refl
-owned-mode o q test mode (x ∷ xs) = grind (arith, nat_tests, passes-here, owned-mode o q test mode xs)
+owned-mode o q test mode rows = let is = found-map (λ x. if test x then record x { mode = mode } else x) (λ x. grind (arith, nat_tests)) q rows in grind (arith, nat_tests)
 
 pub newer-mode : (w : Core) (h : HandleNumber) (mode : Mode) → OnlyNewer w (with_mode w h mode)
 newer-mode w h mode = record { last = omega arith; kept = λ o q gives own. inl (sym (owned-mode o q (is_handle h.0) mode w.rows) ∙ own) }
@@ -319,25 +318,20 @@ lone-falling {w} whole falls = falling falls (unturned w (roomy-whole whole))
 -- ---- calls by which a handle comes, moves or is pinned, or a node comes, keep the world whole
 
 module _ {w : Core} (whole : IsWhole w) (s : ℕ → Bool) (owner : Owner) where
-  abbrev moves : HandleRow → Bool
-  moves x = s x.number.0
-
-  abbrev to-owner : HandleRow → HandleRow
-  to-owner x = record x { owner = owner }
-
   pub moved-on : GoesOn w (record w { rows = moved s owner w.rows })
-  moved-on = turned-on whole moves to-owner (λ x. refl) (λ x. refl) (λ x among e. refl) (λ x among e was. was)
+  moved-on = turned-on whole (λ x. s x.number.0) (λ x. record x { owner = owner }) (λ x. refl) (λ x. refl) (λ x among e. refl) (λ x among e was. was)
 
   -- with the list that fits; the new owner is there
   pub moved-so : (list : List HandleNumber) → ((q : ℕ) → times (λ (h : HandleNumber). h.0 == q) list ≡ times (of_list q) (moved s owner w.rows))
       → ((x : HandleRow) → Among w.rows x → s x.number.0 ≡ true → IsIn w x.mode owner) → IsWhole (roomy (record w { rows = moved s owner w.rows; list = list }))
-  moved-so = turned-whole whole moves to-owner (λ x. refl) (λ x. refl) (λ x among e. refl) (λ x among e was. was)
+  moved-so = turned-whole whole (λ x. s x.number.0) (λ x. record x { owner = owner }) (λ x. refl) (λ x. refl) (λ x among e. refl) (λ x among e was. was)
 
 -- to the value of a node, or to one who may hold, where none is the list's
 module _ {w : Core} (whole : IsWhole w) (s : ℕ → Bool) (mine : (x : HandleRow) → Among w.rows x → s x.number.0 ≡ true → is_owned_by Owner.List x ≡ false) where
   pub moved-free : (owner : Owner) → is_owner Owner.List owner ≡ false → ((mode : Mode) → IsIn w mode owner) → IsWhole (roomy (record w { rows = moved s owner w.rows }))
   moved-free owner other there =
-      turned-still whole (moves whole s owner) (to-owner whole s owner) (λ x. refl) (λ x. refl) (λ x among e. refl) (λ x among e was. was) (λ x among e. other ∙ sym (mine x among e)) (λ x among e. there x.mode)
+      turned-still whole (λ x. s x.number.0) (λ x. record x { owner = owner }) (λ x. refl) (λ x. refl) (λ x among e. refl) (λ x among e was. was)
+      (λ x among e. other ∙ sym (mine x among e)) (λ x among e. there x.mode)
 
   pub moved-to-value : (n : ℕ) → IsWhole (roomy (record w { rows = moved s (owner_value n) w.rows }))
   moved-to-value n = moved-free (owner_value n) refl (λ mode. tt)
@@ -363,33 +357,24 @@ pin-comes {w} h row me whole holder owns left =
 
 -- ---- references that are good
 
--- the row of a handle that is named
-pub record IsMine (w : Core) (owner : Owner) (q : ℕ) : Type 0 where
-  pub row : HandleRow
-  pub live : find_row q w.rows ≡ Some row
-  pub own : row.owner ≡ owner
-
--- one that is named first, or later
-pub mine-of : (w : Core) (owner : Owner) (k q : ℕ) (b rest : Bool) → (k == q) ≡ b → (b || rest) ≡ true → IsMine w owner k → (rest ≡ true → IsMine w owner q) → IsMine w owner q
-mine-of w owner k q b0 rest e named mine others = grind (arith, nat_tests)
+-- who owns what has a row's number is the row's owner
+pub own-of : (w : Core) → AllPairs IsHandleBefore w.rows → (owner : Owner) (x : HandleRow) → Among w.rows x → is_owned_in w owner x.number.0 ≡ true → x.owner ≡ owner
+own-of w ordered owner x among own = owner-same owner x.owner (sym (ap (if_there (is_owned_by owner) false) (found-so x.number.0 w.rows x ordered among refl)) ∙ own)
 
 pub or-none : {X : Type 0} (a b : Option X) → or_else a b ≡ None → (a ≡ None) × (b ≡ None)
 or-none x0 b e = grind (arith, nat_tests)
 
-pub named-mine : (w : Core) (owner : Owner) (seen : List ℕ) (refs : List ArcRef) → references_fault w owner seen refs ≡ None → (q : ℕ) → is_named_by refs q ≡ true → IsMine w owner q
+pub named-mine : (w : Core) (owner : Owner) (seen : List ℕ) (refs : List ArcRef) → references_fault w owner seen refs ≡ None → (q : ℕ) → is_named_by refs q ≡ true → is_owned_in w owner q ≡ true
 unfolding references_fault is_named_by
 named-mine w owner seen [] good q named = absurd (cc)
 named-mine w owner seen (r ∷ rs) good q named =
     let parts = or-none (reference_fault w owner seen r) (references_fault w owner (r.handle.0 ∷ seen) rs) good in
-    mine-of w owner r.handle.0 q (r.handle.0 == q) (is_named_by rs q) refl named (let a = parts.0 in grind (arith, nat_tests)) (λ n. named-mine w owner (r.handle.0 ∷ seen) rs parts.1 q n)
+    let a = parts.0 in grind (arith, nat_tests, cases_eq r.handle.0 q, named-mine w owner (r.handle.0 ∷ seen) rs parts.1 q)
 
 -- what is named is the owner's, so it isn't the list's
 pub named-own : (w : Core) → AllPairs IsHandleBefore w.rows → (owner : Owner) (refs : List ArcRef) → references_fault w owner [] refs ≡ None → (x : HandleRow) → Among w.rows x
     → is_named_by refs x.number.0 ≡ true → x.owner ≡ owner
-named-own w ordered owner refs good x among named =
-    let m = named-mine w owner [] refs good x.number.0 named in
-    let a = found-among x.number.0 w.rows m.row m.live in
-    ap (λ (y : HandleRow). y.owner) (once w.rows ordered x m.row among a.0 (sym a.1)) ∙ m.own
+named-own w ordered owner refs good x among named = own-of w ordered owner x among (named-mine w owner [] refs good x.number.0 named)
 
 pub named-unlisted : {w : Core} → IsWhole w → (owner : Owner) (refs : List ArcRef) → is_owner Owner.List owner ≡ false → references_fault w owner [] refs ≡ None → (x : HandleRow)
     → Among w.rows x → is_named_by refs x.number.0 ≡ true → is_owned_by Owner.List x ≡ false
@@ -400,12 +385,10 @@ named-unlisted {w} whole owner refs other good x among named = ap (is_owner Owne
 module _ {w : Core} (whole : IsWhole w) (node_type : ℕ) (key : OptionalDataKey) (refs : List ArcRef) (mode : Mode) (from me : Owner) (other : is_owner Owner.List from ≡ false)
     (good : references_fault w from [] refs ≡ None)
     (holder : MayHold w me) (node_left : w.last.node < greatest) (left : w.last.handle < greatest) (unkeyed : is_shared mode ≡ true → has_key key ≡ false) where
-  abbrev cells : ℕ → Option Cell
-  cells = updated (w.last.node + 1) (Some (record { node_type = node_type; key = key })) w.cells
-
   pub born-whole : IsWhole (roomy (with_handle (with_node w node_type key refs) (next_node w) mode me))
   born-whole =
-      grown-whole (moved-to-value whole (is_named_by refs) (named-unlisted whole from refs other good) (w.last.node + 1)) (row_of (w.last.handle + 1) (next_node w) mode me) cells (w.last.node + 1)
+      grown-whole (moved-to-value whole (is_named_by refs) (named-unlisted whole from refs other good) (w.last.node + 1)) (row_of (w.last.handle + 1) (next_node w) mode me)
+      (updated (w.last.node + 1) (Some (record { node_type = node_type; key = key })) w.cells) (w.last.node + 1)
       refl left (omega arith) (omega arith) (grind (arith, nat_tests)) (λ n old. grind (arith, nat_tests)) (inr (omega arith, omega arith, λ is. grind (arith, nat_tests, unkeyed is))) holder
 
 pub no-references : (w : Core) (owner : Owner) → references_fault w owner [] [] ≡ None

@@ -6,7 +6,7 @@ use Rattle.pagable_tables.proofs.Words.{earlier, early_fault, false, find_row, f
 use Rattle.pagable_tables.proofs.Words.{is_named_by, is_owner, is_pinned_kind, is_some, key_in, length, load_fault, load_in, map, mode_of, moved, named_at, named_fault, nat_tests, next_node}
 use Rattle.pagable_tables.proofs.Words.{node_fault, not, numbers_of, only_handle, option_map, or_else, pins, pins_in, rank, reference_fault, references_fault, refl, refused_if, seen, spent, subst}
 use Rattle.pagable_tables.proofs.Words.{suc, sym, take, take-suc, take_all, true, type_of, usable, where_so, with_cached, with_handle, with_node, zero, ℕ, ◌&&◌, ◌++◌, ◌+◌, ◌<◌, ◌==◌, ◌||◌, ◌∙◌, ◌∷◌}
-use Rattle.{pagable_tables.proofs.Words.{◌≡◌, ◌≢◌, ◌≤◌, ◌⊎◌}, pagable_world.specs.Calls.IsNext, std.specs.Result.IsErrAnd}
+use Rattle.{pagable_tables.proofs.Words.{◌≡◌, ◌≢◌, ◌≤◌, ◌⊎◌}, pagable_world.specs.Calls.IsNext, std.{proofs.lemmas.List.map-id, specs.Result.IsErrAnd}}
 
 -- what an entry of the cache gives where its node is this cell
 abbrev pub use-of : List HandleRow → ℕ → ℕ → Option Cell → Option ℕ
@@ -192,18 +192,10 @@ pub all-named : (w : Core) (o : Owner) (hs : List HandleNumber) (p : ℕ) (x : O
 unfolding seen
 all-named w o hs p x zero' is = is ∙ ap (λ p. named_fault w o (seen hs p) (drop p hs)) zero'
 
--- the set is told by another test
-pub moved-same : (s s' : ℕ → Bool) (o : Owner) (rows : List HandleRow) → ((q : ℕ) → s q ≡ s' q) → moved s o rows ≡ moved s' o rows
-moved-same s s' o rows same = ap (λ (s : ℕ → Bool). moved s o rows) (λ i q. same q i)
-
-pub moved-unless : (s : ℕ → Bool) (o : Owner) (rows : List HandleRow) → ((q : ℕ) → s q ≡ false) → rows ≡ moved s o rows
-moved-unless s o [] none = refl
-moved-unless s o (x ∷ xs) none = ap (λ r. x ∷ r) (moved-unless s o xs none) ∙ sym (ap (λ b. (if b then record x { owner = o } else x) ∷ moved s o xs) (none x.number.0))
-
 -- nothing is moved where none is named
 pub none-moved : (o : Owner) (rows : List HandleRow) → moved (is_in []) o rows ≡ rows
 unfolding is_in
-none-moved o rows = sym (moved-unless (is_in []) o rows (λ q. refl))
+none-moved o rows = map-id rows
 
 pub moved-twice : (s : ℕ → Bool) (h : HandleNumber) (o : Owner) (rows : List HandleRow) → moved (only_handle h) o (moved s o rows) ≡ moved (λ q. h.0 == q || s q) o rows
 moved-twice s h o [] = refl
@@ -214,19 +206,14 @@ unfolding is_in
 in-push [] h q = refl
 in-push (x ∷ xs) h q = grind (arith, nat_tests, in-push xs h q)
 
--- one more is moved
-pub moved-one : (hs : List HandleNumber) (i : ℕ) (d : HandleNumber) (o : Owner) (rows : List HandleRow) → i < length hs
-    → moved (only_handle (get_or hs i d)) o (moved (is_in (numbers_of (take i hs))) o rows) ≡ moved (is_in (numbers_of (take (i + 1) hs))) o rows
-moved-one hs i d o rows lt =
-    moved-twice (is_in (numbers_of (take i hs))) (get_or hs i d) o rows
-    ∙ moved-same _ (is_in (numbers_of (take (i + 1) hs))) o rows (λ q. sym (ap (λ l. is_in (numbers_of l) q) (ap (λ n. take n hs) (add-one i) ∙ take-suc hs i d lt) ∙ in-push (take i hs) (get_or hs i d) q))
+pub in-take : (hs : List HandleNumber) (i : ℕ) (d : HandleNumber) (q : ℕ) → i < length hs → is_in (numbers_of (take (i + 1) hs)) q ≡ ((get_or hs i d).0 == q || is_in (numbers_of (take i hs)) q)
+in-take hs i d q lt = ap (λ l. is_in (numbers_of l) q) (ap (λ n. take n hs) (add-one i) ∙ take-suc hs i d lt) ∙ in-push (take i hs) (get_or hs i d) q
 
--- what is found of moved rows
-pub found-there : (f : HandleRow → HandleRow) → ((h : HandleRow) → (f h).number.0 ≡ h.number.0) → (q : ℕ) (rows : List HandleRow) (row : HandleRow) → find_row q rows ≡ Some row
-    → find_row q (map f rows) ≡ Some (f row)
+-- what is found of rows that keep their numbers
+pub found-map : (f : HandleRow → HandleRow) → ((h : HandleRow) → (f h).number.0 ≡ h.number.0) → (q : ℕ) (rows : List HandleRow) → find_row q (map f rows) ≡ option_map f (find_row q rows)
 unfolding find_row
-found-there f same q [] row is = absurd (cc)
-found-there f same q (x ∷ xs) row is = grind (arith, nat_tests, found-there f same q xs row)
+found-map f same q [] = refl
+found-map f same q (x ∷ xs) = let a = same x in grind (arith, nat_tests, found-map f same q xs)
 
 pub ruleset handing = (nat_tests, in-none, in-more, in-there, last-named, all-named, none-moved)
 
@@ -243,7 +230,8 @@ unfolding is_named_by
 named-none q = refl
 
 pub moved-nobody : (owner : Owner) (rows : List HandleRow) → moved (is_named_by []) owner rows ≡ rows
-moved-nobody owner rows = sym (moved-unless (is_named_by []) owner rows named-none)
+unfolding is_named_by
+moved-nobody owner rows = map-id rows
 
 pub named-push : (rs : List ArcRef) (r : ArcRef) (q : ℕ) → is_named_by (rs ++ r ∷ []) q ≡ (r.handle.0 == q) || is_named_by rs q
 unfolding is_named_by
@@ -258,11 +246,6 @@ named-in (r ∷ rs) (suc i) d q lt is = let a = named-in rs i d q (omega arith) 
 
 pub named-take : (rs : List ArcRef) (i : ℕ) (d : ArcRef) (q : ℕ) → i < length rs → is_named_by (take (i + 1) rs) q ≡ ((get_or rs i d).handle.0 == q) || is_named_by (take i rs) q
 named-take rs i d q lt = ap (λ l. is_named_by l q) (ap (λ n. take n rs) (add-one i) ∙ take-suc rs i d lt) ∙ named-push (take i rs) (get_or rs i d) q
-
--- one more
-pub moved-take : (rs : List ArcRef) (i : ℕ) (d : ArcRef) (owner : Owner) (rows : List HandleRow) → i < length rs
-    → moved (only_handle (get_or rs i d).handle) owner (moved (is_named_by (take i rs)) owner rows) ≡ moved (is_named_by (take (i + 1) rs)) owner rows
-moved-take rs i d owner rows lt = moved-twice (is_named_by (take i rs)) (get_or rs i d).handle owner rows ∙ moved-same _ (is_named_by (take (i + 1) rs)) owner rows (λ q. sym (named-take rs i d q lt))
 
 pub named-other : (rs : List ArcRef) (i : ℕ) (d : ArcRef) (q : ℕ) → (get_or rs i d).handle.0 ≢ q → i < length rs → is_named_by (take i rs) q ≡ false → is_named_by (take (i + 1) rs) q ≡ false
 named-other rs i d q other lt before =

@@ -1,17 +1,20 @@
-//! Handles that are given up: one, or together all that a load owns, a worker, or the list. And loose ones that let their pins go, or whose cells get keys.
+//! Handles that are given up: one, or together all that a load owns, a worker, or the list. Loose ones that let their pins go, or whose cells get keys. Page-out workers: they begin, give up what they
+//! have at a node, and end. And the list of cells that wait for page-out: entries come and are taken.
 
-ghost use Rattle.std.specs.Prelude.{Bool, IfNone, IfSome, IsSome, List, None, Ok, Option, Some, [], false, length, nat_eq, slice_get, true, ℕ, ◌&&◌, ◌<◌, ◌==◌, ◌||◌, ◌≡◌, ◌≤◌};
-ghost use Rattle.{indexmap.specs.IndexMap.get, pagable_tables.specs.{Core.{AreLater, DoesShed, InReach, IsWhole, LoadsAre, core_of, gives_row, passes_in}, Falling.{AreSound, GetsKey, IsFalling}}};
-ghost use Rattle.pagable_tables.specs.{Falling.{Sheds, SoFar, ValueStays, alive, counts_at, is_valued, keyed, live, owns_nothing, with_tables}, declared.giving.Giving.Giving};
-ghost use Rattle.pagable_world.specs.{Calls.{CloseCall, ReleaseCall, SetKeyCall, UnpinCall}, Cascade.{Falls, nobody, only_handle}, Kinds.{find_row, is_owner}, LoadCalls.{DropCall, HandOverCall}};
-ghost use Rattle.pagable_world.specs.{LoadCalls.{hand_over_fault, is_owned_in}, Plain.Blob, World.Core, declared.handles.Owner.Owner};
+ghost use Rattle.pagable_tables.specs.{Core.{IsWhole, LoadsAre, MayHold, TakesWorker, core_of, gives_row, left_load, passes_in, plain_of}, Falling.{AreSound, IsFalling, Sheds, SoFar, alive}};
+ghost use Rattle.pagable_tables.specs.{Falling.{counts_at, is_valued, live, load_at, owns_nothing, reach_at, with_tables, worker_at}, declared.giving.Giving.Giving};
+ghost use Rattle.pagable_world.specs.declared.handles.Owner.{Owner};
+ghost use Rattle.pagable_world.specs.{Calls.{CloseCall, ReleaseCall, ScheduleCall, SetKeyCall, TakeCall, UnpinCall}, Cascade.{Falls, FallsAnyhow, nobody, only_handle}, Kinds.{find_row, is_owner}};
+ghost use Rattle.pagable_world.specs.{Kinds.owner_worker, LoadCalls.{DropCall, HandOverCall, hand_over_fault, is_owned_in}, Plain.{Blob, updated}, Workers.{WorkerEnds, is_workers_at}, World.Core};
+ghost use Rattle.std.specs.Prelude.{Bool, IfNone, IfOk, IfSome, List, None, Ok, Option, Some, [], false, is_some, length, nat_eq, not, slice_get, true, ℕ, ◌&&◌, ◌+◌, ◌<◌, ◌==◌, ◌||◌, ◌≡◌, ◌≤◌};
+ghost use Rattle.{indexmap.specs.IndexMap.get, pagable_model.specs.declared.numbers.LoadNumber.LoadNumber, pagable_tables.specs.Core.{AreLater, BeginsWorker, Does, DoesShed, InReach, IsNoLess}};
 
 use crate::handles::{self, Handles};
-use crate::holdings::{Holdings, fall, give_up, shed, top_after};
+use crate::holdings::{Holdings, fall, give_up, make_place, shed, top_after};
 use crate::loading::load_row;
+use crate::lookups::{cell_fault, earlier, is_loose_mode, is_unpinned, load_fault, named_fault};
 use crate::making::{is_owner, own};
-use crate::references::{cell_fault, earlier, is_loose, load_fault, named_fault};
-use crate::tables::{self, Arcs, Counts, HandleAt, Loads, Reach, Tables};
+use crate::tables::{self, Arcs, HandleAt, LoadRow, Loads, Reach, Tables, Workers};
 use pagable_model::{DataKey, Error, HandleNumber, LoadNumber, NodeNumber, WorkerNumber};
 use pagable_world::Mode;
 use pagable_world::handles::{HandleRow, Owner};
@@ -159,13 +162,11 @@ pub fn give_next<N: Drop>(
     ensures so_far { (before w : Core) (given : ℕ → Bool) → SoFar before w given lists t.old → length (live t.old.handles.places.items) ≤ length w.rows → SoFar before w (λ q. given q || (q == handle.0 && is_owned_in w (Owner.Load load) q)) lists t.new }
     ensures sheds { Sheds (counts_at t.old.nodes) (get nat_eq values.old) (counts_at t.new.nodes) (get nat_eq values.new) }
 {
-    let Some(at) = handles::look(&t.handles, handle) else {
-        return;
-    };
-    if !is_owner(Owner::Load(load), at.row.owner) {
-        return;
+    if let Some(at) = handles::look(&t.handles, handle) {
+        if is_owner(Owner::Load(load), at.row.owner) {
+            shed(t, values, at, lists);
+        }
     }
-    shed(t, values, at, lists);
 }
 
 /// An open load is given up, with all that it owns. NoSuchHandle where none is open, NotYours where another began it. NumbersSpent or OutOfMemory where a cell that had to be listed isn't.
@@ -289,36 +290,6 @@ pub fn unpin<N: Drop>(
     }
 }
 
-/// The counts of a node with this key.
-fn counts_keyed(counts: Counts, key: u128, top: u64) -> Counts
-    ensures { result ≡ keyed counts key top }
-{
-    let is_falling = counts.pins == 0;
-    let next = if is_falling { top } else { counts.next };
-    Counts {
-        key,
-        is_falling,
-        next,
-        ..counts
-    }
-}
-
-/// A node gets a key, and falls if nothing pins it.
-fn put_key(t: &mut Holdings, node: u64, key: u128)
-    requires steady { IsFalling t.old [] owns_nothing }
-    requires live { IsSome (counts_at t.old.nodes node) }
-    requires key { 0 < key }
-    ensures same { t.new ≡ record t.old { nodes = t.new.nodes; top = t.new.top } }
-    ensures cells { GetsKey (counts_at t.old.nodes) (counts_at t.new.nodes) node key }
-    ensures values { (n : ℕ) → ValueStays (counts_at t.old.nodes n) (counts_at t.new.nodes n) }
-    ensures falling { (stack : List ℕ) × IsFalling t.new stack owns_nothing × (length stack ≤ 1) }
-{
-    let counts = tables::counts_of(&t.nodes, node).unwrap();
-    let with_key = counts_keyed(counts, key, t.top);
-    tables::set_counts(&mut t.nodes, node, with_key);
-    t.top = top_after(false, with_key.is_falling, node, t.top);
-}
-
 /// The cell of an own loose handle gets a key, and its value goes if nothing pins it. Through a handle of another mode nothing happens. NumbersSpent or
 /// OutOfMemory where a cell that had to be listed isn't.
 #[tactic(auto, using(crate::proofs::Fitting::counting))]
@@ -334,10 +305,164 @@ pub fn set_data_key<N: Drop>(
     ensures { DoesShed lists t.old values.old (λ w w'. SetKeyCall w me handle key result w') t.new values.new }
 {
     let at = own(t, me, handle)?;
-    if !is_loose(at.row.mode) {
+    if !is_loose_mode(at.row.mode) {
         return Ok(());
     }
+    let node = at.row.node.0;
+    let mut counts = tables::counts_of(&t.holdings.nodes, node).unwrap();
+    let is_falling = counts.pins == 0;
+    counts.key = key.get();
+    counts.is_falling = is_falling;
+    // where the node falls, what fell first up to now is done after it
+    counts.next = top_after(false, is_falling, t.holdings.top, counts.next);
+    tables::set_counts(&mut t.holdings.nodes, node, counts);
+    t.holdings.top = top_after(false, is_falling, node, t.holdings.top);
     t.holdings.unlisted = None;
-    put_key(&mut t.holdings, at.row.node.0, key.get());
     fall(&mut t.holdings, values, lists)
+}
+
+/// One worker more is at work. OutOfMemory where it has no place, or no number is left for it.
+#[tactic(auto, using(crate::proofs::Newer::working))]
+pub fn worker_begin(t: &mut Tables) -> Result<WorkerNumber, Error>
+    requires { IsWhole t.old }
+    ensures does { Does t.old (λ w w'. BeginsWorker w result w') t.new }
+    ensures number { IfOk result (λ v. (v.0 ≡ t.old.last_worker + 1) × (t.new.last_worker ≡ t.old.last_worker + 1)) }
+    ensures more { IfOk result (λ v. (q : ℕ) → is_some (worker_at t.new.workers q) ≡ updated (t.old.last_worker + 1) true (λ u. is_some (worker_at t.old.workers u)) q) }
+    ensures same { t.new ≡ record t.old { workers = t.new.workers; last_worker = t.new.last_worker } }
+{
+    if t.last_worker == u64::MAX {
+        return Err(Error::OutOfMemory);
+    }
+    let worker = t.last_worker + 1;
+    let since = t.holdings.last_handle;
+    let reach = Reach { since, beside: 0 };
+    tables::open(&mut t.workers, worker, reach)?;
+    t.last_worker = worker;
+    Ok(WorkerNumber(worker))
+}
+
+/// The same, for the entry at this place of the list, which moves to the worker.
+pub fn worker_take(t: &mut Tables, place: usize) -> Result<WorkerNumber, Error>
+    requires whole { IsWhole t.old }
+    requires within { place < length t.old.holdings.list.items }
+    ensures { Does t.old (λ w w'. TakesWorker w place result w') t.new }
+{
+    let worker = worker_begin(t)?;
+    let _ = take_pending(t, Owner::Worker(worker), place);
+    Ok(worker)
+}
+
+/// Which handles this worker may have.
+fn reach_of(workers: &Workers, worker: WorkerNumber) -> Reach
+    ensures { result ≡ reach_at workers.now worker.0 }
+{
+    let beside = 0;
+    let nothing = Reach { since: 0, beside };
+    workers.get(&worker.0).copied().unwrap_or(nothing)
+}
+
+/// A worker gives up all handles that it has at a node, with all that goes with them.
+pub fn release_node<N: Drop>(
+    t: &mut Tables,
+    values: &mut Arcs<N>,
+    worker: WorkerNumber,
+    node: NodeNumber,
+    lists: bool,
+)
+    requires whole { IsWhole t.old }
+    requires later { AreLater t.old }
+    ensures { DoesShed lists t.old values.old (λ w w'. FallsAnyhow w w (is_workers_at w worker.0 node.0) w') t.new values.new }
+{
+    let giving = Giving::AtNode(worker, node);
+    let reach = reach_of(&t.workers, worker);
+    let _ = give_all(&mut t.holdings, values, &t.loads, giving, reach, lists);
+}
+
+/// The worker's loads aren't open any more.
+fn close_loads(loads: &mut Loads, worker: WorkerNumber)
+    ensures { (l : ℕ) → load_at loads.new l ≡ left_load worker.0 (load_at loads.old l) }
+{
+    let _many = loads.len();
+    loads.retain(
+        |_load: &u64, row: &mut LoadRow| -> bool
+            ensures { (result ≡ not (is_owner (owner_worker worker.0) row.old.owner)) × (row.new ≡ row.old) }
+        { !is_owner(Owner::Worker(worker), row.owner) },
+    );
+}
+
+/// A worker ends: its loads are closed, and it gives up whatever it and they still have, with all that goes with it.
+pub fn worker_end<N: Drop>(t: &mut Tables, values: &mut Arcs<N>, worker: WorkerNumber, lists: bool)
+    requires whole { IsWhole t.old }
+    requires later { AreLater t.old }
+    ensures { DoesShed lists t.old values.old (λ w w'. WorkerEnds w worker.0 w') t.new values.new }
+{
+    let giving = Giving::Worker(worker);
+    let reach = reach_of(&t.workers, worker);
+    let _ = give_all(&mut t.holdings, values, &t.loads, giving, reach, lists);
+    close_loads(&mut t.loads, worker);
+    tables::close(&mut t.workers, worker.0);
+}
+
+/// A loose unpinned handle moves to the list's end, while cells are listed; otherwise it is given up, with all that goes with it. It is refused where it isn't an
+/// own handle of that mode, or the list has no place.
+pub fn schedule_for_paging<N: Drop>(
+    t: &mut Tables,
+    values: &mut Arcs<N>,
+    me: Owner,
+    handle: HandleNumber,
+    lists: bool,
+) -> Result<(), Error>
+    requires whole { IsWhole t.old }
+    requires holder { MayHold (plain_of t.old) me }
+    ensures { DoesShed lists t.old values.old (λ w w'. ScheduleCall w me handle result w') t.new values.new }
+{
+    let at = own(t, me, handle)?;
+    if !is_unpinned(at.row.mode) {
+        return Err(Error::WrongMode);
+    }
+    if !lists {
+        let _ = give_back(&mut t.holdings, values, at, lists);
+        return Ok(());
+    }
+    make_place(&mut t.holdings.list)?;
+    t.holdings.list.push(handle).unwrap();
+    handles::hand_over(&mut t.holdings.handles, at, Owner::List);
+    Ok(())
+}
+
+/// A worker who asks may have this handle too: beside those that came since it began, or, where it got one so before, beside all.
+fn reach_to(workers: &mut Workers, me: Owner, handle: HandleNumber)
+    ensures at_work { (v : ℕ) → is_some (worker_at workers.new v) ≡ is_some (worker_at workers.old v) }
+    ensures less { IsNoLess workers.old workers.new }
+    ensures here { (v : ℕ) → 0 < handle.0 → is_owner (owner_worker v) me ≡ true → InReach (reach_at workers.new v) handle.0 }
+{
+    let Owner::Worker(worker) = me else {
+        return;
+    };
+    if let Some(reach) = workers.get_mut(&worker.0) {
+        if reach.beside != 0 {
+            reach.since = 0;
+        }
+        reach.beside = handle.0;
+    }
+}
+
+/// The entry at this place of the list moves to the one who asks. None past the end.
+pub fn take_pending(t: &mut Tables, me: Owner, place: usize) -> Option<HandleNumber>
+    requires whole { IsWhole t.old }
+    requires holder { MayHold (plain_of t.old) me }
+    ensures taken { (stored : ℕ → Option Blob) (closed : Bool) (failures : ℕ) → TakeCall (core_of t.old stored closed failures) me place result (core_of t.new stored closed failures) }
+    ensures whole { IsWhole t.new }
+    ensures later { ((m : LoadNumber) → is_owner (Owner.Load m) me ≡ false) → AreLater t.old → AreLater t.new }
+{
+    if place >= t.holdings.list.len() {
+        return None;
+    }
+    let handle = t.holdings.list.remove(place);
+    let Some(at) = handles::look(&t.holdings.handles, handle) else {
+        unreachable!();
+    };
+    handles::hand_over(&mut t.holdings.handles, at, me);
+    reach_to(&mut t.workers, me, handle);
+    Some(handle)
 }

@@ -36,10 +36,7 @@ fn at(places: &[Place], place: usize, number: u64) -> Option<HandleAt>
     ensures number { IfSome result (λ at. at.row.number.0 ≡ number) }
 {
     let Place { row, is_live } = *places.get(place)?;
-    if row.number.0 == number && is_live {
-        return Some(HandleAt { place, row });
-    }
-    None
+    (row.number.0 == number && is_live).then_some(HandleAt { place, row })
 }
 
 /// The same, if it stands where it would stand were no number missing from the first one to it, or from it to the last one.
@@ -49,10 +46,8 @@ fn at_once(places: &[Place], number: u64) -> Option<HandleAt>
     ensures found { IfSome result (λ at. find_row number (live places.now) ≡ Some at.row) }
     ensures number { IfSome result (λ at. at.row.number.0 ≡ number) }
 {
-    if places.is_empty() || number < places[0].row.number.0 {
-        return None;
-    }
-    if let Some(at) = at(places, (number - places[0].row.number.0) as usize, number) {
+    let above = number.checked_sub(places.first()?.row.number.0)?;
+    if let Some(at) = at(places, above as usize, number) {
         return Some(at);
     }
     let end = places.len() - 1;
@@ -72,11 +67,8 @@ pub fn look(handles: &Handles, number: HandleNumber) -> Option<HandleAt>
     if let Some(at) = at_once(&handles.places, number.0) {
         return Some(at);
     }
-    let end = up_to(&handles.places, number.0);
-    if end == 0 {
-        return None;
-    }
-    at(&handles.places, end - 1, number.0)
+    let last = up_to(&handles.places, number.0).checked_sub(1)?;
+    at(&handles.places, last, number.0)
 }
 
 /// How many handles can still be pushed without a request for memory.

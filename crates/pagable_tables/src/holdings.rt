@@ -83,9 +83,7 @@ fn enlist_if(t: &mut Holdings, node: NodeNumber, wanted: bool) -> bool
     let Err(e) = enlist(t, node) else {
         return true;
     };
-    if t.unlisted.is_none() {
-        t.unlisted = Some(e);
-    }
+    t.unlisted = t.unlisted.take().or(Some(e));
     false
 }
 
@@ -93,10 +91,7 @@ fn enlist_if(t: &mut Holdings, node: NodeNumber, wanted: bool) -> bool
 fn wants_entry(counts: Counts, mode: Mode, lists: bool) -> bool
     ensures { result ≡ (lists && is_listing counts mode) }
 {
-    match mode {
-        Mode::LoosePinned | Mode::Pinned => lists && counts.pins == 1 && counts.key == 0,
-        Mode::LooseUnpinned | Mode::Shared => false,
-    }
+    lists && counts.pins == 1 && counts.key == 0 && matches!(mode, Mode::LoosePinned | Mode::Pinned)
 }
 
 /// The handle at this place leaves, or it stays without its pin.
@@ -122,12 +117,10 @@ fn counts_after(counts: Counts, pinning: bool, stays: bool, listed: bool, top: u
     requires small { counts.holds < 2 ^ 63 }
     ensures { result ≡ after counts pinning stays listed top }
 {
-    let pins = counts.pins - pinning as u64;
-    let holds = counts.holds - !stays as u64 + listed as u64;
     let mut left = counts;
-    left.pins = pins;
-    left.holds = holds;
-    if !counts.is_falling && (holds == 0 || (pinning && pins == 0 && counts.key != 0)) {
+    left.pins = counts.pins - pinning as u64;
+    left.holds = counts.holds - !stays as u64 + listed as u64;
+    if !left.is_falling && (left.holds == 0 || (pinning && left.pins == 0 && left.key != 0)) {
         left.is_falling = true;
         left.next = top;
     }

@@ -8,6 +8,4 @@ pub mod holdings;
 pub mod loading;
 pub mod lookups;
 pub mod making;
-pub mod references;
 pub mod tables;
-pub mod workers;

@@ -1,28 +1,25 @@
 //! Loads that begin, of a key or a cell, and whose an open load is; what a load reads becomes nodes; and loads of cells that end with a value.
 
-ghost use Rattle.std.specs.Prelude.{Bool, IfErr, IfNone, IfOk, IfSome, IsSome, None, OnOk, Option, Some, [], false, length, nat_eq, not, slice_get, true, ℕ, ◌<◌, ◌≡◌, ◌≢◌, ◌≤◌, ◌⊎◌};
+ghost use Rattle.pagable_tables.specs.{Falling.{IsFalling, Sheds, SoFar, coming, counts_at, has_value, key_in, live, load_at, owns_nothing, refs_at, with_tables}, Ready.{AsksKnown, HasPlace}};
+ghost use Rattle.pagable_world.specs.{Cascade.nobody, Kinds.{is_pinning, is_shared, mode_of, owner_value}, LoadCalls.{Adopts, BeginCall, BeginKeyCall, Installs, LazyCall, adopt_fault, adopted}};
+ghost use Rattle.pagable_world.specs.{LoadCalls.{end_fault, first_key, is_owned_in, root_fault}, Pager.MayOwnLoad, Plain.{Blob, if_there, is_loose_kind}, Refusals.{OwnsLoad, Refused, load_fault}};
+ghost use Rattle.pagable_world.specs.{Refusals.references_fault, World.{Alike, Core, OpenLoad, usable}, declared.{handles.Owner.Owner, rows.Mode.Mode}};
+ghost use Rattle.std.specs.Prelude.{Bool, IfErr, IfNone, IfOk, IfSome, IsSome, None, OnOk, Option, Some, [], false, length, nat_eq, not, true, ℕ, ◌<◌, ◌≡◌, ◌≢◌, ◌≤◌, ◌⊎◌};
 ghost use Rattle.{indexmap.specs.IndexMap.{get, spare}, pagable_tables.specs.{Core.{AreLater, Does, IsReady, IsWhole, MayHold, OnlyRoom, core_of, load_in, plain_of}, Falling.{AreSound, Becomes}}};
-ghost use Rattle.pagable_tables.specs.{Falling.{IsFalling, Sheds, SoFar, alive, coming, counts_at, has_value, key_in, live, load_at, owns_nothing, refs_at, with_tables}, Ready.{AsksKnown, HasPlace}};
-ghost use Rattle.{pagable_tables.specs.Ready.{IsReady as IsEndReady, ShedsBeside, Unends, early_fault}, pagable_world.specs.Calls.{IsNext, birth_fault, is_named_by, moved, with_handle}};
-ghost use Rattle.pagable_world.specs.{Cascade.{FallsAnyhow, nobody}, Kinds.{is_pinning, is_shared, mode_of, owner_value}, LoadCalls.{Adopts, BeginCall, BeginKeyCall, Installs}};
-ghost use Rattle.pagable_world.specs.{LoadCalls.{IsNextLoad, LazyCall, adopt_fault, adopted, end_fault, first_key, is_owned_in, root_fault, with_load}, Pager.MayOwnLoad, Plain.{Blob, if_there}};
-ghost use Rattle.pagable_world.specs.{Plain.is_loose_kind, Refusals.{OwnsLoad, Refused, load_fault, references_fault, spent, where_so}, World.{Alike, Core, OpenLoad, greatest, of_cell, usable}};
-ghost use Rattle.pagable_world.specs.declared.{handles.Owner.Owner, rows.Mode.Mode};
+ghost use Rattle.{pagable_tables.specs.Ready.{IsReady as IsEndReady, ShedsBeside, Unends, early_fault}, pagable_world.specs.{Calls.{IsNext, birth_fault, is_named_by, moved}, Cascade.FallsAnyhow}};
 ghost use Rattle.pagable_model.specs.declared.error.Error.TheVariants as errors;
 ghost use Rattle.pagable_world.specs.declared.handles.Owner.TheVariants as owners;
 
 use crate::giving::{Giving, give_all, give_next};
 use crate::handles;
 use crate::holdings::{Holdings, fall};
-use crate::lookups::{self, cache_get, is_here};
-use crate::making::{bear, come, is_owner, make, make_ready, own, pin_here};
-use crate::references::{
-    earlier, is_loose, is_loose_kind, is_pinned_kind, load_fault, mode_of, references_fault,
+use crate::lookups::{
+    self, cache_get, earlier, is_here, is_loose_kind, is_loose_mode, is_pinned_kind, load_fault,
+    mode_of, references_fault,
 };
-use crate::tables::{self, Arcs, HandleAt, LoadRoot, LoadRow, Reach, Tables};
-use pagable_model::{
-    ArcRef, DataKey, Error, HandleNumber, Kind, LoadNumber, NodeNumber, OptionalDataKey,
-};
+use crate::making::{bear, come, is_owner, make, own, pin_here};
+use crate::tables::{self, Arcs, LoadRoot, LoadRow, Reach, Tables};
+use pagable_model::{ArcRef, DataKey, Error, HandleNumber, Kind, LoadNumber, NodeNumber};
 use pagable_world::handles::{HandleRow, Owner};
 use pagable_world::{Beginning, Mode};
 use std::alloc::Global;
@@ -40,48 +37,6 @@ pub fn load_row(t: &Tables, me: Owner, load: LoadNumber) -> Result<LoadRow, Erro
     Ok(row)
 }
 
-/// A load of the cell of the handle at this place, with an unpinned handle of its own. OutOfMemory where one of them has no place.
-#[tactic(auto, using(crate::proofs::Fitting::counting))]
-fn open_cell(
-    t: &mut Tables,
-    me: Owner,
-    at: HandleAt,
-    node_type: u32,
-    key: DataKey,
-) -> Result<LoadNumber, Error>
-    requires whole { IsWhole t.old }
-    requires later { AreLater t.old }
-    requires place { slice_get t.old.holdings.handles.places.items at.place ≡ Some (alive at.row) }
-    requires load { t.old.last_load < greatest }
-    requires handle { t.old.holdings.last_handle < greatest }
-    ensures next { IfOk result (λ l. (stored : ℕ → Option Blob) (closed : Bool) (failures : ℕ) → IsNextLoad l (core_of t.old stored closed failures)) }
-    ensures opened { IfOk result (λ l. (stored : ℕ → Option Blob) (closed : Bool) (failures : ℕ) → Alike (with_load (with_handle (core_of t.old stored closed failures) at.row.node Mode.LooseUnpinned (Owner.Load l)) key (of_cell at.row.node node_type at.row.number) me) (core_of t.new stored closed failures)) }
-    ensures refused { IfErr result (λ e. e ≡ errors.OutOfMemory) }
-    ensures stays { IfErr result (λ e. (stored : ℕ → Option Blob) (closed : Bool) (failures : ℕ) → Alike (core_of t.old stored closed failures) (core_of t.new stored closed failures)) }
-    ensures steady { IsFalling t.new.holdings [] owns_nothing }
-    ensures later { AreLater t.new }
-{
-    let load = LoadNumber(t.last_load + 1);
-    let row = LoadRow {
-        owner: me,
-        key,
-        root: LoadRoot::Cell(at.row.node, node_type, at.row.number),
-        since: t.holdings.last_handle,
-    };
-    tables::open(&mut t.loads, load.0, row)?;
-    let mode = Mode::LooseUnpinned;
-    match come(&mut t.holdings, at.row.node, mode, Owner::Load(load)) {
-        Ok(_) => {
-            t.last_load = load.0;
-            Ok(load)
-        }
-        Err(e) => {
-            tables::close(&mut t.loads, load.0);
-            Err(e)
-        }
-    }
-}
-
 /// A load of a loose handle's cell, whose value has to be read first; or nothing, where it is in memory. It is refused where the handle isn't an own loose one,
 /// no number of a load or a handle is left, or memory is wanting.
 #[tactic(auto, using(crate::proofs::Fitting::counting))]
@@ -92,20 +47,31 @@ pub fn load_begin(t: &mut Tables, me: Owner, handle: HandleNumber) -> Result<Beg
     ensures { Does t.old (λ w w'. BeginCall w me handle result w') t.new }
 {
     let at = own(t, me, handle)?;
-    if !is_loose(at.row.mode) {
+    if !is_loose_mode(at.row.mode) {
         return Err(Error::WrongMode);
     }
     let counts = tables::counts_of(&t.holdings.nodes, at.row.node.0);
     if is_here(counts) {
         return Ok(Beginning::InMemory);
     }
-    let OptionalDataKey::Some(key) = lookups::key_in(counts) else {
-        unreachable!();
-    };
+    let key = lookups::key_in(counts).unwrap();
     if t.last_load == u64::MAX || t.holdings.last_handle == u64::MAX {
         return Err(Error::NumbersSpent);
     }
-    let load = open_cell(t, me, at, counts.unwrap().node_type, key)?;
+    let load = LoadNumber(t.last_load + 1);
+    let row = LoadRow {
+        owner: me,
+        key,
+        root: LoadRoot::Cell(at.row.node, counts.unwrap().node_type, at.row.number),
+        since: t.holdings.last_handle,
+    };
+    tables::open(&mut t.loads, load.0, row)?;
+    let mode = Mode::LooseUnpinned;
+    if let Err(e) = come(&mut t.holdings, at.row.node, mode, Owner::Load(load)) {
+        tables::close(&mut t.loads, load.0);
+        return Err(e);
+    }
+    t.last_load = load.0;
     Ok(Beginning::Load(load, key))
 }
 
@@ -149,7 +115,7 @@ pub fn load_key(t: &mut Tables, me: Owner, key: DataKey) -> Result<Beginning, Er
     Ok(Beginning::Load(LoadNumber(load), key))
 }
 
-/// Makes room for a handle, a node and what the cache learns, and changes nothing else. Refused with NumbersSpent and OutOfMemory.
+/// Makes room for a handle, a node and what the cache may learn of it, and changes nothing else. NumbersSpent where no number is left for one of them, OutOfMemory where there is no room.
 pub fn make_ready_to_learn(t: &mut Tables) -> Result<(), Error>
     requires { IsWhole t.old }
     ensures ready { OnOk result (IsReady t.new) }
@@ -159,7 +125,11 @@ pub fn make_ready_to_learn(t: &mut Tables) -> Result<(), Error>
     ensures loads { t.new.loads ≡ t.old.loads }
     ensures workers { t.new.workers ≡ t.old.workers }
 {
-    make_ready(t)?;
+    if t.last_node == u64::MAX || t.holdings.last_handle == u64::MAX {
+        return Err(Error::NumbersSpent);
+    }
+    handles::reserve(&mut t.holdings.handles, 1)?;
+    t.holdings.nodes.reserve(1)?;
     t.cache.reserve(1)?;
     Ok(())
 }
@@ -308,10 +278,7 @@ pub fn adopt(
     requires learns { 0 < spare t.old.cache }
     requires asked { (me : Owner) × (node_type : ℕ) × (early_fault (plain_of t.old) me load kind node_type references.items ≡ None) }
     requires unknown { usable (plain_of t.old) kind.0 key ≡ None }
-    ensures next { (stored : ℕ → Option Blob) (closed : Bool) (failures : ℕ) → IsNext result (core_of t.old stored closed failures) }
-    ensures adopted { (stored : ℕ → Option Blob) (closed : Bool) (failures : ℕ) → lists ≡ not closed → Alike (adopted (core_of t.old stored closed failures) load kind key (first_key kind.0 key) references.items) (core_of t.new stored closed failures) }
-    ensures whole { IsWhole t.new }
-    ensures later { AreLater t.new }
+    ensures { Does t.old (λ w w'. IsNext result w × (lists ≡ not w.closed → Alike (adopted w load kind key (first_key kind.0 key) references.items) w')) t.new }
 {
     let own_key = if is_pinned_kind(kind) { key.get() } else { 0 };
     learn_new(t, load, kind, key, own_key, references, lists)
@@ -334,18 +301,7 @@ pub enum Unended {
     InVain(Error),
 }
 
-/// Why no handle can be made for a pin, if this owner has the handle: no number is left.
-#[tactic(auto, using(std::proofs::lemmas::Bool::Decides::nat_tests))]
-fn number_fault(t: &Tables, me: Owner, handle: HandleNumber) -> Option<Error>
-    requires { IsWhole t.now }
-    ensures { result ≡ where_so (is_owned_in (plain_of t.now) me handle.0) (spent t.now.holdings.last_handle) }
-{
-    let at = handles::look(&t.holdings.handles, handle)?;
-    let is_spent = t.holdings.last_handle == u64::MAX;
-    (is_owner(me, at.row.owner) && is_spent).then_some(Error::NumbersSpent)
-}
-
-/// Why a load can't end with a value of this type, if it is open: it is of a key, or of a cell of another type; or of numbers (`number_fault`).
+/// Why a load can't end with a value of this type, if it is open: it is of a key, or of a cell of another type; or no number is left, where the owner has the handle that is to be pinned.
 #[tactic(auto, using(std::proofs::lemmas::Bool::Decides::nat_tests))]
 fn root_fault(t: &Tables, me: Owner, load: LoadNumber, node_type: u32) -> Option<Error>
     requires { IsWhole t.now }
@@ -356,7 +312,11 @@ fn root_fault(t: &Tables, me: Owner, load: LoadNumber, node_type: u32) -> Option
         return Some(Error::WrongMode);
     };
     let typed = (node_type != cell_type).then_some(Error::WrongKind);
-    earlier(typed, number_fault(t, me, handle))
+    let Some(at) = handles::look(&t.holdings.handles, handle) else {
+        return typed;
+    };
+    let is_spent = is_owner(me, at.row.owner) && t.holdings.last_handle == u64::MAX;
+    earlier(typed, is_spent.then_some(Error::NumbersSpent))
 }
 
 /// Why a load of a cell can't end, apart from memory.
@@ -397,9 +357,7 @@ pub fn prepare_end(
     if let Some(e) = end_fault(t, me, load, node_type, references) {
         return Err(Unended::Refused(e));
     }
-    let Some(row) = tables::load_of(&t.loads, load.0) else {
-        unreachable!();
-    };
+    let row = tables::load_of(&t.loads, load.0).unwrap();
     let LoadRoot::Cell(_, _, handle) = row.root else {
         unreachable!();
     };

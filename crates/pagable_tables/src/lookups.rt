@@ -1,31 +1,248 @@
-//! What is asked of handles and nodes, where nothing changes by that. And the cache, which owns nothing: which node is known under a kind and a key, what it gives, and handles that are offered to it.
+//! What is asked of modes, kinds, handles and nodes, and why calls are refused: the references of a value that is handed in, and which of several causes is told. Nothing changes by that.
+//! And the cache, which owns nothing: which node is known under a kind and a key, what it gives, and handles that are offered to it.
 
-ghost use Rattle.std.specs.{Option.option_map, Prelude.{Bool, IfErr, IfNone, IfOk, IfSome, IsOk, None, OnErr, OnOk, Option, Some, false, if◌then◌else◌, length, nat_eq, not, ◌<◌, ◌≡◌, ◌≢◌, ◌≤◌, ◌⊎◌}};
-ghost use Rattle.{indexmap.specs.IndexMap.{get, spare}, pagable_model.specs.declared.{data_key.OptionalDataKey.OptionalDataKey, numbers.NodeNumber.NodeNumber}, pagable_tables.specs.Core.AreLater};
-ghost use Rattle.pagable_tables.specs.{Core.{Does, IsWhole, MayHold, core_of, plain_of}, Falling.{Sheds, cell_in, counts_at, has_value, key_in, known_at, pins_in}};
-ghost use Rattle.pagable_world.specs.{Calls.{AwayCall, CountCall, KeyCall, Looks, NodeCall, OfferCall, RecallCall, TypeCall, offer_fault}, Events.IsEntry, Kinds.{fits_mode, is_in_memory, is_loose}};
-ghost use Rattle.{pagable_world.specs.{Kinds.{is_pinning, mode_of}, Plain.{Blob, if_there, type_of}, Refusals.Owns, World.{Cell, key_at, type_at, usable}}, std.specs.Prelude.{true, ℕ}};
+ghost use Rattle.pagable_tables.specs.{Core.{AreLater, Does, IsWhole, MayHold, core_of, load_in, named_at, plain_of}, Falling.{Sheds, cell_in, counts_at, has_value, key_in, known_at, live, pins_in}};
+ghost use Rattle.pagable_world.specs.{Calls.{AwayCall, CountCall, KeyCall, Looks, NodeCall, OfferCall, RecallCall, TypeCall, is_named_by, offer_fault}, LoadCalls.cell_fault, Workers.claim_fault};
+ghost use Rattle.pagable_world.specs.{Kinds.{find_row, fits_mode, is_in_memory, is_loose, is_owner, is_pinning, is_unpinned, mode_of}, World.{Cell, Core, OpenLoad, key_at, type_at, usable}};
+ghost use Rattle.std.specs.Prelude.{IfErr, IfNone, IfOk, IfSome, IsOk, List, None, OnErr, OnOk, Option, Some, [], false, if◌then◌else◌, length, nat_eq, not, true, ℕ, ◌<◌, ◌||◌, ◌≡◌, ◌≢◌, ◌≤◌, ◌⊎◌};
+ghost use Rattle.{indexmap.specs.IndexMap.{get, spare}, pagable_model.specs.declared.{data_key.OptionalDataKey.OptionalDataKey, numbers.NodeNumber.NodeNumber}, pagable_tables.specs.Falling.AreSound};
+ghost use Rattle.{pagable_tables.specs.Core.seen, pagable_world.specs.{Events.IsEntry, Refusals.{Owns, earlier, is_type, named_fault, rank, reference_fault, references_fault, refused_if, row_fault}}};
+ghost use Rattle.{pagable_world.specs.{Plain.{Blob, if_there, is_in, is_loose_kind, is_pinned_kind, type_of}, declared.handles.HandleRow.HandleRow}, std.specs.{Option.option_map, Prelude.Bool}};
+ghost use Rattle.pagable_model.specs.declared.error.Error.TheVariants as errors;
 
 use crate::giving::give_back;
+use crate::handles::{self, Handles};
 use crate::holdings::pins;
-use crate::making::{make, own};
-use crate::references::{fits_mode, is_of, is_pinned_kind, mode_of};
-use crate::tables::{Arcs, Cache, Counts, Tables};
-use crate::{handles, references, tables};
-use pagable_model::{DataKey, Error, HandleNumber, Kind, NodeNumber, OptionalDataKey};
+use crate::making::{is_owner, make, own};
+use crate::tables::{self, Arcs, Cache, Counts, LoadRoot, LoadRow, Tables};
+use pagable_model::{ArcRef, DataKey, Error, HandleNumber, Kind, NodeNumber, OptionalDataKey};
+use pagable_world::Mode;
 use pagable_world::handles::{HandleRow, Owner};
 use std::alloc::AllocError;
+
+/// Whether a handle of this mode can be pinned and unpinned.
+pub fn is_loose_mode(mode: Mode) -> bool
+    ensures { result ≡ is_loose mode }
+{
+    matches!(mode, Mode::LoosePinned | Mode::LooseUnpinned)
+}
+
+/// Whether a handle of this mode is loose and pins nothing.
+pub fn is_unpinned(mode: Mode) -> bool
+    ensures { result ≡ is_unpinned mode }
+{
+    matches!(mode, Mode::LooseUnpinned)
+}
+
+/// Whether a reference of this kind is a pin.
+pub fn is_pinned_kind(kind: Kind) -> bool
+    ensures { result ≡ is_pinned_kind kind.0 }
+{
+    kind.0 % 3 == 2
+}
+
+/// Whether a reference of this kind is loose.
+pub fn is_loose_kind(kind: Kind) -> bool
+    ensures { result ≡ is_loose_kind kind.0 }
+{
+    kind.0 % 3 == 1
+}
+
+/// The mode of a handle that is made for a reference of this kind.
+pub fn mode_of(kind: Kind) -> Mode
+    ensures { result ≡ mode_of kind.0 }
+{
+    match kind.0 % 3 {
+        0 => Mode::Shared,
+        1 => Mode::LooseUnpinned,
+        _ => Mode::Pinned,
+    }
+}
+
+/// Whether a handle of this mode may stand under this kind.
+pub fn fits_mode(kind: Kind, mode: Mode) -> bool
+    ensures { result ≡ fits_mode kind.0 mode }
+{
+    match mode {
+        Mode::Pinned => kind.0 % 3 == 2,
+        Mode::Shared => kind.0 % 3 == 0,
+        Mode::LoosePinned | Mode::LooseUnpinned => kind.0 % 3 == 1,
+    }
+}
+
+/// Whether a node of these counts has the type of this kind.
+pub fn is_of(counts: Option<Counts>, kind: Kind) -> bool
+    ensures { result ≡ is_type (type_of kind.0) (if_there (λ (cell : Cell). Some cell.node_type) None (cell_in counts)) }
+{
+    counts.map_or(false, |c| c.node_type == kind.0 / 3)
+}
+
+/// Whether one of these references names the handle, where none has a greater number than the highest. So references in the order of their handles cost a look each.
+#[tactic(auto, using(crate::proofs::Worlds::naming))]
+fn is_named(references: &[ArcRef], highest: u64, handle: HandleNumber) -> bool
+    requires { (q : ℕ) → highest < q → is_named_by references.now q ≡ false }
+    ensures { result ≡ is_named_by references.now handle.0 }
+{
+    if handle.0 > highest {
+        return false;
+    }
+    for reference in references {
+        if reference.handle.0 == handle.0 {
+            return true;
+        }
+    }
+    false
+}
+
+/// Why a reference is refused whose handle has this row, where another may have to be asked first.
+fn row_fault(t: &Tables, row: HandleRow, reference: ArcRef, is_anothers: bool) -> Option<Error>
+    ensures { result ≡ row_fault (plain_of t.now) reference (refused_if is_anothers errors.NotYours) row }
+{
+    if row.node.0 != reference.node.0 {
+        return Some(Error::NoSuchHandle);
+    }
+    if is_anothers {
+        return Some(Error::NotYours);
+    }
+    if !fits_mode(reference.kind, row.mode) {
+        return Some(Error::WrongMode);
+    }
+    let counts = tables::counts_of(&t.holdings.nodes, reference.node.0);
+    (!is_of(counts, reference.kind)).then_some(Error::WrongKind)
+}
+
+/// Why a reference of a value is refused, where its handle was named before or wasn't.
+fn fault_of(t: &Tables, me: Owner, reference: ArcRef, is_seen: bool) -> Option<Error>
+    requires { IsWhole t.now }
+    ensures { (stored : ℕ → Option Blob) (closed : Bool) (failures : ℕ) (seen : List ℕ) → is_in seen reference.handle.0 ≡ is_seen → result ≡ reference_fault (core_of t.now stored closed failures) me seen reference }
+{
+    let Some(at) = handles::look(&t.holdings.handles, reference.handle) else {
+        return Some(Error::NoSuchHandle);
+    };
+    row_fault(t, at.row, reference, !is_owner(me, at.row.owner) | is_seen)
+}
+
+/// Why what a reference names can't be claimed for page-out, whoever owns its handle.
+pub fn claim_fault(t: &Tables, reference: ArcRef) -> Option<Error>
+    requires { IsWhole t.now }
+    ensures { (stored : ℕ → Option Blob) (closed : Bool) (failures : ℕ) → result ≡ claim_fault (core_of t.now stored closed failures) reference }
+{
+    match handles::look(&t.holdings.handles, reference.handle) {
+        Some(at) => row_fault(t, at.row, reference, false),
+        None => Some(Error::NoSuchHandle),
+    }
+}
+
+/// Why the references of a value that is handed in are refused: the cause of the first that has one.
+#[tactic(auto, using(crate::proofs::Worlds::naming))]
+pub fn references_fault(t: &Tables, me: Owner, references: &[ArcRef]) -> Option<Error>
+    requires { IsWhole t.now }
+    ensures { (stored : ℕ → Option Blob) (closed : Bool) (failures : ℕ) → result ≡ references_fault (core_of t.now stored closed failures) me [] references.now }
+{
+    let mut highest = 0;
+    for i in 0..references.len() {
+        let reference = references[i];
+        let is_seen = is_named(&references[..i], highest, reference.handle);
+        if let Some(e) = fault_of(t, me, reference, is_seen) {
+            return Some(e);
+        }
+        highest = highest.max(reference.handle.0);
+    }
+    None
+}
+
+/// The place of a refusal in the order: nothing has the number; it is another's; its mode doesn't fit; its type doesn't; no number is left; all others.
+fn rank(error: &Error) -> u32
+    ensures { result ≡ rank error.now }
+{
+    match error {
+        Error::NoSuchHandle => 0,
+        Error::NotYours => 1,
+        Error::WrongMode => 2,
+        Error::WrongKind => 3,
+        Error::NumbersSpent => 4,
+        _ => 5,
+    }
+}
+
+/// Of two causes that there may be the one that comes first in the order.
+pub fn earlier(a: Option<Error>, b: Option<Error>) -> Option<Error>
+    ensures { result ≡ earlier a b }
+{
+    match (a, b) {
+        (Some(e), Some(f)) if rank(&f) < rank(&e) => Some(f),
+        (Some(e), _) => Some(e),
+        (None, other) => other,
+    }
+}
+
+/// Why the load of this row can't be used by this owner, if it can't: there is none, or another began it.
+pub fn load_fault(row: Option<LoadRow>, me: Owner) -> Option<Error>
+    ensures { result ≡ if_there (λ (load : OpenLoad). refused_if (not (is_owner me load.owner)) errors.NotYours) (Some errors.NoSuchHandle) (option_map load_in row) }
+{
+    match row {
+        Some(row) => (!is_owner(me, row.owner)).then_some(Error::NotYours),
+        None => Some(Error::NoSuchHandle),
+    }
+}
+
+/// Why the load of this row can't hand handles over, if it can't: it is of a cell.
+pub fn cell_fault(row: Option<LoadRow>) -> Option<Error>
+    ensures { result ≡ if_there (λ (load : OpenLoad). cell_fault load.root) None (option_map load_in row) }
+{
+    matches!(row?.root, LoadRoot::Cell(_, _, _)).then_some(Error::WrongMode)
+}
+
+/// Whether the number stands before this place.
+#[tactic(auto, using(crate::proofs::Worlds::handing))]
+fn is_before(named: &[HandleNumber], place: usize, number: u64) -> bool
+    requires { place ≤ length named.now }
+    ensures { result ≡ is_in (seen named.now place) number }
+{
+    for at in 0..place {
+        if named[at].0 == number {
+            return true;
+        }
+    }
+    false
+}
+
+/// Why the handle that is named at this place can't be handed over by this owner, if it can't.
+fn fault_at(handles: &Handles, owner: Owner, named: &[HandleNumber], place: usize) -> Option<Error>
+    requires sound { AreSound handles.now }
+    requires within { place < length named.now }
+    ensures { result ≡ if_there (λ (row : HandleRow). refused_if (not (is_owner owner row.owner) || is_in (seen named.now place) (named_at named.now place)) errors.NotYours) (Some errors.NoSuchHandle) (find_row (named_at named.now place) (live handles.now.places.items)) }
+{
+    let handle = named[place];
+    let Some(at) = handles::look(handles, handle) else {
+        return Some(Error::NoSuchHandle);
+    };
+    let is_seen = is_before(named, place, handle.0);
+    (!is_owner(owner, at.row.owner) | is_seen).then_some(Error::NotYours)
+}
+
+/// Why the handles that are named can't all be handed over by this owner: one isn't live, or one is another's or is named twice.
+#[tactic(auto, using(crate::proofs::Worlds::handing))]
+pub fn named_fault(handles: &Handles, owner: Owner, named: &[HandleNumber]) -> Option<Error>
+    requires { AreSound handles.now }
+    ensures { (w : Core) → w.rows ≡ live handles.now.places.items → result ≡ named_fault w owner [] named.now }
+{
+    let mut fault = None;
+    let mut place = named.len();
+    while place > 0 {
+        place -= 1;
+        fault = earlier(fault_at(handles, owner, named, place), fault);
+    }
+    fault
+}
 
 /// The key of a node of these counts.
 pub fn key_in(counts: Option<Counts>) -> OptionalDataKey
     ensures { result ≡ if_there (λ (cell : Cell). cell.key) OptionalDataKey.None (cell_in counts) }
 {
     match counts {
-        Some(c) => match DataKey::new(c.key) {
-            Some(key) => OptionalDataKey::Some(key),
-            None => OptionalDataKey::None,
-        },
-        None => OptionalDataKey::None,
+        Some(c) if c.key != 0 => OptionalDataKey::Some(DataKey::new(c.key).unwrap()),
+        Some(_) | None => OptionalDataKey::None,
     }
 }
 
@@ -33,10 +250,7 @@ pub fn key_in(counts: Option<Counts>) -> OptionalDataKey
 pub fn is_here(counts: Option<Counts>) -> bool
     ensures { result ≡ is_in_memory (pins_in counts) (if_there (λ (cell : Cell). cell.key) OptionalDataKey.None (cell_in counts)) }
 {
-    match counts {
-        Some(c) => c.pins > 0 || c.key == 0,
-        None => true,
-    }
+    counts.map_or(true, |c| c.pins > 0 || c.key == 0)
 }
 
 /// The node of a handle.
@@ -63,10 +277,8 @@ pub fn count(t: &Tables, handle: HandleNumber) -> Result<u64, Error>
     ensures { (stored : ℕ → Option Blob) (closed : Bool) (failures : ℕ) → CountCall (core_of t.now stored closed failures) handle result }
 {
     let at = handles::look(&t.holdings.handles, handle).ok_or(Error::NoSuchHandle)?;
-    match tables::counts_of(&t.holdings.nodes, at.row.node.0) {
-        Some(c) => Ok(c.pins),
-        None => Ok(0),
-    }
+    let counts = tables::counts_of(&t.holdings.nodes, at.row.node.0);
+    Ok(counts.map_or(0, |c| c.pins))
 }
 
 /// The key of the node of a handle.
@@ -93,12 +305,12 @@ pub fn is_loose(t: &Tables, handle: HandleNumber) -> Result<bool, Error>
     ensures { (stored : ℕ → Option Blob) (closed : Bool) (failures : ℕ) → Looks (core_of t.now stored closed failures) handle (λ loose row. loose ≡ is_loose row.mode) result }
 {
     let at = handles::look(&t.holdings.handles, handle).ok_or(Error::NoSuchHandle)?;
-    Ok(references::is_loose(at.row.mode))
+    Ok(is_loose_mode(at.row.mode))
 }
 
 /// The type of a node, or None where the node is gone.
 pub fn node_live(t: &Tables, node: NodeNumber) -> Option<u32>
-    ensures { (stored : ℕ → Option Blob) (closed : Bool) (failures : ℕ) → TypeCall (core_of t.now stored closed failures) node result }
+    ensures { TypeCall (plain_of t.now) node result }
 {
     Some(tables::counts_of(&t.holdings.nodes, node.0)?.node_type)
 }
@@ -111,10 +323,7 @@ pub fn entry(t: &Tables, place: usize) -> Option<(HandleRow, u32, OptionalDataKe
     ensures keyed { IfSome result (λ e. (stored : ℕ → Option Blob) (closed : Bool) (failures : ℕ) → key_at (core_of t.now stored closed failures) e.0.node.0 ≡ e.2) }
     ensures past { IfNone result (length t.now.holdings.list.items ≤ place) }
 {
-    if place >= t.holdings.list.len() {
-        return None;
-    }
-    let handle = t.holdings.list[place];
+    let handle = *t.holdings.list.get(place)?;
     let Some(at) = handles::look(&t.holdings.handles, handle) else {
         unreachable!();
     };
@@ -159,10 +368,8 @@ pub fn usable_of(t: &Tables, kind: Kind, key: DataKey) -> Option<NodeNumber>
 {
     let node = t.cache.get(&(kind.0, key)).copied()?;
     let counts = tables::counts_of(&t.holdings.nodes, node.0);
-    if counts.is_none() || is_pinned_kind(kind) && !is_here(counts) {
-        return None;
-    }
-    Some(node)
+    let is_gone = counts.is_none() || is_pinned_kind(kind) && !is_here(counts);
+    (!is_gone).then_some(node)
 }
 
 /// A handle of the node that the cache gives for a kind and a key, in the kind's mode; or None where it gives none. It is refused as `make` is.

@@ -1,17 +1,17 @@
 //! Nodes that come, handles of live ones, and handles that are pinned from now on, with or without another handle beside.
 
-ghost use Rattle.std.specs.Prelude.{Bool, IfErr, IfOk, IsSome, None, OnOk, Option, Some, [], false, slice_get, true, ℕ, ◌+◌, ◌<◌, ◌^◌, ◌≡◌, ◌⊎◌};
 ghost use Rattle.pagable_tables.specs.{Core.{Bears, Does, IsReady, IsWhole, Makes, MayHold, OnlyRoom, PinsHere, Suits, core_of, plain_of}, Falling.{IsFalling, ValueStays, alive, counts_at}};
-ghost use Rattle.{pagable_tables.specs.Falling.{has_value, is_valued, live, owns_nothing, with_tables}, pagable_world.specs.Calls.{AwayBirthCall, CloneCall, LoosenCall, PinCall, birth_fault}};
 ghost use Rattle.pagable_world.specs.{Calls.with_mode, Kinds.{find_row, is_loose, is_owned_by, is_owner, is_pinning, is_shared}, Plain.{Blob, one}, Refusals.{Owns, Refused, earlier, handle_fault}};
 ghost use Rattle.pagable_world.specs.{Refusals.references_fault, World.{Alike, Core}, declared.{handles.Owner.Owner, rows.Mode.Mode}};
+ghost use Rattle.std.specs.Prelude.{Bool, IfErr, IfOk, IsSome, None, OnOk, Option, Some, [], false, slice_get, true, ℕ, ◌+◌, ◌<◌, ◌^◌, ◌≡◌, ◌⊎◌};
+ghost use Rattle.{pagable_tables.specs.Falling.{has_value, is_valued, live, owns_nothing, with_tables}, pagable_world.specs.Calls.{AwayBirthCall, CloneCall, LoosenCall, PinCall, birth_fault}};
 
 use crate::holdings::{Holdings, pins};
-use crate::lookups::{is_here, key_in};
-use crate::references::{is_loose, references_fault};
+use crate::loading::make_ready_to_learn;
+use crate::lookups::{is_here, is_loose_mode, key_in, references_fault};
 use crate::tables::{Counts, HandleAt, NodeRow, Tables};
 use crate::{handles, tables};
-use pagable_model::{ArcRef, DataKey, Error, HandleNumber, NodeNumber, OptionalDataKey};
+use pagable_model::{ArcRef, DataKey, Error, HandleNumber, NodeNumber};
 use pagable_world::handles::{HandleRow, Owner};
 use pagable_world::{Mode, Pinning};
 use std::alloc::Global;
@@ -87,22 +87,6 @@ pub fn clone(t: &mut Tables, me: Owner, handle: HandleNumber) -> Result<HandleNu
     make(t, at.row.node, at.row.mode, me)
 }
 
-/// Makes room for a handle and a node, and changes nothing else. NumbersSpent where no number is left for one of them, OutOfMemory where there is no room.
-pub fn make_ready(t: &mut Tables) -> Result<(), Error>
-    requires { IsWhole t.old }
-    ensures ready { OnOk result (IsReady t.new) }
-    ensures does { Does t.old OnlyRoom t.new }
-    ensures refused { (stored : ℕ → Option Blob) (closed : Bool) (failures : ℕ) → IfErr result (λ e. Refused (birth_fault (core_of t.old stored closed failures)) (birth_fault (core_of t.old stored closed failures)) (Unit {0}) (core_of t.old stored closed failures) e (core_of t.new stored closed failures)) }
-    ensures same { t.new ≡ record t.old { holdings = t.new.holdings } }
-{
-    if t.last_node == u64::MAX || t.holdings.last_handle == u64::MAX {
-        return Err(Error::NumbersSpent);
-    }
-    handles::reserve(&mut t.holdings.handles, 1)?;
-    t.holdings.nodes.reserve(1)?;
-    Ok(())
-}
-
 /// All that can keep a value with these references from becoming a node, and room for it: the references are looked at, then numbers. Nothing else changes. Refused
 /// with the cause of the first reference that has one, with NumbersSpent and OutOfMemory.
 pub fn prepare(t: &mut Tables, me: Owner, references: &[ArcRef]) -> Result<(), Error>
@@ -115,7 +99,7 @@ pub fn prepare(t: &mut Tables, me: Owner, references: &[ArcRef]) -> Result<(), E
     if let Some(e) = references_fault(t, me, references) {
         return Err(e);
     }
-    make_ready(t)?;
+    make_ready_to_learn(t)?;
     Ok(())
 }
 
@@ -177,7 +161,7 @@ pub fn new_away(
     requires holder { MayHold (plain_of t.old) me }
     ensures { Does t.old (λ w w'. AwayBirthCall w me node_type key result w') t.new }
 {
-    make_ready(t)?;
+    make_ready_to_learn(t)?;
     let mode = Mode::LooseUnpinned;
     Ok(bear(t, me, node_type, key.get(), Vec::new(alloc), mode))
 }
@@ -268,15 +252,12 @@ pub fn pin(t: &mut Tables, me: Owner, handle: HandleNumber) -> Result<Pinning, E
     ensures { Does t.old (λ w w'. PinCall w me handle result w') t.new }
 {
     let at = own(t, me, handle)?;
-    if !is_loose(at.row.mode) {
+    if !is_loose_mode(at.row.mode) {
         return Err(Error::WrongMode);
     }
     let counts = tables::counts_of(&t.holdings.nodes, at.row.node.0);
     if !is_here(counts) {
-        match key_in(counts) {
-            OptionalDataKey::Some(key) => return Ok(Pinning::NeedsLoad(key)),
-            OptionalDataKey::None => unreachable!(),
-        }
+        return Ok(Pinning::NeedsLoad(key_in(counts).unwrap()));
     }
     Ok(Pinning::Pinned(pin_here(t, me, at.row)?))
 }

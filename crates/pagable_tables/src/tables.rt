@@ -1,9 +1,9 @@
 //! What the tables keep of handles and nodes, rows of nodes, loads and workers by their numbers, and the tables together, with room for handles and for entries of the list. Nodes are seen as two
 //! functions of a number: what is counted of each, and what its value refers to.
 
-ghost use Rattle.std.specs.{Option.option_to_list, Prelude.{Bool, IfNone, IsOk, IsSome, None, OnErr, OnOk, Option, Some, [], nat_eq, ℕ, ◌++◌, ◌<◌, ◌≡◌, ◌≢◌}};
-ghost use Rattle.{indexmap.specs.IndexMap.{get, spare}, pagable_tables.specs.{Core.{AreLater, Does, IsWhole, core_of}, Falling.{counts_at, known_at, load_at, refs_at, worker_at}}};
-ghost use Rattle.pagable_world.specs.{Calls.{ClearCall, ReserveCall, room_of}, Plain.Blob};
+ghost use Rattle.std.specs.{Option.option_to_list, Prelude.{IfNone, IsOk, IsSome, None, OnErr, OnOk, Option, Some, [], nat_eq, ℕ, ◌++◌, ◌<◌, ◌≡◌, ◌≢◌}};
+ghost use Rattle.{indexmap.specs.IndexMap.{get, spare}, pagable_tables.specs.{Core.{AreLater, Does, IsWhole, plain_of}, Falling.{counts_at, known_at, load_at, refs_at, worker_at}}};
+ghost use Rattle.pagable_world.specs.Calls.{ClearCall, ReserveCall, room_of};
 
 use crate::handles::{self, Handles};
 use crate::holdings::Holdings;
@@ -164,7 +164,7 @@ pub fn new(alloc: Global) -> Tables
 /// How many handles and entries of the list can still come without a request for memory.
 pub fn room(t: &Tables) -> usize
     requires { IsWhole t.now }
-    ensures { (stored : ℕ → Option Blob) (closed : Bool) (failures : ℕ) → result ≡ room_of (core_of t.now stored closed failures) }
+    ensures { result ≡ room_of (plain_of t.now) }
 {
     let entries = t.holdings.list.capacity() - t.holdings.list.len();
     handles::room_of(&t.holdings.handles).min(entries)

@@ -1,6 +1,5 @@
-use Rattle.pagable_tables.proofs.{Alive.whole-so, Calls.close-whole, Fitting.{begun, owned-listed, unmixed}, Newer.{later-on, passes-given}, Told.newer-falls, Words.{Falls, FallsAnyhow, Holdings}}
-use Rattle.pagable_tables.proofs.Words.{NodeNumber, None, Ok, Owner, ap, arith, core_of, false, inl, is_listed, is_owned_by, known_at, option_map, plain_of, refl, shut, subst, sym, with_tables, ℕ}
-use Rattle.pagable_tables.proofs.Words.{◌≡◌}
+use Rattle.pagable_tables.proofs.{Alive.whole-so, Calls.close-whole, Told.newer-falls, Words.{inl, is_listed, is_owned_by, known_at, option_map, plain_of, refl, shut, subst, sym, with_tables, ℕ, ◌≡◌}}
+use Rattle.pagable_tables.proofs.{Fitting.{begun, owned-listed, unmixed}, Newer.{later-on, passes-given}, Words.{Falls, FallsAnyhow, Holdings, NodeNumber, None, Ok, Owner, ap, arith, core_of, false}}
 use Rattle.pagable_tables.proofs.giving.close.Goals as goal
 
 pub returns-clause-closed : goal.returns-clause-closed

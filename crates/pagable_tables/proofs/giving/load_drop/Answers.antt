@@ -1,6 +1,5 @@
-use Rattle.pagable_tables.proofs.{Calls.load-closes, Fitting.{begun-less, not-closed}, Newer.{bare, closed-still, later-so, load-closed, loads-anew, nothing-shed, owned-given, sheds-by}}
-use Rattle.pagable_tables.proofs.{Told.newer-falls, Words.{Blob, Bool, LoadCloses, None, Option, Owner, arith, core_of, inl, inr, is_owned_in, load_at, load_in, not, option_map, plain_of, refl}}
-use Rattle.pagable_tables.proofs.{Words.{with_tables, without_load, ℕ, ◌≡◌}, Worlds.{failed, still}}
+use Rattle.pagable_tables.proofs.{Calls.load-closes, Fitting.begun-less, Newer.{bare, closed-still, later-so, load-closed, loads-anew, nothing-shed, owned-given, sheds-as, sheds-by}, Told.newer-falls}
+use Rattle.pagable_tables.proofs.{Words.{LoadCloses, Owner, arith, core_of, inl, inr, is_owned_in, load_at, load_in, option_map, plain_of, refl, with_tables, without_load}, Worlds.{failed, still}}
 use Rattle.pagable_tables.proofs.giving.load_drop.Goals as goal
 
 pub returns-in_err-row : goal.returns-in_err-row
@@ -10,17 +9,15 @@ pub returns : goal.returns
 returns g c =
     let t = c.args.t.now in
     let l = c.args.load in
-    let still-open = closed-still (load_at t.loads) (load_at c.close.new.rows) l.0 c.close.ensures.gone c.close.ensures.others in
-    let closes : (stored : ℕ → Option Blob) (closed : Bool) (failures : ℕ) → c.args.lists ≡ not closed
-    → LoadCloses (core_of t stored closed failures) l c.give_all.result (core_of (record t { holdings = c.give_all.new.t; loads = c.close.new.rows }) stored closed failures) =
-    λ stored closed failures e.
-    (let w = core_of t stored closed failures in
+    sheds-as
+    (sheds-by {step = λ w w'. LoadCloses w l c.give_all.result w'}
+    (λ stored closed failures e.
+    let w = core_of t stored closed failures in
     let u = without_load w l in
     let falls = c.give_all.ensures.falls w u (bare (λ m. option_map load_in (load_at c.close.new.rows m))) (λ m. refl) (begun-less t u.loads w.workers stored closed c.args.lists failures c.requires.whole e) (omega arith)
     (λ q own. let after = c.requires.later.since l.0 c.in_ok-row.row q c.in_ok-row.ensures.row own in ((omega arith, inl after), owned-given (plain_of t) (Owner.Load l) q c.requires.whole.core.handles own)) in
     loads-anew w u (with_tables u c.give_all.new.t) (is_owned_in w (Owner.Load l)) c.give_all.result _
-    (load-closed (load_at t.loads) (load_at c.close.new.rows) l.0 c.close.ensures.gone c.close.ensures.others) falls) in
-    let fell = closes (λ key. None) (not c.args.lists) 0 (not-closed c.args.lists) in
-    sheds-by (λ stored closed failures e. record { does = inr (load_in c.in_ok-row.row, c.in_ok-row.ensures.own stored closed failures, closes stored closed failures e) })
-    c.give_all.ensures.steady (λ drops. load-closes l c.give_all.result c.requires.whole.core fell) (λ drops later. later-so later (newer-falls fell) still-open refl)
-    c.give_all.ensures.sheds
+    (load-closed (load_at t.loads) (load_at c.close.new.rows) l.0 c.close.ensures.gone c.close.ensures.others) falls)
+    c.give_all.ensures.steady (load-closes l c.give_all.result c.requires.whole.core)
+    (λ fell later. later-so later (newer-falls fell) (closed-still (load_at t.loads) (load_at c.close.new.rows) l.0 c.close.ensures.gone c.close.ensures.others) refl) c.give_all.ensures.sheds)
+    (λ stored closed failures fell. record { does = inr (load_in c.in_ok-row.row, c.in_ok-row.ensures.own stored closed failures, fell) })

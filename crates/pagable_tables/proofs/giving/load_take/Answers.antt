@@ -1,7 +1,7 @@
+use Rattle.pagable_tables.proofs.Words.{Falls, None, Owner, Some, [], ap, arith, core_of, false, inl, is_in, is_owned_in, is_valued, length, load_at, load_in, moved, nat_tests, not, numbers_of}
+use Rattle.pagable_tables.proofs.Words.{option_map, plain_of, refl, subst, sym, with_tables, without_load, ℕ, ◌&&◌, ◌∙◌, ◌≡◌}
 use Rattle.pagable_tables.proofs.{Alive.and-left, Calls.{MayHand, hand-over-whole, handed-mine, handed-own, handed-whole, may-hand, may-hold}, Fitting.{begun, unmixed}, Newer.{bare, closed-still}}
 use Rattle.pagable_tables.proofs.{Newer.{later-handed, load-closed, loads-anew, moved-stands, moved-times, no-load, owned-given, sheds-by}, Told.{newer-falls, not-a-value, owned-moved}, Words.Core}
-use Rattle.pagable_tables.proofs.Words.{Falls, None, Owner, Some, [], ap, arith, core_of, false, if_there, inl, is_in, is_owned_by, is_owned_in, is_owner, is_valued, length, load_at, load_in, moved}
-use Rattle.pagable_tables.proofs.{Words.{nat_tests, not, numbers_of, option_map, plain_of, refl, subst, sym, with_tables, without_load, ℕ, ◌&&◌, ◌∙◌, ◌≡◌}, Worlds.owner-self}
 use Rattle.pagable_tables.proofs.giving.load_take.Goals as goal
 
 pub unwrap-row-requires : goal.unwrap-row-requires
@@ -55,6 +55,6 @@ returns g c =
     })
     c.give_all.ensures.steady (hand-over-whole me l hs c.requires.whole.core)
     (λ hands later. later-handed t later s me (λ m. no-load p me m can.may) _ refl l c.unwrap-row.result row (let own = can.own in grind (arith, nat_tests, row))
-    (λ q is. let o : Owner = Owner.Load l in let m = handed-mine p o [] hs can.named q is in ap (if_there (is_owned_by o) false) m.live ∙ ap (is_owner o) m.own ∙ owner-self o) (newer-falls hands.hands.1.falls)
+    (handed-mine p (Owner.Load l) [] hs can.named) (newer-falls hands.hands.1.falls)
     (closed-still (load_at t.loads) (load_at c.close.new.rows) l.0 c.close.ensures.gone c.close.ensures.others) refl)
     c.give_all.ensures.sheds

@@ -1,27 +1,42 @@
-use Rattle.pagable_tables.proofs.{Calls.keyed-whole, Fitting.{keyed-on, not-closed}, Kept.found-among, Newer.{nothing-shed, sheds-so}, Next.stays-first, Told.{falling, loose-unshared, unturned}}
-use Rattle.pagable_tables.proofs.Words.{Blob, Bool, Falls, GetsKey, None, Option, any_mode, core_of, counts_at, inl, inr, nobody, not, plain_of, refl, subst, sym, with_key, ℕ, ◌∙◌, ◌≡◌}
-use Rattle.pagable_tables.proofs.Worlds.{failed, owner-same, still}
+use Rattle.pagable_tables.proofs.{Calls.keyed-whole, Fitting.{key-fits, keyed-on}, Kept.found-among, Newer.{nothing-shed, sheds-as, sheds-so}, Next.stays-first, Told.{falling, loose-unshared}}
+use Rattle.pagable_tables.proofs.{Told.unturned, Words.{Falls, GetsKey, Some, [], any_mode, arith, cases_eq, counts_at, if◌then◌else◌, inl, inr, keyed, nat_tests, nobody, plain_of, refl, sym}}
+use Rattle.pagable_tables.proofs.{Words.{with_key, ◌==◌, ◌∙◌, ◌∷◌, ◌≡◌}, Worlds.{failed, owner-same, still}}
 use Rattle.pagable_tables.proofs.giving.set_data_key.Goals as goal
 
 pub returns-in_err-at : goal.returns-in_err-at
 returns-in_err-at g c =
     rw (failed c.from_residual.result c.from_residual.ensures.1) (nothing-shed c.requires.whole (λ stored closed failures e. record { does = inl (record { e = c.in_err-at.field-0.0; why = c.in_err-at.ensures.fault stored closed failures any_mode; told = refl; stays = still _ }) }))
 
+pub fall-requires : goal.fall-requires
+fall-requires g c =
+    let t = c.args.t.now.holdings in
+    let n = c.in_ok-at.at.row.node.0 in
+    let y = c.unwrap-counts.result in
+    let b = y.pins == 0 in
+    let w = c.requires.whole.steady in
+    let e = c.set_counts.ensures in
+    let is : counts_at t.nodes n ≡ Some y = sym c.counts_of.ensures ∙ c.unwrap-counts.ensures in
+    let here : counts_at c.set_counts.new.nodes n ≡ Some (keyed y c.get.result t.top) = grind (arith, nat_tests, e.here, c.top_after.ensures) in
+    let top : c.top_after-t.result ≡ (if b then n else t.top) = grind (arith, nat_tests, c.top_after-t.ensures) in
+    let fits = key-fits _ _ _ _ _ _ n y c.get.result w.fits is c.get.ensures.above here e.others e.refs b refl in
+    record { falling = (if b then n ∷ [] else [], record { sound = w.sound; next = w.next; fits = rw top fits }, grind (arith, nat_tests)) }
+
 pub returns : goal.returns
 returns g c =
     let row = c.in_ok-at.at.row in
     let t = c.args.t.now in
-    let loose = sym c.is_loose.ensures ∙ c.if-not-is_loose.false in
-    let falls : (stored : ℕ → Option Blob) (closed : Bool) (failures : ℕ) → c.args.lists ≡ not closed
-    → Falls (core_of t stored closed failures) (with_key (core_of t stored closed failures) row.node c.args.key) nobody c.fall.result
-    (core_of (record t { holdings = c.fall.new.t }) stored closed failures) =
-    λ stored closed failures e. c.fall.ensures.falls (core_of t stored closed failures) _ nobody (keyed-on t stored closed c.args.lists failures c.requires.whole e row.node c.args.key c.put_key.new.t
-    c.put_key.ensures.same
-    (subst (GetsKey (counts_at t.holdings.nodes) (counts_at c.put_key.new.t.nodes) row.node.0) c.get.ensures.value c.put_key.ensures.cells)) in
+    let loose = sym c.is_loose_mode.ensures ∙ c.if-not-is_loose_mode.false in
+    let here : counts_at c.set_counts.new.nodes row.node.0 ≡ Some (keyed c.unwrap-counts.result c.args.key t.holdings.top) =
+    grind (arith, nat_tests, c.set_counts.ensures.here, c.top_after.ensures, c.get.ensures.value) in
+    let is : counts_at t.holdings.nodes row.node.0 ≡ Some c.unwrap-counts.result = sym c.counts_of.ensures ∙ c.unwrap-counts.ensures in
+    let cells : GetsKey (counts_at t.holdings.nodes) (counts_at c.set_counts.new.nodes) row.node.0 c.args.key =
+    λ m. grind (arith, nat_tests, cases_eq m row.node.0, here, is, c.set_counts.ensures.others m, c.get.ensures.above, c.get.ensures.value) in
     let there = (found-among c.args.handle.0 (plain_of t).rows row c.in_ok-at.ensures.found).0 in
+    let stands = unturned (with_key (plain_of t) row.node c.args.key) (keyed-whole c.requires.whole.core row there c.args.key (loose-unshared row.mode loose)) in
     let own = owner-same c.args.me row.owner c.in_ok-at.ensures.owner in
-    sheds-so (λ stored closed failures e. record { does = inr (row, record { live = c.in_ok-at.ensures.found; own = own; as_asked = refl }, inr (loose, falls stored closed failures e)) })
-    c.fall.ensures.steady
-    (λ call. falling (falls (λ key. None) (not c.args.lists) 0 (not-closed c.args.lists))
-    (unturned (with_key (plain_of t) row.node c.args.key) (keyed-whole c.requires.whole.core row there c.args.key (loose-unshared row.mode loose)))) refl refl
-    (stays-first c.put_key.ensures.values c.fall.ensures.sheds)
+    sheds-as
+    (sheds-so {step = λ w w'. Falls w (with_key w row.node c.args.key) nobody c.fall.result w'}
+    (λ stored closed failures e. c.fall.ensures.falls _ _ nobody (keyed-on t stored closed c.args.lists failures c.requires.whole e row.node c.args.key _ refl cells))
+    c.fall.ensures.steady (λ fell. falling fell stands) refl refl
+    (stays-first (λ m. grind (arith, nat_tests, cases_eq m row.node.0, here, is, c.set_counts.ensures.others m)) c.fall.ensures.sheds))
+    (λ stored closed failures fell. record { does = inr (row, record { live = c.in_ok-at.ensures.found; own = own; as_asked = refl }, inr (loose, fell)) })

@@ -1,8 +1,8 @@
-use Rattle.pagable_tables.proofs.{Alive.{all-kept, gives-sums, of_list, ones}, Fitting.{aside, begun-whole, listing-is, none-within, not-closed, unowned}, Newer.{nothing-shed, sheds-so}}
+use Rattle.pagable_tables.proofs.Words.{Tables, [], ap, append-nil, arith, core_of, false, if◌then◌else◌, inl, inr, is_handle, is_loose, is_owner, is_pin, is_plain_pin, is_share, is_shared, is_valued}
+use Rattle.pagable_tables.proofs.{Alive.{all-kept, gives-sums, of_list, ones}, Fitting.{aside, begun-whole, listing-is, none-within, unowned}, Newer.{nothing-shed, sheds-as, sheds-so}}
 use Rattle.pagable_tables.proofs.{Next.{entered-on, stays-first}, Told.{falling, moded}, Words.{Begins, Blob, Bool, Falls, GivesUp, HandleRow, Holdings, IsFalling, Mode, None, Option, Owner, SoFar}}
-use Rattle.pagable_tables.proofs.Words.{Tables, [], ap, append-nil, arith, core_of, false, if◌then◌else◌, inl, inr, is_handle, is_loose, is_owner, is_pin, is_plain_pin, is_share, is_shared}
-use Rattle.pagable_tables.proofs.Words.{is_valued, length, length-map, live, nat_tests, nobody, not, one, owns, owns_nothing, refl, sym, times, true, unpinned, with_mode, ℕ, ◌∙◌, ◌≡◌, ◌≢◌, ◌≤◌}
-use Rattle.pagable_tables.{proofs.Worlds.{failed, owner-same, still}, specs.Core.IsWhole}
+use Rattle.pagable_tables.proofs.{Words.{length, length-map, live, nat_tests, nobody, not, one, owns, owns_nothing, refl, sym, times, true, unpinned, with_mode, ℕ, ◌∙◌, ◌≡◌, ◌≢◌, ◌≤◌}, Worlds.failed}
+use Rattle.pagable_tables.{proofs.Worlds.{owner-same, still}, specs.Core.IsWhole}
 use Rattle.pagable_tables.proofs.giving.unpin.Goals as goal
 
 -- what has gone and come so far where a handle lets its pin go and stays
@@ -24,7 +24,7 @@ lowered-on T stored closed lists failures whole opened x new g =
     let few : new.top ≢ 0 → length (live new.handles.places.items) ≤ length old.rows = λ falls.
     grind (arith, nat_tests, gives-sums g (λ h. 1), ones (live new.handles.places.items), ones old.rows, g.keyed refl whole.steady.fits.chain falls, g.comes.only, listing-is g.counts x.mode) in
     let long = length-map old.rows (λ y. if is_handle x.number.0 y then unpinned y else y) in
-    entered-on f g refl (λ n. refl) (λ n. whole.steady.fits.pinned n) (omega arith) now.rows long nobody nobody begins (g.leaves.becomes.rows ∙ sym (append-nil _ ∙ all-kept now.rows)) refl
+    entered-on f g (λ n. refl) (λ n. whole.steady.fits.pinned n) (omega arith) now.rows long nobody nobody begins (g.leaves.becomes.rows ∙ sym (append-nil _ ∙ all-kept now.rows)) refl
     (none-within nobody now.rows) (λ s final bare has closed. none-within s now.rows) (λ falls. let a = few falls in omega (arith, long))
 
 -- the handle is no value's
@@ -48,17 +48,11 @@ returns-in-LoosePinned g c =
     let t = c.args.t.now in
     let row = c.in_ok-at.at.row in
     let up = c.give_up.ensures [] (mine t.holdings c.args.me row c.requires.whole.steady c.requires.plain c.in_ok-at.ensures.owner) in
-    let falls : (stored : ℕ → Option Blob) (closed : Bool) (failures : ℕ) → c.args.lists ≡ not closed
-    → Falls (core_of t stored closed failures) (with_mode (core_of t stored closed failures) c.args.handle Mode.LooseUnpinned) nobody c.fall.result
-    (core_of (record t { holdings = c.fall.new.t }) stored closed failures) =
-    λ stored closed failures e.
-    (let w = core_of t stored closed failures in
-    rw c.in_ok-at.ensures.number at (c.fall.ensures.falls w (with_mode w row.number Mode.LooseUnpinned) nobody
-    (lowered-on t stored closed c.args.lists failures c.requires.whole e row c.give_up.new.t up))) in
     let turns = moded c.requires.whole.core c.args.handle row Mode.LooseUnpinned c.in_ok-at.ensures.found (ap is_shared (sym c.in-LoosePinned.is)) (λ loose. refl) (λ is. refl) in
     let own = owner-same c.args.me row.owner c.in_ok-at.ensures.owner in
-    let loose = ap is_loose c.in-LoosePinned.is in
-    sheds-so
-    (λ stored closed failures e. record { does = inr (row, record { live = c.in_ok-at.ensures.found; own = own; as_asked = loose }, inr (c.in-LoosePinned.is, falls stored closed failures e)) })
-    c.fall.ensures.steady (λ call. falling (falls (λ key. None) (not c.args.lists) 0 (not-closed c.args.lists)) turns) refl refl
-    (stays-first up.values c.fall.ensures.sheds)
+    sheds-as
+    (sheds-so {step = λ w w'. Falls w (with_mode w c.args.handle Mode.LooseUnpinned) nobody c.fall.result w'}
+    (λ stored closed failures e.
+    rw c.in_ok-at.ensures.number at (c.fall.ensures.falls _ _ nobody (lowered-on t stored closed c.args.lists failures c.requires.whole e row c.give_up.new.t up)))
+    c.fall.ensures.steady (λ fell. falling fell turns) refl refl (stays-first up.values c.fall.ensures.sheds))
+    (λ stored closed failures fell. record { does = inr (row, record { live = c.in_ok-at.ensures.found; own = own; as_asked = ap is_loose c.in-LoosePinned.is }, inr (c.in-LoosePinned.is, fell)) })

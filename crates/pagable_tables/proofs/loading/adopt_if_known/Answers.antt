@@ -1,7 +1,7 @@
-use Rattle.pagable_tables.proofs.{Alive.whole-so, Calls.known-suits, Fitting.{begun-whole, not-closed}, Newer.{begun-made, later-on, listing, loaded-append, named-loaded, not-named, swapped}}
-use Rattle.pagable_tables.proofs.{Next.{owned, sheds-still, stays-first}, Told.lone-falling, Words.{Alike, AllPairs, Falls, IsHandleBefore, Mode, None, Owner, Suits, Tables, ap, arith, core_of}}
-use Rattle.pagable_tables.proofs.{Words.{counts_at, false, has_value, is_named_by, is_some, length, mode_of, not, plain_of, refl, subst, sym, with_handle, ◌+◌, ◌∙◌}, Worlds.{adopts-known, eager}}
-use Rattle.pagable_tables.proofs.Worlds.{failed, fitting, not-adopted, owner-of, refused-known}
+use Rattle.pagable_tables.proofs.Worlds.{eager, failed, fitting, not-adopted, owner-of, refused-known}
+use Rattle.pagable_tables.proofs.{Alive.whole-so, Calls.known-suits, Fitting.{begun-whole, not-closed}, Newer.{begun-made, later-on, listing, loaded-append, not-named, swapped}, Next.owned}
+use Rattle.pagable_tables.proofs.{Next.{sheds-still, stays-first}, Told.{lone-falling, named-mine}, Words.{Alike, AllPairs, Falls, IsHandleBefore, Mode, None, Owner, Suits, Tables, ap, arith}}
+use Rattle.pagable_tables.proofs.{Words.{[], core_of, counts_at, false, has_value, is_named_by, is_some, length, mode_of, not, plain_of, refl, subst, sym, with_handle, ◌+◌, ◌∙◌}, Worlds.adopts-known}
 use Rattle.pagable_tables.proofs.loading.adopt_if_known.Goals as goal
 
 pub returns-in-Some-clause-refused : goal.returns-in-Some-clause-refused
@@ -34,7 +34,7 @@ returns g c =
     let valued = c.requires.valued node.0 (sym (c.in-Some-usable_of.ensures (λ key. None) false 0)) (eager p me l kind c.args.key c.args.node_type rs free) in
     let rows = (made.does (λ key. None) (not c.args.lists) 0).made.1.rows in
     let fell = c.give_named.ensures.falls (listing c.args.lists t1) (listing c.args.lists t1) (begun-whole t1 (λ key. None) (not c.args.lists) c.args.lists 0 made.whole (not-closed c.args.lists)) (omega arith)
-    (λ q named. ap (owned owner q) rows ∙ loaded-append l q p.rows _ (named-loaded p l rs fit q named)) in
+    (λ q named. ap (owned owner q) rows ∙ loaded-append l q p.rows _ (named-mine p owner [] rs fit q named)) in
     let went = lone-falling {w = listing c.args.lists t1} made.whole.core fell.falls in
     record {
       known = λ stored closed failures e.
@@ -44,7 +44,7 @@ returns g c =
           let m = (made.does stored closed failures).made in
           let a : Alike u (core_of t1 stored closed failures) = subst (λ (mode : Mode). Alike (with_handle w node mode owner) (core_of t1 stored closed failures)) c.mode_of.ensures m.1 in
           let some = c.give_named.ensures.falls u u (begun-made t t1 stored closed failures node (mode_of kind.0) owner made.whole a c.args.lists e) (let b = ap length a.rows in omega arith)
-          (λ q named. loaded-append l q w.rows _ (named-loaded w l rs (fitting w me l kind c.args.key c.args.node_type rs good) q named)) in
+          (λ q named. loaded-append l q w.rows _ (named-mine w owner [] rs (fitting w me l kind c.args.key c.args.node_type rs good) q named)) in
           let kept = not-named p l rs c.requires.whole.core.handles fit (t.holdings.last_handle + 1) (omega arith) in
           let falls = swapped w node (mode_of kind.0) owner (subst (AllPairs IsHandleBefore) a.rows made.whole.core.handles.ordered) refl some.falls kept in
           let anew : Falls w u (is_named_by rs) some.told (core_of (record t1 { holdings = c.give_named.new.t }) stored closed failures) =

@@ -14,12 +14,12 @@ ends-at : (t : Tables) (stored : ℕ → Option Blob) (closed : Bool) (failures 
     → MayEnd (core_of t stored closed failures) me l node h node_type refs
 ends-at t stored closed failures me l node_type refs row node type h none is cell = grind (arith, nat_tests, both-none)
 
-pub unreachable-requires : goal.unreachable-requires
-unreachable-requires c = let none = sym c.in_default.is ∙ c.end_fault.ensures (λ key. None) false 0 in let gone = sym c.in_default-load_of.is ∙ c.load_of.ensures in grind (arith, nat_tests, both-none)
+pub unwrap-row-requires : goal.unwrap-row-requires
+unwrap-row-requires c = let none = sym c.in_default.is ∙ c.end_fault.ensures (λ key. None) false 0 in grind (arith, nat_tests, both-none, c.load_of.ensures)
 
-pub unreachable-requires-in_default-root : goal.unreachable-requires-in_default-root
-unreachable-requires-in_default-root c =
-    let none = sym c.in_default.is ∙ c.end_fault.ensures (λ key. None) false 0 in let is = sym c.in-Some-load_of.is ∙ c.load_of.ensures in grind (arith, nat_tests, both-none, c.in_default-root.is)
+pub unreachable-requires : goal.unreachable-requires
+unreachable-requires c =
+    let none = sym c.in_default.is ∙ c.end_fault.ensures (λ key. None) false 0 in let is = sym c.unwrap-row.ensures ∙ c.load_of.ensures in grind (arith, nat_tests, both-none, c.in_default-root.is)
 
 pub returns-in-Ok-reserve-clause-ready : goal.returns-in-Ok-reserve-clause-ready
 returns-in-Ok-reserve-clause-ready c stored closed failures =
@@ -27,15 +27,15 @@ returns-in-Ok-reserve-clause-ready c stored closed failures =
     let me = c.args.me in
     let l = c.args.load in
     let w = core_of t stored closed failures in
-    let load = load_in c.in-Some-load_of.row in
-    let is : w.loads l.0 ≡ Some load = ap (option_map load_in) (sym c.load_of.ensures ∙ c.in-Some-load_of.is) in
+    let load = load_in c.unwrap-row.result in
+    let is : w.loads l.0 ≡ Some load = ap (option_map load_in) (sym c.load_of.ensures ∙ c.unwrap-row.ensures) in
     let node = c.in-Cell.field-0 in
     let h = c.in-Cell.handle in
     let cell : load.root ≡ of_cell node c.in-Cell.field-1 h = ap root_in c.in-Cell.is in
     let begun = (c.requires.core.loads.roots l.0 load node c.in-Cell.field-1 h is cell).begun c.in-Ok.at.row c.in-Ok.ensures.found in
-    let may = ends-at t stored closed failures me l c.args.node_type c.args.references.now c.in-Some-load_of.row node c.in-Cell.field-1 h
-    (sym c.in_default.is ∙ c.end_fault.ensures stored closed failures) (sym c.in-Some-load_of.is ∙ c.load_of.ensures) c.in-Cell.is in
-    let e : Ending = record { load = c.in-Some-load_of.row; row = c.in-Ok.at.row; is_away = not c.is_here-is_away.result } in
+    let may = ends-at t stored closed failures me l c.args.node_type c.args.references.now c.unwrap-row.result node c.in-Cell.field-1 h
+    (sym c.in_default.is ∙ c.end_fault.ensures stored closed failures) (sym c.unwrap-row.ensures ∙ c.load_of.ensures) c.in-Cell.is in
+    let e : Ending = record { load = c.unwrap-row.result; row = c.in-Ok.at.row; is_away = not c.is_here-is_away.result } in
     let ready : IsReady w me l c.args.node_type c.args.references.now e =
     grind (arith, nat_tests, owner-same, c.in-Ok.ensures.number, c.in-Ok.ensures.found, c.in-Ok.ensures.owner, c.is_here-is_away.ensures, c.counts_of.ensures, c.requires.steady.fits.pinned) in
     let w' = core_of (record t { holdings = record t.holdings { handles = c.reserve.new.handles } }) stored closed failures in
@@ -47,8 +47,8 @@ returns-in-Ok-reserve-clause-does c = widens-does c.args.t.now c.reserve.new.han
 pub returns-in_default-reserve-clause-unended : goal.returns-in_default-reserve-clause-unended
 returns-in_default-reserve-clause-unended c stored closed failures =
     let w = core_of c.args.t.now stored closed failures in
-    let may = ends-at c.args.t.now stored closed failures c.args.me c.args.load c.args.node_type c.args.references.now c.in-Some-load_of.row _ _ _
-    (sym c.in_default.is ∙ c.end_fault.ensures stored closed failures) (sym c.in-Some-load_of.is ∙ c.load_of.ensures) c.in-Cell.is in
+    let may = ends-at c.args.t.now stored closed failures c.args.me c.args.load c.args.node_type c.args.references.now c.unwrap-row.result _ _ _
+    (sym c.in_default.is ∙ c.end_fault.ensures stored closed failures) (sym c.unwrap-row.ensures ∙ c.load_of.ensures) c.in-Cell.is in
     grind (arith, nat_tests, no-load-fault, alike, c.reserve.ensures.widens.rows, c.reserve.ensures.widens.capacity)
 
 pub returns-in_default-reserve-clause-does : goal.returns-in_default-reserve-clause-does
@@ -56,6 +56,6 @@ returns-in_default-reserve-clause-does c = widens-does c.args.t.now c.reserve.ne
 
 pub returns-in-Err-clause-unended : goal.returns-in-Err-clause-unended
 returns-in-Err-clause-unended c stored closed failures =
-    let may = ends-at c.args.t.now stored closed failures c.args.me c.args.load c.args.node_type c.args.references.now c.in-Some-load_of.row _ _ _
-    (sym c.in_default.is ∙ c.end_fault.ensures stored closed failures) (sym c.in-Some-load_of.is ∙ c.load_of.ensures) c.in-Cell.is in
+    let may = ends-at c.args.t.now stored closed failures c.args.me c.args.load c.args.node_type c.args.references.now c.unwrap-row.result _ _ _
+    (sym c.in_default.is ∙ c.end_fault.ensures stored closed failures) (sym c.unwrap-row.ensures ∙ c.load_of.ensures) c.in-Cell.is in
     (record { node = c.in-Cell.field-0; h = c.in-Cell.handle; may = may; why = c.in-Err.ensures.fault stored closed failures any_mode }, refl)

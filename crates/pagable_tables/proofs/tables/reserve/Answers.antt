@@ -18,10 +18,10 @@ pub returns-then-room-more : goal.returns-then-room-more
 returns-then-room-more c =
     let less : c.room.result < c.args.more = search rules in
     does-as (grown c.args.t.now (record c.args.t.now.holdings { handles = c.reserve.new.handles; list = c.reserve-2.new.self }) c.requires c.reserve.ensures.widens c.reserve-2.ensures.items c.reserve-2.ensures.capacity)
-    (λ stored closed failures grown. record { stays = grown; enough = tt; wanting = (refl, subst (λ n. n < c.args.more) (c.room.ensures stored closed failures) less) })
+    (λ stored closed failures grown. record { stays = grown; enough = tt; wanting = (refl, subst (λ n. n < c.args.more) (c.room.ensures) less) })
 
 pub returns : goal.returns
 returns c =
     let enough : c.args.more ≤ c.room.result = search rules in
     does-as (grown c.args.t.now (record c.args.t.now.holdings { handles = c.reserve.new.handles; list = c.reserve-2.new.self }) c.requires c.reserve.ensures.widens c.reserve-2.ensures.items c.reserve-2.ensures.capacity)
-    (λ stored closed failures grown. record { stays = grown; enough = subst (λ n. c.args.more ≤ n) (c.room.ensures stored closed failures) enough; wanting = tt })
+    (λ stored closed failures grown. record { stays = grown; enough = subst (λ n. c.args.more ≤ n) (c.room.ensures) enough; wanting = tt })

@@ -31,11 +31,11 @@ pub invariant_of-self-2 : goal.invariant_of-self-2
 invariant_of-self-2 g c =
     new-so c.self.invariant c.self.view_is _ _ _ _ c.args.node c.requires.listed c.requires.fresh c.requires.unknown c.share_with_room.new.values
     c.make_ready_to_learn.ensures.does c.share_with_room.ensures.same c.adopt-handle.new.t c.keep.new.values c.in-Ok.ensures.shared c.keep.ensures c.has_closed-lists.ensures
-    c.in_default.ensures.ready.node_left c.adopt-handle.ensures.next c.adopt-handle.ensures.adopted c.adopt-handle.ensures.whole c.adopt-handle.ensures.later
+    c.in_default.ensures.ready.node_left c.adopt-handle.ensures
 
 pub returns : goal.returns
 returns g c =
     let new = new-told c.self.invariant c.self.view_is _ _ _ _ c.args.node c.requires.listed c.requires.fresh c.requires.unknown c.share_with_room.new.values
     c.make_ready_to_learn.ensures.does c.share_with_room.ensures.same c.adopt-handle.new.t c.keep.new.values c.in-Ok.ensures.shared c.keep.ensures c.has_closed-lists.ensures
-    c.in_default.ensures.ready.node_left c.adopt-handle.ensures.next c.adopt-handle.ensures.adopted c.adopt-handle.ensures.whole c.adopt-handle.ensures.later in
+    c.in_default.ensures.ready.node_left c.adopt-handle.ensures in
     rw (← c.self.view_is) (record { step = new.0; moves = new.1 })

@@ -1,13 +1,13 @@
-use Rattle.{pagable_tables.specs.Core.load_in, std.proofs.Common.{None, false, refl, sym}}
+use Rattle.{pagable_tables.{proofs.Worlds.failed, specs.Core.load_in}, std.proofs.Common.{None, false, refl, sym}}
 use Rattle.pagable_pager.proofs.pager.Pager.load_of.Goals as goal
 
-pub returns-in-Ok-clause-reads : goal.returns-in-Ok-clause-reads
-returns-in-Ok-clause-reads g c = rw (← c.self.view_is) (record {
-  load = load_in c.in-Ok.row;
-  owned = c.in-Ok.ensures.own _ _ _;
+pub returns-clause-reads : goal.returns-clause-reads
+returns-clause-reads g c = rw (← c.self.view_is) (record {
+  load = load_in c.in_ok-row.row;
+  owned = c.in_ok-row.ensures.own _ _ _;
   key_is = refl;
   type_is = sym c.cell_type.ensures;
 })
 
-pub returns-in-Err-clause-fault : goal.returns-in-Err-clause-fault
-returns-in-Err-clause-fault g c = rw (← c.self.view_is) (c.in-Err.ensures.fault (λ key. None) false 0)
+pub returns-in_err-row-clause-fault : goal.returns-in_err-row-clause-fault
+returns-in_err-row-clause-fault g c = rw (← c.self.view_is, failed c.from_residual.result c.from_residual.ensures.1) (c.in_err-row.ensures.fault (λ key. None) false 0)
