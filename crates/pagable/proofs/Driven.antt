@@ -1,17 +1,17 @@
 -- Each event of the machine, by what the pager and what is kept of loads, tables and workers say of it.
 use Rattle.{pagable_laws.proofs.{Effects.{IsMine, owned-mine}, ReadingSteps.{caller-free, reading-feels}, Trees.{same-number, same_some}}, pagable.proofs.Keeping.{are-these, as-before, at-one}}
-use Rattle.pagable.proofs.Keeping.{kept-on, one-or-old, quiet, same-work, leaves-so, like, makes, makes-with, not-same, one-serves, updated-at, Leaves, Passes, event-passes, drives, by-call}
-use Rattle.pagable.{proofs.Keeping.{key-starts, nothing-done, refused}, specs.{Driving.{Answer, Drives, Given, IsInStep, Readings, holding, kept_at, over, ByNumber}, Keeping.{Holding, IsKept}}}
+use Rattle.pagable.proofs.Keeping.{kept-on, kept-one, same-work, still-kept, leaves-so, like, makes, makes-with, not-same, one-serves, updated-at, Leaves, Passes, event-passes, drives, by-call}
+use Rattle.pagable.{proofs.Keeping.{key-starts, nothing-done, refused}, specs.{Driving.{Answer, Drives, Given, IsInStep, holding, kept_at, over, ByNumber}, Keeping.{Holding, IsKept}}}
 use Rattle.pagable.specs.{Keeping.{IsServing, IsTaken, KeepsOne, Kept, Makes, ReadsFor, machine_of, readings_in, rest_after, Forgets, IsPrepared, KeptStep}, Serving.{Serves, plain_call, plain_reply}}
-use Rattle.pagable.specs.{Taken.{value-is-read, reading-is-refused, node-comes-back}, Walking.{IsBegun, IsWalkKept, shelf_at, has_task, walking_of, IsIn}, declared.held.{Held.Held, Walk.Walk}}
+use Rattle.pagable.specs.{Paged.{value-is-read, reading-is-refused, node-comes-back}, Walking.{IsBegun, IsWalkKept, shelf_at, has_task, walking_of, IsIn}, declared.held.{Held.Held, Walk.Walk}}
 use Rattle.{pagable_walk.{proofs.Turning.plain-fits, specs.{Slots.written_of, Table.shelf_of, Turns.plain, declared.{results.Trees.Ghosts, table.SlotTable.SlotTable}}}, std.specs.Option.option_map}
 use Rattle.std.{proofs.Common.{rules, ◌≡◌, ℕ, true, List, [], Option, Some, None}, specs.{Prelude.{Result, is_none, is_some, slice_get}, declared.{alloc.Global.Global, sync.Arc.Arc, vec.Vec.Vec}}}
-use Rattle.std.proofs.{Common.{Ok, inl, inr, refl, sym, ap, subst, ◌∙◌, arith, ◌≢◌, zero, suc, ◌+◌, ◌∷◌, ◌++◌, ◌==◌, if◌then◌else◌, length, Err, false, ◌⊎◌, ◌<◌}, lemmas.Bool.Decides.nat_tests}
+use Rattle.std.proofs.{Common.{Ok, inl, inr, refl, sym, ap, subst, ◌∙◌, arith, ◌≢◌, zero, suc, ◌+◌, ◌∷◌, ◌++◌, ◌==◌, if◌then◌else◌, length, Err, false, ◌<◌}, lemmas.Bool.Decides.nat_tests}
 use Rattle.{std.proofs.lemmas.{Grind.common_steps, List.length-append}, pagable_core.specs.declared.{context.writing.SerializedData.SerializedData, storage.data.PagableData.PagableData}}
 use Rattle.pagable_loads.specs.{Frames.{IsLoadOf, is_cell, reading_of}, Working.{StartsEntry, RefusesEntry}, declared.reading.Reading.Reading as Own}
 use Rattle.pagable_world.specs.{Access.{ReadingStep, WorkerStarts}, Events.{reading_after, reading_at, reading_of_root, step_fault, Happens, IsTable, Starts, no_shelf, with_worker, Does, entry_task}}
 use Rattle.pagable_world.specs.{Events.with_entry_taken, Kinds.{is_owner, identity_of}, LoadCalls.{DropCall, LoadCloses}, Loads.gone_on, Order.step_of, Pager.{FitsRoot, Moves, PagerState, WellFormed}}
-use Rattle.pagable_world.specs.{Pager.{world_of, CallBrings}, Plain.{or_else, updated, Blob, if_there}, Refusals.{OwnsLoad, load_fault}, Workers.fresh, World.{Frame, OpenLoad, Reading, Root}}
+use Rattle.pagable_world.specs.{Pager.{world_of, CallBrings}, Plain.{or_else, updated, Blob, if_there}, Refusals.OwnsLoad, Workers.fresh, World.{Frame, OpenLoad, Reading, Root}}
 use Rattle.pagable_world.specs.{World.{of_cell, of_key, Seen, one_more, Alike, Core, SameShelf, Values, Written, Walking, of_entry, of_item}, declared.{answers.Beginning.Beginning, calls.Call.Call}}
 use Rattle.pagable_world.specs.declared.{calls.Reply.Reply, events.{Event.Event, EventReply.EventReply, LoadAnswer.LoadAnswer, LoadReply.LoadReply, TableNumber.TableNumber}, handles.Owner.Owner}
 use Rattle.pagable_pager.{specs.View.{type_of_root, OnlyLess, PagerView, ReadsAs, Telling, core_in, state_in, OnlyTables, value_in}, proofs.Keeping.{owner-owns, less-moves}}
@@ -33,15 +33,7 @@ module _ {X : Type 0} {g : Ghosts X} {N E : Type 0} (s : PagerState N E) {h : Ho
   reads-taken : (l : LoadNumber) (load : OpenLoad) (key : ℕ) (t : Option ℕ) (own : Own) → OwnsLoad s.core Owner.Caller l load → load.key ≡ key → type_of_root load.root ≡ t
       → IsTaken h.readings l key t own
       → (own.load ≡ l) × ReadsFor load own × (reading_at (world_of (machine_of s h)) l ≡ Some (reading_of own))
-  reads-taken l load key t own o key_is root taken = elim taken.why [
-    | inl there ↦ let k = serving.readings l.0 own there in (ap (λ n. record { 0 = n }) k.number, k.reads load o.stands_open, at-found s h l load o (Some own) there)
-    | inr (none, (type, typed, is), keyed, sort) ↦
-        let read = of_root load.root type (root ∙ typed) in (
-          ap (λ (r : Reading). r.load) is,
-          record { owned = o.own; key = key_is ∙ sym keyed; sort = read.0 ∙ sym sort; typed = read.1 (reading_of own) (ap (λ (r : Reading). r.node_type) is) },
-          at-found s h l load o None none ∙ read.2 l ∙ ap Some (sym is),
-        )
-  ]
+  reads-taken l load key t own o key_is root taken = grind (arith, nat_tests, at-found, of_root)
 
 -- a load of a key that a call began
 pub never-typed : {X : Type 0} {g : Ghosts X} {N E : Type 0} (s : PagerState N E) (h : Holding g) (l : LoadNumber) (load : OpenLoad) → OwnsLoad s.core Owner.Caller l load → h.readings l.0 ≡ None
@@ -50,30 +42,20 @@ pub never-typed : {X : Type 0} {g : Ghosts X} {N E : Type 0} (s : PagerState N E
 never-typed s h l load o none untyped = first_of (grind (arith, common_steps, nat_tests), search (rules))
 
 module _ {X : Type 0} {g : Ghosts X} {N B W E : Type 0} (m : Seen N B W) (s s' : PagerState N E) (h : Holding g) (kept' : Kept) (serving : IsServing s.core h) (was : WellFormed m.values s) where
-  abbrev stepped-left : Holding g
-  stepped-left = record h { readings = kept' }
-
   steps : (l : LoadNumber) (load : OpenLoad) (reading : Reading) (x : Option Own) (reply : LoadReply N) (frames : List Frame)
       → OwnsLoad s.core Owner.Caller l load → reading_at (world_of (machine_of s h)) l ≡ Some reading → ReadingStep m.values Owner.Caller reading s reply.ended frames s'
       → reply.steps ≡ one_more reading.steps → IsMine s.core Owner.Caller reading.load
       → KeepsOne h.readings l.0 x kept' → option_map reading_of x ≡ reading_after reply.ended reading frames → ((now : Own) → x ≡ Some now → (now.load ≡ l) × ReadsFor load now)
-      → Makes m s h (Event.LoadStep l) (EventReply.LoadMoved (Ok reply)) s' stepped-left
+      → Makes m s h (Event.LoadStep l) (EventReply.LoadMoved (Ok reply)) s' (record h { readings = kept' })
   steps l load reading x reply frames o at step counts mine keeps goes again =
       let on = leaves-so (reading-feels m s.core Owner.Caller caller-free s'.core reading reply.ended frames step.does).does mine in
-      let given = (was.whole.loads.numbered l.0 (ap is_some o.stands_open)).1 in
-      let more = on.last in
       let new : (now : Own) → x ≡ Some now → IsKept s'.core l.0 now =
-      λ now is.
-      record {
+      λ now is. still-kept serving.readings on l.0 now (record {
         number = ap (λ (n : LoadNumber). n.0) (again now is).0;
-        given = omega (arith, given, more);
-        reads = λ other open_load. elim (on.loads l.0 other open_load) [
-          | inl there ↦ subst (λ y. ReadsFor y now) (same_some _ _ (sym o.stands_open ∙ there)) (again now is).1
-          | inr above ↦ absurd (omega (arith, given, above))
-        ];
-      }
-      in
-      quiet m s s' h kept' serving was step.whole on (Event.LoadStep l) (EventReply.LoadMoved (Ok reply)) (λ v. refl)
+        given = (was.whole.loads.numbered l.0 (ap is_some o.stands_open)).1;
+        reads = λ other there. subst (λ y. ReadsFor y now) (same_some _ _ (sym o.stands_open ∙ there)) (again now is).1;
+      }) in
+      makes m s s' {h' = record h { readings = kept' }} serving was step.whole (omega arith) (λ v. refl) on (Event.LoadStep l) (EventReply.LoadMoved (Ok reply)) (λ v. refl)
       (record {
         moves = record {
           reading = reading;
@@ -91,10 +73,7 @@ module _ {X : Type 0} {g : Ghosts X} {N B W E : Type 0} (m : Seen N B W) (s s' :
       })
       (record { each = λ n y is. elim (step.moves.each n y is) [ inl there ↦ inl there | inr (none, came) ↦ inr (none, (reading, at, came)) ]; environment = step.moves.environment })
       tt
-      (kept-on serving.readings on (λ q other is_kept. elim (one-or-old l.0 x keeps q other is_kept) [
-        | inl there ↦ inl there.1
-        | inr (here, is) ↦ inr (subst (λ n. IsKept s'.core n other) (sym here) (new other is))
-      ]))
+      (kept-one serving.readings on l.0 x keeps new)
 
 -- what stands at a place of a list with one item more
 with-last : {Y : Type 0} (xs : List Y) (x : Y) (n : ℕ) → slice_get (xs ++ x ∷ []) n ≡ (if n == length xs then Some x else slice_get xs n)
@@ -156,21 +135,6 @@ module _ {N S E : Type 0} {v : Values N} {tells : Telling S} {old new : PagerVie
 pub keeps-after : {Y : Type 0} {k mid kept' : ℕ → Option Y} {l : ℕ} {own : Option Y} → ((q : ℕ) → mid q ≡ k q) → KeepsOne mid l own kept' → KeepsOne k l own kept'
 keeps-after as_was keeps = record { here = keeps.here; others = λ q other. keeps.others q other ∙ as_was q }
 
--- a reading that is kept already, and one that has just begun
-pub is-prepared : {kept : Kept} (l : LoadNumber) (key : ℕ) (t : Option ℕ) → is_some (kept l.0) ≡ true → IsPrepared kept l key t kept
-is-prepared {kept} l key t some = by (kept l.0) refl some
-  where
-    by : (found : Option Own) → kept l.0 ≡ found → is_some found ≡ true → IsPrepared kept l key t kept
-    by None is some = absurd (cc)
-    by (Some own) is some = record { own = own; taken = record { why = inl is }; keeps = record { here = is; others = λ q other. refl } }
-
-pub begins-prepared : {kept kept' : Kept} (l : LoadNumber) (key : ℕ) (t : Option ℕ) (type : ℕ) (own : Own) → is_some (kept l.0) ≡ false → t ≡ Some type → reading_of own ≡ fresh l type → own.key ≡ key
-    → own.for_cell ≡ true → KeepsOne kept l.0 (Some own) kept'
-    → IsPrepared kept l key t kept'
-begins-prepared {kept} l key t type own none typed is key_is sort keeps =
-    let unkept : kept l.0 ≡ None = grind (arith, nat_tests) in
-    record { own = own; taken = record { why = inr (unkept, (type, typed, is), key_is, sort) }; keeps = keeps }
-
 answered : {X : Type 0} {g : Ghosts X} (k : Walk X g) → is_some k.task ≡ is_none k.answer → is_some k.task ≡ false → is_some k.answer ≡ true
 answered k either none = grind (arith, nat_tests)
 
@@ -206,8 +170,8 @@ module _ {X : Type 0} {g : Ghosts X} {N S E : Type 0} (v : E → Values N) (tell
       drives (by-call m s s' h h.readings serving was w _ _ serves.step (record { still = λ l load is. refl; only = λ l own is. is }) (Event.LoadStart through) (EventReply.Started r) (λ q. refl)
       (λ readings. record { step = serves.step.does; readings = readings; work = same-work m s s' h h.readings serving was w }) serves.moves tt)
 
-  module _ (kept' : Readings) where
-    abbrev kept : Readings
+  module _ (kept' : ByNumber Own) where
+    abbrev kept : ByNumber Own
     kept = held.readings
 
     abbrev anew : Held X g
@@ -221,41 +185,34 @@ module _ {X : Type 0} {g : Ghosts X} {N S E : Type 0} (v : E → Values N) (tell
         (λ readings. record { step = serves.step; readings = readings; work = same-work m s s' h (kept_at kept') serving was w }) serves.moves tt)
 
     -- a load of a key has begun
-    pub key-drives : (key t : ℕ) (r : Result Beginning Error) (l : LoadNumber) (own : Own) → (k : ℕ) × (r ≡ Ok (Beginning.Load l k))
-        → Serves (v old.environment) tells old (Call.LoadKey key) (Reply.Begun r) new → WellFormed (v new.environment) s' → reading_of own ≡ fresh l t → own.key ≡ key → own.for_cell ≡ false
-        → KeepsOne (kept_at kept) l.0 (Some own) (kept_at kept') → Takes (Event.LoadKey key t) (EventReply.Started r) new anew
-    key-drives key t r l own (k, is) serves formed reads key_is sort keeps =
-        let made = subst (λ x. Serves (v old.environment) tells old (Call.LoadKey key) (Reply.Begun x) new) is serves in
-        subst (λ x. Takes (Event.LoadKey key t) (EventReply.Started x) new anew) (sym is)
-        (drives (key-starts m s s' h (kept_at kept') serving was (whole-still made.moves formed) key t l k own made.step made.moves reads key_is sort keeps))
+    pub key-drives : (key t : ℕ) (l : LoadNumber) (k : ℕ) (own : Own) → Serves (v old.environment) tells old (Call.LoadKey key) (Reply.Begun (Ok (Beginning.Load l k))) new
+        → WellFormed (v new.environment) s' → reading_of own ≡ fresh l t → own.key ≡ key → own.for_cell ≡ false → KeepsOne (kept_at kept) l.0 (Some own) (kept_at kept')
+        → Takes (Event.LoadKey key t) (EventReply.Started (Ok (Beginning.Load l k))) new anew
+    key-drives key t l k own serves formed reads key_is sort keeps =
+        record { makes = key-starts m s s' h (kept_at kept') serving was (whole-still serves.moves formed) key t l k own serves.step serves.moves reads key_is sort keeps }
 
     -- or none begins, and the pager is as it was
-    pub key-none-drives : (key t : ℕ) (r : Result Beginning Error) → ((e : Error) × (r ≡ Err e)) ⊎ (r ≡ Ok Beginning.InMemory)
-        → Serves (v old.environment) tells old (Call.LoadKey key) (Reply.Begun r) new → WellFormed (v new.environment) s' → ((q : ℕ) → kept_at kept' q ≡ kept_at kept q)
-        → Takes (Event.LoadKey key t) (EventReply.Started r) new anew
-    key-none-drives key t (Err e) why serves formed as_was =
+    pub key-none-drives : (key t : ℕ) (e : Error) → Serves (v old.environment) tells old (Call.LoadKey key) (Reply.Begun (Err e)) new → WellFormed (v new.environment) s'
+        → ((q : ℕ) → kept_at kept' q ≡ kept_at kept q) → Takes (Event.LoadKey key t) (EventReply.Started (Err e)) new anew
+    key-none-drives key t e serves formed as_was =
         drives (refused m serving was (record { step = serves.step.does.refused.stays; moves = serves.moves; whole = whole-still serves.moves formed })
-        (record { readings = as_was; tables = refl; walks = λ q. refl }) (Event.LoadKey key t) (EventReply.Started (Err e)) (λ q. refl)
+        as_was refl (λ q. refl) (Event.LoadKey key t) (EventReply.Started (Err e)) (λ q. refl)
         (λ stays. record { step = serves.step.does; begun = tt; refused = stays.readings; work = stays.work }) tt)
-    key-none-drives key t (Ok Beginning.InMemory) why serves formed as_was = absurd serves.step.does.begins
-    key-none-drives key t (Ok (Beginning.Load l k)) why serves formed as_was = absurd (elim why [ inl (e, is) ↦ cc | inr is ↦ cc ])
 
-    step-refused : (l : LoadNumber) (e : Error) → ((q : ℕ) → kept_at kept' q ≡ kept_at kept q) → step_fault (world_of (machine_of s h)) l ≡ Some e
+    pub step-refused : (l : LoadNumber) (e : Error) → ((q : ℕ) → kept_at kept' q ≡ kept_at kept q) → step_fault (world_of (machine_of s h)) l ≡ Some e
         → Takes (Event.LoadStep l) (EventReply.LoadMoved (Err e)) old anew
     step-refused l e as_was why =
-        drives (refused m serving was (nothing-done s was) (record { readings = as_was; tables = refl; walks = λ q. refl }) (Event.LoadStep l)
+        drives (refused m serving was (nothing-done s was) as_was refl (λ q. refl) (Event.LoadStep l)
         (EventReply.LoadMoved (Err e)) (λ q. refl) (λ stays. record { moves = tt; refused = (why, stays) }) tt)
 
     module _ (l : LoadNumber) (key : ℕ) (t : Option ℕ) (reads : ReadsAs s.core l key t) where
-      pub step-drives : (kept1 : Readings) (mid : Kept) (reply : LoadReply N) → IsPrepared (kept_at kept) l key t (kept_at kept1)
+      pub step-drives : (kept1 : ByNumber Own) (mid : Kept) (reply : LoadReply N) → IsPrepared (kept_at kept) l key t (kept_at kept1)
           → KeepsOne mid l.0 (rest_after reply.ended (mid l.0)) (kept_at kept')
           → KeptStep (v old.environment) (kept_at kept1) l.0 reply mid s s' → Takes (Event.LoadStep l) (EventReply.LoadMoved (Ok reply)) new anew
       step-drives kept1 mid reply ready ends step =
-          let same : ready.own ≡ step.own = same_some _ _ (sym ready.keeps.here ∙ step.was) in
-          let taken = subst (λ x. IsTaken (kept_at kept) l key t x) same ready.taken in
           let keeps : KeepsOne (kept_at kept) l.0 (rest_after reply.ended (Some step.new)) (kept_at kept') =
-          record { here = ends.here ∙ ap (rest_after reply.ended) step.keeps.here; others = λ q other. ends.others q other ∙ step.keeps.others q other ∙ ready.keeps.others q other } in
-          let r = reads-taken s serving l reads.load key t step.own reads.owned reads.key_is reads.type_is taken in
+          record { here = ends.here ∙ ap (rest_after reply.ended) step.keeps.here; others = λ q other. ends.others q other ∙ step.keeps.others q other ∙ ready.others q other } in
+          let r = reads-taken s serving l reads.load key t step.own reads.owned reads.key_is reads.type_is (ready.taken step.own step.was) in
           let of : IsLoadOf s.core Owner.Caller step.own =
           record { load = reads.load; owned = subst (λ n. OwnsLoad s.core Owner.Caller n reads.load) (sym r.0) reads.owned; key = r.1.key; sort = r.1.sort } in
           drives (steps m s s' h (kept_at kept') serving was l reads.load (reading_of step.own) (rest_after reply.ended (Some step.new)) reply (reading_of step.new).frames reads.owned r.2
@@ -274,27 +231,24 @@ module _ {X : Type 0} {g : Ghosts X} {N S E : Type 0} (v : E → Values N) (tell
           only None now is = same_some _ _ is
           only (Some answer) now is = absurd (cc)
 
-      pub no-place-drives : (type : ℕ) → t ≡ Some type → kept_at kept l.0 ≡ None → (told : Result (Unit {0}) Error) → DropCall s.core Owner.Caller l told s'.core → OnlyLess old new
-          → WellFormed (v new.environment) s' → ((q : ℕ) → kept_at kept' q ≡ kept_at kept q)
+      pub no-place-drives : IsPrepared (kept_at kept) l key t (kept_at kept') → kept_at kept' l.0 ≡ None → (told : Result (Unit {0}) Error) → DropCall s.core Owner.Caller l told s'.core
+          → OnlyLess old new → WellFormed (v new.environment) s'
           → Takes (Event.LoadStep l) (EventReply.LoadMoved (Ok (record { ended = Some (LoadAnswer.Refused Error.OutOfMemory); steps = 1 }))) new anew
-      no-place-drives type typed none told drop only formed as_was =
+      no-place-drives ready none told drop only formed =
+          let (unkept, (type, typed)) = ready.full none in
           let moves : Moves (λ n x. ⊥) s s' = less-moves tells old new only in
           let closes : LoadCloses s.core l told s'.core =
           elim drop.does [ inl r ↦ absurd (let f : None ≡ Some r.e = sym (owner-owns reads.owned) ∙ r.why in cc) | inr (other, owned, c) ↦ c ] in
           drives (steps m s s' h (kept_at kept') serving was l reads.load (fresh l type) None (record { ended = Some (LoadAnswer.Refused Error.OutOfMemory); steps = 1 }) [] reads.owned
-          (at-found s h l reads.load reads.owned None none ∙ (of_root reads.load.root type (reads.type_is ∙ typed)).2 l)
+          (at-found s h l reads.load reads.owned None unkept ∙ (of_root reads.load.root type (reads.type_is ∙ typed)).2 l)
           (record {
             does = record { does = (inl (record { mid = s.core; meets = inl (inr (inr refl), still s.core); told = told; closes = closes }), refl) };
             moves = record { each = λ n x is. elim (moves.each n x is) [ inl there ↦ inl there | inr came ↦ absurd came.1 ]; environment = moves.environment };
             whole = whole-still moves formed;
-          }) refl (owned-mine reads.owned) (record { here = as_was l.0 ∙ none; others = λ q other. as_was q }) refl (λ now is. absurd (cc)))
+          }) refl (owned-mine reads.owned) (record { here = none; others = ready.others }) refl (λ now is. absurd (cc)))
 
       pub untyped-drives : t ≡ None → kept_at kept l.0 ≡ None → ((q : ℕ) → kept_at kept' q ≡ kept_at kept q) → Takes (Event.LoadStep l) (EventReply.LoadMoved (Err Error.WrongMode)) old anew
       untyped-drives untyped none as_was = step-refused l Error.WrongMode as_was (never-typed s h l reads.load reads.owned none (reads.type_is ∙ untyped))
-
-    pub closed-drives : (l : LoadNumber) (e : Error) → load_fault s.core Owner.Caller l ≡ Some e → ((q : ℕ) → kept_at kept' q ≡ kept_at kept q)
-        → Takes (Event.LoadStep l) (EventReply.LoadMoved (Err e)) old anew
-    closed-drives l e why as_was = step-refused l e as_was (first_of (grind (arith, common_steps, nat_tests), search (rules)))
 
   pub table-drives : (tables' : Vec (SlotTable X g) Global) (table : SlotTable X g) (t : TableNumber) → tables'.items ≡ held.tables.items ++ table ∷ [] → t.0 ≡ length held.tables.items + 1
       → SameShelf no_shelf (shelf_of table) → Takes Event.TableNew (EventReply.TableMade (Ok t)) old (record held { tables = tables' })
@@ -324,7 +278,7 @@ module _ {X : Type 0} {g : Ghosts X} {N S E : Type 0} (v : E → Values N) (tell
     pub entry-refused : (e : Error) (i : ℕ) → IsIn t.0 held.tables.items → i < length s.core.list → RefusesEntry (v old.environment) s i e s'
         → ((q : ℕ) → kept_at walks' q ≡ kept_at held.walks q) → Takes (Event.WorkerListed t i) (EventReply.WorkerMade (Err e)) new left
     entry-refused e i there within r same_walks =
-        drives (refused m serving was r.stays (record { readings = λ l. refl; tables = refl; walks = same_walks }) (Event.WorkerListed t i) (EventReply.WorkerMade (Err e)) (λ q. refl)
+        drives (refused m serving was r.stays (λ l. refl) refl same_walks (Event.WorkerListed t i) (EventReply.WorkerMade (Err e)) (λ q. refl)
         (λ stays. record {
           starts = tt;
           refused = (

@@ -25,9 +25,7 @@ pub after : {me : Owner} {works : ℕ → Bool} {w u w' : Core} → Leaves me wo
 after {me} {works} {w} {u} {w'} f a = first_of (grind (arith, common_steps, nat_tests), search (rules))
 
 pub like : {me : Owner} {w u w' : Core} → Alike u w' → SameAt w.loads u.loads → u.last.load ≡ w.last.load → Leaves me u.workers w w'
-like a loads last =
-    let same = ap (λ (x : Last). x.load) a.last in
-    record { loads = λ l load is. inl (sym (loads l) ∙ sym (a.loads l) ∙ is); last = omega (arith, same, last); workers = a.workers; others = λ l load is few other. a.loads l ∙ loads l ∙ is }
+like {me} {w} {u} {w'} a loads last = first_of (grind (arith, common_steps, nat_tests), search (rules))
 
 -- by what is done
 pub leaves-so : {me : Owner} {lists : Bool} {Asks Keeps : Type 0} {c : Change} {w w' : Core} → Effect me lists Asks Keeps false c w w' → Asks → Leaves me w.workers w w'
@@ -168,7 +166,7 @@ module _ {w : Core} {kept : Kept} (all : AllKept w kept) {me : Owner} {works : �
   pub as-before : (l : ℕ) (load : OpenLoad) → w'.loads l ≡ Some load → option_map reading_of (kept l) ≡ readings_in kept w l
   as-before l load open_load = first_of (grind (arith, common_steps, nat_tests), search (rules))
 
-  still-kept : (l : ℕ) (own : Own) → IsKept w l own → IsKept w' l own
+  pub still-kept : (l : ℕ) (own : Own) → IsKept w l own → IsKept w' l own
   still-kept l own k =
       let given = k.given in
       let more = on.last in
@@ -180,6 +178,11 @@ module _ {w : Core} {kept : Kept} (all : AllKept w kept) {me : Owner} {works : �
 
   pub kept-on : {kept' : Kept} → ((l : ℕ) (own : Own) → kept' l ≡ Some own → (kept l ≡ Some own) ⊎ IsKept w' l own) → AllKept w' kept'
   kept-on anew l own is = elim (anew l own is) [ inl was ↦ still-kept l own (all l own was) | inr new ↦ new ]
+
+  -- one is kept anew
+  pub kept-one : {kept' : Kept} (l : ℕ) (x : Option Own) → KeepsOne kept l x kept' → ((own : Own) → x ≡ Some own → IsKept w' l own) → AllKept w' kept'
+  kept-one l x keeps new =
+      kept-on (λ q own is. elim (one-or-old l x keeps q own is) [ inl there ↦ inl there.1 | inr (here, same) ↦ inr (subst (λ n. IsKept w' n own) (sym here) (new own same)) ])
 
 -- a machine in step with a pager that is whole is whole
 pub machine-whole : {X : Type 0} {g : Ghosts X} {N E : Type 0} (v : Values N) (s : PagerState N E) (h : Holding g) → WellFormed v s → IsServing s.core h → IsMachineWhole v (machine_of s h)
@@ -250,11 +253,6 @@ module _ {X : Type 0} {g : Ghosts X} {N B W E : Type 0} (m : Seen N B W) (s s' :
   pub same-work : WorkStays (work_of h s.core) (work_of served s'.core)
   same-work = record { shelves = λ t. record { slots = λ i. refl; waits = λ v. refl }; last_table = refl; walkings = λ v. refl }
 
-  pub quiet : Leaves Owner.Caller s.core.workers s.core s'.core → (event : Event N B W) (reply : EventReply N B W) → ((v : ℕ) → step_of v event reply ≡ [])
-      → Happens m (world_of (machine_of s h)) event reply (world_of (machine_of s' served)) → Moves (EventBrings m.values (world_of (machine_of s h)) event) s s' → ReplyWrites m s reply
-      → AllKept s'.core kept' → Makes m s h event reply s' served
-  quiet on = makes m s s' {h' = served} serving was formed (omega arith) (λ v. refl) on
-
   -- what a call does, of which no more is kept than there was
   pub by-call : (call : Call N B) (answer : Reply N B) → CallStep m s.core Owner.Caller call answer s'.core → Forgets s'.core h.readings kept' → (event : Event N B W) (reply : EventReply N B W)
       → ((v : ℕ) → step_of v event reply ≡ [])
@@ -262,7 +260,7 @@ module _ {X : Type 0} {g : Ghosts X} {N B W E : Type 0} (m : Seen N B W) (s s' :
       → Moves (EventBrings m.values (world_of (machine_of s h)) event) s s' → ReplyWrites m s reply → Makes m s h event reply s' served
   by-call call answer step f event reply none happens moves writes =
       let on = call-leaves s.core s'.core m call answer step.does in
-      quiet on event reply none
+      makes m s s' {h' = served} serving was formed (omega arith) (λ v. refl) on event reply none
       (happens (are-these s'.core kept' (readings_in h.readings s.core) (λ l load is. ap (option_map reading_of) (f.still l load is) ∙ as-before serving.readings on l load is)))
       moves writes (kept-on serving.readings on (λ l own is. inl (f.only l own is)))
 
@@ -284,7 +282,7 @@ module _ {X : Type 0} {g : Ghosts X} {N B W E : Type 0} (m : Seen N B W) (s s' :
         given = omega (arith, next, last);
         reads = λ other open_load. subst (λ x. ReadsFor x own) (same_some _ _ (sym there ∙ open_load)) reads;
       } in
-      quiet on (Event.LoadKey key t) (EventReply.Started (Ok (Beginning.Load l k))) (λ v. refl)
+      makes m s s' {h' = served} serving was formed (omega arith) (λ v. refl) on (Event.LoadKey key t) (EventReply.Started (Ok (Beginning.Load l k))) (λ v. refl)
       (record {
         step = step.does;
         begun = are-these s'.core kept' (updated l.0 (Some (fresh l t)) (readings_in h.readings s.core))
@@ -292,19 +290,11 @@ module _ {X : Type 0} {g : Ghosts X} {N B W E : Type 0} (m : Seen N B W) (s s' :
         refused = tt;
         work = same-work;
       }) moves tt
-      (kept-on serving.readings on (λ q other is_kept. elim (one-or-old l.0 (Some own) keeps q other is_kept) [
-        | inl was ↦ inl was.1
-        | inr (at, same) ↦ inr (subst (λ n. IsKept s'.core n other) (sym at) (subst (λ x. IsKept s'.core l.0 x) (same_some _ _ same) new))
-      ]))
+      (kept-one serving.readings on l.0 (Some own) keeps (λ other same. subst (λ x. IsKept s'.core l.0 x) (same_some _ _ same) new))
 
 -- the same is kept
-pub record KeepsAll {X : Type 0} {g : Ghosts X} (h h' : Holding g) : Type 0 where
-  pub readings : (l : ℕ) → h'.readings l ≡ h.readings l
-  pub tables : h'.tables ≡ h.tables
-  pub walks : (v : ℕ) → h'.walks v ≡ h.walks v
-
 module _ {X : Type 0} {g : Ghosts X} {N B W E : Type 0} (m : Seen N B W) {s s' : PagerState N E} {h h' : Holding g} (serving : IsServing s.core h) (was : WellFormed m.values s)
-    (done : Called m.values (λ w'. Alike s.core w') s s') (keeps : KeepsAll h h') where
+    (done : Called m.values (λ w'. Alike s.core w') s s') (readings : (l : ℕ) → h'.readings l ≡ h.readings l) (tables : h'.tables ≡ h.tables) (walks : (v : ℕ) → h'.walks v ≡ h.walks v) where
   on : Leaves Owner.Caller s.core.workers s.core s'.core
   on = like done.step (λ l. refl) refl
 
@@ -316,9 +306,9 @@ module _ {X : Type 0} {g : Ghosts X} {N B W E : Type 0} (m : Seen N B W) {s s' :
       → (Stays (world_of (machine_of s h)) (world_of (machine_of s' h')) → Happens m (world_of (machine_of s h)) event reply (world_of (machine_of s' h')))
       → ReplyWrites m s reply → Makes m s h event reply s' h'
   refused event reply none happens writes =
-      makes m s s' serving was done.whole (let e : length h'.tables ≡ length h.tables = ap length keeps.tables in omega (arith, e)) keeps.walks on event reply none (happens stays)
+      makes m s s' serving was done.whole (let e : length h'.tables ≡ length h.tables = ap length tables in omega (arith, e)) walks on event reply none (happens stays)
       (record { each = λ n x is. elim (done.moves.each n x is) [ inl there ↦ inl there | inr came ↦ absurd came.1 ]; environment = done.moves.environment }) writes
-      (kept-on serving.readings on (λ l own is. inl (sym (keeps.readings l) ∙ is)))
+      (kept-on serving.readings on (λ l own is. inl (sym (readings l) ∙ is)))
 
 -- nothing is done to the pager
 pub nothing-done : {N E : Type 0} {v : Values N} (s : PagerState N E) → WellFormed v s → Called v (λ w'. Alike s.core w') s s

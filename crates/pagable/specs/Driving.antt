@@ -14,10 +14,6 @@ ByNumber Y = HashMap ℕ Y (BuildHasherDefault FoldHasher)
 abbrev pub kept_at : {Y : Type 0} → ByNumber Y → ℕ → Option Y
 kept_at kept q = get nat_eq kept q
 
--- how far loads are
-abbrev pub Readings : Type 0
-Readings = ByNumber Own
-
 -- the claims of a table, and who waits for what
 pub record TableView : Type 0 where
   pub slots : List ((ℕ × ℕ) × Slot)
@@ -26,7 +22,7 @@ pub record TableView : Type 0 where
 -- a machine: its pager, and what it keeps of loads, tables and workers
 pub record MachineView (N S E : Type 0) : Type 0 where
   pub pager : PagerView N S E
-  pub readings : Readings
+  pub readings : ByNumber Own
   pub tables : List TableView
   pub walks : List (ℕ × Walking)
 

@@ -3,7 +3,7 @@ use Rattle.std.specs.{Option.option_map, Prelude.{ℕ, ◌≡◌, ◌≢◌, ◌
 use Rattle.{pagable_model.specs.declared.numbers.LoadNumber.LoadNumber, pagable_loads.specs.{Frames.{IsLoadOf, is_cell, reading_of}, Stepping.IsSameLoad, declared.reading.Reading.Reading as Own}}
 use Rattle.pagable_world.specs.{Access.ReadingStep, Pager.{FitsRoot, MachineState, PagerState}, Plain.if_there, Runs.Does, Workers.fresh, World.{Core, OpenLoad, Reading, Seen, Values, Work, one_more}}
 use Rattle.{pagable_world.specs.declared.{events.{Event.Event, EventReply.EventReply, LoadAnswer.LoadAnswer, LoadReply.LoadReply}, handles.Owner.Owner}, pagable.specs.Walking.IsWalkKept}
-use Rattle.{pagable.specs.{Walking.{shelf_at, walking_of}, declared.{held.Walk.Walk, readings.Unread.Unread}}, pagable_walk.specs.declared.{results.Trees.Ghosts, table.SlotTable.SlotTable}}
+use Rattle.{pagable.specs.{Walking.{shelf_at, walking_of}, declared.held.Walk.Walk}, pagable_walk.specs.declared.{results.Trees.Ghosts, table.SlotTable.SlotTable}}
 
 -- what is kept of loads, by their numbers
 abbrev pub Kept : Type 0
@@ -67,11 +67,11 @@ pub record KeepsOne {Y : Type 0} (kept : ℕ → Option Y) (l : ℕ) (own : Opti
 pub record IsTaken (kept : Kept) (l : LoadNumber) (key : ℕ) (t : Option ℕ) (own : Own) : Type 0 where
   pub why : (kept l.0 ≡ Some own) ⊎ ((kept l.0 ≡ None) × ((type : ℕ) × (t ≡ Some type) × (reading_of own ≡ fresh l type)) × (own.key ≡ key) × (own.for_cell ≡ true))
 
--- A load's reading is kept: what was kept of it, or one that has just begun.
+-- Where a load's reading is kept now, it is what was kept of it, or one that has just begun; and where none is, there was none, and it is of a cell.
 pub record IsPrepared (kept : Kept) (l : LoadNumber) (key : ℕ) (t : Option ℕ) (kept' : Kept) : Type 0 where
-  pub own : Own
-  pub taken : IsTaken kept l key t own
-  pub keeps : KeepsOne kept l.0 (Some own) kept'
+  pub taken : (own : Own) → kept' l.0 ≡ Some own → IsTaken kept l key t own
+  pub full : kept' l.0 ≡ None → (kept l.0 ≡ None) × ((type : ℕ) × (t ≡ Some type))
+  pub others : (q : ℕ) → q ≢ l.0 → kept' q ≡ kept q
 
 -- A load's reading made a step, which is counted.
 pub record Stepped {N E : Type 0} (v : Values N) (me : Owner) (own : Own) (reply : LoadReply N) (new : Own) (s s' : PagerState N E) : Type 0 where
@@ -91,8 +91,3 @@ pub record KeptStep {N E : Type 0} (v : Values N) (kept : Kept) (l : ℕ) (reply
 abbrev pub rest_after : {N : Type 0} → Option (LoadAnswer N) → Option Own → Option Own
 rest_after None own = own
 rest_after (Some answer) own = None
-
--- why an open load isn't read: it is of a cell of a type, or of no cell
-abbrev pub IsUnread : Option ℕ → Unread → Type 0
-IsUnread t Unread.NoPlace = (type : ℕ) × (t ≡ Some type)
-IsUnread t Unread.Untyped = t ≡ None

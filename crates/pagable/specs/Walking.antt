@@ -1,5 +1,5 @@
 -- What a machine keeps of tables and workers, as the plain world knows it.
-use Rattle.std.specs.{Arc.arc_value, Prelude.{ℕ, ◌≡◌, ◌≢◌, ◌⊎◌, ◌<◌, ◌≤◌, ◌∷◌, [], zero, suc, Bool, false, true, List, length, Option, Some, None, is_none, is_some, slice_get}}
+use Rattle.std.specs.{Arc.arc_value, Prelude.{ℕ, ◌≡◌, ◌≢◌, ◌<◌, ◌≤◌, ◌∷◌, [], zero, suc, Bool, false, true, List, length, Option, Some, None, is_none, is_some, slice_get}}
 use Rattle.std.specs.declared.{alloc.Global.Global, sync.Arc.Arc}
 use Rattle.{pagable_core.specs.declared.context.writing.SerializedData.SerializedData, pagable.specs.declared.held.{Begun.Begun, Walk.Walk}, pagable_walk.specs.Slots.written_of}
 use Rattle.pagable_walk.specs.{Table.shelf_of, Tasks.{IsPlain, IsWay, todo_of, todos}, Turns.{StepsTo, TaskFits, answer_in, plan}, declared.{results.Trees.Ghosts, table.SlotTable.SlotTable}}
@@ -75,12 +75,9 @@ module _ {X : Type 0} {g : Ghosts X} where
     pub after : IsAfter k moved k'
     pub replies : reply ≡ record { took = moved.took; answer = answer_in moved.turn; steps = k'.steps }
 
-  -- there is such a table, or none
+  -- there is such a table
   abbrev pub IsIn : ℕ → List (SlotTable X g) → Type 0
   IsIn t tables = (0 < t) × (t ≤ length tables)
-
-  abbrev pub IsPast : ℕ → List (SlotTable X g) → Type 0
-  IsPast t tables = (t ≡ 0) ⊎ (length tables < t)
 
   -- whether there is a worker that hasn't answered
   abbrev pub has_task : Option (Walk X g) → Bool

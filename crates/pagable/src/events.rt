@@ -1,12 +1,10 @@
 //! Each event of the machine: a step of the plain world that leaves the machine whole.
 
-ghost use Rattle.std.specs.{Prelude.{◌≡◌, ◌⊎◌, ◌<◌, ℕ, Ok, Err, IfErr, IfSome, IfNone, OnOk}, HashMap.spare};
-ghost use Rattle.{pagable_model.specs.declared.error.Error.Error, pagable_loads.specs.Telling.values_at};
-ghost use Rattle.{pagable_pager.specs.View.{core_in, telling}, pagable.specs.{Keeping.Forgets, Driving.{Drives, IsInStep, kept_at, over}}, pagable_world.specs.Refusals.{Refused, spent}};
+ghost use Rattle.{pagable_loads.specs.Telling.values_at, pagable_pager.specs.View.{core_in, telling}, pagable.specs.{Keeping.Forgets, Driving.{Drives, IsInStep, kept_at, over}}};
 
 use crate::calls;
 use crate::held::Held;
-use crate::readings::{load_step, put, remove, reserve};
+use crate::readings::{load_step, put};
 use crate::workers::{table_new, worker_item, worker_listed, worker_step};
 use indexmap::IndexMap;
 use pagable_codec::{Env, NodeSet};
@@ -40,36 +38,7 @@ where
         return;
     };
     if let Err(Error::NoSuchHandle) = pager.load_of(load) {
-        remove(readings, load.0);
-    }
-}
-
-// A place for what is kept of a load of a key, where a load can begin. Refused with NumbersSpent and OutOfMemory.
-fn key_place<E: Env, S: PagableStorage<E>>(
-    pager: &Pager<E, S>,
-    readings: &mut IndexMap<u64, Reading>,
-) -> Result<(), Error>
-where
-    E::Node: NodeSet<E>,
-    ensures same { (q : ℕ) → kept_at readings.new q ≡ kept_at readings.old q }
-    ensures room { OnOk result (0 < spare readings.new) }
-    ensures refused { IfErr result (λ e. let w = core_in (telling S.stored S.is_closed S.failed) pager.now in Refused (spent w.last.load) (spent w.last.load) (Unit {0}) w e w) }
-{
-    if !pager.has_load_number() {
-        return Err(Error::NumbersSpent);
-    }
-    reserve(readings)?;
-    Ok(())
-}
-
-// The load that has begun, if one has.
-fn begun_load(begun: &Result<Beginning, Error>) -> Option<LoadNumber>
-    ensures some { IfSome result (λ l. (k : ℕ) × (begun.now ≡ Ok (Beginning.Load l k))) }
-    ensures none { IfNone result (((e : Error) × (begun.now ≡ Err e)) ⊎ (begun.now ≡ Ok Beginning.InMemory)) }
-{
-    match begun {
-        Ok(Beginning::Load(load, _)) => Some(*load),
-        _ => None,
+        readings.swap_remove(&load.0);
     }
 }
 
@@ -88,20 +57,23 @@ where
         (over pager.old held.old) (Event.LoadKey key node_type) (EventReply.Started result) (over pager.new held.new) }
 {
     pager.is_whole();
-    if let Err(e) = key_place(pager, &mut held.readings) {
-        return Err(e);
+    if !pager.has_load_number() {
+        return Err(Error::NumbersSpent);
     }
+    held.readings.reserve(1)?;
     let begun = pager.load_key(key);
     pager.is_whole();
-    let Some(load) = begun_load(&begun) else {
-        return begun;
-    };
-    put(
-        &mut held.readings,
-        load.0,
-        Reading::new(alloc, load, key, node_type, false),
-    );
-    begun
+    match begun? {
+        Beginning::InMemory => Ok(Beginning::InMemory),
+        Beginning::Load(load, of) => {
+            put(
+                &mut held.readings,
+                load.0,
+                Reading::new(alloc, load, key, node_type, false),
+            );
+            Ok(Beginning::Load(load, of))
+        }
+    }
 }
 
 /// Makes the event's step, and answers what it answers.

@@ -9,7 +9,6 @@ mod calls;
 mod events;
 mod held;
 pub mod laws;
-mod list;
 pub mod machine;
 pub mod paging;
 mod readings;

@@ -5,7 +5,6 @@ ghost use Rattle.{pagable_loads.specs.Telling.values_at, pagable.specs.Driving.{
 
 use crate::events;
 use crate::held::Held;
-use crate::list::put;
 use indexmap::IndexMap;
 use pagable_codec::{Env, NodeSet};
 use pagable_core::{PagableData, PagableStorage, SerializedData};
@@ -97,7 +96,7 @@ where
         let mut rest = VecDeque::from_vec(events);
         while let Some(event) = rest.pop_front() {
             let reply = events::serve(&mut self.pager, &mut self.held, alloc, event);
-            put(&mut replies, reply);
+            replies.push_reserved(reply);
         }
         Ok(replies)
     }

@@ -1,7 +1,7 @@
 //! Pins, readings and page-outs of a lent pager.
 
 ghost use Rattle.std.specs.{Arc.arc_value, Prelude.◌≡◌};
-ghost use Rattle.{pagable.specs.{Paged.{PagesOutItem, PagesOutList}, Taken.ReadsValue}, pagable_loads.specs.Telling.values_at, pagable_pager.specs.View.{state_in, telling}};
+ghost use Rattle.{pagable.specs.Paged.{PagesOutItem, PagesOutList, ReadsValue}, pagable_loads.specs.Telling.values_at, pagable_pager.specs.View.{state_in, telling}};
 ghost use Rattle.{pagable_walk.specs.{Over.{answer_of, PagesItem, PagesList}, Slots.written_of, Table.shelf_of}, pagable_world.specs.{Access.{PinsOver, ReadsOver}, World.seen_as}};
 ghost use Rattle.pagable_world.specs.declared.handles.Owner.TheVariants as owners;
 

@@ -1,7 +1,7 @@
 //! How far loads are, by their numbers: what the machine keeps between their steps; and the steps of loads that the caller began.
 
 ghost use Rattle.std.specs.{HashMap.spare, Prelude.{◌≡◌, ◌<◌, ℕ, Some, None, IfErr, OnOk, OnErr}};
-ghost use Rattle.{pagable.specs.{Driving.{kept_at, Drives, IsInStep, over}, Keeping.{IsPrepared, IsUnread, KeepsOne, rest_after, Stepped}}, pagable_model.specs.declared.error.Error.Error};
+ghost use Rattle.{pagable.specs.{Driving.{kept_at, Drives, IsInStep, over}, Keeping.{IsPrepared, KeepsOne, rest_after, Stepped}}, pagable_model.specs.declared.error.Error.Error};
 ghost use Rattle.{pagable_loads.specs.Telling.values_at, pagable_world.specs.declared.{events.{Event.Event, EventReply.EventReply}, handles.Owner.Owner}, pagable_pager.specs.View.{state_in, telling}};
 
 use crate::held::Held;
@@ -12,22 +12,7 @@ use pagable_loads::Reading;
 use pagable_model::{DataKey, Error, LoadNumber};
 use pagable_pager::{Lent, Pager};
 use pagable_world::{LoadAnswer, LoadReply};
-use std::alloc::{AllocError, Global};
-
-/// A place for one more.
-pub fn reserve<V: Drop>(kept: &mut IndexMap<u64, V>) -> Result<(), AllocError>
-    ensures same { (q : ℕ) → kept_at kept.new q ≡ kept_at kept.old q }
-    ensures room { OnOk result (0 < spare kept.new) }
-{
-    kept.reserve(1)
-}
-
-/// Nothing is kept of a load any more.
-pub fn remove(readings: &mut IndexMap<u64, Reading>, load: u64)
-    ensures { KeepsOne (kept_at readings.old) load None (kept_at readings.new) }
-{
-    readings.swap_remove(&load);
-}
+use std::alloc::Global;
 
 /// This is kept of a number from now on, where there is a place for it.
 pub fn put<V: Drop>(kept: &mut IndexMap<u64, V>, number: u64, value: V)
@@ -44,40 +29,31 @@ pub fn end<N: Drop>(readings: &mut IndexMap<u64, Reading>, load: u64, ended: &Op
     ensures { KeepsOne (kept_at readings.old) load (rest_after ended.now (kept_at readings.old load)) (kept_at readings.new) }
 {
     if ended.is_some() {
-        remove(readings, load);
+        readings.swap_remove(&load);
     }
 }
 
-/// Why an open load isn't read.
-#[derive(Clone, Copy)]
-pub enum Unread {
-    /// It has just begun, and there is no place for one more.
-    NoPlace,
-    /// It is of a key, and a call began it: nobody said as what it is read.
-    Untyped,
-}
-
-/// Sees to it that an open load's reading is kept: it is, or begins now, at the first step of a load of a cell.
+/// Sees to it that an open load's reading is kept, where there is a place for it: it is, or begins now, at the first step of a load of a cell. Refused with WrongMode where it
+/// is of a key, and a call began it: nobody said as what it is read.
 pub fn prepare(
     readings: &mut IndexMap<u64, Reading>,
     alloc: Global,
     load: LoadNumber,
     key: DataKey,
     cell_type: Option<u32>,
-) -> Result<(), Unread>
+) -> Result<(), Error>
     ensures ready { OnOk result (IsPrepared (kept_at readings.old) load key cell_type (kept_at readings.new)) }
-    ensures why { IfErr result (λ e. IsUnread cell_type e) }
-    ensures none { OnErr result (kept_at readings.old load.0 ≡ None) }
+    ensures untyped { IfErr result (λ e. (e ≡ Error.WrongMode) × (cell_type ≡ None) × (kept_at readings.old load.0 ≡ None)) }
     ensures stays { OnErr result ((q : ℕ) → kept_at readings.new q ≡ kept_at readings.old q) }
 {
     if readings.get(&load.0).is_some() {
         return Ok(());
     }
     let Some(node_type) = cell_type else {
-        return Err(Unread::Untyped);
+        return Err(Error::WrongMode);
     };
-    if reserve(readings).is_err() {
-        return Err(Unread::NoPlace);
+    if readings.reserve(1).is_err() {
+        return Ok(());
     }
     put(
         readings,
@@ -119,29 +95,19 @@ where
         (over pager.old held.old) (Event.LoadStep load) (EventReply.LoadMoved result) (over pager.new held.new) }
 {
     pager.is_whole();
-    let (key, cell_type) = match pager.load_of(load) {
-        Ok(reads) => reads,
-        Err(e) => return Err(e),
+    let (key, cell_type) = pager.load_of(load)?;
+    prepare(&mut held.readings, alloc, load, key, cell_type)?;
+    let Some(own) = held.readings.get_mut(&load.0) else {
+        // It has no place for its reading, and is given up: this is its only step.
+        let _told = pager.load_drop(load);
+        pager.is_whole();
+        return Ok(LoadReply {
+            ended: Some(LoadAnswer::Refused(Error::OutOfMemory)),
+            steps: 1,
+        });
     };
-    match prepare(&mut held.readings, alloc, load, key, cell_type) {
-        Ok(()) => {
-            let Some(own) = held.readings.get_mut(&load.0) else {
-                unreachable!();
-            };
-            let mut lent = Lent::new(pager);
-            let reply = step_by(&mut lent, alloc, own);
-            end(&mut held.readings, load.0, &reply.ended);
-            Ok(reply)
-        }
-        Err(Unread::NoPlace) => {
-            // It has no place for its reading, and is given up: this is its only step.
-            let _told = pager.load_drop(load);
-            pager.is_whole();
-            Ok(LoadReply {
-                ended: Some(LoadAnswer::Refused(Error::OutOfMemory)),
-                steps: 1,
-            })
-        }
-        Err(Unread::Untyped) => Err(Error::WrongMode),
-    }
+    let mut lent = Lent::new(pager);
+    let reply = step_by(&mut lent, alloc, own);
+    end(&mut held.readings, load.0, &reply.ended);
+    Ok(reply)
 }

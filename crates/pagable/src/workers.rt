@@ -1,13 +1,12 @@
 //! Tables of page-out, workers on them, and a worker's step.
 
 ghost use Rattle.std.specs.{HashMap.spare, Prelude.{◌≡◌, ◌<◌, ◌⊎◌, ℕ, Some, IfOk, IfErr, OnOk, true, false, ◌≤◌, ◌∷◌, length, is_some}};
-ghost use Rattle.{pagable.specs.{Driving.{Drives, IsInStep, kept_at, over}, Walking.{IsBegun, IsIn, IsPast, IsAfter, WalksOn, has_task, task_in, todo_left}}, pagable_loads.specs.Telling.values_at};
+ghost use Rattle.{pagable.specs.{Driving.{Drives, IsInStep, kept_at, over}, Walking.{IsBegun, IsIn, IsAfter, WalksOn, has_task, task_in, todo_left}}, pagable_loads.specs.Telling.values_at};
 ghost use Rattle.{pagable_pager.specs.View.{core_in, state_in, telling}, pagable_walk.specs.{Slots.written_of, Table.shelf_of, Tasks.{IsWay, todo_of, todos}, Turns.{StepsTo, answer_in, plan}}};
 ghost use Rattle.pagable_world.specs.{Kinds.{identity_of, owner_worker}, World.{of_entry, of_item}, declared.events.{Event.Event, EventReply.EventReply}};
 
 use crate::held::{Begun, Held, Walk};
-use crate::list;
-use crate::readings::{put, reserve};
+use crate::readings::put;
 use indexmap::IndexMap;
 use pagable_codec::{Env, NodeSet};
 use pagable_core::{PagableStorage, SerializedData};
@@ -35,10 +34,8 @@ where
         (over pager.now held.old) Event.TableNew (EventReply.TableMade result) (over pager.now held.new) }
 {
     pager.is_whole();
-    if held.tables.reserve(1).is_err() {
-        return Err(Error::OutOfMemory);
-    }
-    list::put(&mut held.tables, SlotTable::new(alloc));
+    held.tables.reserve(1)?;
+    held.tables.push_reserved(SlotTable::new(alloc));
     Ok(TableNumber(held.tables.len() as u64))
 }
 
@@ -51,12 +48,12 @@ fn ready<E: Trees>(
     ensures same { (q : ℕ) → kept_at walks.new q ≡ kept_at walks.old q }
     ensures there { OnOk result (IsIn table.0 tables.now.items) }
     ensures room { OnOk result (0 < spare walks.new) }
-    ensures refused { IfErr result (λ e. ((e ≡ Error.NoSuchHandle) × IsPast table.0 tables.now.items) ⊎ ((e ≡ Error.OutOfMemory) × IsIn table.0 tables.now.items)) }
+    ensures refused { IfErr result (λ e. ((e ≡ Error.NoSuchHandle) × ((table.0 ≡ 0) ⊎ (length tables.now.items < table.0))) ⊎ ((e ≡ Error.OutOfMemory) × IsIn table.0 tables.now.items)) }
 {
     if !(0 < table.0 && table.0 <= tables.len() as u64) {
         return Err(Error::NoSuchHandle);
     }
-    reserve(walks)?;
+    walks.reserve(1)?;
     Ok(())
 }
 
@@ -69,9 +66,7 @@ fn item_walk<E: Trees>(
     ensures begun { IfOk result (λ k. IsBegun table (of_item (written_of item)) k) }
     ensures only { IfErr result (λ e. e ≡ Error.OutOfMemory) }
 {
-    let Ok(item) = Arc::new(alloc, item) else {
-        return Err(Error::OutOfMemory);
-    };
+    let item = Arc::new(alloc, item)?;
     let shared = Arc::try_clone(&item)?;
     let (task, path) = start_item(alloc, shared)?;
     Ok(Walk {
@@ -118,21 +113,12 @@ where
         (over pager.old held.old) (Event.WorkerItem table item) (EventReply.WorkerMade result) (over pager.new held.new) }
 {
     pager.is_whole();
-    if let Err(e) = ready(&mut held.walks, &held.tables, table) {
-        return Err(e);
-    }
-    let walk = match item_walk(alloc, table, item) {
-        Ok(walk) => walk,
-        Err(e) => return Err(e),
-    };
+    ready(&mut held.walks, &held.tables, table)?;
+    let walk = item_walk(alloc, table, item)?;
     let mut lent = Lent::new(pager);
-    match lent.worker_begin() {
-        Ok(worker) => {
-            put(&mut held.walks, worker.0, walk);
-            Ok(worker)
-        }
-        Err(e) => Err(e),
-    }
+    let worker = lent.worker_begin()?;
+    put(&mut held.walks, worker.0, walk);
+    Ok(worker)
 }
 
 /// A worker on a table begins, for the entry at this place of the list, counted from 0. Refused with NoSuchHandle where there is no such table or no such place, with
@@ -154,21 +140,12 @@ where
     if place >= pager.pending() as u64 {
         return Err(Error::NoSuchHandle);
     }
-    if let Err(e) = ready(&mut held.walks, &held.tables, table) {
-        return Err(e);
-    }
+    ready(&mut held.walks, &held.tables, table)?;
     let mut lent = Lent::new(pager);
-    match lent.worker_listed(place as usize) {
-        Ok((worker, reference)) => {
-            put(
-                &mut held.walks,
-                worker.0,
-                entry_walk(alloc, table, reference),
-            );
-            Ok(worker)
-        }
-        Err(e) => Err(e),
-    }
+    let (worker, reference) = lent.worker_listed(place as usize)?;
+    let walk = entry_walk(alloc, table, reference);
+    put(&mut held.walks, worker.0, walk);
+    Ok(worker)
 }
 
 // One step over a lent pager: the borrow checker takes a lent struct where its own type is asked, and not where any access is.
@@ -221,17 +198,12 @@ fn settle<E: Trees>(walk: &mut Walk<E>, moved: Moved<E>) -> WorkerReply<Arc<Seri
 {
     let answer = answer_of(&moved.turn);
     walk.answer = answer_of(&moved.turn);
-    let steps = if moved.counted {
-        walk.steps.saturating_add(1)
-    } else {
-        walk.steps
-    };
-    walk.steps = steps;
+    walk.steps = walk.steps.saturating_add(u64::from(moved.counted));
     walk.task = task_left(moved.turn);
     WorkerReply {
         took: moved.took,
         answer,
-        steps,
+        steps: walk.steps,
     }
 }
 

@@ -1,18 +1,30 @@
-use Rattle.{std.proofs.Common.{Err, inl, refl}, pagable_loads.specs.Telling.values_at, pagable.proofs.Driven.{keeps-after, key-drives, key-none-drives, serves-same}}
+use Rattle.{std.{proofs.{Common.{ap, arith, inl, inr, refl}, lemmas.Bool.Decides.nat_tests}, specs.{Map.lookup, Prelude.nat_eq}}, pagable_loads.specs.Telling.values_at}
+use Rattle.{pagable.proofs.Driven.{keeps-after, key-drives, key-none-drives, serves-same}, pagable_model.specs.declared.error.Error.Error, pagable_tables.proofs.Worlds.{failed, still}}
+use Rattle.pagable_pager.specs.View.{telling}
 use Rattle.pagable.proofs.events.load_key.Goals as goal
 
-pub returns-in-Err : goal.returns-in-Err
-returns-in-Err g c =
-    key-none-drives (values_at g.E.Node.NodeSet g.E.Env g.E.Hash.KeyHash) _ _ c.args.pager.now _ c.requires c.is_whole.ensures _ _ _ (Err c.in-Err.e) (inl (c.in-Err.e, refl))
-    (serves-same (record { begins = tt; refused = c.in-Err.ensures.refused }) (record { values = refl; storage = refl; environment = refl })) c.is_whole.ensures c.key_place.ensures.same
+pub returns-then-not-has_load_number : goal.returns-then-not-has_load_number
+returns-then-not-has_load_number g c =
+    let tells = telling g.S.PagableStorage.stored g.S.PagableStorage.is_closed g.S.PagableStorage.failed in
+    key-none-drives (values_at g.E.Node.NodeSet g.E.Env g.E.Hash.KeyHash) tells c.args.pager.now c.args.pager.now _ c.requires c.is_whole.ensures _ c.args.key c.args.node_type Error.NumbersSpent
+    (serves-same (record { begins = tt; refused = record { why = inl (grind (arith, nat_tests)); stays = still _ } }) (record { values = refl; storage = refl; environment = refl }))
+    c.is_whole.ensures (λ q. refl)
 
-pub returns : goal.returns
-returns g c =
-    key-drives (values_at g.E.Node.NodeSet g.E.Env g.E.Hash.KeyHash) _ _ _ _ c.requires c.is_whole.ensures _ _ _ _ _ c.new.result c.in-Some.ensures.some
-    (serves-same c.load_key-begun.ensures.step c.load_key-begun.ensures.only) c.is_whole-2.ensures c.new.ensures.reading c.new.ensures.key c.new.ensures.for_cell
-    (keeps-after c.key_place.ensures.same c.put.ensures)
+pub returns-in_err-reserve : goal.returns-in_err-reserve
+returns-in_err-reserve g c =
+    let tells = telling g.S.PagableStorage.stored g.S.PagableStorage.is_closed g.S.PagableStorage.failed in
+    rw (failed c.from_residual.result c.from_residual.ensures.1) (key-none-drives (values_at g.E.Node.NodeSet g.E.Env g.E.Hash.KeyHash) tells c.args.pager.now c.args.pager.now _ c.requires
+    c.is_whole.ensures _ c.args.key c.args.node_type Error.OutOfMemory
+    (serves-same (record { begins = tt; refused = record { why = inr (refl, grind (arith, nat_tests), tt); stays = still _ } }) (record { values = refl; storage = refl; environment = refl }))
+    c.is_whole.ensures (λ q. ap (lookup (nat_eq q)) c.reserve.ensures.entries))
 
-pub returns-in_default-begun_load : goal.returns-in_default-begun_load
-returns-in_default-begun_load g c =
-    key-none-drives (values_at g.E.Node.NodeSet g.E.Env g.E.Hash.KeyHash) _ _ _ _ c.requires c.is_whole.ensures _ _ _ _ c.in_default-begun_load.ensures.none
-    (serves-same c.load_key-begun.ensures.step c.load_key-begun.ensures.only) c.is_whole-2.ensures c.key_place.ensures.same
+pub returns-in_err-begun : goal.returns-in_err-begun
+returns-in_err-begun g c =
+    rw (failed c.from_residual-in_err-begun.result c.from_residual-in_err-begun.ensures.1) (key-none-drives (values_at g.E.Node.NodeSet g.E.Env g.E.Hash.KeyHash) _ _ _ _ c.requires c.is_whole.ensures
+    _ _ _ _ (serves-same (rw c.in_err-begun.was at c.load_key-begun.ensures.step) c.load_key-begun.ensures.only) c.is_whole-2.ensures (λ q. ap (lookup (nat_eq q)) c.reserve.ensures.entries))
+
+pub returns-in-Load : goal.returns-in-Load
+returns-in-Load g c =
+    key-drives (values_at g.E.Node.NodeSet g.E.Env g.E.Hash.KeyHash) _ _ _ _ c.requires c.is_whole.ensures _ _ _ _ _ c.new.result
+    (serves-same (rw (c.in_ok-begun.was, c.in-Load.is) at c.load_key-begun.ensures.step) c.load_key-begun.ensures.only) c.is_whole-2.ensures
+    c.new.ensures.reading c.new.ensures.key c.new.ensures.for_cell (keeps-after (λ q. ap (lookup (nat_eq q)) c.reserve.ensures.entries) c.put.ensures)

@@ -1,27 +1,28 @@
-use Rattle.{std.proofs.Common.{rules, ◌≡◌, refl, inr}, pagable_loads.specs.Telling.values_at, pagable.proofs.{Driven.{item-started, keeps-after}, Keeping.{nothing-done, refused, drives}}}
+use Rattle.{std.proofs.Common.{rules, ◌≡◌, refl, inr}, pagable_loads.specs.Telling.values_at, pagable.proofs.{Driven.{item-started, keeps-after}, Keeping.{drives, nothing-done, refused}}}
+use Rattle.pagable_tables.proofs.Worlds.{failed}
 use Rattle.pagable.proofs.workers.worker_item.Goals as goal
 
-pub returns-in-Err : goal.returns-in-Err
-returns-in-Err g c =
-    drives (refused _ c.requires c.is_whole.ensures (nothing-done _ c.is_whole.ensures) (record { readings = λ l. refl; tables = refl; walks = c.ready.ensures.same }) _ _ (λ q. refl)
-    (λ stays. record { starts = tt; refused = (c.in-Err.ensures.refused, stays) }) tt)
+pub returns-in_err-ready : goal.returns-in_err-ready
+returns-in_err-ready g c =
+    rw (failed c.from_residual.result c.from_residual.ensures.1) (drives (refused _ c.requires c.is_whole.ensures (nothing-done _ c.is_whole.ensures) (λ l. refl) refl c.ready.ensures.same
+    _ _ (λ q. refl) (λ stays. record { starts = tt; refused = (c.in_err-ready.ensures.refused, stays) }) tt))
 
-pub returns-in-Err-item_walk : goal.returns-in-Err-item_walk
-returns-in-Err-item_walk g c =
-    drives (refused _ c.requires c.is_whole.ensures (nothing-done _ c.is_whole.ensures) (record { readings = λ l. refl; tables = refl; walks = c.ready.ensures.same }) _ _ (λ q. refl)
-    (λ stays. record { starts = tt; refused = (inr (c.in-Err-item_walk.ensures.only, c.in_default.ensures.there), stays) }) tt)
+pub returns-in_err-walk : goal.returns-in_err-walk
+returns-in_err-walk g c =
+    rw (failed c.from_residual-in_err-walk.result c.from_residual-in_err-walk.ensures.1) (drives (refused _ c.requires c.is_whole.ensures (nothing-done _ c.is_whole.ensures) (λ l. refl) refl
+    c.ready.ensures.same _ _ (λ q. refl) (λ stays. record { starts = tt; refused = (inr (c.in_err-walk.ensures.only, c.in_ok-ready.ensures.there), stays) }) tt))
 
-pub returns-in-Ok-worker_begin : goal.returns-in-Ok-worker_begin
-returns-in-Ok-worker_begin g c =
+pub returns : goal.returns
+returns g c =
     let ends : c.worker_begin.new.self.pager.now ≡ c.pager-1.given.0 = search rules in
-    item-started (values_at g.E.Node.NodeSet g.E.Env g.E.Hash.KeyHash) _ _ _ _ c.requires c.is_whole.ensures c.put.new.kept c.args.table c.in-Ok-worker_begin.worker c.in-Ok.walk
-    c.in_default.ensures.there (keeps-after c.ready.ensures.same c.put.ensures) c.args.item
-    (rw ends at (rw c.new-lent.ensures.same at c.in-Ok-worker_begin.ensures.begins.step.holds)) c.in-Ok.ensures.begun
+    item-started (values_at g.E.Node.NodeSet g.E.Env g.E.Hash.KeyHash) _ _ _ _ c.requires c.is_whole.ensures c.put.new.kept c.args.table c.in_ok-worker.worker c.in_ok-walk.walk
+    c.in_ok-ready.ensures.there (keeps-after c.ready.ensures.same c.put.ensures) c.args.item
+    (rw ends at (rw c.new-lent.ensures.same at c.in_ok-worker.ensures.begins.step.holds)) c.in_ok-walk.ensures.begun
 
-pub returns-in-Err-worker_begin : goal.returns-in-Err-worker_begin
-returns-in-Err-worker_begin g c =
+pub returns-in_err-worker : goal.returns-in_err-worker
+returns-in_err-worker g c =
     let ends : c.worker_begin.new.self.pager.now ≡ c.pager-1.given.0 = search rules in
-    let none = c.in-Err-worker_begin.ensures.refused in
-    drives (refused _ c.requires c.is_whole.ensures (rw ends at (rw c.new-lent.ensures.same at none.1.step.holds))
-    (record { readings = λ l. refl; tables = refl; walks = c.ready.ensures.same }) _ _ (λ q. refl)
-    (λ stays. record { starts = tt; refused = (inr (none.0, c.in_default.ensures.there), stays) }) tt)
+    let none = c.in_err-worker.ensures.refused in
+    rw (failed c.from_residual-in_err-worker.result c.from_residual-in_err-worker.ensures.1) (drives (refused _ c.requires c.is_whole.ensures
+    (rw ends at (rw c.new-lent.ensures.same at none.1.step.holds)) (λ l. refl) refl c.ready.ensures.same _ _ (λ q. refl)
+    (λ stays. record { starts = tt; refused = (inr (none.0, c.in_ok-ready.ensures.there), stays) }) tt))

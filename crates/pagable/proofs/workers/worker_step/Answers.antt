@@ -3,7 +3,7 @@ use Rattle.pagable.proofs.workers.worker_step.Goals as goal
 
 pub returns-then-not-has_task : goal.returns-then-not-has_task
 returns-then-not-has_task g c =
-    drives (refused _ c.requires c.is_whole.ensures (nothing-done _ c.is_whole.ensures) (record { readings = λ l. refl; tables = refl; walks = λ q. refl }) _ _ (λ q. refl)
+    drives (refused _ c.requires c.is_whole.ensures (nothing-done _ c.is_whole.ensures) (λ l. refl) refl (λ q. refl) _ _ (λ q. refl)
     (λ stays. record { moves = tt; refused = (refl, no-task c.requires _ _ refl (search rules), stays) }) tt)
 
 pub walk_on-requires-clause-table : goal.walk_on-requires-clause-table

@@ -15,7 +15,7 @@ pub loop-event-preserved : goal.loop-event-preserved
 loop-event-preserved g c =
     record {
       room = grind arith;
-      run = rw c.put.ensures.items (one-more _ _ _ _ _ c.in-Some.event _ _ _ _ (rw c.in-Some.ensures.items at c.loop-event.invariant.run) c.serve-reply.ensures);
+      run = rw c.push_reserved.ensures.items (one-more _ _ _ _ _ c.in-Some.event _ _ _ _ (rw c.in-Some.ensures.items at c.loop-event.invariant.run) c.serve-reply.ensures);
     }
 
 pub returns-clause-run : goal.returns-clause-run
