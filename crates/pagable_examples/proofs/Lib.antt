@@ -1,4 +1,3 @@
 pub mod Expressions
 pub mod Levels
-pub mod Listed
 pub mod Refusing

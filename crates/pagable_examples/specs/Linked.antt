@@ -70,31 +70,37 @@ bundle_reads = reads_either (reads_memory_or reads_unlent) (reads_either (reads_
 
 -- ---- nodes
 
-abbrev pub type_of : LinkedNode → ℕ
-type_of (nodes.Link c) = 0
-type_of (nodes.ArcLink c) = 1
-type_of (nodes.Bundle b) = 2
+-- what a case of a node says: its type's number, its shape, what it means, and what it refers to, which is what its one meaning refers to
+pub record Case (shape_of : ℕ → Option Shape) : Type 1 where
+  pub number : ℕ
+  pub shape : Shape
+  pub has_shape : shape_of number ≡ Some shape
+  pub means : Meaning ArcRef → Type 0
+  pub has_meaning : SomeMeaning means
+  pub refs : List ArcRef
+  pub refers : (m : Meaning ArcRef) → means m → SameReferences refs (references_in m)
 
-abbrev pub own_shape : LinkedNode → Shape
-own_shape (nodes.Link c) = optional (reference 1)
-own_shape (nodes.ArcLink c) = optional (reference 3)
-own_shape (nodes.Bundle b) = bundle_shape
-
-abbrev pub means : LinkedNode → Meaning ArcRef → Type 0
-means (nodes.Link c) = (chain_means 1).of (arc_value c)
-means (nodes.ArcLink c) = (chain_means 3).of (arc_value c)
-means (nodes.Bundle b) = bundle_means.of (arc_value b)
-
-abbrev pub refs_of : LinkedNode → List ArcRef
-refs_of (nodes.Link c) = references_in ((chain_means 1).meaning (arc_value c))
-refs_of (nodes.ArcLink c) = references_in ((chain_means 3).meaning (arc_value c))
-refs_of (nodes.Bundle b) = references_in (bundle_means.meaning (arc_value b))
+abbrev pub referring : {T : Type 0} (shape_of : ℕ → Option Shape) (number : ℕ) (s : Shape) → shape_of number ≡ Some s → (M : Meanings T) → AreSingle M → T → Case shape_of
+referring shapes t s is M single x = record {
+  number = t;
+  shape = s;
+  has_shape = is;
+  means = M.of x;
+  has_meaning = some M x;
+  refs = references_in (M.meaning x);
+  refers = λ m h. rw (single x m h) (λ test. refl);
+}
 
 abbrev pub shape_of : ℕ → Option Shape
 shape_of zero = Some (optional (reference 1))
 shape_of (suc zero) = Some (optional (reference 3))
 shape_of (suc (suc zero)) = Some bundle_shape
 shape_of (suc (suc (suc n))) = None
+
+abbrev pub told : LinkedNode → Case shape_of
+told (nodes.Link c) = referring shape_of 0 (optional (reference 1)) refl (chain_means 1) (chain_single 1) (arc_value c)
+told (nodes.ArcLink c) = referring shape_of 1 (optional (reference 3)) refl (chain_means 3) (chain_single 3) (arc_value c)
+told (nodes.Bundle b) = referring shape_of 2 bundle_shape refl bundle_means bundle_single (arc_value b)
 
 -- all refusals of the writing of a type's values, and of the reading, beside the faults of the input and of references
 abbrev pub writes : ℕ → WriteCauses
@@ -105,27 +111,10 @@ abbrev pub reads : ℕ → ReadCauses
 reads (suc (suc t)) = reads_memory_or bundle_reads
 reads _ = reads_memory_or reads_never
 
--- each node's type is there
-pub has_shape : (n : LinkedNode) → shape_of (type_of n) ≡ Some (own_shape n)
-has_shape (nodes.Link c) = refl
-has_shape (nodes.ArcLink c) = refl
-has_shape (nodes.Bundle b) = refl
-
-pub has_meaning : (n : LinkedNode) → SomeMeaning (means n)
-has_meaning (nodes.Link c) = some (chain_means 1) (arc_value c)
-has_meaning (nodes.ArcLink c) = some (chain_means 3) (arc_value c)
-has_meaning (nodes.Bundle b) = some bundle_means (arc_value b)
-
--- a value refers to what its one meaning refers to
-pub refers : (n : LinkedNode) (m : Meaning ArcRef) → means n m → SameReferences (refs_of n) (references_in m)
-refers (nodes.Link c) m h is = rw (chain_single 1 (arc_value c) m h) refl
-refers (nodes.ArcLink c) m h is = rw (chain_single 3 (arc_value c) m h) refl
-refers (nodes.Bundle b) m h is = rw (bundle_single (arc_value b) m h) refl
-
 -- ---- what a node holds
 
 abbrev pub HoldsIn : {T : Type 0} → Meanings T → ℕ → LinkedNode → Option T → Type 0
-HoldsIn M t n = Holds M.of t (type_of n) (means n)
+HoldsIn M t n = Holds M.of t (told n).number (told n).means
 
 abbrev pub link_in : LinkedNode → Option (Chain 1)
 link_in (nodes.Link x) = Some (arc_value x)

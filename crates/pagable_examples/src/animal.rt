@@ -91,13 +91,9 @@ impl TagReader<Zoo, Animal> for AnimalReader {
                 Ok(Animal::Cat)
             }
             AnimalReader::OldCat => {
-                let lives = u8::pagable_deserialize(alloc, deserializer)?;
-                Ok(Animal::OldCat(lives))
+                Ok(Animal::OldCat(u8::pagable_deserialize(alloc, deserializer)?))
             }
-            AnimalReader::Dog => {
-                let age = u8::pagable_deserialize(alloc, deserializer)?;
-                Ok(Animal::Dog(age))
-            }
+            AnimalReader::Dog => Ok(Animal::Dog(u8::pagable_deserialize(alloc, deserializer)?)),
         }
     }
 }

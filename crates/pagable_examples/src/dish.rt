@@ -55,10 +55,7 @@ impl<'de, E: Env> PagableDeserialize<'de, E> for Dish {
         alloc: Global,
         deserializer: &mut D,
     ) -> Result<Self, Error> {
-        let (name, grams): (String, u16) = PagableDeserialize::pagable_deserialize(
-            alloc,
-            deserializer,
-        )?;
+        let (name, grams) = PagableDeserialize::pagable_deserialize(alloc, deserializer)?;
         Ok(Dish { name, grams })
     }
 }

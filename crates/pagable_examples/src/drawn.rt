@@ -48,16 +48,6 @@ enum Drawn {
     Entry,
 }
 
-/// Appends a text of so many letters.
-fn append_text(
-    alloc: Global,
-    letters: u64,
-    draws: &mut Draws,
-    out: &mut PagableVecFlavor,
-) -> Result<(), Error> {
-    out.write_bytes(draws.text(alloc, letters)?.as_str().as_bytes())
-}
-
 /// Appends what is drawn for this place.
 fn append(
     alloc: Global,
@@ -70,7 +60,7 @@ fn append(
     match drawn {
         Drawn::Number => out.write_u64(number >> (place % 64)),
         Drawn::Byte => out.write_u8((number >> 56) as u8),
-        Drawn::Text => append_text(alloc, number % 32, draws, out),
+        Drawn::Text => out.write_bytes(draws.text(alloc, number % 32)?.as_str().as_bytes()),
         Drawn::Map => {
             // A map of 400 entries, with keys of 48 bits and numbers of each length from 1 bit to 64.
             out.write_u64(number)?;
@@ -82,26 +72,10 @@ fn append(
             Ok(())
         }
         Drawn::Entry => {
-            append_text(alloc, 12 + number % 16, draws, out)?;
+            out.write_bytes(draws.text(alloc, 12 + number % 16)?.as_str().as_bytes())?;
             out.write_u64(draws.number() >> 32)
         }
     }
-}
-
-/// Appends a count, and then so many drawn values.
-fn append_all(
-    alloc: Global,
-    drawn: Drawn,
-    seed: u64,
-    count: u32,
-    out: &mut PagableVecFlavor,
-) -> Result<(), Error> {
-    let mut draws = Draws::new(seed);
-    out.write_u32(count)?;
-    for place in 0..count {
-        append(alloc, drawn, place, &mut draws, out)?;
-    }
-    Ok(())
 }
 
 /// The name of a type, the seed, and what is drawn, by the name of an input.
@@ -126,7 +100,11 @@ pub fn input_of(
     let Some((name_of_type, seed, drawn)) = plan_of(name) else {
         return Ok(None);
     };
+    let mut draws = Draws::new(seed);
     let mut out = PagableVecFlavor::new(alloc);
-    append_all(alloc, drawn, seed, count, &mut out)?;
+    out.write_u32(count)?;
+    for place in 0..count {
+        append(alloc, drawn, place, &mut draws, &mut out)?;
+    }
     Ok(Some((name_of_type, out.finalize())))
 }

@@ -1,7 +1,8 @@
 //! Types that refer to each other, and their environment: links refer to links, and a bundle to links of both sorts by each
 //! sort of references.
 
-ghost use Rattle.std.specs.{Arc.arc_value, Prelude.{◌≡◌, Some, refl}};
+ghost use Rattle.std.specs.{Arc.arc_value, Prelude.{◌≡◌, ◌++◌, IfErr, OnOk, Some, refl}};
+ghost use Rattle.pagable.specs.{References.references_in, Writing.{Grows, Refused, WritesSome, nesting}};
 ghost use Rattle.pagable_examples.specs.Linked.{arc_link_in, bundle_in, holds_arc_link, holds_bundle, holds_link, link_in, no_parts, numbers_are_small};
 
 pub mod bundle;
@@ -11,7 +12,7 @@ use crate::linked::bundle::Bundle;
 use crate::linked::chain::{ArcLink, Link};
 use pagable::{
     ArcRef, Env, Error, InNode, NodeSet, OfNode, PagableDeserialize, PagableDeserializer,
-    PagableSerialize, PagableSerializer, WeighHash, references_of,
+    PagableSerialize, PagableSerializer, Refers, WeighHash, references_of,
 };
 use std::alloc::Global;
 use std::sync::Arc;
@@ -32,6 +33,23 @@ impl Env for Linked {
     ghost parts = { λ e. no_parts };
 }
 
+/// Writes a value whose references are told: it lists those, as a node has to.
+pub fn write_listed<E: Env, T: Refers<E> + PagableSerialize<E>, S: PagableSerializer<E>>(
+    value: &T,
+    serializer: &mut S,
+) -> Result<(), Error>
+    ensures ok { OnOk result (WritesSome (T.means.of value.now) (nesting (S.levels serializer.old) (E.parts (S.environment serializer.old))) (T.shape (S.environment serializer.old))
+        (S.out serializer.old) (S.out serializer.new)) }
+    ensures listed { OnOk result ((S.out serializer.new).refs ≡ (S.out serializer.old).refs ++ references_in (T.means.meaning value.now)) }
+    ensures refused { IfErr result (Refused (T.means.of value.now) (nesting (S.levels serializer.old) (E.parts (S.environment serializer.old))) (T.shape (S.environment serializer.old))) }
+    ensures only { IfErr result T.write_causes.are }
+    ensures err { Grows (S.out serializer.old) (S.out serializer.new) }
+    ensures same_env { S.environment serializer.new ≡ S.environment serializer.old }
+    ensures same_levels { S.levels serializer.new ≡ S.levels serializer.old }
+{
+    value.pagable_serialize(serializer)
+}
+
 /// What a node may hold.
 #[derive(Drop)]
 pub enum LinkedNode {
@@ -41,17 +59,17 @@ pub enum LinkedNode {
 }
 
 impl NodeSet<Linked> for LinkedNode {
-    ghost use Rattle.pagable_examples.specs.Linked.{has_meaning, has_shape, means, own_shape, reads, refers, refs_of, shape_of, type_of, writes};
+    ghost use Rattle.pagable_examples.specs.Linked.{reads, shape_of, told, writes};
 
-    ghost type_of = { type_of };
+    ghost type_of = { λ n. (told n).number };
 
     ghost shape_of = { λ e t. shape_of t };
 
-    ghost own_shape = { λ e n. own_shape n };
+    ghost own_shape = { λ e n. (told n).shape };
 
-    ghost means = { means };
+    ghost means = { λ n. (told n).means };
 
-    ghost refs_of = { refs_of };
+    ghost refs_of = { λ n. (told n).refs };
 
     ghost write_causes = { λ t. (writes t).are };
 
@@ -61,11 +79,11 @@ impl NodeSet<Linked> for LinkedNode {
 
     ghost read_causes_are_own = { λ t. (reads t).own };
 
-    ghost has_meaning = { has_meaning };
+    ghost has_meaning = { λ n. (told n).has_meaning };
 
-    ghost refers = { refers };
+    ghost refers = { λ n. (told n).refers };
 
-    ghost has_shape = { λ e n. has_shape n };
+    ghost has_shape = { λ e n. (told n).has_shape };
 
     fn node_type(&self) -> u32 {
         match self {
@@ -83,16 +101,15 @@ impl NodeSet<Linked> for LinkedNode {
         }
     }
 
-    #[tactic(auto, using(crate::proofs::Listed::writing))]
     fn write<S: PagableSerializer<Linked>>(&self, serializer: &mut S) -> Result<(), Error> {
         match self {
-            LinkedNode::Link(link) => link.as_ref().pagable_serialize(serializer),
-            LinkedNode::ArcLink(link) => link.as_ref().pagable_serialize(serializer),
-            LinkedNode::Bundle(bundle) => bundle.as_ref().pagable_serialize(serializer),
+            LinkedNode::Link(link) => write_listed(link.as_ref(), serializer),
+            LinkedNode::ArcLink(link) => write_listed(link.as_ref(), serializer),
+            LinkedNode::Bundle(bundle) => write_listed(bundle.as_ref(), serializer),
         }
     }
 
-    #[tactic(auto, using(crate::proofs::Listed::or_memory))]
+    #[tactic(auto, using(crate::proofs::Refusing::or_memory))]
     fn read<D: PagableDeserializer<Linked>>(
         node_type: u32,
         alloc: Global,

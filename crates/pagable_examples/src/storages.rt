@@ -88,8 +88,7 @@ impl<E: Env, S: PagableStorage<E>> PagableStorage<E> for FailingStorage<S> {
     }
 
     fn failures(&self) -> u64 {
-        self.inner
-            .failures()
-            .saturating_add(u64::from(self.has_failed))
+        let own = u64::from(self.has_failed);
+        self.inner.failures().saturating_add(own)
     }
 }

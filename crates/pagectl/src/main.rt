@@ -42,8 +42,5 @@ fn run(rt: &HostRuntime) -> io::Result<ExitCode> {
 }
 
 fn main(rt: HostRuntime) -> ExitCode {
-    match run(&rt) {
-        Ok(code) => code,
-        Err(_) => ExitCode::FAILURE,
-    }
+    run(&rt).unwrap_or(ExitCode::FAILURE)
 }

@@ -19,12 +19,6 @@ pub struct Bundle {
     pub pinned: Vec<PinnedPagableArc<Link>>,
 }
 
-/// The fields, as a bundle is read: the first, and the pair of the others.
-type Fields = (
-    Vec<Arc<ArcLink>>,
-    (Vec<PagableArc<Link>>, Vec<PinnedPagableArc<Link>>),
-);
-
 impl Carried<Linked> for Bundle {
     ghost shape = { λ e. bundle_shape };
 
@@ -68,7 +62,7 @@ impl<'de> PagableDeserialize<'de, Linked> for Bundle {
         alloc: Global,
         deserializer: &mut D,
     ) -> Result<Self, Error> {
-        let fields: Fields = PagableDeserialize::pagable_deserialize(alloc, deserializer)?;
+        let fields = PagableDeserialize::pagable_deserialize(alloc, deserializer)?;
         let (shared, (loose, pinned)) = fields;
         Ok(Bundle {
             shared,

@@ -79,20 +79,14 @@ impl<H: KeyHash> Session<H> {
 
     /// The handle of this name.
     fn find(&self, name: &str) -> Result<HandleNumber, Refusal> {
-        match self.names.get(name) {
-            Some(handle) => Ok(*handle),
-            None => Err(Refusal::NoName),
-        }
+        self.names.get(name).copied().ok_or(Refusal::NoName)
     }
 
     /// A new cell with the text, whose loose handle gets the name.
     fn make(&mut self, alloc: Global, name: &str, text: &str) -> Result<Answer<'_>, Refusal> {
         let vacant = vacant(&mut self.names, alloc, name)?;
         let node = TextNode::new(alloc, text)?;
-        let handle = self
-            .pager
-            .new_loose(alloc, node)
-            .map_err(|refused| refused.0)?;
+        let handle = self.pager.new_loose(alloc, node).map_err(|back| back.0)?;
         vacant.insert(handle);
         Ok(Answer::Text("ok"))
     }
@@ -148,14 +142,8 @@ fn ask<H: KeyHash>(
     handle: HandleNumber,
 ) -> Result<Answer<'static>, Error> {
     match verb {
-        Verb::Unpin => {
-            pager.unpin(handle)?;
-            Ok(Answer::Text("ok"))
-        }
-        Verb::Loose => {
-            pager.into_pagable(handle)?;
-            Ok(Answer::Text("ok"))
-        }
+        Verb::Unpin => pager.unpin(handle).map(|_| Answer::Text("ok")),
+        Verb::Loose => pager.into_pagable(handle).map(|_| Answer::Text("ok")),
         Verb::Count => Ok(Answer::Number(u128::from(pager.count(handle)?))),
         Verb::Key => match pager.key(handle)? {
             OptionalDataKey::None => Ok(Answer::Text("none")),

@@ -1,16 +1,18 @@
-//! What a value refers to is read with it by a shared reference or a pin, and is what stands in the pager.
+//! What a value refers to is read with it by a shared reference or a pin, and is what stands in the pager. And what lends a
+//! deserializer its references comes back from it.
 
 use crate::tests::equal::equal;
 use pagable::paging::{deserialize_pagable_data, page_out_pending};
 use pagable::{
-    ArcRef, DataKey, Error, HandleNumber, InMemoryBlobs, OfNode, OptionalDataKey, PagableData,
-    Pager,
+    ArcRef, DataKey, Error, HandleNumber, InMemoryBlobs, Kind, NoReferences, OfNode,
+    OptionalDataKey, PagableData, PagableDeserializerImpl, Pager, References, SessionContext,
 };
 use pagable_examples::linked::bundle::Bundle;
 use pagable_examples::linked::chain::Chain;
 use pagable_examples::linked::{Linked, LinkedNode};
 use std::alloc::Global;
 use std::sync::Arc;
+use std::test::Fail;
 
 type LinkPager = Pager<Linked, InMemoryBlobs<Linked>>;
 
@@ -90,4 +92,16 @@ fn what_is_read_with_a_value_is_what_stands(rt: HostRuntime) {
     let mut pager = Pager::new(alloc, InMemoryBlobs::new(alloc), Linked);
     let bundles = read_bundles(alloc, &mut pager);
     equal(&rt, bundles, Ok([true; 3]), "bundles");
+}
+
+#[test]
+fn what_lends_references_comes_back(rt: HostRuntime) -> Result<(), Fail> {
+    let env = Linked;
+    let session = SessionContext::new(rt.alloc());
+    let source = PagableDeserializerImpl::new(b"", &[], NoReferences::new(&env, &session));
+    let mut lent = source.finish();
+    let key = DataKey::new(90).ok_or("90 is a key")?;
+    let found = lent.reference(0, key, Kind(5));
+    equal(&rt, found, Err(Error::WrongKind), "a reference");
+    Ok(())
 }

@@ -1,38 +1,29 @@
 //! What is written of static values and of tagged values that aren't registered. The bytes were worked out by hand. What is read of both
 //! stands in the data of `vectors`.
 
-use crate::tests::equal::equal;
-use crate::tests::written::is_written;
+use crate::tests::equal::{equal, is_written};
 use pagable::{Error, PagableTagged, StaticStr, StaticValue, StaticValueEntry};
 use pagable_examples::{Animal, Zoo};
 use std::alloc::Global;
 use std::process::Abort;
 use std::test::Fail;
 
-/// Whether a text under this index, whether or not it stands there, is written so.
-fn is_word_written(
-    alloc: Global,
-    zoo: &Zoo,
-    value: &'static str,
-    index: u32,
-    wanted: Result<&[u8], u32>,
-) -> bool {
-    let word: StaticStr = StaticValue(StaticValueEntry { value, index });
-    is_written(alloc, zoo, &word, wanted)
-}
-
 /// Fails the test unless a static value is written under its own index alone.
 fn are_written_by_their_index(rt: &impl Abort, alloc: Global, zoo: &Zoo) {
-    for (text, index) in [("a", 0u8), ("b", 1), ("b", 2)] {
-        let found = is_word_written(alloc, zoo, text, u32::from(index), Ok(&[index]));
-        equal(rt, found, true, text);
+    let refused = Err(Error::Unregistered.number());
+    let rows: [(&'static str, u32, Result<&[u8], u32>); 6] = [
+        ("a", 0, Ok(b"\x00")),
+        ("b", 1, Ok(b"\x01")),
+        ("b", 2, Ok(b"\x02")),
+        ("b", 0, refused),
+        ("a", 1, refused),
+        ("z", 9, refused),
+    ];
+    for (value, index, wanted) in rows {
+        let word: StaticStr = StaticValue(StaticValueEntry { value, index });
+        is_written(rt, alloc, zoo, &word, wanted, value);
     }
     equal(rt, zoo.words.index_of(&"b"), Some(1), "the least index");
-    let unregistered = Err(Error::Unregistered.number());
-    for (text, index) in [("b", 0), ("a", 1), ("z", 9)] {
-        let found = is_word_written(alloc, zoo, text, index, unregistered);
-        equal(rt, found, true, text);
-    }
 }
 
 /// Fails the test unless animals are written whose tags aren't registered, as far as they are written at all.
@@ -43,8 +34,7 @@ fn are_written_unregistered(rt: &impl Abort, alloc: Global, zoo: &Zoo) {
         (Animal::OldCat(5), Err(Error::Unregistered.number())),
     ];
     for (animal, wanted) in rows {
-        let found = is_written(alloc, zoo, &animal, wanted);
-        equal(rt, found, true, animal.pagable_type_tag());
+        is_written(rt, alloc, zoo, &animal, wanted, animal.pagable_type_tag());
     }
 }
 

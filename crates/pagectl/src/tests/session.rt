@@ -6,6 +6,7 @@ use pagable::{
     Env, NoReferences, PagableDeserializer, PagableDeserializerImpl, PagableSerializer,
     PagableSerializerImpl, SerializerForPaging, SessionContext, WeighHash,
 };
+use pagable_examples::zoo::NoNode;
 use std::alloc::Global;
 use std::sync::Wait;
 use std::thread::{Threads, join};
@@ -13,9 +14,6 @@ use std::thread::{Threads, join};
 /// An environment whose sessions name numbers.
 #[derive(Drop)]
 struct Naming;
-
-#[derive(Drop)]
-struct NoNode;
 
 impl Env for Naming {
     type Node = NoNode;
@@ -71,25 +69,8 @@ fn in_two_threads<R: Threads + Wait + Sync>(rt: &R, names: &Names) -> [Option<u3
 fn two_threads_see_one_session(rt: HostRuntime) {
     let names = Names::default(rt.alloc());
     let seen = in_two_threads(&rt, &names);
-    equal(
-        &rt,
-        seen,
-        [Some(1), Some(1), Some(1), Some(2)],
-        "two threads",
-    );
-}
-
-/// What a serializer's session has for a name.
-fn through_serializer<S: PagableSerializer<Naming>, R: Wait>(rt: &R, out: &S) -> Option<u32> {
-    found(rt, out.session_context(), 7)
-}
-
-/// What a deserializer's session has for a name.
-fn through_deserializer<D: PagableDeserializer<Naming>, R: Wait>(
-    rt: &R,
-    source: &D,
-) -> Option<u32> {
-    found(rt, source.session_context(), 7)
+    let wanted = [Some(1), Some(1), Some(1), Some(2)];
+    equal(&rt, seen, wanted, "two threads");
 }
 
 #[test]
@@ -99,17 +80,20 @@ fn page_out_and_readers_lend_their_session(rt: HostRuntime) {
     let names = Names::new(alloc);
     equal(&rt, second(&rt, &names, 7), true, "set");
     let out = SerializerForPaging::new(alloc, &env, &names);
-    equal(&rt, through_serializer(&rt, &out), Some(2), "page-out");
+    let lent = PagableSerializer::<Naming>::session_context(&out);
+    equal(&rt, found(&rt, lent, 7), Some(2), "page-out");
     let source = PagableDeserializerImpl::new(b"", &[], NoReferences::new(&env, &names));
-    equal(&rt, through_deserializer(&rt, &source), Some(2), "reader");
+    let lent = PagableDeserializer::<Naming>::session_context(&source);
+    equal(&rt, found(&rt, lent, 7), Some(2), "reader");
 }
 
 #[test]
 fn a_testing_serializer_has_a_session_of_its_own(rt: HostRuntime) {
     let env = Naming;
     let out = PagableSerializerImpl::testing_new(rt.alloc(), &env);
-    equal(&rt, through_serializer(&rt, &out), None, "a new session");
     let names = PagableSerializer::<Naming>::session_context(&out);
+    equal(&rt, found(&rt, names, 7), None, "a new session");
     equal(&rt, second(&rt, names, 7), true, "set");
-    equal(&rt, through_serializer(&rt, &out), Some(2), "its session");
+    let again = PagableSerializer::<Naming>::session_context(&out);
+    equal(&rt, found(&rt, again, 7), Some(2), "its session");
 }

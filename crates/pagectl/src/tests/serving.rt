@@ -1,6 +1,7 @@
-//! Lines from a reader and to a writer that fail. What is answered to each line stands in `stdin` and `stdout` of this crate.
+//! Lines by SHA-256, and lines from a reader and to a writer that fail. What is answered to each line by the hash for tests stands in `stdin` and
+//! `stdout` of this crate.
 
-use pagable::WeighHash;
+use pagable::{Sha256Key, WeighHash};
 use pagable_examples::named_texts::serve::serve;
 use std::io;
 use std::io::{BufReader, Read, Write};
@@ -62,14 +63,7 @@ fn a_failure_ends_it(rt: HostRuntime) -> Result<(), Fail> {
     let two: &[u8] = b"new a x\nnew b y\n";
     let cases: [(&[u8], usize, bool, usize, bool, &[u8]); 9] = [
         // Reading fails in the third line.
-        (
-            b"new a hello\npending\nnew b",
-            0,
-            false,
-            64,
-            false,
-            b"ok\n0\n",
-        ),
+        (b"new a x\npending\nnew b", 0, false, 64, false, b"ok\n0\n"),
         // Writing fails at once, in an answer, and between two.
         (two, 0, true, 0, false, b""),
         (two, 0, true, 1, false, b"o"),
@@ -94,5 +88,18 @@ fn a_failure_ends_it(rt: HostRuntime) -> Result<(), Fail> {
         assert_eq!(rt; outcome.is_ok(), is_whole);
         assert_eq!(rt; writer.written.as_slice(), wanted);
     }
+    Ok(())
+}
+
+/// The key was computed by another implementation of SHA-256, over eight bytes 0, the length and the text.
+#[test]
+fn a_key_is_the_first_half_of_sha256(rt: HostRuntime) -> Result<(), Fail> {
+    let alloc = rt.alloc();
+    let script: &[u8] = b"new a hello world\nunpin a\npageout\nkey a\npin a b\n";
+    let mut reader = BufReader::new(alloc, script)?;
+    let mut writer: Vec<u8> = Vec::new(alloc);
+    serve::<Sha256Key, _, _>(alloc, &mut reader, &mut writer)?;
+    let wanted: &[u8] = b"ok\nok\nok\n227549967058202205947004267918648465130\nhello world\n";
+    assert_eq!(rt; writer.as_slice(), wanted);
     Ok(())
 }
