@@ -20,11 +20,10 @@ from plain_pager import varint
 
 # The types whose lines are replayed, all of which `vectors` knows.
 CARRIED = [
-    "()", "bool", "char", "u8", "u16", "u32", "u64", "u128", "usize", "i8", "i16", "i32", "i64", "i128", "String", "Box<str>",
-    "PathBuf", "PhantomData", "Duration", "AtomicI64", "OnceLock<u16>", "Regex", "Json", "Box<u16>", "Option<u8>",
-    "Option<Option<i32>>", "Result<String,String>", "(bool,String)", "(u8,u16,i32)",
-    "(u8,String,Vec<u64>,Option<i8>)", "(u128,i128,char,bool,())", "Vec<()>", "Vec<u8>", "Vec<i32>", "Vec<u64>", "Vec<String>",
-    "Box<[u32]>", "SmallVec<[String;4]>", "&[i32]", "[i32]", "[u16;2]", "[String;3]",
+    "()", "bool", "char", "u8", "u16", "u32", "u64", "u128", "usize", "i8", "i16", "i32", "i64", "i128", "String", "Box<str>", "PathBuf",
+    "PhantomData", "Duration", "AtomicI64", "OnceLock<u16>", "Regex", "Json", "Box<u16>", "Option<u8>", "Option<Option<i32>>",
+    "Result<String,String>", "(bool,String)", "(u8,u16,i32)", "(u8,String,Vec<u64>,Option<i8>)", "(u128,i128,char,bool,())", "Vec<()>",
+    "Vec<u8>", "Vec<i32>", "Vec<u64>", "Vec<String>", "Box<[u32]>", "SmallVec<[String;4]>", "&[i32]", "[i32]", "[u16;2]", "[String;3]",
     "BTreeMap<(u8,bool),Vec<String>>", "HashMap<String,i32>", "IndexMap<String,u8>", "BTreeSet<i16>", "IndexSet<u64>",
     "IndexMap<String,BTreeSet<Option<i8>>>",
 ]
@@ -77,17 +76,8 @@ LIST = re.compile(r"(?:Vec|BTreeSet|IndexSet)<(.*)>$|SmallVec<\[(.*);\d+\]>$|Box
 ARRAY = re.compile(r"&\[(.*)\]$|\[(.*);\d+\]$")
 
 
-def json_form(value):
-    if value is None:
-        return b"\x00"
-    if isinstance(value, bool):
-        return b"\x01\x01" if value else b"\x01\x00"
-    if isinstance(value, str):
-        return b"\x03" + form("String", value)
-    if isinstance(value, list):
-        return b"\x04" + varint(len(value)) + b"".join(map(json_form, value))
-    members = sorted((key.encode(), of) for key, of in value.items())
-    return b"\x05" + varint(len(members)) + b"".join(varint(len(k)) + k + json_form(of) for k, of in members)
+# The cases of JSON values, but for numbers, and the types of their parts.
+JSON = {type(None): (0, "()"), bool: (1, "bool"), str: (3, "String"), list: (4, "Vec<Json>"), dict: (5, "HashMap<String,Json>")}
 
 
 def form(name, value):
@@ -106,7 +96,8 @@ def form(name, value):
     if name in ("()", "PhantomData"):
         return b""
     if name == "Json":
-        return json_form(value)
+        case, part = JSON[type(value)]
+        return bytes([case]) + form(part, value.items() if type(value) is dict else value)
     if name == "Duration":
         return varint(int(value["secs"])) + varint(int(value["nanos"]))
     if part := inside(name, "Option", "OnceLock"):
