@@ -6,9 +6,7 @@
 mod blobs;
 mod calls;
 mod carried;
-mod drawn;
 mod lines;
-mod outcome;
 mod own;
 mod times;
 mod types;
@@ -22,7 +20,7 @@ use std::{env, fs};
 fn answer(rt: &HostRuntime, calls: &mut Calls, word: &str) -> anyhow::Result<()> {
     let text = fs::read_to_string(rt, word)?;
     if word.ends_with("worked.txt") {
-        return worked::run(rt, calls, text.as_str());
+        return worked::run(rt, text.as_str());
     }
     for line in text.lines() {
         if line.starts_with('#') {
@@ -56,7 +54,7 @@ fn answer_all(rt: &HostRuntime, calls: &mut Calls, words: &[String]) -> anyhow::
 fn run(rt: &HostRuntime, words: &[String]) -> anyhow::Result<()> {
     match words {
         [first, rest @ ..] if first.as_str() == "time" => time(rt, rest),
-        _ => answer_all(rt, &mut Calls::new(rt.alloc()), words),
+        _ => answer_all(rt, &mut Calls::new(rt.alloc(), ""), words),
     }
 }
 

@@ -3,7 +3,7 @@
 
 use crate::calls::asked::item;
 use crate::calls::nodes::{CellNode, node};
-use crate::calls::{Calls, let_go, pager_over};
+use crate::calls::{Calls, pager_over};
 use crate::lines;
 use anyhow::{Context, ensure};
 use pagable::paging::{page_out_item, page_out_pending, pin};
@@ -67,14 +67,6 @@ where
     Ok(page_out_item(alloc, pager, &mut table, item).ok() == DataKey::new(3484))
 }
 
-/// The same in a new pager.
-fn is_item_paged_out_anew(alloc: Global) -> anyhow::Result<bool> {
-    let mut pager = pager_over::<WeighHash>(alloc, "");
-    let answer = is_item_paged_out(alloc, &mut pager);
-    let_go(pager);
-    answer
-}
-
 /// Makes a cell that is listed twice.
 fn list_twice<E: Env<Node = CellNode>, S: PagableStorage<E>>(
     alloc: Global,
@@ -109,37 +101,28 @@ where
     Ok(listed == 2 && pager.pending() == 0 && fetched == Some(Error::Storage(7)))
 }
 
-/// The same in a new pager.
-fn is_stored_once_anew(alloc: Global) -> anyhow::Result<bool> {
-    let mut pager = pager_over::<WeighHash>(alloc, "1");
-    let answer = is_stored_once(alloc, &mut pager);
-    let_go(pager);
-    answer
-}
-
 /// Whether a row's values of which no line says what they are hold too.
 fn others_hold(alloc: Global, number: u32) -> anyhow::Result<bool> {
     match number {
         6 => are_too_deep(alloc),
-        10 => is_item_paged_out_anew(alloc),
-        14 => is_stored_once_anew(alloc),
+        10 => is_item_paged_out(alloc, &mut pager_over::<WeighHash>(alloc, "")),
+        14 => is_stored_once(alloc, &mut pager_over::<WeighHash>(alloc, "1")),
         24 => Ok(write_over(alloc)?),
         _ => Ok(true),
     }
 }
 
 /// Whether the row comes out as it has to, on a new machine. A refusal that no row wants is a failure too.
-fn is_ok(alloc: Global, calls: &mut Calls, text: &str, number: u32) -> bool {
-    calls.restart(alloc, "");
-    lines_hold(alloc, calls, text, number).unwrap_or(false)
+fn is_ok(alloc: Global, text: &str, number: u32) -> bool {
+    lines_hold(alloc, &mut Calls::new(alloc, ""), text, number).unwrap_or(false)
         && others_hold(alloc, number).unwrap_or(false)
 }
 
 /// Runs the rows whose lines stand in this text, and prints a line for each.
-pub fn run(rt: &HostRuntime, calls: &mut Calls, text: &str) -> anyhow::Result<()> {
+pub fn run(rt: &HostRuntime, text: &str) -> anyhow::Result<()> {
     let mut all_ok = true;
     for number in 1..=LAST {
-        let is_ok = is_ok(rt.alloc(), calls, text, number);
+        let is_ok = is_ok(rt.alloc(), text, number);
         let word = if is_ok { "ok" } else { "failed" };
         println!(rt; "row {number} {word}")?;
         all_ok = all_ok && is_ok;

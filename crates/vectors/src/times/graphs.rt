@@ -2,7 +2,7 @@
 
 use crate::calls::asked::item;
 use crate::calls::nodes::{CellNode, node};
-use crate::calls::{let_go, pager_over};
+use crate::calls::pager_over;
 use crate::times::Outcome;
 use anyhow::{Context, bail};
 use pagable::{
@@ -58,9 +58,8 @@ where
     fn list(&self, texts: &[HandleNumber], draws: &mut Draws) -> anyhow::Result<Item> {
         let mut spelled = String::from_str(self.alloc, "08:")?;
         for _ in 0..8 {
-            let text = texts
-                .get((draws.number() % SHARED) as usize)
-                .context("no text")?;
+            let place = (draws.number() % SHARED) as usize;
+            let text = texts.get(place).context("no text")?;
             self.refer(&mut spelled, 0, *text)?;
         }
         Ok(Arc::new(self.alloc, item(self.alloc, spelled.as_str())?)?)
@@ -213,7 +212,5 @@ where
 /// As `once_in`, in a new pager.
 pub fn once(clock: &impl Clock, alloc: Global, row: &str, count: u32) -> anyhow::Result<Outcome> {
     let mut pager = pager_over::<Sha256Key>(alloc, "");
-    let outcome = once_in(clock, alloc, &mut pager, row, count);
-    let_go(pager);
-    outcome
+    once_in(clock, alloc, &mut pager, row, count)
 }
