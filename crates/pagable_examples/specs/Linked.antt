@@ -1,6 +1,6 @@
 -- What links and bundles mean and refer to, and what the nodes that hold them do.
 use Rattle.std.{proofs.Common.arith, specs.{Arc.arc_value, Global.Vec, Prelude.{◌≡◌, ◌<◌, ◌^◌, refl, true, false, ℕ, zero, suc, List, Option, Some, None}}}
-use Rattle.pagable_traits.specs.{Plain.plain_means, References.{holding_means, loose_means, reads_unlent, reference_has_one_form, reference_is_read}, Refers.{ListsInOrder, both_in_order}}
+use Rattle.pagable_traits.specs.{References.{holding_means, loose_means, plain_means, reads_unlent, reference_has_one_form, reference_is_read}, Refers.{ListsInOrder, both_in_order}}
 use Rattle.{pagable_traits.specs.Refers.{list_in_order, optional_in_order, reference_in_order}, pagable_examples.specs.declared.linked.{LinkedNode.LinkedNode, bundle.Bundle.Bundle, chain.Chain.Chain}}
 use Rattle.pagable.specs.{InNodes.{Holds, holds-none, holds-value}, Meanings.{AreSingle, Meanings, exactly, lists, lists_single, options, options_single, pairs, pairs_single, seen_by, some}}
 use Rattle.pagable.specs.{OneForm.{over_has_one_form, two_has_one_form}, OwnCauses.{ReadCauses, WriteCauses, reads_either, reads_memory_or, reads_never, writes_either, writes_long_or, writes_memory}}

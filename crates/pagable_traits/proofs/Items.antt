@@ -1,10 +1,10 @@
 -- Items one after another, as the loops write and read them, and without their count.
 -- Items that are put in one after another as they are read.
--- Items that a walk yields: what writing each, after their count, makes of the whole that holds them, and what its writer owes.
-use Rattle.{pagable_codec.{proofs.Writing.out_is, specs.declared.serializer.PagableSerializer.Ghosts as Serializers}, pagable_model.specs.Form.{Form, array-form}}
+-- Items that a walk yields: what writing each, after their count, makes of the whole that holds them.
+use Rattle.{pagable_codec.proofs.Writing.out_is, pagable_model.specs.Form.{Form, array-form}}
 use Rattle.{pagable_model.specs.{Form.run-form, Shape.{array, run}}, pagable_traits.proofs.{Parts.{err_along, ok_along, only-count, only-part}, Words.{ArcRef, Bor, Collected, Err, Error}}}
-use Rattle.pagable_traits.proofs.Words.{FormAt, Forms, FormsAt, Gave, Gets, GivesSome, Grows, IfErr, List, MeanAll, Meaning, Meanings, MeansList, MeansPair, Nesting, NoForm, NoFormOfSome, NoForms}
-use Rattle.pagable_traits.proofs.Words.{NoFormsOfSome, Ok, OnOk, Option, Out, PutInTurn, Refused, RefusedAll, RefusedAmong, RefusedCounted, Rest, Result, Shape, Some, SomeMeaning, WritesCounted}
+use Rattle.pagable_traits.proofs.Words.{FormAt, Forms, FormsAt, Gave, Gets, GivesSome, IfErr, List, MeanAll, Meaning, Meanings, MeansList, MeansPair, Nesting, NoForm, NoFormOfSome, NoForms}
+use Rattle.pagable_traits.proofs.Words.{NoFormsOfSome, Ok, Option, Out, PutInTurn, Refused, RefusedAll, RefusedAmong, RefusedCounted, Rest, Result, Shape, Some, SomeMeaning}
 use Rattle.pagable_traits.proofs.Words.{WritesEach, WritesSome, WritesSomeAll, [], added, ap, append-nil, append_assoc, arith, counted, get_or, grows_trans, inl, items, items_have_meanings}
 use Rattle.pagable_traits.proofs.Words.{kind_of_arc, length, length_form, list, list-form, long_or, longest, map, mean-more, mean-none, memory_or, memory_refuses, more-forms, moves_trans, no-forms}
 use Rattle.{pagable_traits.proofs.Words.{put_all, read, refl, seen, sequence, some, subst, suc, sym, take, then, zero, ℕ, ◌++◌, ◌+◌, ◌-◌, ◌<◌, ◌>>=◌, ◌∙◌, ◌∷◌, ◌≡◌, ◌≤◌, ◌⊎◌}, std.proofs.Common.drop}
@@ -22,9 +22,6 @@ mean-length mean-none = refl
 mean-length (mean-more x m xs ms h t) = ap (λ (n : ℕ). suc n) (mean-length t)
 
 -- ---- writing
-
-pub grows_some_all : (M : List (Meaning ArcRef) → Type 0) (n : Nesting) (s : Shape) (a b : Out) → WritesSomeAll M n s a b → Grows a b
-grows_some_all M n s a b w = record { bytes = w.wrote.bytes; refs = w.wrote.refs; grown = w.wrote.grown }
 
 pub writes_no_items : {T : Type 0} (M : T → Meaning ArcRef → Type 0) (n : Nesting) (s : Shape) (old : Out) → WritesSomeAll (MeanAll M []) n s old old
 writes_no_items M n s old = record { ms = []; is = mean-none; wrote = record { bytes = []; refs = []; form = no-forms _ s; grown = out_is _ _ _ _ (sym (append-nil old.bytes)) (sym (append-nil old.refs)) } }
@@ -325,26 +322,5 @@ refused_counted r count shows wraps has all h = grind (arith, refuses-long wraps
 -- a list
 pub wraps_list : {X : Type 0} (N : X → Meaning ArcRef → Type 0) (ys : List X) (n : Nesting) (s : Shape) → Wraps N ys (MeansList N ys) n (list s) s
 wraps_list N ys n s = wraps-sequence N ys n (list s) s (λ ms b k f. list-parts n ms f refl) (λ ms b k each le f. list-form _ s ms b k le f)
-
--- ---- what the writers of values owe: the writer of the whole owes what its last call owes
-
-module _ {S E N H K V : Type 0} (s : Serializers S E N H K V) where
-  -- what a writer owes: where it succeeds, and of its refusals
-  abbrev pub Owes : {X : Type 0} → (ok : Type 0) (lacks causes : Error → Type 0) → S → S → Result X Error → Type 0
-  Owes ok lacks causes old new r = record { ok : OnOk r ok; refused : IfErr r lacks; only : IfErr r causes; err : Grows (s.out old) (s.out new); same_env : s.environment new ≡ s.environment old; same_levels : s.levels new ≡ s.levels old }
-
-  -- of the whole, by what its writer's last call owes
-  pub owed : {Y : Type 0} (r : Result Y Error) (P Q : Type 0) (lacks lacks' causes : Error → Type 0) {a b : S} → Owes P lacks causes a b r → OnOk r Q → IfErr r lacks' → Owes Q lacks' causes a b r
-  owed r P Q lacks lacks' causes told ok refused = record { ok = ok; refused = refused; only = told.only; err = told.err; same_env = told.same_env; same_levels = told.same_levels }
-
-  -- of the whole whose items a walk yields
-  pub owed-counted : {W T X Y : Type 0} {next : W → Option T → W → Type 0} {M : T → Meaning ArcRef → Type 0} {walk : W} {N : X → Meaning ArcRef → Type 0} {ys : List X}
-      {Whole : Meaning ArcRef → Type 0} {n : Nesting} {whole item : Shape} {a b : S} (causes : Error → Type 0) (r : Result Y Error) (count : ℕ)
-      → Shows next M walk N ys → Wraps N ys Whole n whole item → ((y : X) → SomeMeaning (N y)) → count ≡ length ys
-      → Owes (WritesCounted next M walk count n item (s.out a) (s.out b)) (RefusedCounted next M walk count n item) causes a b r
-      → Owes (WritesSome Whole n whole (s.out a) (s.out b)) (Refused Whole n whole) causes a b r
-  owed-counted {n = n} {item = item} {a = a} {b = b} causes r count shows wraps has all told =
-      owed r _ _ _ _ _ told (ok_along r told.ok (λ w. writes-counted wraps (s.out a) (added (s.out a) (length_form count) []) (s.out b) count all refl w.within (each-written shows n item _ _ w.each)))
-      (refused_counted r count shows wraps has all told.refused)
 
 pub ruleset writes = (ok_along, err_along, grows_trans, only-count, only-part)

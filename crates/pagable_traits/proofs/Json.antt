@@ -1,18 +1,18 @@
 -- What writing a JSON value adds: its case, and a form of its part; and which values have no form.
 -- What reading a JSON value gives: its case, and then its part.
-use Rattle.pagable_codec.specs.declared.{deserializer.PagableDeserializer.Ghosts as Deserializers, env.Env.Ghosts as Environments, serializer.PagableSerializer.Ghosts as Serializers}
+use Rattle.pagable_codec.specs.declared.{env.Env.Ghosts as Environments, serializer.PagableSerializer.Ghosts as Serializers}
 use Rattle.pagable_model.specs.Form.{json-array-form, json-flag-form, json-null-form, json-number-form, json-object-form, json-text-form}
 use Rattle.{pagable_model.specs.{Keyed.text_is_ordered, Lifted.{list_single, pair_single}, Numbers.{IsSigned, unsigned_form, varint}, Reading.{below, json_case}}, pagable_traits.proofs.Items.Wraps}
 use Rattle.pagable_traits.proofs.{Items.{gives-seen, refuses-items, refuses-long, wraps_list, writes-counted}, JsonSteps.{below as one_down, deeper, wrote-err}, Maps.{IsOrderOf, Written, key_like}}
 use Rattle.pagable_traits.proofs.{Maps.{reads-entries, sorted-map-put, viewed, wraps_sorted_map}, Parts.{err_along, ok_along, refuses_whole, writes_whole}, Words.{Answer, ArcRef, Bool, Context}}
-use Rattle.pagable_traits.proofs.Words.{Entry, Err, Error, FormAt, Gave, GivesSome, Global, Grows, IfErr, Is, IsStrictlySortedBy, List, MeanAll, Meaning, MeansList, MeansPair, MovesOn, Nesting}
-use Rattle.pagable_traits.proofs.Words.{NoForm, None, Ok, OnOk, Option, Out, Piece, Reads, Refused, Rest, Result, Shape, Some, SomeMeaning, String, Value, Vec, WritesSome, Wrote, [], added, all, ap}
+use Rattle.pagable_traits.proofs.Words.{Entry, Err, Error, FormAt, Gave, GivesSome, Global, Grows, IfErr, Is, IsStrictlySortedBy, List, MeanAll, Meaning, MeansList, MeansPair, Nesting}
+use Rattle.pagable_traits.proofs.Words.{NoForm, None, Ok, OnOk, Option, Out, Piece, Refused, Rest, Result, Shape, Some, SomeMeaning, String, Value, Vec, WritesSome, Wrote, [], added, all, ap}
 use Rattle.pagable_traits.proofs.Words.{arith, array_case, as_i64, bool_form, both, bytes, bytes_of, deepest, entry, false, flag, flag-form, grows_refl, grows_trans, handles_at, inl, inr, integer}
 use Rattle.pagable_traits.proofs.Words.{items, items_have_meanings, json, json_causes, keys_of, length, length_at, length_form, list, list-form, long_or, long_or_memory, longest, map, memory}
 use Rattle.pagable_traits.proofs.Words.{memory_refuses, moves_trans, none, number_view, object_case, of_data, of_entries, of_key, of_value, ordered, ordering_reverse, pair, pair_has_meaning, pos}
 use Rattle.pagable_traits.proofs.Words.{put_all, put_sorted, read, read_with, refl, refused_memory, rules, seen, sequence, signed, signed-form, sorted-map-form, sorted_map, string_bytes, string_cmp}
 use Rattle.pagable_traits.proofs.Words.{subst, suc, sym, text, text-form, text_form, text_order, then, to_z-of_z, true, unsigned_at, variant, view, w64, ℕ, ℤ, ◌++◌, ◌+◌, ◌-◌, ◌<◌, ◌^◌, ◌∙◌, ◌∷◌, ◌≡◌}
-use Rattle.{pagable_traits.{proofs.Words.◌≤◌, specs.{JsonData.{long_or_no_memory, part_at}, JsonSteps.{ObjectOf, front, part_of, value as form}}}, serde_json.proofs.Views.{view-Array, view-Object}}
+use Rattle.{pagable_traits.{proofs.Words.◌≤◌, specs.{JsonData.{long_or_no_memory, part_at}, JsonSteps.{ObjectOf, front, value as form}}}, serde_json.proofs.Views.{view-Array, view-Object}}
 use Rattle.serde_json.specs.{Data.{Data, Num, array, boolean, null, number, object, string}, Find.of_integer, View.{items_view, members_view}, declared.number.Number.Number}
 use Rattle.{serde_json.specs.declared.value.Value.the_lemmas, std.{proofs.{Common.BTreeMap, lemmas.Bool.{lt-ltb, ne_eqb}}, specs.{Prelude.{nat_lt, negsuc}, String.string_cmp_total}}}
 use Rattle.serde_json.specs.Data as kit
@@ -307,10 +307,6 @@ module _ (levels : ℕ) (parts : ℕ → Shape) (rest : Rest Answer) where
         means : (v : Value) (es : List (Entry ArcRef)) → ObjectOf v (map entry es) → Is of_value v (variant 5 (of_entries (put_all (put_sorted text_order) [] es)))
         means v es o = members-are o.members.entries _ (sorted-map-put (Is of_key) (Is of_value) string_cmp text_order keys-in-order o.members.entries es o.each) ∙ ap of_data (sym (seen-object v o.members o.is))
 
-module _ {D E R N H K V : Type 0} (env : Environments E N H K V) (d : Deserializers D E R N H K V) where
-  -- members one level further down, after their count
-  pub object-read : {a b c : D} {count : ℕ} {r : Result Value Error} → bytes_of length_at (λ n. n) (d.rest a) ≡ Ok (count, d.rest b) → MovesOn (d.standing a) (d.standing b) → d.environment b ≡ d.environment a → d.levels b ≡ d.levels a → d.levels b < deepest
-      → Reads env d memory ObjectOf (λ x. items (read (record x { levels = x.levels + 1 }) (both text json)) count) b c r → Reads env d memory (Is of_value) (part_of object_case) a c r
-  object-read {a} {b} {c} {count} {r} told moves same_env same_levels lt q = grind (arith, object-gives)
+pub ruleset read_parts = (array-deep, array-seen, object-deep, object-gives, moves_trans)
 
 pub ruleset read_cases = (moves_trans, null-read, no-case, is-flag, is-text, is-whole, to_z-of_z)

@@ -1,7 +1,7 @@
 -- What writing a value lists.
 use Rattle.std.{proofs.Common.{◌≡◌, ◌++◌, ℕ, List, [], ◌∙◌, refl, Result}, specs.Global.Vec, specs.Int.w8, specs.Prelude.{OnOk, Option, String}, specs.declared.alloc.Global.Global}
 use Rattle.pagable_traits.proofs.Listed.{written_listed}
-use Rattle.pagable_traits.specs.{Plain.plain_means, Refers.{ListsInOrder, both_in_order, list_in_order, optional_in_order, reference_in_order}, declared.plain.OfKind.OfKind}
+use Rattle.pagable_traits.specs.{References.plain_means, Refers.{ListsInOrder, both_in_order, list_in_order, optional_in_order, reference_in_order}, declared.plain.OfKind.OfKind}
 use Rattle.pagable_model.specs.{Form.unsigned-form, References.references_in, Shape.{Shape, both, list, nothing, optional, reference, text, unsigned}, Standing.Is, Writing.{Out, WritesSome, nesting}}
 use Rattle.pagable_model.specs.{declared.error.Error.Error, declared.numbers.ArcRef.ArcRef}
 use Rattle.pagable.specs.Meanings.{AreSingle, Meanings, exactly}

@@ -1,6 +1,6 @@
 -- What the values of the rows mean, and how they are spelled.
 use Rattle.std.specs.{Prelude.{ℕ, zero, suc, ◌≡◌, refl, true, Option, Some, None, List, []}, Arc.arc_value, Global.Vec, Int.w8, String.string_bytes}
-use Rattle.pagable_traits.specs.{Plain.plain_means, declared.plain.OfKind.OfKind}
+use Rattle.pagable_traits.specs.{References.plain_means, declared.plain.OfKind.OfKind}
 use Rattle.pagable.specs.Meanings.{AreSingle, Meanings, exactly, lists, lists_single, options, options_single, pairs, pairs_single, seen_by, some}
 use Rattle.pagable.specs.OwnCauses.{WriteCauses, writes_either, writes_long_or, writes_memory, writes_memory_or}
 use Rattle.pagable_model.specs.{Meaning.{Meaning, number, pair}, References.{references_in, SameReferences}, Refusals.may_refuse_writing, Shape.{Shape, both, list, optional, reference, text, unsigned}}

@@ -82,7 +82,7 @@ pub fn read_value<E: Env, D: PagableDeserializer<E>>(
 
 // Reads an array after its case.
 #[cycle(reading_json)]
-#[tactic(auto, unfolding(pagable_model::specs::Reading::read, pagable_model::specs::Reading::read_with), using(crate::proofs::Parts::reads))]
+#[tactic(auto, using(crate::proofs::Json::read_parts))]
 fn array_part<E: Env, D: PagableDeserializer<E>>(
     alloc: Global,
     deserializer: &mut D,
@@ -117,7 +117,7 @@ fn read_items<E: Env, D: PagableDeserializer<E>>(
 
 // Reads an object after its case.
 #[cycle(reading_json)]
-#[tactic(auto, unfolding(pagable_model::specs::Reading::read, pagable_model::specs::Reading::read_with), using(crate::proofs::Parts::reads))]
+#[tactic(auto, using(crate::proofs::Json::read_parts))]
 fn object_part<E: Env, D: PagableDeserializer<E>>(
     alloc: Global,
     deserializer: &mut D,

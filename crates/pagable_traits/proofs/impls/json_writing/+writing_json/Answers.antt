@@ -77,15 +77,15 @@ write_members-returns g t c = wrote-is g.E.Env g.S.PagableSerializer c.loop-key.
 
 pub write_member-returns-in_err-pagable_serialize : goal.write_member-returns-in_err-pagable_serialize
 write_member-returns-in_err-pagable_serialize g t c =
-    let w = c.in_err-pagable_serialize.ensures in
     let r : Result (Unit {0}) Error = Err c.in_err-pagable_serialize.field-0.0 in
-    wrote-err g.E.Env g.S.PagableSerializer c.from_residual.result c.from_residual.ensures.1 (as-form g.E.Env g.S.PagableSerializer (Is of_key c.args.key.now) text (long_or memory) r w.ok w.refused w.only w.err w.same_env w.same_levels)
+    wrote-err g.E.Env g.S.PagableSerializer c.from_residual.result c.from_residual.ensures.1
+    (as-form g.E.Env g.S.PagableSerializer (Is of_key c.args.key.now) (λ e. text) (long_or memory) r refl c.in_err-pagable_serialize.ensures)
     (λ n l h. first_refused {X = Unit {0}} (Err _) (Is of_key) (exactly of_value) c.args.key.now c.args.value.now n text json l) (λ h. json-text _ h)
 
 pub write_member-returns : goal.write_member-returns
 write_member-returns g t c =
-    let w = c.in_ok-pagable_serialize.ensures in
     let r : Result (Unit {0}) Error = Ok tt in
-    wrote-then g.E.Env g.S.PagableSerializer c.write_value.result (as-form g.E.Env g.S.PagableSerializer (Is of_key c.args.key.now) text (long_or memory) r w.ok w.refused w.only w.err w.same_env w.same_levels) c.write_value.ensures
+    wrote-then g.E.Env g.S.PagableSerializer c.write_value.result
+    (as-form g.E.Env g.S.PagableSerializer (Is of_key c.args.key.now) (λ e. text) (long_or memory) r refl c.in_ok-pagable_serialize.ensures) c.write_value.ensures
     (λ n old mid new v u. writes_pair (Is of_key) (Is of_value) (c.args.key.now, c.args.value.now) n text json old mid new v u)
     (λ n e l h. refused_second {X = Unit {0}} (Err e) (Is of_key) (Is of_value) (λ k. (of_key k, refl)) (c.args.key.now, c.args.value.now) n text json l) (λ e h. h)
