@@ -243,20 +243,18 @@ held-some n rows h among e = let a = at-most-sum (λ x. one (is_at n x)) rows h 
 pub there-then : {w : Core} → IsWhole w → (h : HandleRow) → Among w.rows h → is_some (w.cells h.node.0) ≡ true
 there-then {w} whole h among = let a = held-some h.node.0 w.rows h among refl in let b : nat_lt 0 (held h.node.0 w.rows) ≡ true = grind (arith, nat_tests) in whole.handles.live h.node.0 ∙ b
 
--- rows of one node are all Shared, or none is
-abbrev pub AreAlike : List HandleRow → Type 0
-AreAlike rows = (x y : HandleRow) → Among rows x → Among rows y → x.node.0 ≡ y.node.0 → is_shared x.mode ≡ is_shared y.mode
-
 -- a row is Shared exactly where one of its node is
 shared-by : {w : Core} → IsWhole w → (x : HandleRow) → Among w.rows x → is_shared x.mode ≡ nat_lt 0 (sharing x.node.0 w.rows)
 shared-by {w} whole x among =
     let less = sum-less (λ h. one (is_share x.node.0 h)) (λ h. one (is_at x.node.0 h)) w.rows x (λ h. grind (arith, nat_tests)) among in
     grind (arith, nat_tests, whole.handles.uniform x.node.0, at-most-sum (λ h. one (is_share x.node.0 h)) w.rows x among)
 
-pub alike-rows : {w : Core} → IsWhole w → AreAlike w.rows
+-- rows of one node are all Shared, or none is
+pub alike-rows : {w : Core} → IsWhole w → (x y : HandleRow) → Among w.rows x → Among w.rows y → x.node.0 ≡ y.node.0 → is_shared x.mode ≡ is_shared y.mode
 alike-rows {w} whole x y there here same = shared-by whole x there ∙ ap (λ n. nat_lt 0 (sharing n w.rows)) same ∙ sym (shared-by whole y here)
 
-uniform-rows : (n : ℕ) (rows : List HandleRow) → AreAlike rows → (k : ℕ) → sharing n rows ≡ k → (sharing n rows ≡ 0) ⊎ (sharing n rows ≡ held n rows)
+uniform-rows : (n : ℕ) (rows : List HandleRow) → ((x y : HandleRow) → Among rows x → Among rows y → x.node.0 ≡ y.node.0 → is_shared x.mode ≡ is_shared y.mode)
+    → (k : ℕ) → sharing n rows ≡ k → (sharing n rows ≡ 0) ⊎ (sharing n rows ≡ held n rows)
 uniform-rows n rows alike x4 is = grind (arith, nat_tests, counted, share-then, same-sum, alike)
 
 module _ {w u : Core} (whole : IsWhole w) (k : Keeps w u) where

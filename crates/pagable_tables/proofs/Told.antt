@@ -47,9 +47,6 @@ newer-moved w s o other = grind (arith, nat_tests, and-left, owned-moved)
 pub owned-mode : (o : Owner) (q : ℕ) (test : HandleRow → Bool) (mode : Mode) (rows : List HandleRow) → owned o q (changed test (λ row. record row { mode = mode }) rows) ≡ owned o q rows
 owned-mode o q test mode rows = let is = found-map (λ x. if test x then record x { mode = mode } else x) (λ x. grind (arith, nat_tests)) q rows in grind (arith, nat_tests)
 
-pub newer-mode : (w : Core) (h : HandleNumber) (mode : Mode) → OnlyNewer w (with_mode w h mode)
-newer-mode w h mode = record { last = omega arith; kept = λ o q gives own. inl (sym (owned-mode o q (is_handle h.0) mode w.rows) ∙ own) }
-
 pub newer-falls : {before u w' : Core} {given : ℕ → Bool} {r : Result (Unit {0}) Error} → Falls before u given r w' → OnlyNewer u w'
 newer-falls {before} {u} {w'} falls = grind (arith, nat_tests, passes-left, no-entry, unlisting)
 
@@ -168,7 +165,7 @@ moded {w} whole h row mode live shared loose waits =
     λ x among e was. loose (ap (λ (y : HandleRow). is_loose y.mode) (sym (the-row x among e)) ∙ was) in (
       turned-still whole (is_handle h.0) (λ x. record x { mode = mode }) (λ x. refl) (λ x. refl) same loosely (λ x among e. refl) (λ x among e. let i = is-in whole x among in let r = the-row x among e in grind (arith, nat_tests, waits)),
       turned-on whole (is_handle h.0) (λ x. record x { mode = mode }) (λ x. refl) (λ x. refl) same loosely,
-      newer-mode w h mode,
+      record { last = omega arith; kept = λ o q gives own. inl (sym (owned-mode o q (is_handle h.0) mode w.rows) ∙ own) },
     )
 
 -- ---- a handle comes, under the next number
