@@ -12,16 +12,13 @@ moves_refl a = record { whole = refl; bytes = omega arith; refs = omega arith; w
 pub gave_is : {R : Type 0} (meaning : Meaning ArcRef) (after : R) (read : Result (Meaning ArcRef × R) Error) → read ≡ Ok (meaning, after) → Gave (λ m. m ≡ meaning) after read
 gave_is meaning after read e = record { m = meaning; is = refl; gave = e }
 
-gives_part : {X : Type 0} (at : List ℕ → Read X) (r : Result X Error) (rest : Rest Answer) (after : List ℕ) → Gives never (λ x. (x, after)) r (at rest.bytes) → Gives never (λ x. (x, record rest { bytes = after })) r (bytes_of at (λ x. x) rest)
-gives_part at r rest after h = grind arith
-
 -- a part of a value, by what a deserializer says of itself with another reader
 pub part_read : {X E : Type 0} (at : List ℕ → Read X) (r : Result X Error) {rest last : Rest Answer} {old new : Standing} {env env_after : E} {levels levels_after : ℕ} {given used : Track}
     → rest.bytes ≡ left given → last ≡ record rest { bytes = left used } → (GoesOn given used → MovesOn old new) → env_after ≡ env → levels_after ≡ levels
     → Reads at r given used
     → record { gives : Gives never (λ x. (x, last)) r (bytes_of at (λ x. x) rest); moves : MovesOn old new; same_env : env_after ≡ env; same_levels : levels_after ≡ levels }
 part_read at r {rest = rest} {used = used} e f moves same_env same_levels told = record {
-  gives = rw f (gives_part at r rest (left used) (rw e told.gives));
+  gives = let h : Gives never (λ x. (x, left used)) r (at rest.bytes) = rw e told.gives in rw f (grind arith);
   moves = moves told.goes;
   same_env = same_env;
   same_levels = same_levels;

@@ -63,8 +63,7 @@ refused_memory r M n s h = grind (arith, memory_refuses)
 -- the text that a value means
 pub writes_text : {X : Type 0} (meaning : X → Meaning ArcRef) (x : X) (n : Nesting) (t : List ℕ) (old : Out) (bytes : List ℕ) → bytes ≡ old.bytes ++ text_form t → meaning x ≡ meanings.text t → IsUtf8 t → length t ≤ longest
     → WritesSome (Is meaning x) n shapes.text old (record old { bytes = bytes })
-writes_text meaning x n t old bytes e is u le =
-    record { m = meaning x; is = refl; wrote = rw is (writes_bytes n shapes.text (meanings.text t) old bytes (text_form t) e (text-form _ t u le)) }
+writes_text meaning x n t old bytes e is u le = record { m = meaning x; is = refl; wrote = rw is (writes_bytes n shapes.text (meanings.text t) old bytes (text_form t) e (text-form _ t u le)) }
 
 -- a text that is too long has no form
 pub no_text : (n : Nesting) (t : List ℕ) → longest < length t → NoForm n shapes.text (meanings.text t)

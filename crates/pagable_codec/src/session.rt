@@ -89,10 +89,8 @@ impl<K: Ord + Drop, V: Clone> SessionMap<K, V> {
         let Ok(answer) = value.clone() else {
             return Err((Error::OutOfMemory, key, value));
         };
-        match self.set(key, value) {
-            Ok(()) => Ok(answer),
-            Err((refusal, key, value)) => Err((refusal, key, value)),
-        }
+        self.set(key, value)?;
+        Ok(answer)
     }
 
     /// A clone of the key's value, which is made where there is none. Refused by want of memory alone; then nothing

@@ -1,7 +1,7 @@
 -- Taking the next answer of a list of references.
 use Rattle.std.{proofs.{Common.{◌≡◌, ℕ, zero, suc, ◌+◌, ◌<◌, ◌≤◌, List, [], ◌∷◌, length, drop, Result, Ok, Err, Some, arith, refl, ap, inl}, lemmas.List.drop_all}, specs.Prelude.slice_get}
 use Rattle.{pagable_core.specs.Context.{answers_from, standing_of}, pagable_model.specs.{Gives.{Gives, never}, Meaning.Meaning, Reading.{Rest, reference_at}, Standing.{Answer, answer_at, rest_at}}}
-use Rattle.pagable_model.specs.{Standing.{MovesOn, IsWithin}, Steps.◌>>=◌, Track.Track, declared.{error.Error.Error, numbers.ArcRef.ArcRef}}
+use Rattle.pagable_model.specs.{Standing.MovesOn, Steps.◌>>=◌, Track.Track, declared.{error.Error.Error, numbers.ArcRef.ArcRef}}
 use Rattle.pagable_model.specs.declared.error.Error.TheVariants as errors
 use Rattle.pagable_model.specs.Meaning as meanings
 
@@ -40,9 +40,7 @@ module _ (before after : ℕ → ℕ → ℕ → Result ArcRef Error) (old new r
 
   pub took : (kind place : ℕ) (r : Result ArcRef Error) → place ≡ old.position → r ≡ before place key kind
       → Gives never (λ x. (meanings.reference x, rest_at (standing_of after new reader))) r (reference_at answer_at kind (rest_at (standing_of before old reader)).refs (rest_at (standing_of before old reader)))
-  took kind place r at is =
-      let answered : r ≡ before old.position key kind = rw (← at) is in
-      rw (same, moved) (gives_answer r _ _ (rw (from, answered) refl))
+  took kind place r at is = let answered : r ≡ before old.position key kind = rw (← at) is in rw (same, moved) (gives_answer r _ _ (rw (from, answered) refl))
 
   pub took_one : rest_at (standing_of after new reader) ≡ record (rest_at (standing_of before old reader)) { refs = drop 1 (rest_at (standing_of before old reader)).refs }
   took_one = rw (same, moved, from) refl
@@ -50,11 +48,7 @@ module _ (before after : ℕ → ℕ → ℕ → Result ArcRef Error) (old new r
   pub took_moves : old.position < length old.all → MovesOn (standing_of before old reader) (standing_of after new reader)
   took_moves h = grind (arith, length-answers)
 
--- a place within the keys is a place within the answers
-pub within_answers : (answer : ℕ → ℕ → ℕ → Result ArcRef Error) (keys reader : Track) (bytes at : ℕ) → bytes ≤ length reader.all → at ≤ length keys.all → IsWithin (standing_of answer keys reader).whole (record { byte_pos = bytes; arc_index = at })
-within_answers answer keys reader bytes at h l = record { bytes = h; refs = omega (arith, length-answers answer 0 keys.all) }
-
-pub answers_within : (answer : ℕ → ℕ → ℕ → Result ArcRef Error) (keys : List ℕ) (at : ℕ) → at ≤ length (answers_from answer 0 keys) → at ≤ length keys
-answers_within answer keys at h = omega (arith, length-answers answer 0 keys)
+-- a place within the keys is a place within the answers, and back
+pub ruleset placing = (length-answers)
 
 pub ruleset taking = (none_left, used_of_none, took_one, took_moves)

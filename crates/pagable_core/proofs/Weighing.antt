@@ -1,26 +1,12 @@
 -- Weighing one more byte, and what the preimage of a blob is made of.
-use Rattle.std.proofs.Common.{◌≡◌, ℕ, ◌+◌, ◌*◌, ◌/◌, ◌%◌, ◌^◌, ◌<◌, List, [], ◌∷◌, ◌++◌, length, take, get_or, arith, refl, sym, ap, ◌∙◌, append_assoc, length-append}
-use Rattle.std.{proofs.{Math.Nat.{add-mod-mod, mod-add-mod, add-mul-mod_self_left, mod-add-div}, lemmas.{Grind.flat_map-append, List.{take_more, append-nil, take_all}}}, specs.Int.{w64, w128}}
+use Rattle.std.proofs.Common.{◌≡◌, ℕ, ◌+◌, ◌*◌, ◌%◌, ◌^◌, ◌<◌, List, [], ◌∷◌, ◌++◌, length, take, get_or, arith, refl, sym, append_assoc, length-append}
+use Rattle.std.{proofs.{Math.Nat.{add-mod-mod, mod-add-mod}, lemmas.{Nat.mul-mod_first, List.{take_more, append-nil, take_all, flat_map_more}}}, specs.Int.{w64, w128}}
 use Rattle.{std.specs.{Int.to_le_bytes, List.flat_map}, pagable_core.specs.{Data.IsWeighed, declared.storage.weigh.WeighHash.WeighHash}, pagable_model.specs.Blob.{weight, preimage}}
-
--- a factor may be reduced first
-mod-mul-mod : (m a b : ℕ) → (a % m * b) % m ≡ (a * b) % m
-mod-mul-mod m a b =
-    let whole : a * b ≡ a % m * b + m * (a / m * b) = ap (λ (x : ℕ). x * b) (sym (mod-add-div a m)) ∙ omega arith in
-    sym (rw whole (add-mul-mod_self_left (a % m * b) m (a / m * b)))
-
--- a sum may be reduced part by part
-pub mod-step : (m w p b : ℕ) → (w % m + (p % m * b) % m) % m ≡ (w + p * b) % m
-mod-step m w p b = rw (mod-mul-mod m p b) (mod-add-mod w m ((p * b) % m) ∙ add-mod-mod w (p * b) m)
 
 pub weight-more : (i b : ℕ) (bs : List ℕ) → weight i (bs ++ b ∷ []) ≡ weight i bs + (i + length bs) * b
 unfolding weight
 weight-more i b [] = grind arith
 weight-more i b (c ∷ bs) = grind (arith, weight-more (i + 1) b bs)
-
-pub is_weighed_none : IsWeighed (record { place = 1; sum = 0 }) []
-unfolding weight
-is_weighed_none = record { place = refl; sum = refl }
 
 -- one more byte
 pub is_weighed_more : (old new : WeighHash) (came : List ℕ) (b : ℕ) → IsWeighed old came → new.sum ≡ (old.sum + (old.place * b) % 2 ^ 128) % 2 ^ 128 → new.place ≡ (old.place + 1) % 2 ^ 128 → IsWeighed new (came ++ b ∷ [])
@@ -28,7 +14,7 @@ is_weighed_more old new came b h sum place =
     let next : 1 + length came ≡ length came + 1 = omega arith in
     record {
       place = rw (place, h.place, mod-add-mod (length came + 1) (2 ^ 128) 1, length-append came (b ∷ [])) refl;
-      sum = rw (sum, h.place, h.sum, mod-step (2 ^ 128) (weight 1 came) (length came + 1) b, weight-more 1 b came, next) refl;
+      sum = rw (sum, h.place, h.sum, mul-mod_first, mod-add-mod, add-mod-mod, weight-more 1 b came, next) refl;
     }
 
 -- a run of bytes, one after another
@@ -46,7 +32,6 @@ begins count counted bytes written f e h = rw (e, h) (sym (append-nil (count ++ 
 
 -- one key more
 pub continues : (f : ℕ → List ℕ) (keys : List ℕ) (i key : ℕ) (front more : List ℕ) → i < length keys → key ≡ get_or keys i key → more ≡ f key → (front ++ flat_map f (take i keys)) ++ more ≡ front ++ flat_map f (take (i + 1) keys)
-continues f keys i key front more h is e =
-    rw (e, take_more keys i key h, ← is, flat_map-append f (take i keys) (key ∷ []), append-nil (f key)) (append_assoc front (flat_map f (take i keys)) (f key))
+continues f keys i key front more h is e = rw (e, take_more keys i key h, ← is) (flat_map_more f front (take i keys) key)
 
 pub ruleset keying = (begins, continues, preimage_is, take_all)

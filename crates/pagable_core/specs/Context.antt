@@ -1,7 +1,7 @@
 -- What a serializer and a deserializer over memory stand for.
-use Rattle.std.{proofs.Common.{arith, ap}, specs.{Global.Global, Prelude.{◌≡◌, ℕ, ◌+◌, List, [], ◌∷◌, Result, Err, Vec, true}}}
+use Rattle.std.{proofs.Common.{arith, ap}, specs.{Global.Global, Prelude.{ℕ, ◌+◌, List, [], ◌∷◌, Result, Vec}}}
 use Rattle.{pagable_core.specs.declared.context.writing.{SerializedData.SerializedData, SerializerOver.SerializerOver}, pagable_model.specs.Reading.Rest}
-use Rattle.pagable_model.specs.{Refusals.may_refuse_reference, Standing.{Answer, Standing, MovesOn}, Track.{Track, GoesOn}, Writing.Out, declared.{error.Error.Error, numbers.ArcRef.ArcRef}}
+use Rattle.pagable_model.specs.{Standing.{Answer, Standing, MovesOn}, Track.{Track, GoesOn}, Writing.Out, declared.{error.Error.Error, numbers.ArcRef.ArcRef}}
 
 -- nothing was written
 abbrev pub nothing : Out
@@ -43,6 +43,3 @@ pair_out p = record { bytes = p.0.items; refs = p.1.items }
 -- what the fields of a serializer stand for
 abbrev pub written : {E S : Type 0} → SerializerOver E S → Out
 written s = record { bytes = s.writer; refs = s.arcs.items }
-
-pub wrong_kind_may_refuse : (e : Error) → (let r : Result ArcRef Error = Err Error.WrongKind in r) ≡ Err e → may_refuse_reference e ≡ true
-wrong_kind_may_refuse e is = grind arith

@@ -1,24 +1,18 @@
 -- UTF-8 as a test, and how large the number without a sign is that stands for one with a sign.
-use Rattle.std.proofs.{Common.{◌≡◌, ◌<◌, ◌^◌, ℕ, ℤ, pos, negsuc, List, Bool, true, false, FitsSigned, arith, refl}, lemmas.Str.{IsUtf8-from_is_utf8, is_utf8-from_IsUtf8, chars_past_char, chars-nil}}
+use Rattle.std.proofs.{Common.{◌≡◌, ◌<◌, ◌^◌, ℕ, ℤ, List, false, FitsSigned, arith}, lemmas.Bool.false_from_ne_true, lemmas.Str.{IsUtf8-from_is_utf8, is_utf8-from_IsUtf8, chars_past_char, chars-nil}}
 use Rattle.{std.specs.{Int.{w16, w32}, Str.{IsUtf8, is_utf8}}, pagable_model.specs.Numbers.zigzag}
 
 pub not_utf8 : (bs : List ℕ) → (IsUtf8 bs → ⊥) → is_utf8 bs ≡ false
-not_utf8 bs h = go (is_utf8 bs) refl
-  where
-    go : (b : Bool) → is_utf8 bs ≡ b → b ≡ false
-    go true e = absurd (h (IsUtf8-from_is_utf8 bs e))
-    go false e = refl
+not_utf8 bs h = false_from_ne_true (is_utf8 bs) (λ e. h (IsUtf8-from_is_utf8 bs e))
 
 pub ruleset utf8_tests = (not_utf8, is_utf8-from_IsUtf8)
 
 pub ruleset char_steps = (utf8_tests, chars_past_char, chars-nil)
 
 pub zigzag_below-16 : (z : ℤ) → FitsSigned w16 z → zigzag z < 2 ^ 16
-zigzag_below-16 (pos n) f = omega (arith, f.sfits)
-zigzag_below-16 (negsuc n) f = omega (arith, f.sfits)
+zigzag_below-16 x0 f = grind (arith, f.sfits)
 
 pub zigzag_below-32 : (z : ℤ) → FitsSigned w32 z → zigzag z < 2 ^ 32
-zigzag_below-32 (pos n) f = omega (arith, f.sfits)
-zigzag_below-32 (negsuc n) f = omega (arith, f.sfits)
+zigzag_below-32 x0 f = grind (arith, f.sfits)
 
 pub ruleset zigzag_bounds = (zigzag_below-16, zigzag_below-32)

@@ -1,18 +1,8 @@
 -- Numbers of seven bits a byte, byte by byte.
-use Rattle.std.proofs.Common.{length, get_or, add-one, ◌≡◌, ℕ, zero, suc, ◌+◌, ◌-◌, ◌*◌, ◌/◌, ◌%◌, ◌<◌, ◌≤◌, ◌≢◌, ◌^◌, refl, arith, List, [], ◌∷◌, ◌++◌, drop, Result, Ok, Err, sym, ap, ◌∙◌, append_assoc}
+use Rattle.std.proofs.Common.{length, get_or, add-one, ◌≡◌, ℕ, zero, suc, ◌+◌, ◌-◌, ◌*◌, ◌/◌, ◌%◌, ◌<◌, ◌≤◌, ◌≢◌, refl, arith, List, [], ◌∷◌, ◌++◌, drop, Result, Ok, Err, sym, ap, ◌∙◌, append_assoc}
 use Rattle.std.proofs.{Math.Nat.mul-le-mul_left, Math.Seq.drop-cons, lemmas.Bool.le-ltb, lemmas.Bool.lt-ltb, lemmas.Bool.le-leb, lemmas.Bool.lt-leb, lemmas.List.append-nil, lemmas.List.drop_all}
 use Rattle.pagable_model.specs.{Gives.Extends, Numbers.Read, Numbers.byte_at, Numbers.varint, Numbers.varint_at, Numbers.varint_limit, Steps.◌>>=◌, Numbers.AppendsVarint}
 use Rattle.pagable_model.specs.declared.error.Error.TheVariants as errors
-
--- what such numbers stay below
-limit-step : (more last : ℕ) → 0 < more → varint_limit more last ≡ 128 * varint_limit (more - 1) last
-unfolding varint_limit
-limit-step zero last h = absurd (omega arith)
-limit-step (suc more) last h = let e : suc more - 1 ≡ more = omega arith in rw e refl
-
-pub room-128 : 2 ^ 128 ≤ varint_limit 18 127
-unfolding varint_limit
-room-128 = omega arith
 
 -- What was read so far are the low bits, and what the rest reads as is the high part of the number.
 abbrev pub raised : ℕ → ℕ → Read ℕ → Read ℕ
@@ -20,25 +10,20 @@ raised low scale (Ok high) = Ok (low + scale * high.0, high.1)
 raised low scale (Err e) = Err e
 
 raised_twice : (low scale byte : ℕ) (r : Read ℕ) → raised low scale (raised byte 128 r) ≡ raised (low + scale * byte) (scale * 128) r
-raised_twice low scale byte (Ok high) =
-    let e : low + scale * (byte + 128 * high.0) ≡ low + scale * byte + scale * 128 * high.0 = omega arith in rw e refl
+raised_twice low scale byte (Ok high) = let e : low + scale * (byte + 128 * high.0) ≡ low + scale * byte + scale * 128 * high.0 = omega arith in rw e refl
 raised_twice low scale byte (Err e) = refl
 
-varint_at-long : (more last b : ℕ) (xs : List ℕ) → 0 < more → 128 ≤ b → varint_at more last (b ∷ xs) ≡ raised (b - 128) 128 (varint_at (more - 1) last xs)
+varint_at-long : (more last b : ℕ) (xs : List ℕ) → 128 ≤ b → varint_at (suc more) last (b ∷ xs) ≡ raised (b - 128) 128 (varint_at more last xs)
 unfolding varint_at
-varint_at-long zero last b xs p l = absurd (omega arith)
-varint_at-long (suc more) last b xs p l =
-    let less : suc more - 1 ≡ more = omega arith in
-    rw (less, le-ltb b 128 l) (go (varint_at more last xs))
+varint_at-long more last b xs l = rw (le-ltb b 128 l) (go (varint_at more last xs))
   where
     go : (r : Read ℕ) → (r >>= λ high. Ok (b - 128 + 128 * high.0, high.1)) ≡ raised (b - 128) 128 r
     go (Ok high) = refl
     go (Err e) = refl
 
-varint_at-short : (more last b : ℕ) (xs : List ℕ) → 0 < more → b < 128 → varint_at more last (b ∷ xs) ≡ Ok (b, xs)
+varint_at-short : (more last b : ℕ) (xs : List ℕ) → b < 128 → varint_at (suc more) last (b ∷ xs) ≡ Ok (b, xs)
 unfolding varint_at
-varint_at-short zero last b xs p l = absurd (omega arith)
-varint_at-short (suc more) last b xs p l = rw (lt-ltb b 128 l) refl
+varint_at-short more last b xs l = rw (lt-ltb b 128 l) refl
 
 same_ok : {X E : Type 0} (x y : X) → (let r : Result X E = Ok x in r) ≡ Ok y → x ≡ y
 same_ok x y e = cc
@@ -46,8 +31,8 @@ same_ok x y e = cc
 -- a number of one byte
 pub varint_at_first : (more last b : ℕ) (xs ys : List ℕ) → byte_at xs ≡ Ok (b, ys) → b < 128 → 0 < more → varint_at more last xs ≡ Ok (b, ys)
 varint_at_first more last b [] ys h l p = cc
-varint_at_first more last b (x ∷ xs) ys h l p =
-    rw (varint_at-short more last x xs p (omega (arith, ap (λ (p : ℕ × List ℕ). p.0) (same_ok _ _ h)))) h
+varint_at_first zero last b (x ∷ xs) ys h l p = absurd (omega arith)
+varint_at_first (suc more) last b (x ∷ xs) ys h l p = varint_at-short more last x xs (omega (arith, ap (λ (p : ℕ × List ℕ). p.0) (same_ok _ _ h))) ∙ h
 
 -- after `place` bytes with the top bit set
 pub record ReadsOn (more last : ℕ) (bytes : List ℕ) (place low scale : ℕ) : Type 0 where
@@ -56,37 +41,34 @@ pub record ReadsOn (more last : ℕ) (bytes : List ℕ) (place low scale : ℕ) 
   pub below : low < scale
   pub turn : place ≤ more
 
+-- what such numbers stay below
 limit-above : (more last : ℕ) → last < varint_limit more last
 unfolding varint_limit
 limit-above zero last = omega arith
 limit-above (suc more) last = omega (arith, limit-above more last)
 
-limit-some : (more n : ℕ) → 128 ≤ n → n < varint_limit more 127 → 0 < more
-unfolding varint_limit
-limit-some zero n l h = absurd (omega arith)
-limit-some (suc more) n l h = omega arith
-
-limit-least : (more last : ℕ) → 0 < more → 128 ≤ varint_limit more last
-limit-least more last p = omega (arith, limit-step more last p, limit-above (more - 1) last)
+-- before the last place one more byte may come
+one-left : {more last : ℕ} {bytes : List ℕ} {place low scale : ℕ} → ReadsOn more last bytes place low scale → place ≢ more → more - place ≡ suc (more - (place + 1))
+one-left r p = omega (arith, r.turn)
 
 below_raised : (low scale byte top : ℕ) → low < scale → byte < top → low + scale * byte < scale * top
 below_raised low scale byte top l h = omega (arith, mul-le-mul_left scale (let e : byte + 1 ≤ top = omega arith in e))
 
 -- a byte that may stand here leaves the number below its limit
 below_limit : {more last : ℕ} {bytes : List ℕ} {place low scale : ℕ} (byte : ℕ) → ReadsOn more last bytes place low scale → byte < varint_limit (more - place) last → low + scale * byte < varint_limit more last
-below_limit {more} {last} {bytes} {place} {low} {scale} byte r h =
-    omega (arith, below_raised low scale byte (varint_limit (more - place) last) r.below h, r.limit)
+below_limit {more} {last} {bytes} {place} {low} {scale} byte r h = omega (arith, below_raised low scale byte (varint_limit (more - place) last) r.below h, r.limit)
 
 pub ReadsOn_below : {more last : ℕ} {bytes : List ℕ} {place low scale : ℕ} (byte : ℕ) → ReadsOn more last bytes place low scale → place ≢ more → byte < 128 → low + scale * byte < varint_limit more last
-ReadsOn_below {more} {last} {bytes} {place} byte r p small = below_limit byte r (omega (arith, r.turn, limit-least (more - place) last (omega (arith, r.turn))))
+unfolding varint_limit
+ReadsOn_below {more} {last} {bytes} {place} byte r p small = below_limit byte r (rw (one-left r p) (omega (arith, limit-above (more - (place + 1)) last)))
 
 pub ReadsOn_below_end : {more last : ℕ} {bytes : List ℕ} {place low scale : ℕ} (byte : ℕ) → ReadsOn more last bytes place low scale → byte ≤ last → low + scale * byte < varint_limit more last
 ReadsOn_below_end {more} {last} {bytes} {place} byte r small = below_limit byte r (omega (arith, limit-above (more - place) last))
 
 pub ReadsOn_scale : {more last : ℕ} {bytes : List ℕ} {place low scale : ℕ} → ReadsOn more last bytes place low scale → place ≢ more → 0 < last → scale * 256 ≤ varint_limit more last
+unfolding varint_limit
 ReadsOn_scale {more} {last} {bytes} {place} {low} {scale} r p l =
-    let step : varint_limit (more - place) last ≡ 128 * varint_limit (more - place - 1) last = limit-step (more - place) last (omega (arith, r.turn)) in
-    let two : 256 ≤ varint_limit (more - place) last = omega (arith, limit-above (more - place - 1) last) in
+    let two : 256 ≤ varint_limit (more - place) last = rw (one-left r p) (omega (arith, limit-above (more - (place + 1)) last)) in
     omega (arith, mul-le-mul_left scale two, r.limit)
 
 -- what the next byte and those after it read as is the high part
@@ -98,21 +80,22 @@ at_byte {more} {last} {bytes} {place} {low} {scale} byte high r h e is =
 
 pub ReadsOn_more : {more last : ℕ} {bytes : List ℕ} {place low scale : ℕ} (byte : ℕ) → ReadsOn more last bytes place low scale → place < length bytes → place ≢ more → byte ≡ get_or bytes place 0 - 128 → 128 ≤ get_or bytes place 0 → byte < 128
     → ReadsOn more last bytes (place + 1) (low + scale * byte) (scale * 128)
+unfolding varint_limit
 ReadsOn_more {more} {last} {bytes} {place} {low} {scale} byte r h apart e long small =
-    let p : place < more = omega (arith, r.turn) in
-    let less : more - place - 1 ≡ more - (place + 1) = omega arith in
-    let front = varint_at-long (more - place) last (get_or bytes place 0) (drop (place + 1) bytes) (omega arith) long in
+    let front : varint_at (more - place) last (get_or bytes place 0 ∷ drop (place + 1) bytes) ≡ raised (get_or bytes place 0 - 128) 128 (varint_at (more - (place + 1)) last (drop (place + 1) bytes)) =
+    rw (one-left r apart) (varint_at-long _ last _ _ long) in
     record {
-      reads = at_byte _ _ r h refl front ∙ rw (← e, ← less) (raised_twice low scale byte (varint_at (more - place - 1) last (drop (place + 1) bytes)));
-      limit = rw (← less) (omega (arith, r.limit, ap (λ (n : ℕ). scale * n) (limit-step (more - place) last (omega arith))));
+      reads = at_byte _ _ r h refl front ∙ rw (← e) (raised_twice low scale byte (varint_at (more - (place + 1)) last (drop (place + 1) bytes)));
+      limit = omega (arith, rw (one-left r apart) at r.limit);
       below = below_raised low scale byte 128 r.below small;
-      turn = omega arith;
+      turn = omega (arith, r.turn);
     }
 
 -- how reading ends
 pub ReadsOn_end : {more last : ℕ} {bytes : List ℕ} {place low scale : ℕ} (byte : ℕ) → ReadsOn more last bytes place low scale → place < length bytes → byte ≡ get_or bytes place 0 → place ≢ more → byte < 128
     → varint_at more last bytes ≡ Ok (low + scale * byte, drop (place + 1) bytes)
-ReadsOn_end {more} {last} {bytes} {place} byte r h e apart small = at_byte byte _ r h e (varint_at-short (more - place) last byte (drop (place + 1) bytes) (omega (arith, r.turn)) small)
+ReadsOn_end {more} {last} {bytes} {place} byte r h e apart small =
+    at_byte byte (Ok (byte, drop (place + 1) bytes)) r h e (rw (one-left r apart) (varint_at-short (more - (place + 1)) last byte (drop (place + 1) bytes) small))
 
 pub ReadsOn_last : {more last : ℕ} {bytes : List ℕ} {place low scale : ℕ} (byte : ℕ) → ReadsOn more last bytes place low scale → place < length bytes → byte ≡ get_or bytes place 0 → place ≡ more → byte ≤ last
     → varint_at more last bytes ≡ Ok (low + scale * byte, drop (place + 1) bytes)
@@ -133,11 +116,6 @@ varint-short : (more n : ℕ) → n < 128 → varint more n ≡ n ∷ []
 unfolding varint
 varint-short zero n l = refl
 varint-short (suc more) n l = rw (lt-ltb n 128 l) refl
-
-varint-long : (more n : ℕ) → 0 < more → 128 ≤ n → varint more n ≡ (128 + n % 128) ∷ varint (more - 1) (n / 128)
-unfolding varint
-varint-long zero n p l = absurd (omega arith)
-varint-long (suc more) n p l = let e : suc more - 1 ≡ more = omega arith in rw (le-ltb n 128 l, e) refl
 
 pub Extends_end : {X : Type 0} (a b c : List X) → b ≡ a ++ c → Extends a b
 Extends_end a b c e = (c, e)
@@ -162,17 +140,15 @@ WritesOn_none start number = record {
 }
 
 pub WritesOn_more : {start here next : List ℕ} {number rest : ℕ} (byte : ℕ) → WritesOn start here number rest → 128 ≤ rest → byte ≡ 128 + rest % 128 → next ≡ here ++ byte ∷ [] → WritesOn start next number (rest / 128)
+unfolding varint_limit varint
 WritesOn_more {start} {here} {next} {number} {rest} byte w l b e = record {
-  still = λ more h. go more (w.still more h);
+  still = λ more h. let s = w.still more h in go more s.less s.fits s.same;
   extends = Extends_twice start here next w.extends (Extends_end here next (byte ∷ []) e);
 }
   where
-    go : (more : ℕ) → StillToWrite start here number rest more → StillToWrite start next number (rest / 128) more
-    go more s = record {
-      less = s.less - 1;
-      fits = omega (arith, s.fits, limit-step s.less 127 (limit-some s.less rest l s.fits));
-      same = s.same ∙ ap (λ xs. here ++ xs) (varint-long s.less rest (limit-some s.less rest l s.fits) l) ∙ rw (← b, e, append_assoc) refl;
-    }
+    go : (more less : ℕ) → rest < varint_limit less 127 → start ++ varint more number ≡ here ++ varint less rest → StillToWrite start next number (rest / 128) more
+    go more zero fits same = absurd (omega arith)
+    go more (suc less) fits same = record { less = less; fits = omega arith; same = same ∙ rw (le-ltb rest 128 l, ← b, e, append_assoc) refl }
 
 pub WritesOn_last : {start here next : List ℕ} {number rest : ℕ} → WritesOn start here number rest → rest < 128 → next ≡ here ++ rest ∷ [] → AppendsVarint start next number
 WritesOn_last {start} {here} {next} {number} {rest} w l e = record {

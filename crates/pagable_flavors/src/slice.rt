@@ -1,7 +1,7 @@
 //! Bytes that are read one after another.
 
 ghost use Rattle.std.specs.Prelude.{◌≡◌, ◌≤◌, length, OnErr};
-ghost use Rattle.pagable_model.specs.{Basic.bytes_at, Gives.Gives, Gives.never, Numbers.byte_at, Track.Track, Track.left, Track.GoesOn};
+ghost use Rattle.{pagable_flavors.specs.Calls.Reads, pagable_model.specs.{Basic.bytes_at, Gives.{Gives, never}, Numbers.byte_at, Track.{Track, left, GoesOn}}};
 
 mod numbers;
 mod reading;
@@ -71,8 +71,7 @@ impl<'de> PagableSlice<'de> {
 
     /// The next byte. `UnexpectedEnd` where none is left.
     pub fn pop(&mut self) -> Result<u8, Error>
-        ensures gives { Gives never (λ b. (b, left self.new)) result (byte_at (left self.old)) }
-        ensures goes { GoesOn self.old self.new }
+        ensures reads { Reads byte_at result self.old self.new }
         ensures err { OnErr result (self.new ≡ self.old) }
     {
         if self.position == self.bytes.len() {

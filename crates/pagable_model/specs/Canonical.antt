@@ -54,8 +54,7 @@ IsReadable (hash_map s t) = IsReadable s × IsReadable t
 IsReadable (sorted_set order s) = IsReadable s
 IsReadable (placed_set s) = IsReadable s
 IsReadable (static_value registry) = AllByRecursion HasNoReference registry
-IsReadable (tagged written known body) =
-    ((tag : List ℕ) → HasNoCase (written tag) ⊎ ((known tag ≡ true) × (body tag ≡ written tag))) × ((tag : List ℕ) → known tag ≡ true → IsReadable (body tag))
+IsReadable (tagged written known body) = ((tag : List ℕ) → HasNoCase (written tag) ⊎ ((known tag ≡ true) × (body tag ≡ written tag))) × ((tag : List ℕ) → known tag ≡ true → IsReadable (body tag))
 IsReadable (cases w known part) = (n : ℕ) → known n ≡ true → IsReadable (part n)
 IsReadable _ = Unit {0}
 

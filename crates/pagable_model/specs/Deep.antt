@@ -3,7 +3,6 @@
 use Rattle.std.specs.Prelude.{ℕ, zero, suc, ◌%◌, ◌+◌, ◌==◌, Bool, not, true, ◌≡◌, ◌⊎◌, max, if◌then◌else◌}
 use Rattle.pagable_model.specs.{Meaning.{Meaning, pair, variant, followed}, Trees.{Tree, tree, type_of}}
 
--- whether the kind is one of these
 abbrev pub is_shared_kind : ℕ → Bool
 is_shared_kind kind = kind % 3 == 0
 

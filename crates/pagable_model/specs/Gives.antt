@@ -12,7 +12,6 @@ Gives own view (Err e) read = (read ≡ Err e) ⊎ own e
 abbrev pub never : Error → Type 0
 never e = ⊥
 
--- want of memory alone
 abbrev pub memory : Error → Type 0
 memory e = e ≡ Error.OutOfMemory
 
@@ -24,19 +23,16 @@ memory_or part e = (e ≡ Error.OutOfMemory) ⊎ part e
 abbrev pub either : (Error → Type 0) → (Error → Type 0) → Error → Type 0
 either first second e = first e ⊎ second e
 
--- TooLong of what has a length, TooDeep of what enters a level, JsonNumber of a JSON number, or a cause of the rest
+-- TooLong of what has a length, TooDeep of what enters a level, or a cause of the rest
 abbrev pub long_or : (Error → Type 0) → Error → Type 0
 long_or part e = (e ≡ Error.TooLong) ⊎ part e
 
 abbrev pub deep_or : (Error → Type 0) → Error → Type 0
 deep_or part e = (e ≡ Error.TooDeep) ⊎ part e
 
-abbrev pub number_or : (Error → Type 0) → Error → Type 0
-number_or part e = (e ≡ Error.JsonNumber) ⊎ part e
-
--- a JSON value may be refused by each of these, or by want of memory
+-- a JSON value may be refused by each of these, by JsonNumber, or by want of memory
 abbrev pub json_causes : Error → Type 0
-json_causes e = long_or (deep_or (number_or memory)) e
+json_causes e = long_or (deep_or (λ f. (f ≡ Error.JsonNumber) ⊎ memory f)) e
 
 -- new is old with more at its end
 abbrev pub Extends : {X : Type 0} → List X → List X → Type 0

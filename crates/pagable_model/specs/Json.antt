@@ -14,7 +14,6 @@ mutual
     array : Items → Json
     object : Members → Json
 
-  -- the items of an array
   pub data Items : Type 0 where
     no_items : Items
     item : Json → Items → Items

@@ -32,9 +32,7 @@ throughout-over P parts s whole f lies t = throughout-two P parts s s whole (λ 
 
 -- a test that holds exactly where two meanings are one is the sameness of keys
 pub same-by : (test : Bool) (a b : Meaning ⊥) → (test ≡ true → a ≡ b) → (code a ≡ code b → test ≡ true) → test ≡ bytes_eq (code a) (code b)
-same-by test a b one told =
-    let decides = bytes_eq-Decides (code a) (code b) in
-    both_ways test (bytes_eq (code a) (code b)) (λ e. decides.1 (ap code (one e))) (λ e. told (decides.0 e))
+same-by test a b one told = let decides = bytes_eq-Decides (code a) (code b) in both_ways test (bytes_eq (code a) (code b)) (λ e. decides.1 (ap code (one e))) (λ e. told (decides.0 e))
 
 pub number_is_same : (m n : ℕ) → nat_eq m n ≡ same_key {A = ArcRef} (number m) (number n)
 unfolding plain code
@@ -87,9 +85,7 @@ both-same a b c d = same-by (bytes_eq (code a) (code c) && bytes_eq (code b) (co
         cc (one-meaning a c ((bytes_eq-Decides (code a) (code c)).0 both.0), one-meaning b d ((bytes_eq-Decides (code b) (code d)).0 both.1))
 
     told : code (pair a b) ≡ code (pair c d) → (bytes_eq (code a) (code c) && bytes_eq (code b) (code d)) ≡ true
-    told e =
-        let whole : pair a b ≡ pair c d = one-meaning (pair a b) (pair c d) e in
-        rw ((bytes_eq-Decides (code a) (code c)).1 (cc), (bytes_eq-Decides (code b) (code d)).1 (cc)) refl
+    told e = let whole : pair a b ≡ pair c d = one-meaning (pair a b) (pair c d) e in rw ((bytes_eq-Decides (code a) (code c)).1 (cc), (bytes_eq-Decides (code b) (code d)).1 (cc)) refl
 
 pub pair_is_same : {A : Type 0} (s t : Bool) (a b c d : Meaning A) → s ≡ same_key a c → t ≡ same_key b d → (s && t) ≡ same_key (pair a b) (pair c d)
 unfolding plain
@@ -121,8 +117,7 @@ then-assoc x0 p q = grind (arith)
 
 pub triple_is_ordered : {A : Type 0} (f g h : KeyOrder) (o p q : Ordering) (a b c x y z : Meaning A) → o ≡ ordered f a x → p ≡ ordered g b y → q ≡ ordered h c z
     → ordering_then (ordering_then o p) q ≡ ordered (pair_order f (pair_order g h)) (pair a (pair b c)) (pair x (pair y z))
-triple_is_ordered f g h o p q a b c x y z i j k =
-    then-assoc o p q ∙ pair_is_ordered f (pair_order g h) o (ordering_then p q) a (pair b c) x (pair y z) i (pair_is_ordered g h p q b c y z j k)
+triple_is_ordered f g h o p q a b c x y z i j k = then-assoc o p q ∙ pair_is_ordered f (pair_order g h) o (ordering_then p q) a (pair b c) x (pair y z) i (pair_is_ordered g h p q b c y z j k)
 
 pub quadruple_is_ordered : {A : Type 0} (f g h m : KeyOrder) (o p q r : Ordering) (a b c d w x y z : Meaning A) → o ≡ ordered f a w → p ≡ ordered g b x → q ≡ ordered h c y → r ≡ ordered m d z
     → ordering_then (ordering_then (ordering_then o p) q) r ≡ ordered (pair_order f (pair_order g (pair_order h m))) (pair a (pair b (pair c d))) (pair w (pair x (pair y z)))
@@ -131,8 +126,7 @@ quadruple_is_ordered f g h m o p q r a b c d w x y z i j k l =
 
 pub quintuple_is_ordered : {A : Type 0} (f g h m n : KeyOrder) (o p q r s : Ordering) (a b c d t w x y z u : Meaning A) → o ≡ ordered f a w → p ≡ ordered g b x → q ≡ ordered h c y → r ≡ ordered m d z → s ≡ ordered n t u
     → ordering_then (ordering_then (ordering_then (ordering_then o p) q) r) s ≡ ordered (pair_order f (pair_order g (pair_order h (pair_order m n)))) (pair a (pair b (pair c (pair d t)))) (pair w (pair x (pair y (pair z u))))
-quintuple_is_ordered f g h m n o p q r s a b c d t w x y z u i j k l v =
-    then-assoc (ordering_then (ordering_then o p) q) r s
+quintuple_is_ordered f g h m n o p q r s a b c d t w x y z u i j k l v = then-assoc (ordering_then (ordering_then o p) q) r s
     ∙ quadruple_is_ordered f g h (pair_order m n) o p q (ordering_then r s) a b c (pair d t) w x y (pair z u) i j k (pair_is_ordered m n r s d t z u l v)
 
 pub option_is_ordered : {A T : Type 0} (order : KeyOrder) (cmp : T → T → Ordering) (meaning : T → Meaning A) → ((x y : T) → cmp x y ≡ ordered order (meaning x) (meaning y)) → (x y : Option T) → option_cmp cmp x y ≡ ordered (optional_order order) (of_option meaning x) (of_option meaning y)

@@ -26,7 +26,6 @@ code (followed kind a) = 7 ∷ kind ∷ code a
 abbrev pub code_order : KeyOrder
 code_order a b = slice_cmp nat_cmp (code a) (code b)
 
--- whether two keys are the same
 abbrev pub same_key : {A : Type 0} → Meaning A → Meaning A → Bool
 same_key a b = bytes_eq (code (plain a)) (code (plain b))
 

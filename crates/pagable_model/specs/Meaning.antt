@@ -19,7 +19,6 @@ pub data Meaning (A : Type 0) : Type 0 where
   -- a reference that is followed: its kind, and what the value means that it leads to
   followed : ℕ → Meaning A → Meaning A
 
--- a list of meanings
 abbrev pub sequence : {A : Type 0} → List (Meaning A) → Meaning A
 sequence [] = none
 sequence (m ∷ ms) = pair m (sequence ms)

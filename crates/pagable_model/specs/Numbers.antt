@@ -2,6 +2,7 @@
 use Rattle.std.specs.{Prelude.{ℕ, zero, suc, ◌+◌, ◌-◌, ◌*◌, ◌/◌, ◌%◌, ◌^◌, List, [], ◌∷◌, Result, Ok, Err, ℤ, pos, negsuc, nat_lt, nat_le, ◌==◌, ◌<◌, if◌then◌else◌}, Int.{Width, w8, w16, w32, w64}}
 use Rattle.std.specs.{Int.w128, Prelude.◌≡◌, Prelude.◌++◌}
 use Rattle.pagable_model.specs.{declared.error.Error.Error, Steps.◌>>=◌}
+use mir.Val.{bits, hbits}
 
 -- what a reader of bytes gives: a value and the bytes after it
 abbrev pub Read : Type 0 → Type 0
@@ -22,8 +23,7 @@ varint (suc more) n = if nat_lt n 128 then n ∷ [] else (128 + n % 128) ∷ var
 unfoldable pub varint_at : ℕ → ℕ → List ℕ → Read ℕ
 varint_at more last [] = Err Error.UnexpectedEnd
 varint_at zero last (b ∷ rest) = if nat_le b last then Ok (b, rest) else Err Error.BadVarint
-varint_at (suc more) last (b ∷ rest) =
-    if nat_lt b 128 then Ok (b, rest) else (varint_at more last rest >>= λ high. Ok (b - 128 + 128 * high.0, high.1))
+varint_at (suc more) last (b ∷ rest) = if nat_lt b 128 then Ok (b, rest) else (varint_at more last rest >>= λ high. Ok (b - 128 + 128 * high.0, high.1))
 
 -- what such a number stays below
 unfoldable pub varint_limit : ℕ → ℕ → ℕ
@@ -61,19 +61,7 @@ unsigned_at w bytes = varint_at (more_of w) (last_of w) bytes
 
 -- numbers below 2 ^ bits
 abbrev pub bound : Width → ℕ
-bound w8 = 2 ^ 8
-bound w16 = 2 ^ 16
-bound w32 = 2 ^ 32
-bound w64 = 2 ^ 64
-bound w128 = 2 ^ 128
-
--- numbers with a sign are from -half up to half - 1
-abbrev pub half : Width → ℕ
-half w8 = 2 ^ 7
-half w16 = 2 ^ 15
-half w32 = 2 ^ 31
-half w64 = 2 ^ 63
-half w128 = 2 ^ 127
+bound w = 2 ^ bits w
 
 -- postcard, Signed Integer Encoding: n becomes 2n, and -n - 1 becomes 2n + 1
 abbrev pub zigzag : ℤ → ℕ
@@ -83,27 +71,20 @@ zigzag (negsuc n) = 2 * n + 1
 abbrev pub from_zigzag : ℕ → ℤ
 from_zigzag n = if n % 2 == 0 then pos (n / 2) else negsuc (n / 2)
 
--- eight bits in two's complement
-abbrev pub signed_byte : ℤ → ℕ
-signed_byte (pos n) = n
-signed_byte (negsuc n) = 255 - n
-
-abbrev pub from_signed_byte : ℕ → ℤ
-from_signed_byte b = if nat_lt b 128 then pos b else negsuc (255 - b)
-
--- the number without a sign that stands for one with a sign
+-- the number without a sign that stands for one with a sign; of eight bits in two's complement
 abbrev pub unsigned_of : Width → ℤ → ℕ
-unsigned_of w8 z = signed_byte z
+unsigned_of w8 (pos n) = n
+unsigned_of w8 (negsuc n) = 255 - n
 unsigned_of w z = zigzag z
 
 abbrev pub signed_from : Width → ℕ → ℤ
-signed_from w8 n = from_signed_byte n
+signed_from w8 n = if nat_lt n 128 then pos n else negsuc (255 - n)
 signed_from w n = from_zigzag n
 
--- -half ≤ z < half
+-- numbers with a sign are from -half up to half - 1, where half is 2 ^ hbits
 abbrev pub IsSigned : Width → ℤ → Type 0
-IsSigned w (pos n) = n < half w
-IsSigned w (negsuc n) = n < half w
+IsSigned w (pos n) = n < 2 ^ hbits w
+IsSigned w (negsuc n) = n < 2 ^ hbits w
 
 abbrev pub signed_form : Width → ℤ → List ℕ
 signed_form w z = unsigned_form w (unsigned_of w z)

@@ -74,15 +74,13 @@ pub run_has_one_form : {parts : ℕ → Shape} {s : Shape} → HasOneFormThrough
 unfolding IsCanonical LiesIn
 run_has_one_form {parts} {s} h = throughout-over IsCanonical parts s (run s) (λ c. c) (λ those l. l) h
 
--- nothing in it is a reference
-abbrev none : ℕ → Type 0
-none n = ⊥
+-- ---- nothing in it is a reference
 
 pub basic_refers_to_nothing : {parts : ℕ → Shape} {s : Shape} → IsBasic s → RefersToNothing parts s
-basic_refers_to_nothing {parts} {s} h = throughout-alone (LiesIn none any) parts s (basic-follows none any s h).lies (λ those. (basic-follows any those s h).lies)
+basic_refers_to_nothing {parts} {s} h = throughout-alone (LiesIn (λ n. ⊥) any) parts s (basic-follows (λ n. ⊥) any s h).lies (λ those. (basic-follows any those s h).lies)
 
 pub over_refers_to_nothing : {parts : ℕ → Shape} {s whole : Shape} → IsOver s whole → RefersToNothing parts s → RefersToNothing parts whole
-over_refers_to_nothing {parts} {s} {whole} e h = throughout-over (LiesIn none any) parts s whole (over-follows none any s whole e).lies (λ those. (over-follows any those s whole e).lies) h
+over_refers_to_nothing {parts} {s} {whole} e h = throughout-over (LiesIn (λ n. ⊥) any) parts s whole (over-follows (λ n. ⊥) any s whole e).lies (λ those. (over-follows any those s whole e).lies) h
 
 pub two_refers_to_nothing : {parts : ℕ → Shape} {s t whole : Shape} → IsOfTwo s t whole → RefersToNothing parts s → RefersToNothing parts t → RefersToNothing parts whole
-two_refers_to_nothing {parts} {s} {t} {whole} e h k = throughout-two (LiesIn none any) parts s t whole (two-follows none any s t whole e).lies (λ those. (two-follows any those s t whole e).lies) h k
+two_refers_to_nothing {parts} {s} {t} {whole} e h k = throughout-two _ parts s t whole (two-follows (λ n. ⊥) any s t whole e).lies (λ those. (two-follows any those s t whole e).lies) h k

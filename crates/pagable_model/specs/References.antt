@@ -1,6 +1,6 @@
 -- The references in a value.
 use Rattle.std.specs.Prelude.{◌≡◌, ◌++◌, if◌then◌else◌, Bool, List, [], ◌∷◌, sum_by}
-use Rattle.pagable_model.specs.{declared.numbers.ArcRef.ArcRef, Meaning.{Meaning, number, integer, text, pattern, none, pair, variant, reference, followed}}
+use Rattle.pagable_model.specs.{declared.numbers.ArcRef.ArcRef, Meaning.{Meaning, pair, variant, reference, followed}}
 
 -- the references in a meaning, from the front
 unfoldable pub references_in : {A : Type 0} → Meaning A → List A

@@ -18,7 +18,6 @@ pub record Standing : Type 0 where
   pub whole : Rest Answer
   pub cursor : PagableCursor
 
--- what is left
 abbrev pub rest_at : Standing → Rest Answer
 rest_at s = record { bytes = drop s.cursor.byte_pos s.whole.bytes; refs = drop s.cursor.arc_index s.whole.refs }
 
@@ -46,7 +45,6 @@ abbrev pub GivesSome : {X Y R : Type 0} → (Error → Type 0) → (X → Y → 
 GivesSome own means after (Ok x) read = Gave (means x) after read
 GivesSome own means after (Err e) read = (read ≡ Err e) ⊎ own e
 
--- some meaning
 abbrev pub SomeMeaning : (Meaning ArcRef → Type 0) → Type 0
 SomeMeaning M = (m : Meaning ArcRef) × M m
 

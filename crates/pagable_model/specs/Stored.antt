@@ -11,14 +11,12 @@ pub record Adds (key : ℕ) (blob : Blob) (old new : ℕ → Option Blob) : Type
 abbrev pub HasFailed : ℕ → ℕ → Type 0
 HasFailed before after = (before < after) ⊎ ((before ≡ 2 ^ 64 - 1) × (after ≡ before))
 
--- why a fetch is refused
 abbrev pub RefusesFetch : ℕ → Option Blob → ℕ → ℕ → Error → Type 0
 RefusesFetch key found before after (Error.NoData k) = (k ≡ key) × (found ≡ None)
 RefusesFetch key found before after Error.OutOfMemory = Unit {0}
 RefusesFetch key found before after (Error.Storage code) = HasFailed before after
 RefusesFetch key found before after _ = ⊥
 
--- why a blob is not stored
 abbrev pub RefusesStore : Blob → Option Blob → Bool → ℕ → ℕ → Error → Type 0
 RefusesStore blob found closed before after Error.KeyTaken = (other : Blob) × (found ≡ Some other) × (other ≢ blob)
 RefusesStore blob found closed before after Error.Closed = closed ≡ true
@@ -26,7 +24,6 @@ RefusesStore blob found closed before after Error.OutOfMemory = Unit {0}
 RefusesStore blob found closed before after (Error.Storage code) = HasFailed before after
 RefusesStore blob found closed before after _ = ⊥
 
--- why a flush is refused
 abbrev pub RefusesFlush : ℕ → ℕ → Error → Type 0
 RefusesFlush before after Error.OutOfMemory = Unit {0}
 RefusesFlush before after (Error.Storage code) = HasFailed before after

@@ -22,7 +22,6 @@ pub record IsLastFor {F : Type 0} (tag : List ℕ) (readers : List (List ℕ × 
 abbrev pub NoneFor : {F : Type 0} → List ℕ → List (List ℕ × F) → Type 0
 NoneFor {F} tag readers = (j : ℕ) (r : List ℕ × F) → slice_get readers j ≡ Some r → bytes_eq tag r.0 ≡ false
 
--- no tag twice
 abbrev pub HasDistinctTags : List (List ℕ × Shape) → Type 0
 HasDistinctTags registrations = (i j : ℕ) (r s : List ℕ × Shape) → slice_get registrations i ≡ Some r → slice_get registrations j ≡ Some s → bytes_eq r.0 s.0 ≡ true → i ≡ j
 

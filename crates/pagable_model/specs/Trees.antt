@@ -17,7 +17,6 @@ pub record Types : Type 0 where
   pub nodes : ℕ → Option Shape
   pub parts : ℕ → Shape
 
--- the value type of a kind
 abbrev pub type_of : ℕ → ℕ
 type_of kind = kind / 3
 

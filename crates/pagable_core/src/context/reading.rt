@@ -110,7 +110,7 @@ impl<'de, E: Env, B: Reader, R: References<E>> PagableDeserializer<E>
         }
     }
 
-    #[tactic(auto, using(crate::proofs::Taking::within_answers))]
+    #[tactic(auto, using(crate::proofs::Taking::placing))]
     fn position(&self) -> PagableCursor {
         PagableCursor {
             byte_pos: self.reader.position(),
@@ -118,7 +118,7 @@ impl<'de, E: Env, B: Reader, R: References<E>> PagableDeserializer<E>
         }
     }
 
-    #[tactic(auto, using(crate::proofs::Taking::answers_within))]
+    #[tactic(auto, using(crate::proofs::Taking::placing))]
     fn seek(&mut self, cursor: PagableCursor) {
         self.reader.set_position(cursor.byte_pos);
         self.keys.set_position(cursor.arc_index);

@@ -57,7 +57,7 @@ impl<'e, E: Env> NoReferences<'e, E> {
 }
 
 impl<'e, E: Env> References<E> for NoReferences<'e, E> {
-    ghost use Rattle.pagable_core.specs.Context.{wrong_kind_may_refuse};
+    ghost use Rattle.std.proofs.Common.{arith};
 
     ghost environment = { λ s. s.env.now };
 
@@ -65,7 +65,7 @@ impl<'e, E: Env> References<E> for NoReferences<'e, E> {
 
     ghost lends = { λ s reference. None };
 
-    ghost refusals = { λ s place key kind e is. wrong_kind_may_refuse e is };
+    ghost refusals = { λ s place key kind e is. Prim.grind arith };
 
     fn env(&self) -> &E {
         self.env

@@ -18,7 +18,7 @@ impl KeyHash for WeighHash {
 
     ghost digest = { weigh_hash };
 
-    #[tactic(auto, using(crate::proofs::Weighing::is_weighed_none))]
+    #[tactic(auto, unfolding(pagable_model::specs::Blob::weight))]
     fn new() -> WeighHash {
         WeighHash { place: 1, sum: 0 }
     }

@@ -1,7 +1,7 @@
 //! Numbers of several bytes, byte by byte.
 
 ghost use Rattle.std.specs.{Int.w128, Prelude.◌≡◌, Prelude.◌≤◌, Prelude.◌<◌, Prelude.◌^◌, Prelude.IfOk, Prelude.MatchOption, Prelude.drop, Prelude.length};
-ghost use Rattle.pagable_model.specs.{Gives.Gives, Gives.never, Numbers.byte_at, Numbers.varint_at, Numbers.varint_limit, Numbers.unsigned_at, Track.left, Track.GoesOn};
+ghost use Rattle.{pagable_flavors.specs.Calls.Reads, pagable_model.specs.{Gives.{Gives, never}, Numbers.{byte_at, varint_at, varint_limit, unsigned_at}, Track.{left, GoesOn}}};
 
 use super::PagableSlice;
 use pagable_model::Error;
@@ -83,9 +83,8 @@ impl<'de> PagableSlice<'de> {
     pub(super) fn varint(&mut self, more: usize, last: u8) -> Result<u64, Error>
         requires ends { (0 < last) × (last < 128) }
         requires fits { varint_limit more last ≤ 2 ^ 64 }
-        ensures gives { Gives never (λ n. (n, left self.new)) result (varint_at more last (left self.old)) }
+        ensures reads { Reads (varint_at more last) result self.old self.new }
         ensures bound { IfOk result (λ n. n < varint_limit more last) }
-        ensures goes { GoesOn self.old self.new }
     {
         let (number, count) = varint_of(&self.bytes[self.position..], more, last)?;
         self.position += count;
@@ -95,8 +94,7 @@ impl<'de> PagableSlice<'de> {
     // The next number of 128 bits.
     #[tactic(auto, unfolding(pagable_model::specs::Numbers::varint_limit))]
     pub(super) fn wide_varint(&mut self) -> Result<u128, Error>
-        ensures gives { Gives never (λ n. (n, left self.new)) result (unsigned_at w128 (left self.old)) }
-        ensures goes { GoesOn self.old self.new }
+        ensures { Reads (unsigned_at w128) result self.old self.new }
     {
         let (number, count) = wide_varint_of(&self.bytes[self.position..], 18, 3)?;
         self.position += count;
