@@ -7,7 +7,6 @@ use Rattle.pagable_world.specs.{Pager.{TodoBrings, TookWrites, ValueStands, Well
 use Rattle.pagable_world.specs.{Plain.{Owner, Pinning, Took, Tree, WorkerAnswer}, Runs.{HoldsSettled, ReadsItsTypes, TakesWell}, Workers.{answer_after, first_todo, fresh, is_open_slot, Site}}
 use Rattle.pagable_world.specs.{Workers.WalkDoes, World.{Alike, Core, Frame, IsLawful, IsSettled, key_at, of_item, Reading, row_at, SameShelf, Seen, Shelf, Slot, Todo, Values, Written}}
 
--- the pager and the one table of an access
 pub record AccessState (N E : Type 0) : Type 0 where
   pub pager : PagerState N E
   pub shelf : Shelf
@@ -27,7 +26,6 @@ pub record Called {N E : Type 0} (v : Values N) (does : Core → Type 0) (s s' :
   pub moves : Moves (λ n x. ⊥) s s'
   pub whole : WellFormed v s'
 
--- a load's step
 pub record ReadingStep {N E : Type 0} (v : Values N) (me : Owner) (reading : Reading) (s : PagerState N E) (answer : Option (LoadAnswer N)) (frames : List Frame) (s' : PagerState N E) : Type 0 where
   pub does : ReadingDoes v s.core me reading answer frames s'.core
   pub moves : Moves (ReadingBrings v s.core reading) s s'
@@ -97,12 +95,10 @@ pub record PinTakenBack {N E : Type 0} (v : Values N) (s : PagerState N E) (h : 
   pub releases : Called v (λ w'. ReleaseCall low.core Owner.Caller k told w') low s'
 
 -- The answer of a pin, and what it leaves: its handle's value, or a refusal.
--- To be carried by: `pin_over`.
 pub record PinsOver {N E : Type 0} (v : Values N) (s : PagerState N E) (h : HandleNumber) (r : Result (HandleNumber × N) Error) (s' : PagerState N E) : Type 0 where
   pub pins : IfOk r (λ a. PinRun v s h (Ok a.0) s' × IsValueOf s' a.0 a.1)
   pub refused : IfErr r (λ e. PinRun v s h (Err e) s' ⊎ ((e ≡ Error.OutOfMemory) × PinTakenBack v s h s'))
 
--- a load of a key begins
 abbrev pub KeyStarts : {N E : Type 0} → Values N → PagerState N E → ℕ → LoadNumber → PagerState N E → Type 0
 KeyStarts v s key l s' = Called v (λ w'. BeginKeyCall s.core Owner.Caller key (Ok (Beginning.Load l key)) w') s s'
 
@@ -112,7 +108,6 @@ pub data ReadRun {N E : Type 0} (v : Values N) (s : PagerState N E) (key t : ℕ
   reading-fails : (e : Error) (l : LoadNumber) (mid s' : PagerState N E) → KeyStarts v s key l mid → LoadRun v Owner.Caller (fresh l t) mid (LoadAnswer.Refused e) s' → ReadRun v s key t (Err e) s'
 
 -- The answer of a reading of a key as a value of a type, and what it leaves.
--- To be carried by: `read_over`.
 pub record ReadsOver {N E : Type 0} (v : Values N) (s : PagerState N E) (key t : ℕ) (r : Result N Error) (s' : PagerState N E) : Type 0 where
   pub run : ReadRun v s key t r s'
 
@@ -131,7 +126,6 @@ pub data ItemRun {N E B W : Type 0} (m : Seen N B W) (s : AccessState N E) (item
       → WorkerRun m n (first_todo (of_item item)) (record { pager = mid; shelf = s.shelf }) steps answer s' → ItemRun m s item answer s'
 
 -- The answer of a page-out of an item on a table, and what it leaves.
--- To be carried by: `page_out_item_over`.
 pub record PagesOutItemOver {N E B W : Type 0} (m : Seen N B W) (s : AccessState N E) (item : Written) (answer : WorkerAnswer) (s' : AccessState N E) : Type 0 where
   pub run : ItemRun m s item answer s'
   pub all_have_results : AllHaveResults s'.shelf
@@ -165,12 +159,10 @@ LeadsToTrees v s s' P = IsLawful v → ReadsItsTypes v.types → HoldsSettled v 
 
 -- The law of loads that end with a pin: the value of its handle's node stands for the node's tree.
 abbrev pub PinLaw : {N : Type 0} → (E : Type 0) → Values N → Type 0
-PinLaw {N} E v =
-    (s mid s' : PagerState N E) (h k : HandleNumber) (reading : Reading) (x : N) (row : HandleRow) (run : LoadRun v Owner.Caller reading mid (LoadAnswer.Pinned k) s')
+PinLaw {N} E v = (s mid s' : PagerState N E) (h k : HandleNumber) (reading : Reading) (x : N) (row : HandleRow) (run : LoadRun v Owner.Caller reading mid (LoadAnswer.Pinned k) s')
     → WellFormed v s → LoadStarts v s h reading mid → LoadAsksWell run → row_at s'.core k ≡ Some row → s'.values row.node.0 ≡ Some x → LeadsToTrees v s s' (λ trees trees'. ValueStands v s' x (trees' row.node.0))
 
 -- The law of loads that read a key: their value stands for the tree that the key reads as.
 abbrev pub ReadLaw : {N : Type 0} → (E : Type 0) → Values N → Type 0
-ReadLaw {N} E v =
-    (s mid s' : PagerState N E) (key t : ℕ) (l : LoadNumber) (x : N) (run : LoadRun v Owner.Caller (fresh l t) mid (LoadAnswer.Read x) s')
+ReadLaw {N} E v = (s mid s' : PagerState N E) (key t : ℕ) (l : LoadNumber) (x : N) (run : LoadRun v Owner.Caller (fresh l t) mid (LoadAnswer.Read x) s')
     → WellFormed v s → KeyStarts v s key l mid → LoadAsksWell run → IsSettled v x → LeadsToTrees v s s' (λ trees trees'. ReadIsRight v s' key x)

@@ -3,7 +3,7 @@ use Rattle.std.specs.{List.remove, Prelude.{[], Bool, Err, false, IfErr, IfOk, i
 use Rattle.std.specs.Prelude.{◌+◌, ◌-◌, ◌<◌, ◌==◌, ◌||◌, ◌∷◌, ◌≡◌, ◌≤◌, ◌⊎◌}
 use Rattle.{pagable_model.specs.Stored.{Adds, RefusesFetch, RefusesFlush, RefusesStore}, pagable_world.specs.{Cascade.{Falls, FallsAnyhow, nobody, only_handle}, Kinds.{any_mode, fits_mode}}}
 use Rattle.pagable_world.specs.{Kinds.{is_handle, is_loose, is_pinned, is_unpinned, mode_of, owner_value, pins}, Plain.{ArcRef, Blob, changed, Error, HandleNumber, HandleRow, if_there, Kind, Mode}}
-use Rattle.pagable_world.specs.{Plain.{NodeNumber, OptionalDataKey, Owner, Pinning, times, type_of, updated}, Refusals.{AreHandlesFull, earlier, handle_fault, is_type, IsListFull, live_fault, Owns}}
+use Rattle.pagable_world.specs.{Plain.{NodeNumber, OptionalDataKey, Owner, Pinning, times, type_of, updated}, Refusals.{AreHandlesFull, earlier, handle_fault, is_type, live_fault, Owns}}
 use Rattle.pagable_world.specs.{Refusals.{references_fault, Refused, refused_if, spent, where_so}, World.{Alike, Cell, Core, greatest, is_here, key_at, row_at, type_at, usable}}
 
 abbrev pub row_of : ℕ → NodeNumber → Mode → Owner → HandleRow
@@ -13,7 +13,6 @@ row_of q node mode owner = record { number = record { 0 = q }; node = node; mode
 abbrev pub with_handle : Core → NodeNumber → Mode → Owner → Core
 with_handle w node mode owner = record w { rows = w.rows ++ row_of (w.last.handle + 1) node mode owner ∷ []; last = record w.last { handle = w.last.handle + 1 } }
 
--- the handle in another mode
 abbrev pub with_mode : Core → HandleNumber → Mode → Core
 with_mode w h mode = record w { rows = changed (is_handle h.0) (λ row. record row { mode = mode }) w.rows }
 
@@ -21,7 +20,6 @@ with_mode w h mode = record w { rows = changed (is_handle h.0) (λ row. record r
 abbrev pub moved : (ℕ → Bool) → Owner → List HandleRow → List HandleRow
 moved s owner rows = changed (λ row. s row.number.0) (λ row. record row { owner = owner }) rows
 
--- the node with this key
 abbrev pub with_key : Core → NodeNumber → ℕ → Core
 with_key w n key = record w { cells = updated n.0 (if_there (λ (cell : Cell). Some (record cell { key = OptionalDataKey.Some key })) None (w.cells n.0)) w.cells }
 
@@ -30,18 +28,16 @@ unfoldable pub is_named_by : List ArcRef → ℕ → Bool
 is_named_by [] q = false
 is_named_by (r ∷ rs) q = (r.handle.0 == q) || is_named_by rs q
 
--- the node that the next one will be
 abbrev pub next_node : Core → NodeNumber
 next_node w = record { 0 = w.last.node + 1 }
 
 -- A new node of a value with these references, whose handles move to it. Its key may be known from the first.
 abbrev pub with_node : Core → ℕ → OptionalDataKey → List ArcRef → Core
-with_node w node_type key references =
-    record w {
-      rows = moved (is_named_by references) (owner_value (w.last.node + 1)) w.rows;
-      cells = updated (w.last.node + 1) (Some (record { node_type = node_type; key = key })) w.cells;
-      last = record w.last { node = w.last.node + 1 };
-    }
+with_node w node_type key references = record w {
+  rows = moved (is_named_by references) (owner_value (w.last.node + 1)) w.rows;
+  cells = updated (w.last.node + 1) (Some (record { node_type = node_type; key = key })) w.cells;
+  last = record w.last { node = w.last.node + 1 };
+}
 
 -- the answer is the next number, which is there
 pub record IsNext (k : HandleNumber) (w : Core) : Type 0 where
@@ -100,22 +96,18 @@ pub record IsRefused (cause : Option Error) (w : Core) (r : Result (Unit {0}) Er
   pub told : r ≡ Err e
   pub stays : Alike w w'
 
--- The handle of this row lets its pin go and stays; or it is unpinned already.
-abbrev pub LetsGo : Core → HandleNumber → HandleRow → Result (Unit {0}) Error → Core → Type 0
-LetsGo w h row r w' = ((row.mode ≡ Mode.LooseUnpinned) × (r ≡ Ok tt) × Alike w w') ⊎ ((row.mode ≡ Mode.LoosePinned) × Falls w (with_mode w h Mode.LooseUnpinned) nobody r w')
-
+-- The handle lets its pin go and stays; or it is unpinned already.
 pub record UnpinCall (w : Core) (me : Owner) (h : HandleNumber) (r : Result (Unit {0}) Error) (w' : Core) : Type 0 where
-  pub does : IsRefused (handle_fault w me h is_loose) w r w' ⊎ ((row : HandleRow) × Owns w me h is_loose row × LetsGo w h row r w')
+  pub does : IsRefused (handle_fault w me h is_loose) w r w' ⊎ ((row : HandleRow) × Owns w me h is_loose row
+      × (((row.mode ≡ Mode.LooseUnpinned) × (r ≡ Ok tt) × Alike w w') ⊎ ((row.mode ≡ Mode.LoosePinned) × Falls w (with_mode w h Mode.LooseUnpinned) nobody r w')))
 
 pub record ReleaseCall (w : Core) (me : Owner) (h : HandleNumber) (r : Result (Unit {0}) Error) (w' : Core) : Type 0 where
   pub does : IsRefused (handle_fault w me h any_mode) w r w' ⊎ ((row : HandleRow) × Owns w me h any_mode row × Falls w w (only_handle h) r w')
 
 -- The cell of a loose handle gets a key, and its value goes if nothing pins it. Through a handle of another mode nothing happens.
-abbrev pub SetsKey : Core → HandleRow → ℕ → Result (Unit {0}) Error → Core → Type 0
-SetsKey w row key r w' = ((is_loose row.mode ≡ false) × (r ≡ Ok tt) × Alike w w') ⊎ ((is_loose row.mode ≡ true) × Falls w (with_key w row.node key) nobody r w')
-
 pub record SetKeyCall (w : Core) (me : Owner) (h : HandleNumber) (key : ℕ) (r : Result (Unit {0}) Error) (w' : Core) : Type 0 where
-  pub does : IsRefused (handle_fault w me h any_mode) w r w' ⊎ ((row : HandleRow) × Owns w me h any_mode row × SetsKey w row key r w')
+  pub does : IsRefused (handle_fault w me h any_mode) w r w' ⊎ ((row : HandleRow) × Owns w me h any_mode row
+      × (((is_loose row.mode ≡ false) × (r ≡ Ok tt) × Alike w w') ⊎ ((is_loose row.mode ≡ true) × Falls w (with_key w row.node key) nobody r w')))
 
 -- a look-up is refused only where there is no such handle
 pub record Looks {X : Type 0} (w : Core) (h : HandleNumber) (holds : X → HandleRow → Type 0) (r : Result X Error) : Type 0 where
@@ -139,14 +131,11 @@ NodeCall w h r = Looks w h (λ n row. n ≡ row.node) r
 abbrev pub TypeCall : Core → NodeNumber → Option ℕ → Type 0
 TypeCall w n found = found ≡ type_at w n.0
 
--- a loose unpinned handle moves to the list's end; once the storage is closed it is given up
-abbrev pub Schedules : Core → HandleNumber → Core → Type 0
-Schedules w h w' =
-    ((w.closed ≡ false) × Alike (record w { rows = moved (only_handle h) Owner.List w.rows; list = w.list ++ h ∷ [] }) w') ⊎ ((w.closed ≡ true) × FallsAnyhow w w (only_handle h) w')
-
+-- a loose unpinned handle moves to the list's end, which may have no place left; once the storage is closed it is given up
 pub record ScheduleCall (w : Core) (me : Owner) (h : HandleNumber) (r : Result (Unit {0}) Error) (w' : Core) : Type 0 where
-  pub moves : IfOk r (λ u. (row : HandleRow) × Owns w me h is_unpinned row × Schedules w h w')
-  pub refused : IfErr r (λ e. Refused (handle_fault w me h is_unpinned) (handle_fault w me h is_unpinned) ((w.closed ≡ false) × IsListFull w) w e w')
+  pub moves : IfOk r (λ u. (row : HandleRow) × Owns w me h is_unpinned row
+      × (((w.closed ≡ false) × Alike (record w { rows = moved (only_handle h) Owner.List w.rows; list = w.list ++ h ∷ [] }) w') ⊎ ((w.closed ≡ true) × FallsAnyhow w w (only_handle h) w')))
+  pub refused : IfErr r (λ e. Refused (handle_fault w me h is_unpinned) (handle_fault w me h is_unpinned) ((w.closed ≡ false) × (w.places.entries ≤ length w.list)) w e w')
 
 -- the entry at this place of the list moves to the one who asks, or there is none
 abbrev pub TakeCall : Core → Owner → ℕ → Option HandleNumber → Core → Type 0
@@ -163,7 +152,6 @@ pub record ReserveCall (w : Core) (n : ℕ) (r : Result (Unit {0}) Error) (w' : 
   pub enough : IfOk r (λ u. n ≤ room_of w')
   pub wanting : IfErr r (λ e. (e ≡ Error.OutOfMemory) × (room_of w' < n))
 
--- whether the cache gives a node for the kind and key
 abbrev pub is_usable : Core → Kind → ℕ → Bool
 is_usable w kind key = is_some (usable w kind.0 key)
 
@@ -187,7 +175,6 @@ pub record RecallCall (w : Core) (me : Owner) (kind : Kind) (key : ℕ) (r : Res
 abbrev pub with_cached : Core → Kind → ℕ → NodeNumber → Core
 with_cached w kind key n = record w { cache = λ k q. if k == kind.0 && q == key then Some n.0 else w.cache k q }
 
--- unless the storage is closed
 abbrev pub with_cached_if_open : Core → Kind → ℕ → NodeNumber → Core
 with_cached_if_open w kind key n = if w.closed then w else with_cached w kind key n
 
@@ -206,7 +193,6 @@ pub record OfferCall (w : Core) (me : Owner) (kind : Kind) (key : ℕ) (h : Hand
   pub answers : IfOk r (λ found. (row : HandleRow) × Owns w me h (fits_mode kind.0) row × (type_at w row.node.0 ≡ Some (type_of kind.0)) × Offers w me kind key h row found w')
   pub refused : IfErr r (λ e. Refused (offer_fault w me kind key h) (offer_fault w me kind key h) ((w.closed ≡ false) × ((usable w kind.0 key ≡ None) ⊎ AreHandlesFull w)) w e w')
 
--- the cache forgets all
 pub record ClearCall (w : Core) (r : Result (Unit {0}) Error) (w' : Core) : Type 0 where
   pub told : r ≡ Ok tt
   pub leaves : Alike (record w { cache = λ kind key. None }) w'
@@ -216,7 +202,6 @@ pub record Asked (w w' : Core) : Type 0 where
   pub fails : w.failures ≤ w'.failures
   pub leaves : Alike (record w { failures = w'.failures }) w'
 
--- the blob that stands under a key
 pub record FetchCall (w : Core) (key : ℕ) (r : Result Blob Error) (w' : Core) : Type 0 where
   pub asked : Asked w w'
   pub found : IfOk r (λ blob. w.stored key ≡ Some blob)
@@ -229,7 +214,6 @@ pub record Stores (w : Core) (key : ℕ) (blob : Blob) (w' : Core) : Type 0 wher
   pub fails : w.failures ≤ w'.failures
   pub leaves : Alike (record w { stored = w'.stored; failures = w'.failures }) w'
 
--- a blob is stored under its digest
 pub record StoreCall (digest : Blob → ℕ) (w : Core) (blob : Blob) (r : Result ℕ Error) (w' : Core) : Type 0 where
   pub stores : IfOk r (λ key. (key ≡ digest blob) × Stores w key blob w')
   pub refused : IfErr r (λ e. Asked w w' × RefusesStore blob (w.stored (digest blob)) w.closed w.failures w'.failures e)
@@ -239,7 +223,6 @@ pub record FlushCall (w : Core) (r : Result (Unit {0}) Error) (w' : Core) : Type
   pub asked : Asked w w'
   pub refused : IfErr r (λ e. RefusesFlush w.failures w'.failures e)
 
--- whether the list owns the handle
 abbrev pub is_listed : Core → ℕ → Bool
 is_listed w q = nat_lt 0 (times (λ (h : HandleNumber). h.0 == q) w.list)
 

@@ -3,7 +3,6 @@ use Rattle.std.specs.Prelude.{ℕ, ◌≡◌, ◌+◌, ◌<◌, ◌≤◌, ◌==
 use Rattle.pagable_world.specs.{Plain.{Error, HandleNumber, HandleRow, times, Owner, Mode}, Kinds.{is_owned_by, owner_value, is_at, is_pin, held, pins, sharing, has_key}}
 use Rattle.pagable_world.specs.World.{Core, greatest, key_at, Alike}
 
--- whether the handle isn't in the set
 abbrev pub is_outside : (ℕ → Bool) → HandleRow → Bool
 is_outside s h = not (s h.number.0)
 
@@ -41,7 +40,6 @@ abbrev pub AreNewEntries : ℕ → List HandleRow → Type 0
 AreNewEntries last [] = Unit {0}
 AreNewEntries last (h ∷ hs) = (h.number.0 ≡ last + 1) × (h.mode ≡ Mode.LooseUnpinned) × (h.owner ≡ Owner.List) × AreNewEntries (last + 1) hs
 
--- whether the node has a key
 abbrev pub is_keyed : Core → ℕ → Bool
 is_keyed w n = has_key (key_at w n)
 
@@ -57,10 +55,6 @@ pub record MustList (before w w' : Core) (n : ℕ) : Type 0 where
 abbrev pub IsPlaceWanting : Core → Core → Type 0
 IsPlaceWanting w w' = (w.places.handles ≤ length w.rows) ⊎ (w.places.entries ≤ length w'.list)
 
--- why a cell isn't listed: no number is left, or no place
-abbrev pub CannotList : Core → Core → Type 0
-CannotList w w' = (greatest ≤ w'.last.handle) ⊎ IsPlaceWanting w w'
-
 -- what is answered then: memory is wanting only where a number was left at first
 abbrev pub IsListRefusal : Core → Core → Error → Type 0
 IsListRefusal w w' Error.NumbersSpent = greatest ≤ w'.last.handle
@@ -72,29 +66,27 @@ pub record TellsListing (before w : Core) (entries : List HandleRow) (r : Result
   pub all : IfOk r (λ u. (n : ℕ) → MustList before w w' n → held n entries ≡ 1)
   pub not_all : IfErr r (λ e. (n : ℕ) × MustList before w w' n × (held n entries ≡ 0) × IsListRefusal w w' e)
 
--- the rows that are left
 abbrev pub left_rows : (ℕ → Bool) → List HandleRow → List HandleRow
 left_rows gone rows = filter (λ h. not (gone h.number.0)) rows
 
 -- the rows that are left and the new entries, of which the list has each at its end; and the cells that still have a handle
 abbrev pub fallen : Core → (ℕ → Bool) → List HandleRow → Core
-fallen w gone entries =
-    record w {
-      rows = left_rows gone w.rows ++ entries;
-      cells = λ n. if nat_lt 0 (held n (left_rows gone w.rows ++ entries)) then w.cells n else None;
-      list = filter (λ q. not (gone q.0)) w.list ++ map (λ h. h.number) entries;
-      last = record w.last { handle = w.last.handle + length entries };
-    }
+fallen w gone entries = record w {
+  rows = left_rows gone w.rows ++ entries;
+  cells = λ n. if nat_lt 0 (held n (left_rows gone w.rows ++ entries)) then w.cells n else None;
+  list = filter (λ q. not (gone q.0)) w.list ++ map (λ h. h.number) entries;
+  last = record w.last { handle = w.last.handle + length entries };
+}
 
 -- The given handles go from the world w, in which a call has done what it does directly, and with them the least set.
 pub record Falls (before w : Core) (given : ℕ → Bool) (r : Result (Unit {0}) Error) (w' : Core) : Type 0 where
   pub gone : ℕ → Bool
   pub entries : List HandleRow
   pub set : IsLeast w.rows (is_keyed w) entries given gone
-  -- an entry comes for a cell that must be listed, one for each; and where none comes there is a cause
+  -- an entry comes for a cell that must be listed, one for each; and where none comes no number is left, or no place
   pub new : AreNewEntries w.last.handle entries
   pub only : (n : ℕ) → 0 < held n entries → MustList before w w' n × (held n entries ≡ 1)
-  pub each : (n : ℕ) → MustList before w w' n → (held n entries ≡ 1) ⊎ CannotList w w'
+  pub each : (n : ℕ) → MustList before w w' n → (held n entries ≡ 1) ⊎ (greatest ≤ w'.last.handle) ⊎ IsPlaceWanting w w'
   pub tells : TellsListing before w entries r w'
   pub within : w.last.handle + length entries ≤ greatest
   pub leaves : Alike (fallen w gone entries) w'
@@ -104,7 +96,6 @@ pub record FallsAnyhow (before w : Core) (given : ℕ → Bool) (w' : Core) : Ty
   pub told : Result (Unit {0}) Error
   pub falls : Falls before w given told w'
 
--- no handle; one handle; and all of one owner
 abbrev pub nobody : ℕ → Bool
 nobody q = false
 

@@ -13,7 +13,6 @@ abbrev pub given_of : {B : Type 0} → (B → Blob) → Found B → Given
 given_of f (Found.Cached k) = from_cache k
 given_of f (Found.Blob b) = from_store (f b)
 
--- what the call does, by the call
 abbrev pub Does : {N B W : Type 0} → Seen N B W → Core → Owner → Call N B → Reply N B → Core → Type 0
 Does m w me (Call.NewPinned x) (Reply.Made r) w' = BirthCall w me x (m.values.node_type x) (m.values.references x) Mode.Pinned r w'
 Does m w me (Call.NewLoose x) (Reply.Made r) w' = BirthCall w me x (m.values.node_type x) (m.values.references x) Mode.LoosePinned r w'
@@ -60,19 +59,16 @@ pub record CallStep {N B W : Type 0} (m : Seen N B W) (w : Core) (me : Owner) (c
 abbrev pub ReadingsAre : (ℕ → Option Reading) → World → Type 0
 ReadingsAre readings u' = (l : ℕ) → u'.work.readings l ≡ if_there (λ load. readings l) None (u'.core.loads l)
 
--- tables and workers stay
 pub record WorkStays (work work' : Work) : Type 0 where
   pub shelves : (t : ℕ) → SameShelf (work.shelves t) (work'.shelves t)
   pub last_table : work'.last_table ≡ work.last_table
   pub walkings : SameAt work.walkings work'.walkings
 
--- nothing changes
 pub record Stays (u u' : World) : Type 0 where
   pub core : Alike u.core u'.core
   pub readings : ReadingsAre u.work.readings u'
   pub work : WorkStays u.work u'.work
 
--- what is done to the pager, and no more
 pub record OnlyCore (u : World) (does : Core → Type 0) (u' : World) : Type 0 where
   pub step : does u'.core
   pub readings : ReadingsAre u.work.readings u'
@@ -126,7 +122,6 @@ pub record KeyStarted (u : World) (key t : ℕ) (r : Result Beginning Error) (u'
 abbrev pub no_shelf : Shelf
 no_shelf = record { slots = λ i. None; waits = λ v. None }
 
--- Tables and workers are these.
 pub record WorkIs (shelves : ℕ → Shelf) (last : ℕ) (walkings : ℕ → Option Walking) (work : Work) : Type 0 where
   pub same_shelves : (t : ℕ) → SameShelf (shelves t) (work.shelves t)
   pub last_is : work.last_table ≡ last
@@ -137,7 +132,6 @@ pub record Tabled (u : World) (r : Result TableNumber Error) (u' : World) : Type
   pub made : IfOk r (λ t. (t.0 ≡ u.work.last_table + 1) × Alike u.core u'.core × ReadingsAre u.work.readings u' × WorkIs (updated t.0 no_shelf u.work.shelves) t.0 u.work.walkings u'.work)
   pub refused : IfErr r (λ e. (e ≡ Error.OutOfMemory) × Stays u u')
 
--- there is such a table, or none
 abbrev pub IsTable : World → TableNumber → Type 0
 IsTable u t = (0 < t.0) × (t.0 ≤ u.work.last_table)
 
@@ -159,7 +153,6 @@ pub record Starts (u : World) (t : TableNumber) (task : Task) (core : Core) (v :
   pub readings : ReadingsAre u.work.readings u'
   pub work : WorkIs u.work.shelves u.work.last_table (updated v.0 (Some (new_walking t task)) u.work.walkings) u'.work
 
--- a worker for an item
 pub record StartedItem (u : World) (t : TableNumber) (task : Task) (r : Result WorkerNumber Error) (u' : World) : Type 0 where
   pub starts : IfOk r (λ v. Starts u t task u.core v u')
   pub refused : IfErr r (λ e. (((e ≡ Error.NoSuchHandle) × IsNoTable u t) ⊎ ((e ≡ Error.OutOfMemory) × IsTable u t)) × Stays u u')

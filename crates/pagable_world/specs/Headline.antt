@@ -1,7 +1,7 @@
 -- The main theorem, a law of chains: what loads and page-outs answer and leave, by trees; and what workers and claims come to.
-use Rattle.std.specs.Prelude.{[], Bool, false, is_some, List, Ok, Option, Some, true, ℕ, ◌&&◌, ◌+◌, ◌==◌, ◌∷◌, ◌≡◌, ◌≢◌, ◌≤◌}
+use Rattle.std.specs.Prelude.{[], Bool, false, is_some, List, Ok, Option, Some, true, ℕ, ◌&&◌, ◌*◌, ◌+◌, ◌==◌, ◌∷◌, ◌≡◌, ◌≢◌, ◌≤◌}
 use Rattle.pagable_model.specs.{Canonical.IsCanonicalTree, declared.data_key.OptionalDataKey.OptionalDataKey, Merkle.{IsCanonicalItem, KeyOf, KeyOfItem, TreeForm}}
-use Rattle.pagable_world.specs.{Events.reading_at, Kinds.{identity_of, is_owned_by, owner_worker}, Order.{HasStepLeft, InOrder, is_claim_of, IsBounded, IsWithinBound, MetError, OnceEach, steps_of}}
+use Rattle.pagable_world.specs.{Events.reading_at, Kinds.{identity_of, is_owned_by, owner_worker}, Order.{InOrder, is_claim_of, IsBounded, IsWithinBound, MetError, OnceEach, steps_of, Unfolds}}
 use Rattle.pagable_world.specs.{Pager.{IsIdle, IsMachineWhole, IsReadingOf, kids_of, MachineState, PagerState, StandsFor, ValueStands, world_of}, Plain.{Among, ArcRef, Blob, Call, Claim, Event}}
 use Rattle.pagable_world.specs.Plain.{EventReply, HandleNumber, HandleRow, Identity, if_there, is_loose_kind, LoadAnswer, one, Owner, Pinning, PinStep, ReadsTree, Reply, Shape, times, Took, Tree}
 use Rattle.pagable_world.specs.{Plain.WorkerAnswer, Refusals.IsReference, Runs.{AreMoments, events_of, Fact, HoldsSettled, Moment, ReadsItsTypes, replies_of, state_after, TreesAlong}}
@@ -40,7 +40,6 @@ pub data Meets (shelf : Shelf) (task : Task) : Identity → Type 0 where
   meets-entry : (h : HandleNumber) (i : Identity) → task ≡ of_entry h i → Meets shelf task i
   meets-below : (i : Identity) (slot : Slot) (written : Written) (r : ArcRef) → Meets shelf task i → shelf.slots i ≡ Some slot → slot.written ≡ Some written → Among written.references r → Meets shelf task (identity_of r)
 
--- some worker of the table does
 pub record TableMeets (u : World) (t : ℕ) (i : Identity) : Type 0 where
   pub n : ℕ
   pub walking : Walking
@@ -91,8 +90,7 @@ AnswerLeavesAll v = AnswersKey (λ s trees walking key. LeavesAll v s.pager (s.w
 
 -- The key is that of the item or the listed cell; and where that is canonical, it is its only one.
 abbrev pub IsKeyOfTask : {N : Type 0} → Values N → (ℕ → Tree) → Task → ℕ → Type 0
-IsKeyOfTask v trees (of_item written) key =
-    KeyOfItem v.hash v.types written.bytes (kids_of trees written.references) key
+IsKeyOfTask v trees (of_item written) key = KeyOfItem v.hash v.types written.bytes (kids_of trees written.references) key
     × (IsCanonicalItem v.types written.bytes (kids_of trees written.references) → (other : ℕ) → KeyOfItem v.hash v.types written.bytes (kids_of trees written.references) other → other ≡ key)
 IsKeyOfTask v trees (of_entry h i) key =
     KeyOf v.hash v.types (trees i.node.0) key × (IsCanonicalTree v.types (trees i.node.0) → (other : ℕ) → KeyOf v.hash v.types (trees i.node.0) other → other ≡ key)
@@ -114,7 +112,6 @@ pub record IsRight {N E B W : Type 0} (v : Values N) (s : MachineState N E) (tre
   pub publishes : PublishIsKey v s trees event reply s' trees'
   pub key : AnswerIsKey v s trees event reply s' trees'
 
--- whether the worker is on the table
 abbrev pub is_on_table : ℕ → Option Walking → Bool
 is_on_table t walking = if_there (λ (w : Walking). w.table == t) false walking
 
@@ -157,9 +154,10 @@ pub record WorkerIsRight {W : Type 0} (f : W → Written) (u : World) (n : ℕ) 
   pub met : (answer : WorkerAnswer) → walking.answer ≡ Some answer → IsMetFailure (u.work.shelves walking.table) n steps answer
   pub let_go : (answer : WorkerAnswer) → walking.answer ≡ Some answer → HasLetGo u n (u.work.shelves walking.table)
 
--- an open load whose steps the machine makes, the caller's or a worker's, has one left
+-- an open load whose steps the machine makes, the caller's or a worker's, and whose reading takes n references, has a step left of 2n + 2
 abbrev pub LoadsHaveStepsLeft : {N : Type 0} → Values N → World → Type 0
-LoadsHaveStepsLeft v u = (reading : Reading) (load : OpenLoad) → IsReadingOf u.work reading → u.core.loads reading.load.0 ≡ Some load → HasStepLeft v.types u.core.stored load.key reading
+LoadsHaveStepsLeft v u = (reading : Reading) (load : OpenLoad) → IsReadingOf u.work reading → u.core.loads reading.load.0 ≡ Some load
+    → (many longest : ℕ) → Unfolds v.types u.core.stored reading.node_type load.key many longest → reading.steps ≤ 2 * many + 1
 
 -- what all steps so far come to, without trees
 pub record WorkIsRight {N E B W : Type 0} (m : Seen N B W) (s : MachineState N E) (happened : List (Event N B W)) (replied : List (EventReply N B W)) : Type 0 where
@@ -167,7 +165,6 @@ pub record WorkIsRight {N E B W : Type 0} (m : Seen N B W) (s : MachineState N E
   pub workers : (n : ℕ) (walking : Walking) → s.work.walkings n ≡ Some walking → WorkerIsRight m.written_of (world_of s) n walking (steps_of n happened replied)
   pub loads : LoadsHaveStepsLeft m.values (world_of s)
 
--- a load's step is within its bound
 abbrev pub StepIsWithin : {N E B W : Type 0} → Values N → MachineState N E → Event N B W → EventReply N B W → Type 0
 StepIsWithin v s (Event.LoadStep l) (EventReply.LoadMoved (Ok reply)) =
     (reading : Reading) (load : OpenLoad) → reading_at (world_of s) l ≡ Some reading → s.pager.core.loads l.0 ≡ Some load → IsWithinBound v.types s.pager.core.stored reading.node_type load.key reply

@@ -23,7 +23,6 @@ fits_mode kind Mode.Pinned = is_pinned_kind kind
 fits_mode kind Mode.Shared = is_shared_kind kind
 fits_mode kind _ = is_loose_kind kind
 
--- the identity that a reference names
 abbrev pub identity_of : ArcRef → Identity
 identity_of r = record { kind = r.kind; node = r.node }
 
@@ -51,11 +50,9 @@ abbrev pub is_shared : Mode → Bool
 is_shared Mode.Shared = true
 is_shared _ = false
 
--- any mode will do
 abbrev pub any_mode : Mode → Bool
 any_mode mode = true
 
--- whether it is the same owner
 abbrev pub is_owner : Owner → Owner → Bool
 is_owner Owner.Caller Owner.Caller = true
 is_owner (Owner.Value n) (Owner.Value m) = m.0 == n.0
@@ -71,7 +68,6 @@ owner_value n = Owner.Value (record { 0 = n })
 abbrev pub owner_worker : ℕ → Owner
 owner_worker v = Owner.Worker (record { 0 = v })
 
--- whether the handle has this number
 abbrev pub is_handle : ℕ → HandleRow → Bool
 is_handle q h = h.number.0 == q
 
@@ -99,12 +95,10 @@ pins n rows = sum_by (λ h. one (is_pin n h)) rows
 abbrev pub sharing : ℕ → List HandleRow → ℕ
 sharing n rows = sum_by (λ h. one (is_share n h)) rows
 
--- the row of the handle with this number
 unfoldable pub find_row : ℕ → List HandleRow → Option HandleRow
 find_row q [] = None
 find_row q (h ∷ hs) = if is_handle q h then Some h else find_row q hs
 
--- whether there is a key
 abbrev pub has_key : OptionalDataKey → Bool
 has_key OptionalDataKey.None = false
 has_key (OptionalDataKey.Some key) = true

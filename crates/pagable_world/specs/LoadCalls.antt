@@ -18,8 +18,7 @@ pub record IsNextLoad (l : LoadNumber) (w : Core) : Type 0 where
 -- A load of a loose handle's cell, with an unpinned clone of its own; or nothing, where the value is in memory.
 abbrev pub Begins : Core → Owner → HandleNumber → HandleRow → Beginning → Core → Type 0
 Begins w me h row Beginning.InMemory w' = (is_here w row.node.0 ≡ true) × Alike w w'
-Begins w me h row (Beginning.Load l key) w' =
-    (is_here w row.node.0 ≡ false)
+Begins w me h row (Beginning.Load l key) w' = (is_here w row.node.0 ≡ false)
     × (key_at w row.node.0 ≡ OptionalDataKey.Some key)
     × IsNextLoad l w
     × (w.last.handle < greatest)
@@ -32,7 +31,6 @@ pub record BeginCall (w : Core) (me : Owner) (h : HandleNumber) (r : Result Begi
   pub begins : IfOk r (λ b. (row : HandleRow) × Owns w me h is_loose row × Begins w me h row b w')
   pub refused : IfErr r (λ e. Refused (begin_fault w me h) (begin_fault w me h) (is_handle_here w h ≡ false) w e w')
 
--- a load of a key
 abbrev pub BeginsKey : Core → Owner → ℕ → Beginning → Core → Type 0
 BeginsKey w me key Beginning.InMemory w' = ⊥
 BeginsKey w me key (Beginning.Load l k) w' = (k ≡ key) × IsNextLoad l w × Alike (with_load w key of_key me) w'
@@ -83,8 +81,7 @@ first_key kind key = if is_pinned_kind kind then OptionalDataKey.Some key else O
 
 -- a new node with a handle of the load's, which the cache knows while the storage is open
 abbrev pub adopted : Core → LoadNumber → Kind → ℕ → OptionalDataKey → List ArcRef → Core
-adopted w l kind key own_key references =
-    with_cached_if_open (with_handle (with_node w (type_of kind.0) own_key references) (next_node w) (mode_of kind.0) (Owner.Load l)) kind key (next_node w)
+adopted w l kind key own_key references = with_cached_if_open (with_handle (with_node w (type_of kind.0) own_key references) (next_node w) (mode_of kind.0) (Owner.Load l)) kind key (next_node w)
 
 -- a handle of a node that there is, and another node only where the cache gives none
 abbrev pub node_fault : Core → Kind → ℕ → Option Error
@@ -120,11 +117,9 @@ pub record LazyCall (w : Core) (me : Owner) (l : LoadNumber) (kind : Kind) (key 
   pub makes : IfOk r (λ k. (load : OpenLoad) × OwnsLoad w me l load × (is_loose_kind kind.0 ≡ true) × (GetsKnown w l kind key k w' ⊎ ((usable w kind.0 key ≡ None) × (w.last.node < greatest) × IsNext k w × Alike (adopted w l kind key (OptionalDataKey.Some key) []) w')))
   pub refused : IfErr r (λ e. Refused (lazy_fault w me l kind key) (lazy_fault w me l kind key) ((usable w kind.0 key ≡ None) ⊎ AreHandlesFull w) w e w')
 
--- whether this owner has the handle
 abbrev pub is_owned_in : Core → Owner → ℕ → Bool
 is_owned_in w owner q = if_there (is_owned_by owner) false (find_row q w.rows)
 
--- the world without the load
 abbrev pub without_load : Core → LoadNumber → Core
 without_load w l = record w { loads = updated l.0 None w.loads }
 
@@ -197,6 +192,5 @@ pub record HandOverCall (w : Core) (me : Owner) (l : LoadNumber) (hs : List Hand
       × FallsAnyhow w (record (without_load w l) { rows = moved (is_in (numbers_of hs)) me w.rows }) (λ q. is_owned_in w (Owner.Load l) q && not (is_in (numbers_of hs) q)) w')
   pub refused : IfErr r (λ e. (hand_over_fault w me l hs ≡ Some e) × Alike w w')
 
--- a load is given up
 pub record DropCall (w : Core) (me : Owner) (l : LoadNumber) (r : Result (Unit {0}) Error) (w' : Core) : Type 0 where
   pub does : IsRefused (load_fault w me l) w r w' ⊎ ((load : OpenLoad) × OwnsLoad w me l load × LoadCloses w l r w')

@@ -18,7 +18,6 @@ answers_from got place (key ∷ keys) = (λ kind. answer_of (slice_get got place
 abbrev pub read_with : Types → ℕ → Blob → List ArcRef → Result (Meaning ArcRef × Rest Answer) Error
 read_with types t blob got = read_typed (handles_at 0 types.parts) (types.nodes t) (record { bytes = blob.bytes; refs = answers_from got 0 blob.keys })
 
--- what comes next
 pub data Next : Type 0 where
   -- the blob is read to its end, and means this
   reads : Meaning ArcRef → Next
@@ -27,6 +26,7 @@ pub data Next : Type 0 where
   -- the blob is refused
   is_faulty : Error → Next
 
+-- what comes next
 abbrev pub asks_for : ℕ → Option ℕ → Next
 asks_for kind None = is_faulty Error.NoMoreKeys
 asks_for kind (Some key) = asks (record { 0 = kind }) key
@@ -94,16 +94,24 @@ pub record GetsRoot (w : Core) (me : Owner) (reading : Reading) (frames : List F
   pub asked : AskCall w me reading.load Want.Root (Ok (from_store blob)) w'
   pub goes : frames ≡ root_frame load.key reading.node_type blob ∷ []
 
--- it has got a handle of a node that the cache knows
-pub record GetsCached (types : Types) (w : Core) (me : Owner) (reading : Reading) (frames : List Frame) (w' : Core) : Type 0 where
+-- it has got a handle by a call, where this was needed
+pub record GetsHandle (types : Types) (reading : Reading) (needed : Kind → ℕ → Need) (call : Kind → ℕ → HandleNumber → Type 0) (frames : List Frame) (w' : Core) : Type 0 where
   pub kind : Kind
   pub key : ℕ
   pub k : HandleNumber
   pub row : HandleRow
-  pub needs : need_of types reading.frames ≡ needs_nested kind key
-  pub asked : AskCall w me reading.load (Want.Nested kind key) (Ok (from_cache k)) w'
+  pub needs : need_of types reading.frames ≡ needed kind key
+  pub asked : call kind key k
   pub made : row_at w' k ≡ Some row
   pub goes : frames ≡ with_got kind row reading.frames
+
+-- of a node that the cache knows
+abbrev pub GetsCached : Types → Core → Owner → Reading → List Frame → Core → Type 0
+GetsCached types w me reading frames w' = GetsHandle types reading needs_nested (λ kind key k. AskCall w me reading.load (Want.Nested kind key) (Ok (from_cache k)) w') frames w'
+
+-- of a cell of which nothing was read
+abbrev pub GetsLazy : Types → Core → Owner → Reading → List Frame → Core → Type 0
+GetsLazy types w me reading frames w' = GetsHandle types reading needs_lazy (λ kind key k. LazyCall w me reading.load kind key (Ok k) w') frames w'
 
 -- it has got the reference's blob, and the path isn't too long
 pub record GetsBlob (types : Types) (w : Core) (me : Owner) (reading : Reading) (frames : List Frame) (w' : Core) : Type 0 where
@@ -114,17 +122,6 @@ pub record GetsBlob (types : Types) (w : Core) (me : Owner) (reading : Reading) 
   pub short : length reading.frames ≤ longest_path
   pub asked : AskCall w me reading.load (Want.Nested kind key) (Ok (from_store blob)) w'
   pub goes : frames ≡ nested_frame kind key blob ∷ reading.frames
-
--- it has got a handle of a cell of which nothing was read
-pub record GetsLazy (types : Types) (w : Core) (me : Owner) (reading : Reading) (frames : List Frame) (w' : Core) : Type 0 where
-  pub kind : Kind
-  pub key : ℕ
-  pub k : HandleNumber
-  pub row : HandleRow
-  pub needs : need_of types reading.frames ≡ needs_lazy kind key
-  pub asked : LazyCall w me reading.load kind key (Ok k) w'
-  pub made : row_at w' k ≡ Some row
-  pub goes : frames ≡ with_got kind row reading.frames
 
 -- the innermost blob was read as this value, and below it stands another
 pub record ReadsNode {N : Type 0} (v : Values N) (reading : Reading) (x : N) : Type 0 where
@@ -154,7 +151,6 @@ pub record ReadsRoot {N : Type 0} (v : Values N) (reading : Reading) (x : N) : T
   pub frames : reading.frames ≡ root ∷ []
   pub decoded : IsDecoded v root x
 
--- the load is of a cell, or of a key
 abbrev pub IsOfCell : Root → Type 0
 IsOfCell (of_cell node t h) = Unit {0}
 IsOfCell of_key = ⊥
@@ -191,13 +187,11 @@ RefusesBlob v reading e = (need_of v.types reading.frames ≡ is_broken e) ⊎ (
 
 -- by a fetch; or by the path that is too long, which is seen once the blob was fetched
 abbrev pub RefusesNested : Types → Core → Owner → Reading → Error → Core → Type 0
-RefusesNested types w me reading e w' =
-    (kind : Kind)
+RefusesNested types w me reading e w' = (kind : Kind)
     × (key : ℕ)
     × (need_of types reading.frames ≡ needs_nested kind key)
     × (AskCall w me reading.load (Want.Nested kind key) (Err e) w' ⊎ ((blob : Blob) × (e ≡ Error.TooDeep) × (longest_path < length reading.frames) × AskCall w me reading.load (Want.Nested kind key) (Ok (from_store blob)) w'))
 
--- by an adoption
 pub record RefusesNode {N : Type 0} (v : Values N) (w : Core) (me : Owner) (reading : Reading) (e : Error) (w' : Core) : Type 0 where
   pub x : N
   pub reads_node : ReadsNode v reading x
@@ -213,8 +207,7 @@ pub record RefusesRoot {N : Type 0} (v : Values N) (w : Core) (me : Owner) (read
 
 -- a step met this refusal, and the load is still open
 abbrev pub Meets : {N : Type 0} → Values N → Core → Owner → Reading → Error → Core → Type 0
-Meets v w me reading e w' =
-    (RefusesBlob v reading e × Alike w w')
+Meets v w me reading e w' = (RefusesBlob v reading e × Alike w w')
     ⊎ ((reading.frames ≡ []) × AskCall w me reading.load Want.Root (Err e) w')
     ⊎ RefusesNested v.types w me reading e w'
     ⊎ ((kind : Kind) × (key : ℕ) × (need_of v.types reading.frames ≡ needs_lazy kind key) × LazyCall w me reading.load kind key (Err e) w')

@@ -23,8 +23,7 @@ turn_of event reply = of_nobody
 
 -- each load's turns, and each worker's, stand together
 abbrev pub StandTogether : {N E B W : Type 0} → List (Moment N E B W) → Type 0
-StandTogether {N} {E} {B} {W} moments =
-    (i j k : ℕ) (a b c : Moment N E B W) → i < j → j < k → slice_get moments i ≡ Some a → slice_get moments j ≡ Some b → slice_get moments k ≡ Some c
+StandTogether {N} {E} {B} {W} moments = (i j k : ℕ) (a b c : Moment N E B W) → i < j → j < k → slice_get moments i ≡ Some a → slice_get moments j ≡ Some b → slice_get moments k ≡ Some c
     → turn_of a.event a.reply ≢ of_nobody → turn_of c.event c.reply ≡ turn_of a.event a.reply → turn_of b.event b.reply ≡ turn_of a.event a.reply
 
 -- a reference in the meaning leads to the tree, at once or further down
@@ -101,10 +100,7 @@ pub record GetsReference (w : Core) (kind : Kind) (key n : ℕ) (w' : Core) : Ty
   pub row : HandleRow
   pub made : row_at w' k ≡ Some row
   pub at : row.node.0 ≡ n
-  pub gets :
-      AskCall w me l (Want.Nested kind key) (Ok (from_cache k)) w'
-      ⊎ LazyCall w me l kind key (Ok k) w'
-      ⊎ ((t : ℕ) × (references : List ArcRef) × Adopts w me l kind key t references k w')
+  pub gets : AskCall w me l (Want.Nested kind key) (Ok (from_cache k)) w' ⊎ LazyCall w me l kind key (Ok k) w' ⊎ ((t : ℕ) × (references : List ArcRef) × Adopts w me l kind key t references k w')
 
 -- the cache has each node once: so it is where reading alone has filled it
 abbrev pub IsFilledByReading : Core → Type 0
@@ -137,9 +133,7 @@ pub record HaveOneIdentity {N E B W : Type 0} (kind other_kind : Kind) (key othe
 
 -- The law, of any chain between two such readings.
 abbrev pub OneIdentityLaw : {N B W : Type 0} → (E : Type 0) → Seen N B W → Type 0
-OneIdentityLaw {N} {B} {W} E m =
-    (w : Core) (first : MachineState N E) (between : List (Moment N E B W)) (last : Core) (kind other_kind : Kind) (key other_key n other_n : ℕ)
-    → IsWhole w
+OneIdentityLaw {N} {B} {W} E m = (w : Core) (first : MachineState N E) (between : List (Moment N E B W)) (last : Core) (kind other_kind : Kind) (key other_key n other_n : ℕ) → IsWhole w
     → IsFilledByReading w
     → w.closed ≡ false
     → GetsReference w kind key n first.pager.core

@@ -2,7 +2,7 @@
 use Rattle.std.specs.Prelude.{ℕ, ◌≡◌, ◌≤◌, ◌==◌, ◌&&◌, if◌then◌else◌, Bool, false, List, [], ◌∷◌, ◌++◌, Some, None, Ok, Err, ◌+◌, ◌*◌, ◌<◌, ◌⊎◌, max, true, map, length, sum_by, Option, IsSome}
 use Rattle.pagable_world.specs.Plain.{PinStep, Claim, Error, HandleNumber, Identity, type_of, Types, ArcRef, Kind, Meaning, Blob, Took, Event, EventReply, LoadReply, times, is_eager, longest_path}
 use Rattle.pagable_world.specs.{Kinds.identity_of, World.{Written, Frame, was_failed, Todo, to_start, to_pin, to_load, to_write, to_finish, to_item, to_set, to_publish, to_release, to_fail, Task}}
-use Rattle.pagable_world.specs.{World.{is_identity, Reading, of_item, of_entry, Walking}, Loads.{gone_on, Next, reads, asks, is_faulty, next_of}, Workers.{give, give_known, open_node, first_todo}}
+use Rattle.pagable_world.specs.{World.{is_identity, of_item, of_entry, Walking}, Loads.{gone_on, Next, reads, asks, is_faulty, next_of}, Workers.{give, give_known, open_node, first_todo}}
 use Rattle.pagable_world.specs.Workers.{failing, failing_by, fresh}
 
 -- the step that this reply tells of the worker
@@ -10,7 +10,6 @@ abbrev pub step_of : {N B W : Type 0} → ℕ → Event N B W → EventReply N B
 step_of v (Event.WorkerStep u) (EventReply.WorkerMoved (Ok reply)) = if u.0 == v then reply.took ∷ [] else []
 step_of v event reply = []
 
--- the worker's steps, in order
 unfoldable pub steps_of : {N B W : Type 0} → ℕ → List (Event N B W) → List (EventReply N B W) → List (Took W)
 steps_of v (event ∷ more) (reply ∷ rest) = step_of v event reply ++ steps_of v more rest
 steps_of v [] rest = []
@@ -42,7 +41,6 @@ Follows f (to_release r key height ∷ below) (Took.Release i) next = (i ≡ ide
 Follows f (to_fail fault back ∷ below) Took.Fail next = next ≡ []
 Follows f todo step next = ⊥
 
--- one after another
 abbrev pub Leads : {W : Type 0} → (W → Written) → List Todo → List (Took W) → List Todo → Type 0
 Leads f todo [] last = last ≡ todo
 Leads f todo (step ∷ steps) last = (mid : List Todo) × Follows f todo step mid × Leads f mid steps last
@@ -52,7 +50,6 @@ pub record InOrder {W : Type 0} (f : W → Written) (task : Task) (steps : List 
   pub left : List Todo
   pub leads : Leads f (first_todo task) steps left
 
--- whether the step claims the identity
 abbrev pub is_claim_of : {W : Type 0} → Identity → Took W → Bool
 is_claim_of i (Took.Claim j (Ok Claim.Claimed)) = is_identity i j
 is_claim_of i step = false
@@ -83,12 +80,10 @@ MetError (Took.Store i (Err e)) f = e ≡ f
 MetError (Took.SetKey i (Err e)) f = e ≡ f
 MetError step f = ⊥
 
--- whether the step claims something
 abbrev pub is_claim : {W : Type 0} → Took W → Bool
 is_claim (Took.Claim i (Ok Claim.Claimed)) = true
 is_claim step = false
 
--- how many references the step wrote
 abbrev pub references_written : {W : Type 0} → (W → Written) → Took W → ℕ
 references_written f (Took.Write i (Ok out)) = length (f out).references
 references_written f step = 0
@@ -140,10 +135,6 @@ pub record ReadsTooDeep (types : Types) (store : ℕ → Option Blob) (t key : �
   pub down : LeadsDown types store t key n last_type last
   pub is : store last ≡ Some blob
   pub deep : (longest_path < n) ⊎ ((kinds : List ℕ) × (after_kinds types last_type blob kinds ≡ is_faulty Error.TooDeep))
-
--- an open load whose reading takes n references has a step left of 2n + 2
-abbrev pub HasStepLeft : Types → (ℕ → Option Blob) → ℕ → Reading → Type 0
-HasStepLeft types store key reading = (many longest : ℕ) → Unfolds types store reading.node_type key many longest → reading.steps ≤ 2 * many + 1
 
 -- a load's step is within the bound, and the last that is within it ends the load
 abbrev pub IsWithinBound : {N : Type 0} → Types → (ℕ → Option Blob) → ℕ → ℕ → LoadReply N → Type 0

@@ -16,7 +16,6 @@ pub record PagerState (N E : Type 0) : Type 0 where
   pub values : ℕ → Option N
   pub environment : E
 
--- the machine over it
 pub record MachineState (N E : Type 0) : Type 0 where
   pub pager : PagerState N E
   pub work : Work
@@ -24,11 +23,9 @@ pub record MachineState (N E : Type 0) : Type 0 where
 abbrev pub world_of : {N E : Type 0} → MachineState N E → World
 world_of s = record { core = s.pager.core; work = s.work }
 
--- the one handle has the smaller number
 abbrev pub IsHandleBefore : HandleRow → HandleRow → Type 0
 IsHandleBefore a b = a.number.0 < b.number.0
 
--- Handles and nodes.
 pub record HandlesAreWhole (w : Core) : Type 0 where
   -- handles stand in the order of their numbers, which begin at 1 and are not above the last one given; so are nodes
   pub ordered : AllPairs IsHandleBefore w.rows
@@ -43,7 +40,6 @@ pub record HandlesAreWhole (w : Core) : Type 0 where
   -- rows and entries are in their places
   pub places : (length w.rows ≤ w.places.handles) × (length w.list ≤ w.places.entries)
 
--- Who owns a handle is there.
 pub record OwnersAreThere (w : Core) : Type 0 where
   -- the list has each handle that it owns once, all of them loose and unpinned
   pub listed : (q : ℕ) → times (λ (h : HandleNumber). h.0 == q) w.list ≡ times (λ h. is_handle q h && is_owned_by Owner.List h) w.rows
@@ -64,7 +60,6 @@ pub record IsRootWhole (w : Core) (node : NodeNumber) (t : ℕ) (h : HandleNumbe
   pub begun : (row : HandleRow) → row_at w h ≡ Some row → (row.node ≡ node) × (is_loose row.mode ≡ true)
   pub given : (h.0 ≤ w.last.handle) × (node.0 ≤ w.last.node)
 
--- Loads.
 pub record LoadsAreWhole (w : Core) : Type 0 where
   pub numbered : (l : ℕ) → is_some (w.loads l) ≡ true → (0 < l) × (l ≤ w.last.load)
   pub owned : (l : ℕ) (load : OpenLoad) → w.loads l ≡ Some load → MayOwnLoad w load.owner
@@ -76,7 +71,6 @@ pub record IsEntryWhole (w : Core) (kind n : ℕ) : Type 0 where
   pub typed : (t : ℕ) → type_at w n ≡ Some t → t ≡ type_of kind
   pub shares : (h : HandleRow) → Among w.rows h → h.node.0 ≡ n → is_shared h.mode ≡ is_shared_kind kind
 
--- the plain world is whole
 pub record IsWhole (w : Core) : Type 0 where
   pub handles : HandlesAreWhole w
   pub owners_there : OwnersAreThere w
@@ -149,11 +143,9 @@ pub record Moves {N E : Type 0} (comes : ℕ → N → Type 0) (s s' : PagerStat
   pub each : (n : ℕ) (x : N) → s'.values n ≡ Some x → (s.values n ≡ Some x) ⊎ ((s.values n ≡ None) × comes n x)
   pub environment : s'.environment ≡ s.environment
 
--- a node that wasn't there before
 abbrev pub IsNewNode : Core → ℕ → Type 0
 IsNewNode w n = w.last.node < n
 
--- the load's cell
 pub record IsCellOf (w : Core) (l : LoadNumber) (n : ℕ) : Type 0 where
   pub load : OpenLoad
   pub node : NodeNumber
@@ -265,8 +257,7 @@ pub record FrameFits (types : Types) (stored : ℕ → Option Blob) (trees : ℕ
 unfoldable pub FramesFit : Types → (ℕ → Option Blob) → (ℕ → Tree) → (root_key root_type : ℕ) → List Frame → Type 0
 FramesFit types stored trees root_key root_type [] = Unit {0}
 FramesFit types stored trees root_key root_type (frame ∷ []) = FrameFits types stored trees frame × (frame.key ≡ root_key) × (frame.node_type ≡ root_type)
-FramesFit types stored trees root_key root_type (frame ∷ below ∷ rest) =
-    FrameFits types stored trees frame
+FramesFit types stored trees root_key root_type (frame ∷ below ∷ rest) = FrameFits types stored trees frame
     × (frame.node_type ≡ type_of frame.kind.0)
     × (next_in types below ≡ asks frame.kind frame.key)
     × FramesFit types stored trees root_key root_type (below ∷ rest)

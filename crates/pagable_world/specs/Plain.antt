@@ -23,7 +23,6 @@ times test xs = sum_by (λ x. one (test x)) xs
 abbrev pub changed : {X : Type 0} → (X → Bool) → (X → X) → List X → List X
 changed test f xs = map (λ x. if test x then f x else x) xs
 
--- whether the number is in the list
 unfoldable pub is_in : List ℕ → ℕ → Bool
 is_in [] q = false
 is_in (x ∷ xs) q = (x == q) || is_in xs q
@@ -37,7 +36,6 @@ abbrev pub if_there : {X Y : Type 0} → (X → Y) → Y → Option X → Y
 if_there f y None = y
 if_there f y (Some x) = f x
 
--- the first, or else the second
 abbrev pub or_else : {X : Type 0} → Option X → Option X → Option X
 or_else (Some x) y = Some x
 or_else None y = y

@@ -19,12 +19,10 @@ earlier None b = b
 earlier (Some e) None = Some e
 earlier (Some e) (Some f) = if nat_lt (rank f) (rank e) then Some f else Some e
 
--- a cause that holds only where this is so
 abbrev pub where_so : Bool → Option Error → Option Error
 where_so true e = e
 where_so false e = None
 
--- this refusal, if it is so
 abbrev pub refused_if : Bool → Error → Option Error
 refused_if b e = if b then Some e else None
 
@@ -32,12 +30,9 @@ refused_if b e = if b then Some e else None
 abbrev pub spent : ℕ → Option Error
 spent last = refused_if (nat_le greatest last) Error.NumbersSpent
 
--- the vector of handles has no place left, or the list has none
+-- the vector of handles has no place left
 abbrev pub AreHandlesFull : Core → Type 0
 AreHandlesFull w = w.places.handles ≤ length w.rows
-
-abbrev pub IsListFull : Core → Type 0
-IsListFull w = w.places.entries ≤ length w.list
 
 -- an own handle whose mode is as asked
 pub record Owns (w : Core) (me : Owner) (h : HandleNumber) (fits : Mode → Bool) (row : HandleRow) : Type 0 where
@@ -54,7 +49,6 @@ abbrev pub handle_fault : Core → Owner → HandleNumber → (Mode → Bool) �
 handle_fault w me h fits =
     if_there (λ (row : HandleRow). if not (is_owner me row.owner) then Some Error.NotYours else refused_if (not (fits row.mode)) Error.WrongMode) (Some Error.NoSuchHandle) (row_at w h)
 
--- whether there is a type, and it is this one
 abbrev pub is_type : ℕ → Option ℕ → Bool
 is_type t found = if_there (λ u. u == t) false found
 
@@ -69,8 +63,7 @@ pub record IsReference (w : Core) (owner : Owner) (r : ArcRef) : Type 0 where
 
 -- why a reference is refused whose handle has this row, where others may be asked of it first
 abbrev pub row_fault : Core → ArcRef → Option Error → HandleRow → Option Error
-row_fault w r first row =
-    if not (row.node.0 == r.node.0) then Some Error.NoSuchHandle else
+row_fault w r first row = if not (row.node.0 == r.node.0) then Some Error.NoSuchHandle else
     or_else first (if not (fits_mode r.kind.0 row.mode) then Some Error.WrongMode else refused_if (not (is_type (type_of r.kind.0) (type_at w r.node.0))) Error.WrongKind)
 
 -- why one reference of a value that is handed in is refused; seen are the handles that earlier ones named

@@ -22,10 +22,6 @@ abbrev pub read_out : {N B W : Type 0} → EventReply N B W → Option N
 read_out (EventReply.LoadMoved (Ok reply)) = read_by reply.ended
 read_out reply = None
 
--- nor does one that is read out
-abbrev pub ReadsSettled : {N B W : Type 0} → Values N → EventReply N B W → Type 0
-ReadsSettled {N} v reply = (x : N) → read_out reply ≡ Some x → IsSettled v x
-
 -- the storage isn't closed
 abbrev pub KeepsOpen : {N B W : Type 0} → Event N B W → Type 0
 KeepsOpen (Event.Call Call.Close) = ⊥
@@ -70,12 +66,12 @@ IsWellAsked v s trees event reply = Unit {0}
 
 -- all that is asked of an event at the state that it finds, and of what it leaves
 pub record IsPremised {N E B W : Type 0} (v : Values N) (s : MachineState N E) (trees : ℕ → Tree) (event : Event N B W) (reply : EventReply N B W) (s' : MachineState N E) : Type 0 where
+  -- no value in memory, and none that is read out, is written to later
   pub settled : HoldsSettled v s'.pager
-  pub reads_settled : ReadsSettled v reply
+  pub reads_settled : (x : N) → read_out reply ≡ Some x → IsSettled v x
   pub stays_open : KeepsOpen event
   pub well : IsWellAsked v s trees event reply
 
--- an event, its reply and the machine after it
 pub record Moment (N E B W : Type 0) : Type 0 where
   pub event : Event N B W
   pub reply : EventReply N B W
@@ -88,12 +84,10 @@ pub record Does {N E B W : Type 0} (m : Seen N B W) (s : MachineState N E) (even
   pub writes : ReplyWrites m s.pager reply
   pub whole : IsMachineWhole m.values s'
 
--- each moment does so
 abbrev pub AreMoments : {N E B W : Type 0} → Seen N B W → MachineState N E → List (Moment N E B W) → Type 0
 AreMoments m s [] = Unit {0}
 AreMoments m s (x ∷ xs) = Does m s x.event x.reply x.after × AreMoments m x.after xs
 
--- the machine after these moments
 unfoldable pub state_after : {N E B W : Type 0} → MachineState N E → List (Moment N E B W) → MachineState N E
 state_after s [] = s
 state_after s (x ∷ xs) = state_after x.after xs
@@ -105,7 +99,6 @@ abbrev pub replies_of : {N E B W : Type 0} → List (Moment N E B W) → List (E
 replies_of xs = map (λ x. x.reply) xs
 
 -- These events, with these replies, led from the old machine to the new one.
--- To be carried by: the machine's run.
 pub record HasRun {N E B W : Type 0} (m : Seen N B W) (old : MachineState N E) (happened : List (Event N B W)) (replied : List (EventReply N B W)) (new : MachineState N E) : Type 0 where
   pub moments : List (Moment N E B W)
   pub events_are : events_of moments ≡ happened
@@ -126,5 +119,4 @@ pub record TreesAfter {N E B W : Type 0} (m : Seen N B W) (P : Fact N E B W) (s 
 -- trees one after another, and the fact with them, as long as what the events ask is so
 abbrev pub TreesAlong : {N E B W : Type 0} → Seen N B W → Fact N E B W → MachineState N E → (ℕ → Tree) → List (Moment N E B W) → Type 0
 TreesAlong m P s trees [] = Unit {0}
-TreesAlong m P s trees (x ∷ xs) =
-    IsPremised m.values s trees x.event x.reply x.after → (trees' : ℕ → Tree) × TreesAfter m P s trees x.event x.reply x.after trees' × TreesAlong m P x.after trees' xs
+TreesAlong m P s trees (x ∷ xs) = IsPremised m.values s trees x.event x.reply x.after → (trees' : ℕ → Tree) × TreesAfter m P s trees x.event x.reply x.after trees' × TreesAlong m P x.after trees' xs

@@ -116,31 +116,26 @@ pub record IsPublished (s : Shelf) (i : Identity) (key height : ℕ) : Type 0 wh
 
 -- too deep at its place; with the height that is known there; or since whoever is at it waits for the asker, which may be at it itself
 abbrev pub IsTooDeep : Shelf → ℕ → Identity → ℕ → Type 0
-IsTooDeep s v i place =
-    (longest_path < place) ⊎ ((key height : ℕ) × IsPublished s i key height × (longest_path < place + height)) ⊎ ((slot : Slot) × IsOpenSlot s i slot × ComesBack s v slot.worker)
+IsTooDeep s v i place = (longest_path < place) ⊎ ((key height : ℕ) × IsPublished s i key height × (longest_path < place + height)) ⊎ ((slot : Slot) × IsOpenSlot s i slot × ComesBack s v slot.worker)
 
 -- what a claim finds, and what is to be done then; that a worker waits is forgotten as soon as a claim answers something else
 abbrev pub Finds : ℕ → Site → ArcRef → ℕ → List Todo → Claim → Site → Type 0
-Finds v s r place below Claim.Claimed s' =
-    (place ≤ longest_path)
+Finds v s r place below Claim.Claimed s' = (place ≤ longest_path)
     × (s.shelf.slots (identity_of r) ≡ None)
     × Turns s (with_slot (with_wait s.shelf v None) (identity_of r) (Some (record { worker = v; written = None; outcome = no_result }))) (to_pin r place ∷ below) s'
 Finds v s r place below (Claim.Known key height) s' =
     (place + height ≤ longest_path) × IsPublished s.shelf (identity_of r) key height × Turns s (with_wait s.shelf v None) (give_known r key height below) s'
 Finds v s r place below Claim.Waiting s' =
     (place ≤ longest_path) × ((slot : Slot) × IsOpenSlot s.shelf (identity_of r) slot × ComesToEnd s.shelf v slot.worker) × Turns s (with_wait s.shelf v (Some (identity_of r))) s.todo s'
-Finds v s r place below Claim.AlreadyFailed s' =
-    (place ≤ longest_path)
+Finds v s r place below Claim.AlreadyFailed s' = (place ≤ longest_path)
     × ((slot : Slot) × (s.shelf.slots (identity_of r) ≡ Some slot) × (slot.outcome ≡ failed))
     × Turns s (with_wait s.shelf v None) (failing was_failed s.todo) s'
 
--- a claim of what a reference names
 pub record Claims (v : ℕ) (s : Site) (r : ArcRef) (place : ℕ) (below : List Todo) (result : Result Claim Error) (s' : Site) : Type 0 where
   pub finds : IfOk result (λ c. (claim_fault s.core r ≡ None) × Finds v s r place below c s')
   pub refused : IfErr result (λ e. ((claim_fault s.core r ≡ Some e) ⊎ ((claim_fault s.core r ≡ None) × (e ≡ Error.TooDeep) × IsTooDeep s.shelf v (identity_of r) place) ⊎ (e ≡ Error.OutOfMemory))
       × Turns s (with_wait s.shelf v None) (failing_by e s.todo) s')
 
--- the row of a live handle is so
 pub record RowIs (w : Core) (h : HandleNumber) (loose : Bool) : Type 0 where
   pub row : HandleRow
   pub live : row_at w h ≡ Some row
@@ -148,19 +143,16 @@ pub record RowIs (w : Core) (h : HandleNumber) (loose : Bool) : Type 0 where
 
 -- A Pinned or Shared reference is cloned for the worker, and that is a pin. A loose one is cloned, and the clone is pinned.
 abbrev pub PinsAtOnce : Core → Owner → ArcRef → HandleNumber → HandleNumber → Core → Type 0
-PinsAtOnce w me r through k w' =
-    (RowIs w r.handle false × (through ≡ k) × CloneCall w me r.handle (Ok k) w')
+PinsAtOnce w me r through k w' = (RowIs w r.handle false × (through ≡ k) × CloneCall w me r.handle (Ok k) w')
     ⊎ (RowIs w r.handle true × ((mid : Core) × CloneCall w me r.handle (Ok through) mid × PinCall mid me through (Ok (Pinning.Pinned k)) w'))
 
 -- the clone's value is away: a load is begun by it
 abbrev pub PinsByLoad : Core → Owner → ArcRef → HandleNumber → LoadNumber → Core → Type 0
-PinsByLoad w me r through l w' =
-    RowIs w r.handle true × ((mid : Core) × (key : ℕ) × CloneCall w me r.handle (Ok through) mid × BeginCall mid me through (Ok (Beginning.Load l key)) w')
+PinsByLoad w me r through l w' = RowIs w r.handle true × ((mid : Core) × (key : ℕ) × CloneCall w me r.handle (Ok through) mid × BeginCall mid me through (Ok (Beginning.Load l key)) w')
 
 -- the clone is refused; or the pin of a loose clone, or the begin of its load
 abbrev pub PinRefused : Core → Owner → ArcRef → Error → Core → Type 0
-PinRefused w me r e w' =
-    CloneCall w me r.handle (Err e) w'
+PinRefused w me r e w' = CloneCall w me r.handle (Err e) w'
     ⊎ (RowIs w r.handle true × ((mid : Core) × (through : HandleNumber) × CloneCall w me r.handle (Ok through) mid × (PinCall mid me through (Err e) w' ⊎ BeginCall mid me through (Err e) w')))
 
 -- a reading of a claimed cell's value that has just begun
@@ -214,11 +206,9 @@ pub record SetsKey (v : ℕ) (s : Site) (r : ArcRef) (through : HandleNumber) (k
 abbrev pub with_outcome : Outcome → Slot → Slot
 with_outcome outcome slot = if is_open_outcome slot.outcome then record slot { outcome = outcome } else slot
 
--- whether the handle is the worker's, at this node
 abbrev pub is_workers_at : Core → ℕ → ℕ → ℕ → Bool
 is_workers_at w v n q = if_there (λ row. is_owned_by (owner_worker v) row && is_at n row) false (find_row q w.rows)
 
--- whether the load is the worker's
 abbrev pub is_workers_load : ℕ → Option OpenLoad → Bool
 is_workers_load v load = if_there (λ (l : OpenLoad). is_owner (owner_worker v) l.owner) false load
 
@@ -258,8 +248,7 @@ Does m v s (to_item written keys ∷ below) (Took.Store i key) s' = (i ≡ None)
 Does m v s (to_set r through key height ∷ below) (Took.SetKey i u) s' = (i ≡ identity_of r) × SetsKey v s r through key height below u s'
 Does m v s (to_publish r key height ∷ below) (Took.Publish i k h) s' =
     (i ≡ identity_of r) × (k ≡ key) × (h ≡ height) × Turns s (with_changed_slot s.shelf (identity_of r) (with_outcome (published key height))) (to_release r key height ∷ below) s'
-Does m v s (to_release r key height ∷ below) (Took.Release i) s' =
-    (i ≡ identity_of r) × FallsAnyhow s.core s.core (is_workers_at s.core v r.node.0) s'.core × GoesTo s (give r key height below) s'
+Does m v s (to_release r key height ∷ below) (Took.Release i) s' = (i ≡ identity_of r) × FallsAnyhow s.core s.core (is_workers_at s.core v r.node.0) s'.core × GoesTo s (give r key height below) s'
 Does m v s (to_fail fault back ∷ below) Took.Fail s' = GivesBack s.core v back s'.core × SameShelf (with_failed s.shelf v) s'.shelf × (s'.todo ≡ [])
 Does m v s todo step s' = ⊥
 
@@ -267,13 +256,9 @@ Does m v s todo step s' = ⊥
 pub record WalkDoes {N B W : Type 0} (m : Seen N B W) (v : ℕ) (s : Site) (step : Took W) (s' : Site) : Type 0 where
   pub does : Does m v s s.todo step s'
 
-abbrev pub item_answer : Result ℕ Error → Option WorkerAnswer
-item_answer (Ok key) = Some (WorkerAnswer.Key key)
-item_answer (Err e) = None
-
 -- a worker answers with its item's store, with the release of its entry's cell, and where it fails
 abbrev pub answer_after : {W : Type 0} → List Todo → Took W → Option WorkerAnswer
-answer_after (to_item written keys ∷ below) (Took.Store i r) = item_answer r
+answer_after (to_item written keys ∷ below) (Took.Store i (Ok key)) = Some (WorkerAnswer.Key key)
 answer_after (to_release r key height ∷ []) step = Some (WorkerAnswer.Key key)
 answer_after (to_fail fault back ∷ below) step = Some (answer_of_fault fault)
 answer_after todo step = None

@@ -5,7 +5,6 @@ use Rattle.pagable_model.specs.{Blob.key_of, Reading.deepest, Refusals.{is_own_r
 use Rattle.pagable_world.specs.Plain.{Error, OptionalDataKey, Kind, ArcRef, Identity, HandleNumber, LoadNumber, NodeNumber, Blob, Owner, HandleRow, WorkerAnswer, SameAt, Meaning, Shape, Types}
 use Rattle.pagable_world.specs.{Plain.{is_pinned_kind, if_there}, Kinds.{find_row, pins, is_in_memory}}
 
--- a node by the type of its value and its key
 pub record Cell : Type 0 where
   pub node_type : ℕ
   pub key : OptionalDataKey
@@ -148,7 +147,6 @@ pub record Work : Type 0 where
   pub readings : ℕ → Option Reading
   pub walkings : ℕ → Option Walking
 
--- all of it
 pub record World : Type 0 where
   pub core : Core
   pub work : Work
@@ -164,7 +162,6 @@ one_more n = min (n + 1) greatest
 abbrev pub row_at : Core → HandleNumber → Option HandleRow
 row_at w h = find_row h.0 w.rows
 
--- the type of a live node, and its key
 abbrev pub type_at : Core → ℕ → Option ℕ
 type_at w n = if_there (λ (cell : Cell). Some cell.node_type) None (w.cells n)
 
@@ -206,7 +203,6 @@ pub record Alike (w w' : Core) : Type 0 where
   pub last : w'.last ≡ w.last
   pub places : HasRoom w.places w'.places
 
--- the same claims, and the same waits
 pub record SameShelf (s s' : Shelf) : Type 0 where
   pub slots : (i : Identity) → s'.slots i ≡ s.slots i
   pub waits : SameAt s.waits s'.waits
