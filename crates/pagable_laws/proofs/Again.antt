@@ -1,15 +1,15 @@
 -- A form is read again, whatever follows it, and is refused where one of its references is.
 use Rattle.pagable_laws.proofs.Words.{Bool, Entries, Entry, Err, Error, Form, Forms, IsReadable, LiesIn, List, Meaning, Ok, Result, Shape, Throughout, [], ap, append-nil, append_assoc, arith, false}
 use Rattle.pagable_laws.proofs.Words.{inl, inr, length, length-append, nat_tests, put_all, read, reference-form, refl, rest, run-form, subst, suc, sym, zero, ℕ, ℤ, ◌++◌, ◌+◌, ◌<◌, ◌∙◌, ◌∷◌, ◌≡◌, ◌≤◌}
+use Rattle.{pagable_laws.specs.FormLaws.{IsPrefixFree, IsReadAgain, LooksUp, more-references, no-references}, pagable_model.specs.Basic.{bool_at, bool_form, char_at, char_form, duration_at}}
+use Rattle.pagable_model.specs.{Basic.{duration_form, length_at, length_form, longest, nanos_of_second, text_at, text_form}, Canonical.{HasNoCase, Within}, Form.{array-form, both-form, case-form}}
 use Rattle.pagable_model.specs.Form.{duration-form, err-form, flag-form, hash-map-form, json-array-form, json-flag-form, json-number-form, json-object-form, json-text-form, letter-form, list-form}
 use Rattle.pagable_model.specs.Form.{more-entries, more-forms, nested-form, no-entries, no-forms, ok-form, pattern-form, placed-map-form, placed-set-form, signed-form, some-form, sorted-map-form}
-use Rattle.pagable_model.specs.{Basic.{duration_form, length_at, length_form, longest, nanos_of_second, text_at, text_form}, Canonical.{HasNoCase, Within}, Form.{array-form, both-form, case-form}}
 use Rattle.pagable_model.specs.{Form.{sorted-set-form, static-form, tagged-form, text-form, unsigned-form}, Keyed.{throughout-alone, throughout-over}, Keys.{AllAfter, Apart, Ascends, KeyOrder}}
 use Rattle.pagable_model.specs.{Keys.{ordered, put_placed, put_placed_item, put_sorted, put_sorted_item, same_key, text_order}, Numbers.{IsSigned, bound, signed_at, signed_form, signed_from}}
 use Rattle.pagable_model.specs.{Numbers.{unsigned_at, unsigned_form, unsigned_of, varint, varint_at, varint_limit}, Reading.{Gets, Look, Rest, below, items, read_with, two}, Shape.nested, Steps.◌>>=◌}
 use Rattle.std.proofs.{Common.{ltb, ◌%◌, ◌/◌, ◌^◌, ◌⊎◌}, lemmas.{Bool.{le-leb, le-ltb, lt-ltb}, List.{append_cancel_right, drop_at, take_at}, Str.{IsUtf8-encode, chars-encodes, is_utf8-from_IsUtf8}}}
 use Rattle.std.{proofs.lemmas.Str.length-encode, specs.{Char.{IsScalar, encode_utf8, len_utf8}, Int.{Width, w32, w64}, Str.{IsUtf8, chars}, declared.cmp.Ordering.Ordering}}
-use Rattle.{pagable_laws.specs.FormLaws.{IsPrefixFree, IsReadAgain, LooksUp, more-references, no-references}, pagable_model.specs.Basic.{bool_at, bool_form, char_at, char_form, duration_at}}
 
 -- ---- from what holds throughout a shape to what holds throughout the shapes in it
 
@@ -119,15 +119,12 @@ pub data Looked {A B : Type 0} (look : Look A B) (kind_of : B → ℕ) : List A 
   one-looked : (a : A) (r : List A) (b : B) (k : List B) (c : Result (List A) Error) → look (kind_of b) a ≡ Ok b → Looked look kind_of r k c → Looked look kind_of (a ∷ r) (b ∷ k) c
   not-looked : (a : A) (r : List A) (b : B) (k : List B) (e : Error) → look (kind_of b) a ≡ Err e → Looked look kind_of (a ∷ r) (b ∷ k) (Err e)
 
--- the references of a front, and then those of a back
-abbrev LookedTwo : {A B : Type 0} → Look A B → (B → ℕ) → List A → List B → List B → Result (List A) Error → Type 0
-LookedTwo {A} look kind_of r k l c = ((y : List A) × Looked look kind_of r k (Ok y) × Looked look kind_of y l c) ⊎ ((e : Error) × Looked look kind_of r k (Err e) × (c ≡ Err e))
-
 module _ {A B : Type 0} {look : Look A B} {kind_of : B → ℕ} where
-  split : (k l : List B) {r : List A} {c : Result (List A) Error} → Looked look kind_of r (k ++ l) c → LookedTwo look kind_of r k l c
+  -- the references of a front, and then those of a back
+  split : (k l : List B) {r : List A} {c : Result (List A) Error} → Looked look kind_of r (k ++ l) c
+      → ((y : List A) × Looked look kind_of r k (Ok y) × Looked look kind_of y l c) ⊎ ((e : Error) × Looked look kind_of r k (Err e) × (c ≡ Err e))
   split [] l {r} h = inl (r, all-looked r, h)
-  split (b ∷ k) l (one-looked a r b2 k2 c is h) =
-      elim (split k l h) [ inl (y, f, g) ↦ inl (y, one-looked _ _ _ _ (Ok y) is f, g) | inr (e, f, same) ↦ inr (e, one-looked _ _ _ _ (Err e) is f, same) ]
+  split (b ∷ k) l (one-looked a r b2 k2 c is h) = elim (split k l h) [ inl (y, f, g) ↦ inl (y, one-looked _ _ _ _ (Ok y) is f, g) | inr (e, f, same) ↦ inr (e, one-looked _ _ _ _ (Err e) is f, same) ]
   split (b ∷ k) l (not-looked a r b2 k2 e is) = inr (e, not-looked a r b k e is, refl)
 
   none-left : {r : List A} {c : Result (List A) Error} → Looked look kind_of r [] c → c ≡ Ok r
@@ -226,17 +223,14 @@ read_again parts s t levels look kind_of m b x k r y u f = form-again x f (looke
 -- ---- no form of one meaning begins a form of another
 
 -- each reference stands for itself
-abbrev pub itself : {A : Type 0} → Look A A
-itself kind a = Ok a
-
-pub looks-itself : {A : Type 0} {kind_of : A → ℕ} (k : List A) → LooksUp itself kind_of k k
-looks-itself [] = no-references
-looks-itself (a ∷ k) = more-references a k a k refl (looks-itself k)
+pub looks-itself : {A : Type 0} {look : Look A A} {kind_of : A → ℕ} → ((a : A) → look (kind_of a) a ≡ Ok a) → (k : List A) → LooksUp look kind_of k k
+looks-itself same [] = no-references
+looks-itself same (a ∷ k) = more-references a k a k (same a) (looks-itself same k)
 
 pub prefix_free : {A : Type 0} (parts : ℕ → Shape) (s : Shape) → Throughout IsReadable parts s → IsPrefixFree A parts s
 prefix_free {A} parts s t kind_of left m n b c x y k l u v f g e h =
-    let first = form-again x f (looked-by u (looks-itself k)) t in
-    let second = form-again y g (looked-by v (looks-itself l)) t in
+    let first = form-again x f (looked-by u (looks-itself {look = λ kind a. Ok a} (λ a. refl) k)) t in
+    let second = form-again y g (looked-by v (looks-itself {look = λ kind a. Ok a} (λ a. refl) l)) t in
     let inputs : rest (b ++ x) (k ++ u) ≡ rest (c ++ y) (l ++ v) = rw (e, h) refl in
     let both : (m, rest x u) ≡ (n, rest y v) = cc in
     let same_bytes : x ≡ y = ap (λ (p : Meaning A × Rest A). p.1.bytes) both in

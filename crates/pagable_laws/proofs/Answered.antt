@@ -2,23 +2,22 @@
 -- Each stage once: what is still to be done of it, with what was done, is at most what was claimed.
 -- What follows for keys: each that is published is its tree's, each that is answered is its task's, and what a worker met that answers one is left paged out.
 -- A worker's steps up to its answer: none of its own claims waits any more, and what another claimed is as it was.
-use Rattle.pagable_laws.proofs.Words.{Bool, Claim, Core, Does, Event, EventReply, Frame, FramesFit, HandleNumber, Happens, HoldsSettled, Identity, IsLawful, IsMachineWhole, IsPublished, Last, List}
-use Rattle.pagable_laws.proofs.Words.{LoadAnswer, LoadNumber, MachineState, Mode, None, Ok, OpenLoad, Option, OptionalDataKey, Owner, PagerState, Reading, ReadingFeels, ReadsItsTypes, Represents}
-use Rattle.pagable_laws.proofs.Words.{Seen, Shelf, Site, Slot, Some, Task, Todo, Took, Tree, Values, Walking, WellFormed, WorkFits, WorkerAnswer, WorkerNumber, WorkerReply, WorkerSteps, Written, []}
-use Rattle.pagable_laws.proofs.Words.{answer_after, ap, append_assoc, arith, cases_Bool, false, give, held, identity_of, if_there, inl, inr, is_some, key_at, nat_eq, nat_tests, no_result}
-use Rattle.pagable_laws.proofs.Words.{nothing_felt, of_cell, of_entry, of_item, one, refl, subst, sum_by-cons, sym, times, to_fail, to_finish, to_item, to_load, to_pin, to_release, to_set, to_start}
-use Rattle.pagable_laws.proofs.{Called.{begin-goes, begins-key}, Coming.{FailsMet, answered as was-answered, failed-elsewhere, failed-stays, fails-stay, first-met, follows-met, goes-same, stands-on}}
-use Rattle.pagable_laws.proofs.{Coming.updated-at, Decoding.{among-left, among-right}, Felt.{fits-nothing, reading-fits, trees-go-on}, Following.{IdentityStands, cell-of, keys-of, known-of}}
-use Rattle.pagable_laws.proofs.{Following.tree-form, Goes.Goes, Merkle.{one_item_key, one_key}, ReadingSteps.{caller-free, reading-feels}, SparingSteps.{hands, read-right}, Standing.AllStand}
-use Rattle.pagable_laws.proofs.{Standing.{AllWait, Covers, Goes as ShelfGoes, HasNoFailed, first-stands, grows, same-worker, some-none, some-same}, Stepping.{all-known, all-low, done-on, keys-same}}
-use Rattle.pagable_laws.proofs.{Stepping.stands-for, Taking.{Going, given-nodes, going-new, going-step, row-held, stands-here, was-open}, Trees.{same_some, steps_follow}, Words.{Alike, ArcRef, Blob}}
-use Rattle.pagable_laws.{proofs.Words.{to_write, true, with_handle, world_of, ℕ, ◌&&◌, ◌++◌, ◌+◌, ◌==◌, ◌∙◌, ◌∷◌, ◌≡◌, ◌≤◌}, specs.TreeSteps.{AllHold, Ground, HasHandle, IsDone, KeyIsSet, KeysHeld}}
+use Rattle.{pagable_model.specs.Merkle.KeyOfItem, pagable_world.specs.{Pager.{Moves, SameTrees, StandsFor, kids_of}, Workers.{first_todo, fresh}}, std.{proofs.Math.Nat.zero-add, specs.Prelude.nat_le}}
+use Rattle.pagable_world.specs.{Access.{AccessState, AllHaveResults, LoadAsksWell, LoadRun}, Kinds.has_key, Plain.{is_loose_kind, longest_path}, Runs.TakesWell, Workers.{is_open_outcome, next_start}}
+use Rattle.pagable_world.specs.{Access.{PinLaw, ReadLaw, ReadingStep, WalkStep, WorkerRun, load-ends, load-goes-on, worker-ends, worker-goes-on}, World.{Fault, Root, is_identity, of_key, to_publish}}
+use Rattle.pagable_world.specs.{Headline.{AnswerIsKey, AnswerLeavesAll, AreKeysOf}, LoadCalls.with_load, Loads.{Does as LoadDoes, gone_on}, Order.{Follows, Leads, is_claim_of, is_later_of}}
 use Rattle.pagable_world.specs.Headline.{FailedElsewhere, IsKeyOfTask, IsLeftPagedOut, IsMetFailure, LeavesAll, Meets, PublishIsKey, ReadIsRight, meets-below, meets-entry, meets-of-item}
-use Rattle.pagable_world.specs.{Access.{ReadLaw, ReadingStep, WalkStep, WorkerRun, load-ends, load-goes-on, worker-ends, worker-goes-on}, Headline.{AnswerIsKey, AnswerLeavesAll, AreKeysOf}}
-use Rattle.pagable_world.specs.{Kinds.has_key, LoadCalls.with_load, Loads.{Does as LoadDoes, gone_on}, Order.{Follows, Leads, is_claim_of, is_later_of}, Pager.{Moves, SameTrees, StandsFor, kids_of}}
-use Rattle.pagable_world.specs.{Plain.{is_loose_kind, longest_path}, Runs.TakesWell, Workers.{first_todo, fresh, is_open_outcome, next_start}, World.{Fault, Root, is_identity, of_key, to_publish}}
-use Rattle.std.{proofs.Math.Nat.zero-add, specs.Prelude.nat_le}
-use Rattle.{pagable_laws.specs.TreeSteps.{Waits, Walks, ground_of}, pagable_model.specs.Merkle.KeyOfItem, pagable_world.specs.Access.{AccessState, AllHaveResults, LoadAsksWell, LoadRun, PinLaw}}
+use Rattle.pagable_laws.proofs.{SparingSteps.{hands, read-right}, Words.{Alike, ArcRef, Blob, Bool, Claim, Core, Does, Event, EventReply, Frame, FramesFit, HandleNumber, Happens, HoldsSettled}}
+use Rattle.pagable_laws.proofs.Words.{Identity, IsLawful, IsMachineWhole, IsPublished, Last, List, LoadAnswer, LoadNumber, MachineState, Mode, None, Ok, OpenLoad, Option, OptionalDataKey, Owner}
+use Rattle.pagable_laws.proofs.Words.{PagerState, Reading, ReadingFeels, ReadsItsTypes, Represents, Seen, Shelf, Site, Slot, Some, Task, Todo, Took, Tree, Values, Walking, WellFormed, WorkFits}
+use Rattle.pagable_laws.proofs.Words.{WorkerAnswer, WorkerNumber, WorkerReply, WorkerSteps, Written, [], answer_after, ap, append_assoc, arith, cases_Bool, false, give, held, identity_of, if_there}
+use Rattle.pagable_laws.proofs.Words.{inl, inr, is_some, key_at, nat_eq, nat_tests, no_result, nothing_felt, of_cell, of_entry, of_item, one, refl, subst, sum_by-cons, sym, times, to_fail, to_finish}
+use Rattle.pagable_laws.proofs.{Trees.one_item_key, Words.{to_item, to_load, to_pin, to_release, to_set, to_start, to_write, true, with_handle, world_of, ℕ, ◌&&◌, ◌++◌, ◌+◌, ◌==◌, ◌∙◌, ◌∷◌, ◌≡◌, ◌≤◌}}
+use Rattle.pagable_laws.proofs.{Coming.{FailsMet, answered as was-answered, failed-elsewhere, failed-stays}, Decoding.{among-left, among-right}, Trees.{one_key, same-number, same_some, steps_follow}}
+use Rattle.pagable_laws.proofs.{Coming.{fails-stay, first-met, follows-met, goes-same, stands-on}, Following.{IdentityStands, cell-of, keys-of, known-of}, ReadingSteps.{caller-free, reading-feels}}
+use Rattle.pagable_laws.proofs.{Following.tree-form, Stepping.all-known, Taking.{Going, fits-nothing, given-nodes, going-new, going-step, reading-fits, row-held, stands-here, trees-go-on, was-open}}
+use Rattle.pagable_laws.proofs.{Called.{begin-goes, begins-key}, Goes.{Goes, updated-at}, Standing.{AllStand, AllWait, Covers, Goes as ShelfGoes}, Stepping.{all-low, done-on, keys-same, stands-for}}
+use Rattle.pagable_laws.{proofs.Standing.{HasNoFailed, first-stands, grows, some-none, some-same}, specs.TreeSteps.{AllHold, Ground, HasHandle, IsDone, KeyIsSet, KeysHeld, Waits, Walks, ground_of}}
 
 -- the pager stands for trees, and what the load has read fits them
 record Under {N E : Type 0} (v : Values N) (s : PagerState N E) (trees : ℕ → Tree) (key : ℕ) (reading : Reading) : Type 0 where
@@ -68,8 +67,6 @@ module _ {N E : Type 0} {v : Values N} (lawful : IsLawful v) (readable : ReadsIt
             (hands reading.load (v.references x) u.well.whole.handles read.handed));
       }
 
-  -- ---- all steps
-
   comes : {reading : Reading} {s s' : PagerState N E} {answer : LoadAnswer N} (run : LoadRun v Owner.Caller reading s answer s') → LoadAsksWell run → (trees : ℕ → Tree) (key : ℕ) → Under v s trees key reading → Stepped s trees key reading (Some answer) [] s'
   unfolding LoadAsksWell
   comes (load-ends reading answer s s' step) asks trees key u = stepped s s' trees key reading (Some answer) [] u asks.0 asks.1 step
@@ -77,8 +74,6 @@ module _ {N E : Type 0} {v : Values N} (lawful : IsLawful v) (readable : ReadsIt
       let a = stepped s mid trees key reading None frames u asks.0 asks.1 step in
       let rest = comes more asks.2 a.trees' key (a.still refl) in
       record { trees' = rest.trees'; after = after-then a.after rest.after; still = λ none. absurd (cc); right = rest.right }
-
-  -- ---- its begin
 
   module _ (s mid : PagerState N E) (trees : ℕ → Tree) (well : WellFormed v s) (settled : HoldsSettled v s) (stands : Represents v s trees) (does : Goes nothing_felt s.core mid.core) (moves : Moves (λ n x. ⊥) s mid) (whole : WellFormed v mid) where
     begun : After v s trees mid trees
@@ -110,13 +105,9 @@ read_law v s mid s' key t l x run well starts asks settled_value lawful readable
     let r = comes lawful readable run asks trees key u in let after = after-then first r.after in
     (r.trees', after.same, after.stands, r.right x refl)
 
--- ---- numbers
-
 -- the stage k is this one or comes after it, from p on
 abbrev from : ℕ → ℕ → Bool → ℕ
 from k p b = one (nat_le p k && b)
-
--- ---- what is to be done
 
 -- whether steps of the stage about the identity are to be done for this
 abbrev left : ℕ → Identity → Todo → ℕ
@@ -205,8 +196,6 @@ module _ (k : ℕ) (i : Identity) where
     pub at-once : (task : Task) (steps : List (Took W)) (last : List Todo) → Leads f (first_todo task) steps last → times (is_claim_of i) steps ≤ 1 → times (is_later_of k i) steps ≤ 1
     at-once x0 steps last leads few = grind (arith, nat_tests, started, bounded, along, zero-add, entry)
 
--- ---- one step of a worker
-
 module _ {N B W : Type 0} (m : Seen N B W) (n : ℕ) (g : Ground) (task : Task) (s s' : Site) where
   -- what the answer of a key comes from
   pub answered : (todo : List Todo) (step : Took W) → Does m n s todo step s' → Walks m.values g s.shelf task todo → (key : ℕ) → answer_after todo step ≡ Some (WorkerAnswer.Key key)
@@ -219,8 +208,6 @@ module _ {N B W : Type 0} (m : Seen N B W) (n : ℕ) (g : Ground) (task : Task) 
       let t = p.goes in search (done, t.table_stays.slots)
   answered (to_release r k h ∷ []) (Took.Release i) (is, falls, t) (p, reach, (expects, waits)) key e = let to : k ≡ key = cc in (grind (arith, nat_tests), t.table_stays.slots)
   answered x0 x1 x2 x3 key e = grind (arith, nat_tests)
-
--- ---- what a machine has come to
 
 module _ {N E : Type 0} (v : Values N) (s : MachineState N E) (trees : ℕ → Tree) (fit : WorkFits v s trees) (t : ℕ) where
   abbrev shelf : Shelf
@@ -236,35 +223,29 @@ module _ {N E : Type 0} (v : Values N) (s : MachineState N E) (trees : ℕ → T
   is-key (of_entry h i) key (height, p) = let k = (keys-stand i key height p).right.is_key in (k, λ canonical other o. one_key v.hash v.types (trees i.node.0) other key canonical o k)
 
   met : (task : Task) (key : ℕ) → IsDone v shelf task key → (i : Identity) → Meets shelf task i → (k : ℕ) × ((h : ℕ) × IsPublished shelf i k h)
-  met task key done i (meets-of-item written r is among) = let d = subst (λ x. IsDone v shelf x key) is done in known-of shelf written.references d.0 d.1 r among
+  met task key done i (meets-of-item written r is among) = let d = subst (λ x. IsDone v shelf x key) is done in let p = known-of shelf written.references d.0 d.1 r among in (p.0, p.1)
   met task key done i (meets-entry h j is) = let d = subst (λ x. IsDone v shelf x key) is done in (key, d)
   met task key done i (meets-below j slot written r above there wrote among) =
       let p = met task key done j above in let q = p.1.1 in
       let same : q.slot ≡ slot = same_some _ _ (sym q.claimed ∙ there) in
       let b = (fit.slots t j q.slot q.claimed).publishes p.0 p.1.0 q.known in
       let w : b.0 ≡ written = same_some _ _ (sym b.1 ∙ ap (λ (z : Slot). z.written) same ∙ wrote) in
-      known-of shelf written.references b.2.keys (subst (λ (z : Written). AreKeysOf shelf z.references b.2.keys) w b.2.known) r among
+      let p = known-of shelf written.references b.2.keys (subst (λ (z : Written). AreKeysOf shelf z.references b.2.keys) w b.2.known) r among in (p.0, p.1)
 
   left-paged-out : (i : Identity) (key height : ℕ) → IsPublished shelf i key height → IsLeftPagedOut v s.pager shelf trees i
   left-paged-out i key height p =
       let f = fit.slots t i p.slot p.claimed in let b = f.publishes key height p.known in let w = f.writes b.0 b.1 in
       search (p.claimed, b.1, p, b.2.is_stored, b.2.known, w.is, tree-form w)
 
--- ---- an event
-
--- a live cell whose key was set has one
-some-key : (own : OptionalDataKey) → has_key own ≡ true → (key : ℕ) × (own ≡ OptionalDataKey.Some key)
-some-key x0 is = grind (arith, nat_tests)
-
 -- a live cell whose key was set has one
 key-known : (w : Core) (n : ℕ) → KeyIsSet w n → is_some (w.cells n) ≡ true → (key : ℕ) × (key_at w n ≡ OptionalDataKey.Some key)
-key-known w n set live = some-key (key_at w n) (let keyed = set.keyed in grind (arith, nat_tests, if_there))
+key-known w n set live = elim (key_at w n) as (λ own. has_key own ≡ true → (key : ℕ) × (own ≡ OptionalDataKey.Some key))
+    [ OptionalDataKey.Some key ↦ λ is. (key, refl) | OptionalDataKey.None ↦ λ is. absurd (cc) ] (let keyed = set.keyed in grind (arith, nat_tests, if_there))
 
 -- a cell whose key is published has one by then
 set-by-then : {N B W : Type 0} (m : Seen N B W) (n : ℕ) (s s' : Site) (todo : List Todo) (i : Identity) (key height : ℕ) → Does m n s todo (Took.Publish i key height) s' → AllHold s.core n todo
     → ((k : ℕ) → HasHandle s.core n k → is_some (s.core.cells k) ≡ true) → is_loose_kind i.kind.0 ≡ true → (set : ℕ) × (key_at s.core i.node.0 ≡ OptionalDataKey.Some set)
-set-by-then m n s s' (to_publish r k h ∷ below) i key height does all live kind =
-    subst (λ (j : Identity). (set : ℕ) × (key_at s.core j.node.0 ≡ OptionalDataKey.Some set)) (sym does.0)
+set-by-then m n s s' (to_publish r k h ∷ below) i key height does all live kind = subst (λ (j : Identity). (set : ℕ) × (key_at s.core j.node.0 ≡ OptionalDataKey.Some set)) (sym does.0)
     (key-known s.core r.node.0 (all.0.0 (subst (λ (j : Identity). is_loose_kind j.kind.0 ≡ true) does.0 kind)) (live r.node.0 all.0.1))
 set-by-then m n s s' todo i key height does all live kind = absurd does
 
@@ -312,8 +293,7 @@ module _ {N B W E : Type 0} (m : Seen N B W) (s s' : MachineState N E) (trees tr
 module _ {N E B W : Type 0} (m : Seen N B W) (n : ℕ) (task : Task) (C : Type 0) where
   went : {todo next : List Todo} {s s' : AccessState N E} {step : Took W} → WalkStep m n todo s step next s' → AllStand s.shelf n task todo → Covers s.shelf n todo
       → ShelfGoes n task s.shelf (answer_after todo step) s'.shelf next
-  went {todo} {next} {s} {s'} {step} w all covers =
-      subst (λ t. ShelfGoes n task s.shelf (answer_after todo step) s'.shelf t) (sym w.goes_on)
+  went {todo} {next} {s} {s'} {step} w all covers = subst (λ t. ShelfGoes n task s.shelf (answer_after todo step) s'.shelf t) (sym w.goes_on)
       (goes-same n task s.shelf w.after.shelf s'.shelf _ w.after.todo w.shelf_is.slots
       (stands-on m n task (record { core = s.pager.core; shelf = s.shelf; todo = todo }) w.after todo refl all covers step w.does.does))
 
@@ -348,7 +328,7 @@ pub item-answered : {N E B W : Type 0} (m : Seen N B W) (n : ℕ) (item : Writte
     → WorkerRun m n (first_todo (of_item item)) s steps answer s' → AllHaveResults s.shelf → AllHaveResults s'.shelf
 item-answered m n item {s} {s'} run all =
     let a = at-answer m n (of_item item) ⊥ run [] (first-stands s.shelf n (of_item item)) (λ i slot there own still. absurd (let e = all i slot there in grind arith)) (λ c. absurd c) in
-    (λ i slot there. elim (cases_Bool (nat_eq slot.worker n)) [ inl e ↦ a.0 i slot there (same-worker slot.worker n e) | inr e ↦ all i slot (a.1 i slot there e) ])
+    (λ i slot there. elim (cases_Bool (nat_eq slot.worker n)) [ inl e ↦ a.0 i slot there (same-number slot.worker n e) | inr e ↦ all i slot (a.1 i slot there e) ])
 
 -- of an entry, on a table of no claims: nobody had failed before
 pub entry-answered : {N E B W : Type 0} (m : Seen N B W) (n : ℕ) (h : HandleNumber) (j : Identity) {s s' : AccessState N E} {steps : List (Took W)} {answer : WorkerAnswer}

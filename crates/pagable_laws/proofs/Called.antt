@@ -1,11 +1,11 @@
 -- What trees feel of each call, by the call and its reply.
 use Rattle.pagable_laws.proofs.Effects.{Effect, IsMine, beside, both-none, but, cached, cached-if, entry, fell, forgets, handed, handle, like, load-named, load-owns, moves, no-one, node, none}
-use Rattle.pagable_laws.proofs.Words.{Core, Err, Error, Event, GetsKnown, HandleNumber, HandleRow, KeepsOpen, Kind, List, LoadNumber, Mode, NodeNumber, None, Ok, Option, OptionalDataKey, Owner}
-use Rattle.pagable_laws.proofs.Words.{PinCall, Reply, Result, Seen, Some, Values, [], adopted, ap, arith, bears_known, false, find_row, first_key, inl, inr, is_in, is_named_by, moved, nat_tests}
 use Rattle.pagable_laws.proofs.{Effects.{none-named, opens, own-handle, own-mode, own-named, owned-mine, shuts, stays, turned, with-key}, Goes.{Goes, KnowsNext, NotLoads, a-handle, alike-away, begun}}
 use Rattle.pagable_laws.proofs.{Goes.{fell-away, found-changed, goes-then, good, quiet-goes}, Trees.{same-number, same_some}, Words.{Alike, ArcRef, Beginning, Blob, Bool, Call, Change, CloneCall}}
-use Rattle.pagable_laws.specs.TreeSteps.{bears_node, feels-adopted, feels-away, feels-birth, feels-end, feels-key, feels-known, feels-lazy, feels-nothing, knows_node, sets_key}
+use Rattle.pagable_laws.proofs.Words.{Core, Err, Error, Event, GetsKnown, HandleNumber, HandleRow, KeepsOpen, Kind, List, LoadNumber, Mode, NodeNumber, None, Ok, Option, OptionalDataKey, Owner}
+use Rattle.pagable_laws.proofs.Words.{PinCall, Reply, Result, Seen, Some, Values, [], adopted, ap, arith, bears_known, false, find_row, first_key, inl, inr, is_in, is_named_by, moved, nat_tests}
 use Rattle.pagable_laws.{proofs.Words.{next_node, nothing_felt, of_cell, owner_value, refl, rules, subst, sym, true, with_handle, ℕ, ◌∙◌, ◌≡◌, ◌⊎◌}, specs.TreeSteps.{AreGood, CallFeels, StaysAway}}
+use Rattle.pagable_laws.specs.TreeSteps.{bears_node, feels-adopted, feels-away, feels-birth, feels-end, feels-key, feels-known, feels-lazy, feels-nothing, knows_node, sets_key}
 use Rattle.pagable_world.specs.{Calls.{Asked, BirthCall, RecallCall, ReleaseCall, ScheduleCall, StoreCall, with_known}, Cascade.{FallsAnyhow, only_handle}, Events.Does, LoadCalls.{AskCall, BeginCall}}
 use Rattle.pagable_world.specs.{LoadCalls.{BeginKeyCall, EndCall, Given, HandOverCall, LoadCloses, is_owned_in, numbers_of, without_load}, OneWorker.LeavesCache, Pager.{CallBrings, IsNewNode}}
 use Rattle.pagable_world.specs.{World.{of_key, usable}, declared.{answers.Pinning.Pinning, calls.Want.Want}}
@@ -146,8 +146,7 @@ module _ {N B W : Type 0} (m : Seen N B W) (w : Core) (me : Owner) (free : NotLo
   births call x mode brings (Err e) c = quiet (λ n y b. inl (brings n y b).1) (stays c.refused.1.stays)
 
   pub calls-go : (call : Call N B) (reply : Reply N B) → KeepsOpen {N = N} {B = B} {W = W} (Event.Call call) → Does m w me call reply w' → CG call reply
-  calls-go (Call.NewPagedOut t key) (Reply.Handle (Ok k)) still c =
-      so (bears_node t (OptionalDataKey.Some key))
+  calls-go (Call.NewPagedOut t key) (Reply.Handle (Ok k)) still c = so (bears_node t (OptionalDataKey.Some key))
       (like (handle (node w t (OptionalDataKey.Some key) [] (refl, refl) (own-named w [] (none-named w me))) (next_node w) Mode.LooseUnpinned me) c.made.2) (feels-away t key k)
   calls-go (Call.Clone h) (Reply.Handle r) still c = quiet (λ n x b. absurd b) (clones r c)
   calls-go (Call.Pin h) (Reply.Pin r) still c = quiet (λ n x b. absurd b) (pins free r c)

@@ -1,22 +1,21 @@
 -- A handle goes on to stand for its reference, as a clone does; a key that was set stays. And each event keeps trees: what it brings fits some trees afterwards, with all that its loads read.
-use Rattle.pagable_laws.proofs.Words.{AreMoments, Beginning, Bool, Change, Claim, CloneCall, Core, Does, Event, EventReply, HandleNumber, HandleRow, HandlesAreWhole, Happens, HoldsSettled, Identity}
-use Rattle.pagable_laws.proofs.Words.{IsIdle, IsLawful, IsMachineWhole, IsPublished, IsWellAsked, List, MachineState, Moment, NodeNumber, None, Ok, Option, Owner, Reading, ReadsItsTypes, Seen, Shelf}
-use Rattle.pagable_laws.proofs.Words.{Site, Slot, Some, Todo, Took, Tree, Values, Walking, WorkFits, WorkerAnswer, WorkerNumber, WorkerReply, WorkerSteps, World, [], above, any_mode, ap, append_assoc}
-use Rattle.pagable_laws.proofs.Words.{arith, false, false_from_ne_true, find_row, give, identity_of, inl, inr, is_owner, is_some, le_trans, nat_tests, nothing_felt, one, owner_worker, refl, row_at}
-use Rattle.pagable_laws.proofs.Words.{rules, state_after, step_of, subst, sum_by-cons, sym, times, to_finish, to_item, to_load, to_pin, to_set, to_start, to_write, true, type_of, world_of, ℕ, ◌&&◌}
-use Rattle.pagable_laws.proofs.{Answered.{at-once, keys-right}, Called.{begin-goes, pins}, Coming.{EventTurns, HasGone, StandsIn, event-turns, goes-on, idle-stands, turns-keep, turns-stand}}
-use Rattle.pagable_laws.proofs.{Coming.{updated-at, waits-well}, Felt.{call-fits, fits-key, fits-nothing, none-comes, reading-fits, trees-go-on}, Following.given-of, Goes.{Stands, among-found, fell}}
-use Rattle.pagable_laws.proofs.{Goes.{found-number, goes-quiet, pins-hold, quiet-goes, stands-alike, stands-fell, stands-new, stands-whole}, Merkle.tree_readable, ReadingSteps.ends-quiet}
-use Rattle.pagable_laws.proofs.{ReadingSteps.{event-goes, is-reading-of, readings-on, walk-goes, works-free}, SparingSteps.{LoadsStand, Spares, event-on, idle-bounded, reads-give, step-within}}
-use Rattle.pagable_laws.proofs.{SparingSteps.steps-left, Standing.{KeepsTask, ShelfGrows, grows, is-same, keeps-task, put-cases, puts-slot, true-false}, Stepping.{fits-on, keys-same}, Taking.Going}
-use Rattle.pagable_laws.proofs.{Taking.{given-nodes, going-new, going-of, going-on, going-step, pin_stands, tree-stays}, Trees.{each-type, one-small, same_some, sum-zero}, Words.{Among, ArcRef}}
-use Rattle.pagable_laws.{proofs.Words.{◌++◌, ◌+◌, ◌∙◌, ◌∷◌, ◌≡◌, ◌≤◌, ◌⊎◌}, specs.TreeSteps.{AllHold, ChangeFits, CoreGoes, EventFeels, HasHandle, HasPin, Holds, IsSteppedReading, KeyIsSet}}
-use Rattle.pagable_world.specs.{Events.Ends, Headline.{HasLetGo, HeadlineLaw, IsRight, PinGives, StepsAreWithin, TableMeets, WorkIsRight, WorkerIsRight, claims_made, is_on_table}, Kinds.fits_mode}
-use Rattle.pagable_world.specs.{Kinds.is_loose, Order.{InOrder, OnceEach, is_claim_of, steps_of}, Pager.{EventBrings, IsReadingOf, StandsFor}, Plain.is_loose_kind, Refusals.Owns}
-use Rattle.pagable_world.specs.{Runs.{Does as DoesMoment, Fact, IsPremised, TakesWell, TreesAfter, TreesAlong, events_of, replies_of}, Workers.{claim_fault, give_known, next_start, with_changed_slot}}
-use Rattle.std.{proofs.{Math.Nat.zero-add, lemmas.List.Sums.sum_by-append}, specs.Prelude.is_none}
-use Rattle.{pagable_laws.specs.TreeSteps.{KeysAreReady, KeysHeld, PinHolds, StandsAt, WaitsHeld, by-call, by-key, by-nothing, by-reading}, pagable_world.specs.Calls.{SetKeyCall, row_of, with_key}}
-use Rattle.{pagable_world.specs.{Workers.with_outcome, World.{SameShelf, published, to_publish, type_at}, declared.{answers.Pinning.Pinning, events.PinStep.PinStep}}, std.proofs.Common.append-nil}
+use Rattle.{pagable_laws.specs.TreeSteps.{AllHold, ChangeFits, CoreGoes, EventFeels}, std.{proofs.{Common.append-nil, Math.Nat.zero-add, lemmas.List.Sums.sum_by-append}, specs.Prelude.is_none}}
+use Rattle.pagable_laws.specs.TreeSteps.{HasHandle, HasPin, Holds, IsSteppedReading, KeyIsSet, KeysAreReady, KeysHeld, PinHolds, StandsAt, WaitsHeld, by-call, by-key, by-nothing, by-reading}
+use Rattle.pagable_laws.proofs.Taking.{Going, call-fits, fits-key, fits-nothing, given-nodes, going-new, going-of, going-on, going-step, none-comes, pin_stands, reading-fits, tree-stays, trees-go-on}
+use Rattle.pagable_laws.proofs.{Called.{begin-goes, pins}, Words.{Among, ArcRef, AreMoments, Beginning, Bool, Change, Claim, CloneCall, Core, Does, Event, EventReply, HandleNumber, HandleRow}}
+use Rattle.pagable_laws.proofs.Words.{HandlesAreWhole, Happens, HoldsSettled, Identity, IsIdle, IsLawful, IsMachineWhole, IsPublished, IsWellAsked, List, MachineState, Moment, NodeNumber, None, Ok}
+use Rattle.pagable_laws.proofs.Words.{Option, Owner, Reading, ReadsItsTypes, Seen, Shelf, Site, Slot, Some, Todo, Took, Tree, Values, Walking, WorkFits, WorkerAnswer, WorkerNumber, WorkerReply}
+use Rattle.pagable_laws.proofs.Words.{WorkerSteps, World, [], above, any_mode, ap, append_assoc, arith, false, false_from_ne_true, find_row, give, identity_of, inl, inr, is_owner, is_some, le_trans}
+use Rattle.pagable_laws.proofs.Words.{nat_tests, nothing_felt, one, owner_worker, refl, row_at, rules, state_after, step_of, subst, sum_by-cons, sym, times, to_finish, to_item, to_load, to_pin}
+use Rattle.pagable_laws.proofs.{Stepping.{fits-on, keys-same}, Trees.{each-type, one-small}, Words.{to_set, to_start, to_write, true, type_of, world_of, ℕ, ◌&&◌, ◌++◌, ◌+◌, ◌∙◌, ◌∷◌, ◌≡◌, ◌≤◌, ◌⊎◌}}
+use Rattle.pagable_laws.proofs.{ReadingSteps.ends-quiet, SparingSteps.{LoadsStand, Spares, event-on, idle-bounded, reads-give, step-within, steps-left}, Trees.{same_some, sum-zero, tree_readable}}
+use Rattle.pagable_laws.proofs.{Coming.{EventTurns, HasGone, StandsIn, event-turns, goes-on, idle-stands, turns-keep}, ReadingSteps.{event-goes, is-reading-of, readings-on, walk-goes, works-free}}
+use Rattle.pagable_laws.proofs.{Answered.{at-once, keys-right}, Coming.{turns-stand, waits-well}, Following.given-of, Goes.{Stands, among-found, fell, found-number, goes-quiet, pins-hold, quiet-goes}}
+use Rattle.pagable_laws.proofs.{Goes.{stands-alike, stands-fell, stands-new, stands-whole, updated-at}, Standing.{KeepsTask, ShelfGrows, grows, is-same, keeps-task, put-cases, puts-slot, true-false}}
+use Rattle.pagable_world.specs.{Headline.{HasLetGo, HeadlineLaw, IsRight, PinGives, StepsAreWithin, TableMeets, WorkIsRight, WorkerIsRight, claims_made, is_on_table}, World.{SameShelf, published}}
+use Rattle.pagable_world.specs.{Order.{InOrder, OnceEach, is_claim_of, steps_of}, Pager.{EventBrings, IsReadingOf, StandsFor}, Runs.{Does as DoesMoment, Fact, IsPremised}, World.{to_publish, type_at}}
+use Rattle.pagable_world.specs.{Calls.SetKeyCall, Runs.{TakesWell, TreesAfter, TreesAlong, events_of, replies_of}, Workers.{claim_fault, give_known, next_start, with_changed_slot, with_outcome}}
+use Rattle.pagable_world.specs.{Calls.{row_of, with_key}, Events.Ends, Kinds.{fits_mode, is_loose}, Plain.is_loose_kind, Refusals.Owns, declared.{answers.Pinning.Pinning, events.PinStep.PinStep}}
 
 module _ {c : Change} {w w' : Core} (goes : CoreGoes c w w') where
   pub stands-on : {r : ArcRef} {h : HandleNumber} → StandsAt w r h → StandsAt w' r h
@@ -25,8 +24,7 @@ module _ {c : Change} {w w' : Core} (goes : CoreGoes c w w') where
       record { node_given = omega arith; given = omega arith; is = λ row live. let was = goes.rows h.0 row live s.given in let old = s.is was.was was.live in grind (arith, nat_tests) }
 
   pub key-on : {n : ℕ} → KeyIsSet w n → KeyIsSet w' n
-  key-on {n} s =
-      let a = s.given in let b = goes.nodes in record { given = omega arith; keyed = λ cell live. let c = goes.cells n cell live in let was = s.keyed in grind (arith, nat_tests) }
+  key-on {n} s = let a = s.given in let b = goes.nodes in record { given = omega arith; keyed = λ cell live. let c = goes.cells n cell live in let was = s.keyed in grind (arith, nat_tests) }
 
   pub waits-on : (todo : List Todo) → WaitsHeld w todo → WaitsHeld w' todo
   waits-on (to_finish o ∷ below) (h, waits) = (stands-on h, waits-on below waits)
@@ -135,8 +133,7 @@ module _ {N B W : Type 0} (m : Seen N B W) (v : ℕ) (s s' : Site) (whole : Hand
   stepped (to_finish o ∷ below) (Took.Store i (Ok key)) e (is, p) f (h, waits) = let t = p.goes in stays t.table_stays.slots t.list_is (stands-on f h, waits-on f below waits)
   stepped (to_set r through key height ∷ below) (Took.SetKey i (Ok u)) e (is, p) f (h, waits) = let t = p.goes in
       let sets = p.sets in stays t.table_stays.slots t.list_is ((grind (arith, nat_tests, goes-quiet, fell, updated-at), still-held v r through key u whole h p.sets), waits-on f below waits)
-  stepped (to_publish r key height ∷ below) (Took.Publish i k q) e (is, same_key, same_height, t) f (h, waits) =
-      leaves t.list_is (tt, waits-on f below waits)
+  stepped (to_publish r key height ∷ below) (Took.Publish i k q) e (is, same_key, same_height, t) f (h, waits) = leaves t.list_is (tt, waits-on f below waits)
       (changed-reveals s.shelf s'.shelf KeyThere (identity_of r) (with_outcome (published key height)) t.table_is (λ old k2 h2 known. inr (λ kind. key-on f (h.0 kind))))
   stepped _ step e does f all = grind (arith, nat_tests, stays, leaves, same_some, known, waits-on f, given)
 
@@ -205,8 +202,7 @@ module _ {N E B W : Type 0} (m : Seen N B W) (s : MachineState N E) (trees : ℕ
 
 module _ {N E B W : Type 0} (m : Seen N B W) (s s' : MachineState N E) (trees trees' : ℕ → Tree) (whole : IsMachineWhole m.values s') (stands : StandsFor m.values s' trees') where
   pin-gives : (event : Event N B W) (reply : EventReply N B W) → PinHolds event reply s'.pager.core → PinGives m.values s trees event reply s' trees'
-  pin-gives x0 x1 pinned =
-      let given = λ (k : HandleNumber) (h : HasPin s'.pager.core k). pin_stands s'.pager trees' k h.row whole.pager stands.pager h.live h.is in grind (arith, nat_tests, given)
+  pin-gives x0 x1 pinned = let given = λ (k : HandleNumber) (h : HasPin s'.pager.core k). pin_stands s'.pager trees' k h.row whole.pager stands.pager h.live h.is in grind (arith, nat_tests, given)
 
 -- what holds of a machine and its trees along a chain
 pub record IsGoingOn {N E : Type 0} (v : Values N) (s : MachineState N E) (trees : ℕ → Tree) : Type 0 where

@@ -1,16 +1,16 @@
 -- What each event does to workers and tables: it touches one worker, and claims of its own.
-use Rattle.pagable_laws.proofs.Standing.{Turned, WaitsWell, WorkStands, all-stay, changes-slot, failed-goes, fails, follows-waits, given-open, gives, grows, is-changed, is-new, is-quiet, is-same}
-use Rattle.pagable_laws.proofs.Standing.{is-self, is-started, is-stepped, is_failed, is_open_in, meets-grow, open-slot, own-goes, plain, put-cases, puts-slot, same-slots, same-worker, settles}
-use Rattle.pagable_laws.proofs.Words.{EventReply, Happens, Identity, IsIdle, KeepsOpen, List, MachineState, None, Ok, Option, Seen, Shelf, Site, Slot, Some, Task, Todo, Took, Walking, WorkerAnswer}
-use Rattle.pagable_laws.proofs.Words.{WorkerNumber, WorkerReply, WorkerSteps, World, Written, [], above, answer_after, ap, arith, cases_Bool, drop, false, false_from_ne_true, give, identity_of}
-use Rattle.pagable_laws.proofs.Words.{if◌then◌else◌, inl, inr, length, nat_eq, nat_tests, no_result, one, refl, rules, step_of, subst, sum_by-cons, sym, times, to_fail, to_finish, to_item, to_load}
-use Rattle.pagable_laws.proofs.Words.{to_pin, to_release, to_set, to_start, to_write, true, updated, world_of, ℕ, ◌*◌, ◌++◌, ◌+◌, ◌<◌, ◌==◌, ◌∙◌, ◌∷◌, ◌≡◌, ◌≤◌, ◌⊎◌}
-use Rattle.pagable_laws.proofs.{Decoding.{among-left, among-right}, Goes.le-of, ReadingSteps.event-goes, Standing.{AllStand, Covers, CoversBy, Goes, HasNoFailed, SameSlots, ShelfGrows, SlotChanges}}
-use Rattle.pagable_laws.proofs.{Standing.{some-none, some-same, started-open, swaps, true-false, work-stands}, Trees.steps_follow, Words.{Among, ArcRef, Call, Claim, Core, Does, Err, Error, Event}}
+use Rattle.pagable_laws.proofs.{Decoding.{among-left, among-right}, Goes.{le-of, updated-at}, ReadingSteps.event-goes, Standing.{AllStand, Covers, CoversBy, Goes, HasNoFailed, SameSlots, ShelfGrows}}
+use Rattle.pagable_laws.proofs.Standing.{SlotChanges, Turned, WaitsWell, WorkStands, all-stay, changes-slot, failed-goes, fails, follows-waits, given-open, gives, grows, is-changed, is-new, is-quiet}
+use Rattle.pagable_laws.proofs.Standing.{is-same, is-self, is-started, is-stepped, is_failed, is_open_in, meets-grow, open-slot, own-goes, plain, put-cases, puts-slot, same-slots, settles, some-none}
+use Rattle.pagable_laws.proofs.{Standing.{some-same, started-open, swaps, true-false, work-stands}, Trees.{same-number, steps_follow}, Words.{Among, ArcRef, Call, Claim, Core, Does, Err, Error}}
+use Rattle.pagable_laws.proofs.Words.{Event, EventReply, Happens, Identity, IsIdle, KeepsOpen, List, MachineState, None, Ok, Option, Seen, Shelf, Site, Slot, Some, Task, Todo, Took, Walking}
+use Rattle.pagable_laws.proofs.Words.{WorkerAnswer, WorkerNumber, WorkerReply, WorkerSteps, World, Written, [], answer_after, ap, arith, cases_Bool, drop, false, false_from_ne_true, give}
+use Rattle.pagable_laws.proofs.Words.{identity_of, if◌then◌else◌, inl, inr, length, nat_eq, nat_tests, no_result, one, refl, rules, step_of, subst, sum_by-cons, sym, times, to_fail, to_finish}
+use Rattle.pagable_laws.proofs.Words.{to_item, to_load, to_pin, to_release, to_set, to_start, to_write, true, updated, world_of, ℕ, ◌*◌, ◌++◌, ◌+◌, ◌<◌, ◌==◌, ◌∙◌, ◌∷◌, ◌≡◌, ◌≤◌, ◌⊎◌}
 use Rattle.pagable_world.specs.{Events.{Starts, WorkStays, new_walking}, Headline.{FailedElsewhere, IsMetFailure}, Order.{Follows, Leads, MetError, is_claim, own_references, references_written}}
 use Rattle.pagable_world.specs.{Workers.{first_todo, is_counted, next_start, settle, with_outcome, with_wait}, World.{Open, answer_of_fault, is_identity, published, to_publish}}
-use Rattle.std.{proofs.lemmas.List.Sums.sum_by-append, specs.List.sum_by}
 use Rattle.{pagable_world.specs.declared.events.TableNumber.TableNumber, std.proofs.{Common.{append-nil, length-append, ◌-◌}, lemmas.{Bool.{or_cases, or_left, or_right}, List.length-drop}}}
+use Rattle.std.{proofs.lemmas.List.Sums.sum_by-append, specs.List.sum_by}
 
 -- ---- whatever a worker does, what stands of its list and of its table stands afterwards
 
@@ -79,9 +79,6 @@ pub record EventTurns {N B W : Type 0} (m : Seen N B W) (u : World) (event : Eve
   pub others : (n : ℕ) → nat_eq n who ≡ false → step_of n event reply ≡ []
   pub own : OwnTurn m u who (step_of who event reply) u'
 
-pub updated-at : {X : Type 0} (n : ℕ) (x : X) (f : ℕ → X) → updated n x f n ≡ x
-updated-at n x f = let a : (n == n) ≡ true = grind (arith, nat_tests) in ap (λ b. if b then x else f n) a
-
 updated-off : {X : Type 0} (n : ℕ) (x : X) (f : ℕ → X) (q : ℕ) → nat_eq q n ≡ false → updated n x f q ≡ f q
 updated-off n x f q e = let a : (q == n) ≡ false = grind (arith, nat_tests) in ap (λ b. if b then x else f q) a
 
@@ -122,7 +119,7 @@ module _ {N B W : Type 0} (m : Seen N B W) (u u' : World) (work : StandsIn u) wh
   event-turns tables Event.TableNew (EventReply.TableMade (Ok t)) h =
       let w = h.made.3 in let next = h.made.0 in let nothing : (i : Identity) (slot : Slot) → (u.work.shelves t.0).slots i ≡ Some slot → ⊥ =
       λ i slot there. let s = work.slots t.0 i slot there in let few = tables slot.worker s.walking s.there in let on = s.on_table in absurd (omega arith) in
-      quiet _ _ h (λ n. refl) (λ q i. let same = (w.same_shelves q).slots i in grind (arith, nat_tests, cases_Bool (nat_eq q t.0), same-worker q t.0, nothing i)) w.same_walkings
+      quiet _ _ h (λ n. refl) (λ q i. let same = (w.same_shelves q).slots i in grind (arith, nat_tests, cases_Bool (nat_eq q t.0), same-number q t.0, nothing i)) w.same_walkings
   event-turns tables (Event.WorkerItem t item) (EventReply.WorkerMade (Ok v)) h = starts _ _ h (λ n. refl) t _ u.core v refl h.starts
   event-turns tables (Event.WorkerListed t i) (EventReply.WorkerMade (Ok v)) h = starts _ _ h (λ n. refl) t _ _ v refl h.starts.5
   event-turns tables (Event.WorkerStep v) (EventReply.WorkerMoved (Ok reply)) h =
@@ -174,18 +171,16 @@ module _ {N B W : Type 0} (m : Seen N B W) {u u' : World} {event : Event N B W} 
       (begin : (n : ℕ) (shelf : Shelf) (t : TableNumber) (task : Task) → Walk n shelf (new_walking t task))
       (step : (k : WorkerNumber) (r : WorkerReply W) (s : WorkerSteps m u k r u') → step_of turns.who event reply ≡ r.took ∷ [] → ShelfGrows (u.work.shelves s.walking.table) s.after.shelf
       → Slots s.after.shelf × Walk k.0 s.after.shelf (record s.walking { todo = s.after.todo; steps = r.steps; answer = r.answer })) where
-    abbrev Of : ℕ → Walking → Type 0
-    Of n w = Walk n (u'.work.shelves w.table) w
-
     stays-so : (t : ℕ) → SameAs (u.work.shelves t) (u'.work.shelves t) → Slots (u'.work.shelves t)
     stays-so t same = stay t (u'.work.shelves t) (turns-grow t) same
 
-    all-hold : ((t : ℕ) → Slots (u'.work.shelves t)) → ((w : Walking) → u'.work.walkings turns.who ≡ Some w → Of turns.who w) → HoldsOfAll u' Slots Walk
+    all-hold : ((t : ℕ) → Slots (u'.work.shelves t)) → ((w : Walking) → u'.work.walkings turns.who ≡ Some w → Walk turns.who (u'.work.shelves w.table) w) → HoldsOfAll u' Slots Walk
     all-hold slots own = search (rules, nat_eq, true, false)
 
     pub turns-keep : OwnTurn m u turns.who (step_of turns.who event reply) u' → HoldsOfAll u' Slots Walk
     turns-keep (rests none same still) = all-hold (λ t. stays-so t (same t)) (λ w there. rest turns.who w none (sym still ∙ there))
-    turns-keep (begins t task none same nobody new) = all-hold (λ q. stays-so q (same q)) (λ w there. subst (Of turns.who) (some-same new there) (begin turns.who (u'.work.shelves t.0) t task))
+    turns-keep (begins t task none same nobody new) =
+        all-hold (λ q. stays-so q (same q)) (λ w there. subst (λ x. Walk turns.who (u'.work.shelves x.table) x) (some-same new there) (begin turns.who (u'.work.shelves t.0) t task))
     turns-keep (steps k r at one s) =
         let w = s.walking in
         let now : Walking = record w { todo = s.after.todo; steps = r.steps; answer = r.answer } in
@@ -233,18 +228,13 @@ given-due r key height x3 = grind (arith, nat_tests, started-due, length-drop, l
 first-due : (written : Written) (below : List Todo) → all-due (next_start 0 written.references ++ to_item written [] ∷ below) ≤ 2 + length written.references + all-due below
 first-due written below = grind (arith, started-due)
 
-module _ {W : Type 0} (f : W → Written) where
-  -- one step pays for itself: out of what was due, of its claim, or of the references that it wrote
-  pub pays : (todo : List Todo) (step : Took W) (next : List Todo) → Follows f todo step next
-      → one (is_counted todo step) + all-due next ≤ 8 * one (is_claim step) + references_written f step + all-due todo
-  pays (to_start r place ∷ x ∷ xs) (Took.Claim j (Ok (Claim.Known key height))) next (is, e) = rw e (let le = given-due r key height (x ∷ xs) in omega (arith, le))
-  pays (to_write r place through ∷ below) (Took.Write j (Ok out)) next (is, e) = grind (arith, started-due, length-drop)
-  pays (to_release r key height ∷ below) (Took.Release j) next (is, e) = rw e (let le = given-due r key height below in omega (arith, le))
-  pays _ step next follows = grind (arith, nat_tests, given-due)
-
-  -- the steps that were counted, with those that are due, are within the bound
-  abbrev pub IsWithin : Task → List Todo → ℕ → List (Took W) → Type 0
-  IsWithin task todo n past = n + all-due todo ≤ 8 * times is_claim past + (own_references task + sum_by (references_written f) past) + 4
+-- one step pays for itself: out of what was due, of its claim, or of the references that it wrote
+pub pays : {W : Type 0} (f : W → Written) (todo : List Todo) (step : Took W) (next : List Todo) → Follows f todo step next
+    → one (is_counted todo step) + all-due next ≤ 8 * one (is_claim step) + references_written f step + all-due todo
+pays f (to_start r place ∷ x ∷ xs) (Took.Claim j (Ok (Claim.Known key height))) next (is, e) = rw e (let le = given-due r key height (x ∷ xs) in omega (arith, le))
+pays f (to_write r place through ∷ below) (Took.Write j (Ok out)) next (is, e) = grind (arith, started-due, length-drop)
+pays f (to_release r key height ∷ below) (Took.Release j) next (is, e) = rw e (let le = given-due r key height below in omega (arith, le))
+pays f _ step next follows = grind (arith, nat_tests, given-due)
 
 -- ---- what a worker fails with: a refusal that a step of its own met, or that another's claim has failed where its walk came
 
@@ -304,7 +294,7 @@ pub record Went {W : Type 0} (f : W → Written) (n : ℕ) (shelf : Shelf) (w : 
   pub leads : Leads f (first_todo w.task) past w.todo
   pub fails : FailsMet n shelf past w.todo
   pub met : (answer : WorkerAnswer) → w.answer ≡ Some answer → IsMetFailure shelf n past answer
-  pub within : IsWithin f w.task w.todo w.steps past
+  pub within : w.steps + all-due w.todo ≤ 8 * times is_claim past + (own_references w.task + sum_by (references_written f) past) + 4
 
 -- a worker that hasn't begun has made no step
 abbrev pub HasGone : {W : Type 0} → (W → Written) → ℕ → (ℕ → Shelf) → Option Walking → List (Took W) → Type 0
@@ -323,7 +313,7 @@ failed-elsewhere m v s s' (to_start r place ∷ below) i (is, c) clean =
     let found = c.finds.1.1 in
     let claimed = ap s.shelf.slots is ∙ found.1 in
     let other : (found.0.worker == v) ≡ false =
-    false_from_ne_true (found.0.worker == v) (λ e. let a = clean i found.0 claimed (same-worker found.0.worker v e) in let b = ap is_failed found.2 in cc) in
+    false_from_ne_true (found.0.worker == v) (λ e. let a = clean i found.0 claimed (same-number found.0.worker v e) in let b = ap is_failed found.2 in cc) in
     record { slot = found.0; claimed = claimed; of_another = other; is_failed = found.2 }
 failed-elsewhere m v s s' todo i does clean = absurd does
 
@@ -365,6 +355,6 @@ module _ {N B W : Type 0} (m : Seen N B W) (u u' : World) (grow : (t : ℕ) → 
 pub goes-on : {N B W : Type 0} (m : Seen N B W) (u u' : World) (event : Event N B W) (reply : EventReply N B W) → StandsIn u → EventTurns m u event reply u' → (n : ℕ) (past : List (Took W))
     → HasGone m.written_of n u.work.shelves (u.work.walkings n) past → HasGone m.written_of n u'.work.shelves (u'.work.walkings n) (past ++ step_of n event reply)
 goes-on {W = W} m u u' event reply work turns n past gone = elim (cases_Bool (nat_eq n turns.who)) [
-  | inl e ↦ let is = same-worker n turns.who e in let before = rw is at gone in rw is (grind (arith, nat_tests, stays, begun, went-on))
+  | inl e ↦ let is = same-number n turns.who e in let before = rw is at gone in rw is (grind (arith, nat_tests, stays, begun, went-on))
   | inr e ↦ stays m u u' (turns-grow m turns) n (u.work.walkings n) (u'.work.walkings n) past (step_of n event reply) (turns.turned.others n e) (turns.others n e) gone
 ]

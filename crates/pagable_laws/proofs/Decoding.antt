@@ -2,20 +2,21 @@
 -- handle twice, where the handles that were got are apart.
 -- A value that was read of a blob leads to what the blob's key reads as: reading the blob with the references that were got runs along the reading of
 -- its bare keys, and each of these reads as the tree of the node that was got for it.
-use Rattle.pagable_laws.proofs.Trees.{followed-along, integer-along, more-two, no-two, none-along, number-along, one-true, one_tree, pair-along, pattern-along, reference-along, refs-two, same-number}
-use Rattle.pagable_laws.proofs.Words.{List, Meaning, None, Ok, Option, Owner, PagerState, ReadsItsTypes, ReadsTree, Result, Shape, Some, Throughout, Tree, Types, ValueStands, Values, [], and_parts}
-use Rattle.pagable_laws.proofs.Words.{ap, append-nil, append_assoc, arith, cases_Bool, cases_lt, false, followed, if◌then◌else◌, inl, inr, integer-leads, is_eager, is_in, length, length-append, map}
-use Rattle.pagable_laws.proofs.Words.{nat_tests, next_in, none, one, pair, read, reference, references_fault, references_in, refl, rest, slice_get, subst, suc, sum_by-cons, sym, times, tree, true}
-use Rattle.pagable_laws.proofs.{Again.{Looked, all-looked, form-again, not-looked, one-looked}, Related.{Out, OutLook, any_cause, both-faulty, both-given, both-looked-up, both-not, both-refused}}
-use Rattle.pagable_laws.proofs.{Related.{each, first-not, first-refused, keeps_forms, no_cause, one_cause, read_par, renamed, typed_par}, Trees.{AllTwo, Along, at-most-sum, counted, each-two}}
-use Rattle.pagable_laws.proofs.{Trees.{self-number, text-along, tree_is, variant-along}, Words.{Among, ArcRef, Blob, Bool, Core, Err, Error, Form, Frame, IsLawful, IsReadable, IsReference, Kind}}
-use Rattle.pagable_laws.{proofs.Words.{type_of, variant, zero, ℕ, ◌&&◌, ◌++◌, ◌+◌, ◌==◌, ◌∙◌, ◌∷◌, ◌≡◌, ◌≤◌, ◌⊎◌}, specs.{FormLaws.at, TreeSteps.{Decoded, LeadsTo, followed-leads, none-leads}}}
-use Rattle.pagable_model.specs.{Reading.{Rest, deepest}, References.SameReferences, Standing.{Answer, answer_at, handles_at}, Steps.◌>>=◌, Trees.{IsFollowed, KeyRef, ReadsAs, integer-followed}}
-use Rattle.pagable_model.specs.{Trees.{key_ref, none-followed, number-followed, pair-followed, pattern-followed, reference-followed, rest_of, text-followed, variant-followed}, Writing.kind_of_arc}
-use Rattle.pagable_world.specs.Pager.{NodeStands, ReadsNodeTree, followed-stands, integer-stands, none-stands, number-stands, pair-stands, pattern-stands, reference-stands, text-stands}
-use Rattle.pagable_world.specs.{Loads.{IsDecoded, Next, answer_of, answers_from, asks, is_faulty, next_by, next_of, read_with, reads}, Order.{after_kinds, some_of}, Pager.{FrameFits, MeaningStands}}
-use Rattle.{pagable_laws.specs.TreeSteps.{number-leads, pair-leads, pattern-leads, reference-leads, text-leads, variant-leads}, pagable_model.specs.Meaning.{integer, number, pattern, text}}
-use Rattle.{pagable_world.specs.{Pager.variant-stands, Refusals.reference_fault}, std.proofs.{Common.sum_by, lemmas.{List.{length-map, map-append}, Option.{slice_get-get_or, slice_get_past}}}}
+use Rattle.pagable_laws.proofs.{Again.{Looked, form-again, looks-itself, not-looked, one-looked, read_again}, Related.{Out, OutLook, any_cause, both-faulty, both-given, both-looked-up, both-not}}
+use Rattle.pagable_laws.proofs.{Related.{both-refused, each, first-not, first-refused, keeps_forms, no_cause, one_cause, read_par, renamed, typed_par}, Trees.{AllTwo, Along, at-most-sum, counted}}
+use Rattle.pagable_laws.proofs.Trees.{each-two, followed-along, integer-along, more-two, no-two, none-along, number-along, one-true, one_tree, pair-along, pattern-along, reference-along, refs-two}
+use Rattle.pagable_laws.proofs.{Trees.{same-number, self-number, swap-two, text-along, tree_is, variant-along}, Words.{Among, ArcRef, Blob, Bool, Core, Err, Error, Form, Frame, IsLawful, IsReadable}}
+use Rattle.pagable_laws.proofs.Words.{IsReference, Kind, List, Meaning, None, Ok, Option, Owner, PagerState, ReadsItsTypes, ReadsTree, Result, Shape, Some, Throughout, Tree, Types, ValueStands}
+use Rattle.pagable_laws.proofs.Words.{Values, [], and_parts, ap, append-nil, append_assoc, arith, cases_Bool, cases_lt, false, followed, if◌then◌else◌, inl, inr, integer-leads, is_eager, is_in}
+use Rattle.pagable_laws.proofs.Words.{length, length-append, map, nat_tests, next_in, none, one, pair, read, reference, references_fault, references_in, refl, rest, slice_get, subst, suc, sum_by-cons}
+use Rattle.pagable_laws.{proofs.Words.{sym, times, tree, true, type_of, variant, zero, ℕ, ◌&&◌, ◌++◌, ◌+◌, ◌==◌, ◌∙◌, ◌∷◌, ◌≡◌, ◌≤◌, ◌⊎◌}, specs.{FormLaws.at, TreeSteps.{Decoded, LeadsTo}}}
+use Rattle.{pagable_laws.specs.TreeSteps.{followed-leads, none-leads, number-leads, pair-leads, pattern-leads, reference-leads, text-leads, variant-leads}, pagable_model.specs.Meaning.integer}
+use Rattle.pagable_model.specs.{Meaning.{number, pattern, text}, Reading.{Rest, deepest}, References.SameReferences, Standing.{Answer, answer_at, handles_at}, Steps.◌>>=◌, Trees.{IsFollowed, KeyRef}}
+use Rattle.pagable_model.specs.Trees.{ReadsAs, integer-followed, key_ref, none-followed, number-followed, pair-followed, pattern-followed, reference-followed, rest_of, text-followed, variant-followed}
+use Rattle.{pagable_model.specs.Writing.kind_of_arc, pagable_world.specs.{Loads.{IsDecoded, answer_of, answers_from, asks, is_faulty, next_by, next_of, read_with, reads}, Order.after_kinds}}
+use Rattle.pagable_world.specs.{Order.some_of, Pager.{FrameFits, MeaningStands, NodeStands, ReadsNodeTree, followed-stands, integer-stands, none-stands, number-stands, pair-stands, pattern-stands}}
+use Rattle.{pagable_world.specs.{Pager.{reference-stands, text-stands, variant-stands}, Refusals.reference_fault}, std.proofs.{Common.sum_by, lemmas.List.{length-map, map-append}}}
+use Rattle.std.proofs.lemmas.Option.{slice_get-get_or, slice_get_past}
 
 abbrev pub kinds_of : List ArcRef → List ℕ
 kinds_of got = map (λ (r : ArcRef). r.kind.0) got
@@ -31,6 +32,15 @@ answers-alike : (got : List ArcRef) (place : ℕ) (keys : List ℕ) → AllTwo A
 unfolding answers_from
 answers-alike got place [] = no-two
 answers-alike got place (key ∷ keys) = more-two _ _ _ _ (got-alike got place) (answers-alike got (place + 1) keys)
+
+-- what is answered for keys goes with as many others where it does in each place
+answers-two : {Y : Type 0} (R : Answer → Y → Type 0) (got : List ArcRef) (place : ℕ) (keys : List ℕ) (ys : List Y) → length keys ≡ length ys
+    → ((i : ℕ) (y : Y) → slice_get ys i ≡ Some y → (n : ℕ) → n ≡ place + i → R (answer_of (slice_get got n)) y) → AllTwo R (answers_from got place keys) ys
+unfolding answers_from
+answers-two R got place [] [] few all = no-two
+answers-two R got place (k ∷ ks) (y ∷ ys) few all =
+    more-two _ y _ ys (all 0 y refl place (omega arith)) (answers-two R got (place + 1) ks ys (omega arith) (λ i z is n at. all (suc i) z is n (omega (arith, at))))
+answers-two R got place _ _ few all = absurd (omega arith)
 
 -- the same next, but for the references in what is read
 by-alike : (key : Option ℕ) {first second : Result (Meaning ArcRef × Rest Answer) Error} → Out one_cause (AllTwo AnswersAlike) (Along (Unit {0}) (λ r q. Unit {0})) first second
@@ -62,7 +72,7 @@ kinds-pushed got r = map-append (λ (q : ArcRef). q.kind.0) got (r ∷ [])
 abbrev look_kind : ℕ → Answer → Result ℕ Error
 look_kind kind a = answer_at kind a >>= λ r. Ok (kind_of_arc r)
 
-at-place : (front : List ArcRef) (g : ArcRef) (back : List ArcRef) → slice_get (front ++ g ∷ back) (length front) ≡ Some g
+pub at-place : (front : List ArcRef) (g : ArcRef) (back : List ArcRef) → slice_get (front ++ g ∷ back) (length front) ≡ Some g
 at-place [] g back = refl
 at-place (x ∷ xs) g back = at-place xs g back
 
@@ -91,6 +101,45 @@ pub record IsFormOf (types : Types) (t : ℕ) (blob : Blob) (refs : List ArcRef)
   pub as_many : length blob.keys ≡ length refs
   pub once : (q : ℕ) → times (λ (r : ArcRef). r.handle.0 == q) (references_in own) ≤ 1
 
+-- the one was got in the place of the other
+record InPlace (got refs : List ArcRef) (g r : ArcRef) : Type 0 where
+  place : ℕ
+  of_got : slice_get got place ≡ Some g
+  of_refs : slice_get refs place ≡ Some r
+
+-- a reference is read as its own kind
+abbrev own_look : ℕ → ArcRef → Result ArcRef Error
+own_look kind r = if r.kind.0 == kind then Ok r else Err Error.WrongKind
+
+kind-at : (got refs : List ArcRef) → kinds_of got ≡ kinds_of refs → (place : ℕ) (r : ArcRef) → slice_get refs place ≡ Some r → (g : ArcRef) × (slice_get got place ≡ Some g) × (g.kind.0 ≡ r.kind.0)
+kind-at got [] same place r is = absurd (cc)
+kind-at [] (x ∷ refs) same place r is = absurd (cc)
+kind-at (g ∷ got) (x ∷ refs) same zero r is = (g, refl, cc)
+kind-at (g ∷ got) (x ∷ refs) same (suc place) r is = kind-at got refs (cc) place r is
+
+-- what was read in the one way was read in the other
+pub given-too : {A B X Y : Type 0} {E : Error → Error → Type 0} {T : List A → List B → Type 0} {V : X → Y → Type 0} {x : X} {after : Rest A} {first : Result (X × Rest A) Error} {second : Result (Y × Rest B) Error}
+    → Out E T V first second → first ≡ Ok (x, after) → (y : Y) × (left : Rest B) × (second ≡ Ok (y, left)) × V x y
+given-too x0 e = grind (arith, nat_tests, both-given)
+
+-- What was got for a blob was asked for, one reference after another.
+pub data GotAsked (types : Types) (t : ℕ) (blob : Blob) : List ArcRef → Type 0 where
+  none-got : (got : List ArcRef) → got ≡ [] → GotAsked types t blob got
+  one-got : (got more : List ArcRef) (r : ArcRef) (key : ℕ) → GotAsked types t blob got → next_of types t blob got ≡ asks r.kind key → more ≡ got ++ r ∷ [] → GotAsked types t blob more
+
+-- What each blob has got was asked for, and each blob but the root's was asked for by the one below it, through a reference that is read together with it.
+unfoldable pub FramesAsked : Types → List Frame → Type 0
+FramesAsked types [] = Unit {0}
+FramesAsked types (frame ∷ []) = GotAsked types frame.node_type frame.blob frame.got
+FramesAsked types (frame ∷ below ∷ rest) =
+    GotAsked types frame.node_type frame.blob frame.got × (is_eager frame.kind.0 ≡ true) × (next_in types below ≡ asks frame.kind frame.key) × FramesAsked types (below ∷ rest)
+
+-- What comes next where the first of the form's references were got: it is read, and all were got, or it asks for one more.
+pub data Ahead (types : Types) (t : ℕ) (blob : Blob) (refs got : List ArcRef) : Type 0 where
+  all-done : (own : Meaning ArcRef) → next_of types t blob got ≡ reads own → kinds_of got ≡ kinds_of refs → Ahead types t blob refs got
+  one-left : (done left : List ArcRef) (q : ArcRef) (key : ℕ) → refs ≡ done ++ q ∷ left → kinds_of got ≡ kinds_of done → slice_get blob.keys (length done) ≡ Some key
+      → next_of types t blob got ≡ asks q.kind key → Ahead types t blob refs got
+
 module _ (types : Types) (t : ℕ) (blob : Blob) (refs : List ArcRef) (f : IsFormOf types t blob refs) where
   abbrev input : List ArcRef → Rest Answer
   input got = rest blob.bytes (answers_from got 0 blob.keys)
@@ -115,93 +164,30 @@ module _ (types : Types) (t : ℕ) (blob : Blob) (refs : List ArcRef) (f : IsFor
       let gotten : length got ≡ length done = sym (length-map got kind) ∙ ap length same ∙ length-map done kind in
       (_, there, ap (λ r. next_by (slice_get blob.keys (length got)) r) (by-shape got ∙ first) ∙ ap (λ o. next_by o (Err (Error.Storage q.kind.0))) (ap (slice_get blob.keys) gotten ∙ there))
 
--- the one was got in the place of the other
-record InPlace (got refs : List ArcRef) (g r : ArcRef) : Type 0 where
-  place : ℕ
-  of_got : slice_get got place ≡ Some g
-  of_refs : slice_get refs place ≡ Some r
+  module _ (got : List ArcRef) (same : kinds_of got ≡ kinds_of refs) where
+    abbrev Answers : Answer → ArcRef → Type 0
+    Answers a r = (kind : ℕ) → OutLook one_cause (λ r g. InPlace got refs g r) (own_look kind r) (a kind)
 
--- a reference is read as its own kind
-abbrev own_look : ℕ → ArcRef → Result ArcRef Error
-own_look kind r = if r.kind.0 == kind then Ok r else Err Error.WrongKind
+    -- with all of them it is read, and refers in each place to what was got there
+    reads-all : (own : Meaning ArcRef) × (next_of types t blob got ≡ reads own) × Along ⊥ (λ r g. InPlace got refs g r) f.own own
+    unfolding read
+    reads-all =
+        let all : AllTwo (λ r a. Answers a r) refs (answers_from got 0 blob.keys) = swap-two (answers-two Answers got 0 blob.keys refs f.as_many (λ i r is n at.
+        let g = kind-at got refs same i r is in let here : n ≡ i = omega (arith, at) in
+        subst (λ o. Answers (λ kind. answer_of o kind) r) (sym (ap (slice_get got) here ∙ g.1)) (grind (arith, both-looked-up, both-not)))) in
+        let par = read_par {E = one_cause} {F = ⊥} {T = AllTwo (λ r a. Answers a r)} {R = λ r g. InPlace got refs g r} own_look answer_at (each _ _ (λ kind r a h. h kind)) 0 f.shape (inr f.can) in
+        let whole : read (record { levels = 0; look = own_look; parts = types.parts }) f.shape (rest blob.bytes refs) ≡ Ok (f.own, rest [] []) =
+        rw (append-nil, append-nil) at (read_again types.parts f.shape f.can 0 own_look kind_of_arc f.own blob.bytes [] refs refs []
+        (looks-itself (λ r. let e = self-number r.kind.0 in rw e refl) refs) f.form) in
+        let out = par.out (rest blob.bytes refs) (rest blob.bytes (answers_from got 0 blob.keys)) (record { bytes = refl; refs = all }) in
+        let (own, left, given, along) = given-too out whole in
+        (own, ap (λ r. next_by (slice_get blob.keys (length got)) r) (by-shape got ∙ given), along)
 
-looks-own : (rs : List ArcRef) → Looked own_look kind_of_arc rs rs (Ok [])
-looks-own [] = all-looked []
-looks-own (r ∷ rs) = one-looked r rs r rs (Ok []) (let e = self-number r.kind.0 in rw e refl) (looks-own rs)
-
-kind-at : (got refs : List ArcRef) → kinds_of got ≡ kinds_of refs → (place : ℕ) (r : ArcRef) → slice_get refs place ≡ Some r → (g : ArcRef) × (slice_get got place ≡ Some g) × (g.kind.0 ≡ r.kind.0)
-kind-at got [] same place r is = absurd (cc)
-kind-at [] (x ∷ refs) same place r is = absurd (cc)
-kind-at (g ∷ got) (x ∷ refs) same zero r is = (g, refl, cc)
-kind-at (g ∷ got) (x ∷ refs) same (suc place) r is = kind-at got refs (cc) place r is
-
-given-alike : {A B : Type 0} {T : List A → List B → Type 0} {R : ArcRef → ArcRef → Type 0} {m : Meaning ArcRef} {after : Rest B} {first : Result (Meaning ArcRef × Rest A) Error}
-    {second : Result (Meaning ArcRef × Rest B) Error} → Out one_cause T (Along ⊥ R) first second → second ≡ Ok (m, after)
-    → (own : Meaning ArcRef) × (left : Rest A) × (first ≡ Ok (own, left)) × Along ⊥ R own m
-given-alike {B = B} {R = R} {m = m} {after = after} (both-given p q v s) e =
-    let same : q ≡ (m, after) = cc in (p.0, p.1, refl, subst (λ (z : Meaning ArcRef × Rest B). Along ⊥ R p.0 z.0) same v)
-given-alike (first-refused x r same) e = absurd (no_cause same)
-given-alike x0 e = absurd (cc)
-
-module _ (types : Types) (t : ℕ) (blob : Blob) (refs got : List ArcRef) (f : IsFormOf types t blob refs) (same : kinds_of got ≡ kinds_of refs) where
-  abbrev Answers : Answer → ArcRef → Type 0
-  Answers a r = (kind : ℕ) → OutLook one_cause (InPlace got refs) (a kind) (own_look kind r)
-
-  all-answer : (place : ℕ) (rs : List ArcRef) (keys : List ℕ) → ((i : ℕ) → slice_get rs i ≡ slice_get refs (place + i)) → length keys ≡ length rs → AllTwo Answers (answers_from got place keys) rs
-  unfolding answers_from
-  all-answer place [] [] at few = no-two
-  all-answer place (r ∷ rs) (k ∷ ks) at few =
-      let start : place + 0 ≡ place = omega arith in
-      let there : slice_get refs place ≡ Some r = ap (slice_get refs) (sym start) ∙ sym (at 0) in
-      let g = kind-at got refs same place r there in
-      let here = subst (λ o. Answers (λ kind. answer_of o kind) r) (sym g.1) (grind (arith, both-looked-up, both-not)) in
-      more-two _ r _ rs here (all-answer (place + 1) rs ks (λ i. let next : place + suc i ≡ place + 1 + i = omega arith in at (suc i) ∙ ap (slice_get refs) next) (omega arith))
-  all-answer place _ _ at few = absurd (omega arith)
-
-  -- with all of them it is read, and refers in each place to what was got there
-  reads-all : (own : Meaning ArcRef) × (next_of types t blob got ≡ reads own) × Along ⊥ (InPlace got refs) own f.own
-  unfolding read
-  reads-all =
-      let par = read_par {E = one_cause} {F = ⊥} {T = AllTwo Answers} {R = InPlace got refs} answer_at own_look (each _ _ (λ kind a r h. h kind)) 0 f.shape (inr f.can) in
-      let whole : read (record { levels = 0; look = own_look; parts = types.parts }) f.shape (rest blob.bytes refs) ≡ Ok (f.own, rest [] []) =
-      rw append-nil at (form-again [] f.form (looks-own refs) f.can) in
-      let out = par.out (rest blob.bytes (answers_from got 0 blob.keys)) (rest blob.bytes refs) (record { bytes = refl; refs = all-answer 0 refs blob.keys (λ i. ap (slice_get refs) (let e : i ≡ 0 + i = omega arith in e)) f.as_many }) in
-      let (own, left, given, along) = given-alike out whole in
-      (own, ap (λ r. next_by (slice_get blob.keys (length got)) r) (by-shape types t blob refs f got ∙ given), along)
-
-  -- so does whatever it is read as
-  in-place : (own : Meaning ArcRef) → next_of types t blob got ≡ reads own → Along ⊥ (InPlace got refs) own f.own
-  in-place own is = let (read, next, along) = reads-all in let e : read ≡ own = (let f : reads read ≡ reads own = sym next ∙ is in cc) in subst (λ m. Along ⊥ (InPlace got refs) m f.own) e along
-
--- What was got for a blob was asked for, one reference after another.
-pub data GotAsked (types : Types) (t : ℕ) (blob : Blob) : List ArcRef → Type 0 where
-  none-got : (got : List ArcRef) → got ≡ [] → GotAsked types t blob got
-  one-got : (got more : List ArcRef) (r : ArcRef) (key : ℕ) → GotAsked types t blob got → next_of types t blob got ≡ asks r.kind key → more ≡ got ++ r ∷ [] → GotAsked types t blob more
-
--- What each blob has got was asked for, and each blob but the root's was asked for by the one below it, through a reference that is read together with it.
-unfoldable pub FramesAsked : Types → List Frame → Type 0
-FramesAsked types [] = Unit {0}
-FramesAsked types (frame ∷ []) = GotAsked types frame.node_type frame.blob frame.got
-FramesAsked types (frame ∷ below ∷ rest) =
-    GotAsked types frame.node_type frame.blob frame.got × (is_eager frame.kind.0 ≡ true) × (next_in types below ≡ asks frame.kind frame.key) × FramesAsked types (below ∷ rest)
-
--- What comes next where the first of the form's references were got: it is read, and all were got, or it asks for one more.
-data Ahead (types : Types) (t : ℕ) (blob : Blob) (refs got : List ArcRef) : Type 0 where
-  all-done : (own : Meaning ArcRef) → next_of types t blob got ≡ reads own → kinds_of got ≡ kinds_of refs → Ahead types t blob refs got
-  one-left : (done left : List ArcRef) (q : ArcRef) (key : ℕ) → refs ≡ done ++ q ∷ left → kinds_of got ≡ kinds_of done → slice_get blob.keys (length done) ≡ Some key
-      → next_of types t blob got ≡ asks q.kind key → Ahead types t blob refs got
-
--- what it asks for next is one of the form's references, or it is read
-pub data NextOf (blob : Blob) (refs : List ArcRef) (next : Next) : Type 0 where
-  asks-known : (place : ℕ) (r : ArcRef) (key : ℕ) → slice_get refs place ≡ Some r → slice_get blob.keys place ≡ Some key → next ≡ asks r.kind key → NextOf blob refs next
-  all-read : (own : Meaning ArcRef) → next ≡ reads own → NextOf blob refs next
-
-module _ (types : Types) (t : ℕ) (blob : Blob) (refs : List ArcRef) (f : IsFormOf types t blob refs) where
   ahead : (got done left : List ArcRef) → refs ≡ done ++ left → kinds_of got ≡ kinds_of done → Ahead types t blob refs got
-  ahead got done [] split same = let all = same ∙ ap kinds_of (sym (split ∙ append-nil done)) in let w = reads-all types t blob refs got f all in all-done w.0 w.1 all
-  ahead got done (q ∷ left) split same = let a = asks-next types t blob refs f got done q left split same in one-left done left q a.0 split same a.1 a.2
+  ahead got done [] split same = let all = same ∙ ap kinds_of (sym (split ∙ append-nil done)) in let w = reads-all got all in all-done w.0 w.1 all
+  ahead got done (q ∷ left) split same = let a = asks-next got done q left split same in one-left done left q a.0 split same a.1 a.2
 
-  comes-to : {got : List ArcRef} → GotAsked types t blob got → Ahead types t blob refs got
+  pub comes-to : {got : List ArcRef} → GotAsked types t blob got → Ahead types t blob refs got
   comes-to (none-got got is) = ahead got [] refs refl (ap kinds_of is)
   comes-to (one-got got more r key h next is) = subst (Ahead types t blob refs) (sym is) (elim (comes-to h) [
     | all-done own read all ↦ absurd (let e : reads own ≡ asks r.kind key = sym read ∙ next in cc)
@@ -210,12 +196,6 @@ module _ (types : Types) (t : ℕ) (blob : Blob) (refs : List ArcRef) (f : IsFor
         ahead (got ++ r ∷ []) (done ++ q ∷ []) left (split ∙ sym (append_assoc done (q ∷ []) left))
         (kinds-pushed got r ∙ ap (λ ks. ks ++ r.kind.0 ∷ []) same ∙ ap (λ (k : Kind). kinds_of done ++ k.0 ∷ []) (sym kinds) ∙ sym (kinds-pushed done q))
   ])
-
-  pub next-known : {got : List ArcRef} → GotAsked types t blob got → NextOf blob refs (next_of types t blob got)
-  next-known {got} h = elim (comes-to h) [
-    | all-done own read all ↦ all-read own read
-    | one-left done left q key split same there asked ↦ asks-known (length done) q key (ap (λ (rs : List ArcRef). slice_get rs (length done)) split ∙ at-place done q left) there asked
-  ]
 
   -- where it is read, all were got
   pub all-got : {got : List ArcRef} → GotAsked types t blob got → (own : Meaning ArcRef) → next_of types t blob got ≡ reads own → kinds_of got ≡ kinds_of refs
@@ -242,7 +222,8 @@ module _ (types : Types) (t : ℕ) (blob : Blob) (refs got : List ArcRef) (f : I
   reads-once own is q = elim (cases_lt 0 (times (λ (r : ArcRef). r.handle.0 == q) (references_in own))) [
     | inr few ↦ omega arith
     | inl some ↦
-        let two = refs-two (in-place types t blob refs got f same own is) in
+        let (read, next, along) = reads-all types t blob refs f got same in let e : read ≡ own = (let f : reads read ≡ reads own = sym next ∙ is in cc) in
+        let two = swap-two (refs-two (subst (λ m. Along ⊥ (λ r g. InPlace got refs g r) f.own m) e along)) in
         let (g, among, named) = counted (λ (r : ArcRef). one (r.handle.0 == q)) (references_in own) some in
         let (r, place) = each-two two g among in
         omega (arith, no-more q r g place (same-number g.handle.0 q (one-true _ named)) two, f.once r.handle.0)
@@ -266,16 +247,9 @@ fine w owner seen (r ∷ rs) good new once =
     let first : reference_fault w owner seen r ≡ None = let is = good r (zero, refl) in let isnt = new r (zero, refl) in grind (arith, self-number) in
     rw first rest
 
--- ---- what is read or asked
-
 pub read-gives : (key : Option ℕ) (r : Result (Meaning ArcRef × Rest Answer) Error) (own : Meaning ArcRef) → next_by key r ≡ reads own → (after : Rest Answer) × (r ≡ Ok (own, after))
 read-gives key (Ok (m, after)) own is = let same : m ≡ own = cc in (after, rw same refl)
 read-gives key (Err e) own is = absurd (grind (arith, nat_tests))
-
--- what was read in the one way was read in the other
-pub given-too : {A B X Y : Type 0} {E : Error → Error → Type 0} {T : List A → List B → Type 0} {V : X → Y → Type 0} {x : X} {after : Rest A} {first : Result (X × Rest A) Error} {second : Result (Y × Rest B) Error}
-    → Out E T V first second → first ≡ Ok (x, after) → (y : Y) × (left : Rest B) × (second ≡ Ok (y, left)) × V x y
-given-too x0 e = grind (arith, nat_tests, both-given)
 
 -- the key that a blob asks for next is the next of its keys
 pub asks_next : (types : Types) (frame : Frame) (kind : Kind) (key : ℕ) → next_in types frame ≡ asks kind key → slice_get frame.blob.keys (length frame.got) ≡ Some key
@@ -301,17 +275,6 @@ module _ {types : Types} {stored : ℕ → Option Blob} {trees : ℕ → Tree} {
   answer-of : (o : Option ArcRef) (key : ℕ) → ((r : ArcRef) → o ≡ Some r → Among got r × ReadsNodeTree types stored trees key (type_of r.kind.0) r.node.0)
       → AnswersFor types stored trees got (answer_of o) key
   answer-of x0 key h kind = grind (arith, nat_tests, first-not, both-looked-up, same-number)
-
-  answers : (place : ℕ) (keys : List ℕ)
-      → ((i key : ℕ) (r : ArcRef) → slice_get got (place + i) ≡ Some r → slice_get keys i ≡ Some key → ReadsNodeTree types stored trees key (type_of r.kind.0) r.node.0)
-      → AllTwo (AnswersFor types stored trees got) (answers_from got place keys) keys
-  unfolding answers_from
-  answers place [] h = no-two
-  answers place (key ∷ keys) h =
-      let here : place ≡ place + 0 = omega arith in
-      let first = answer-of (slice_get got place) key (λ r is. ((place, is), h 0 key r (subst (λ n. slice_get got n ≡ Some r) here is) refl)) in
-      more-two _ key _ keys first
-      (answers (place + 1) keys (λ i k r is at. let next : place + 1 + i ≡ place + suc i = omega arith in h (suc i) k r (subst (λ n. slice_get got n ≡ Some r) next is) at))
 
   -- what was read leads to a tree, to which the bare keys lead too
   leads-follows : {x : Meaning ArcRef} {m : Meaning KeyRef} → Along ⊥ (Found types stored trees got) x m → (a : Meaning ⊥) × LeadsTo trees x a × IsFollowed (ReadsAs stored types) m a
@@ -342,13 +305,12 @@ meant-refs rs ss same r among =
     let found = counted (λ q. one (is_ref r q)) ss (omega (arith, one_here, same (is_ref r))) in
     subst (Among ss) (grind (arith, and_parts, same-number)) found.1
 
--- ---- the value
-
 module _ {N : Type 0} {v : Values N} (lawful : IsLawful v) (readable : ReadsItsTypes v.types) {stored : ℕ → Option Blob} {trees : ℕ → Tree} where
   pub decodes : (frame : Frame) (x : N) → FrameFits v.types stored trees frame → IsDecoded v frame x → Decoded v stored trees frame x
   decodes frame x fits decoded =
       let given = read-gives _ _ decoded.own decoded.read in
-      let all = answers 0 frame.blob.keys (λ i key r is at. let start : 0 + i ≡ i = omega arith in fits.got i key r (subst (λ n. slice_get frame.got n ≡ Some r) start is) at) in
+      let all = answers-two (AnswersFor v.types stored trees frame.got) frame.got 0 frame.blob.keys frame.blob.keys refl (λ i key is n at.
+      answer-of (slice_get frame.got n) key (λ r there. ((n, there), let same : n ≡ i = omega (arith, at) in fits.got i key r (subst (λ k. slice_get frame.got k ≡ Some r) same there) is))) in
       let both = typed_par {E = any_cause} {F = ⊥} {T = AllTwo (AnswersFor v.types stored trees frame.got)} {R = Found v.types stored trees frame.got} {parts = v.types.parts} answer_at
       (λ kind key. Ok (key_ref kind key)) (each _ _ (λ kind a key h. h kind)) 0 (v.types.nodes frame.node_type) (λ s is. inr (readable frame.node_type s is))
       (rest frame.blob.bytes (answers_from frame.got 0 frame.blob.keys)) (rest_of frame.blob) (record { bytes = refl; refs = all }) in

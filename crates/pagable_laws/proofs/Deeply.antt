@@ -1,15 +1,15 @@
 -- Heights that are known are those of trees: so no key is answered of what leads down too long a path, or to a value that has no form; and why a claim is too deep.
-use Rattle.pagable_laws.proofs.Words.{Among, ArcRef, AreMoments, Bool, Core, Does, Err, Error, Event, EventReply, FollowsTo, Happens, HoldsSettled, Identity, IsIdle, IsLawful, IsMachineWhole}
-use Rattle.pagable_laws.proofs.Words.{IsPublished, List, MachineState, Meaning, Moment, Ok, ReadsItsTypes, Seen, Shelf, Site, Some, Task, Todo, Took, Tree, Types, Values, Walking, WorkFits}
-use Rattle.pagable_laws.proofs.Words.{WorkerAnswer, Written, above, ap, arith, followed, identity_of, if◌then◌else◌, inl, inr, is_eager, max, nat_tests, of_entry, of_item, pair, refl, subst, suc, sym}
-use Rattle.pagable_laws.proofs.{Answered.answered, Chains.{IsGoingOn, along-with, headline_law, idle-goes}, Coming.{StandsIn, updated-at}, Following.{known-of, tree-form}, Standing.{AllStand, Covers}}
-use Rattle.pagable_laws.proofs.{Standing.{is-same, is_open_in}, Stepping.next-among, Trees.{Along, each-two, form-along, integer-along, none-along, number-along, pair-along, pattern-along}}
-use Rattle.pagable_laws.proofs.{Trees.{reference-along, same_some, text-along, tree_is, variant-along}, Words.{to_finish, to_item, to_start, tree, true, type_of, variant, world_of, zero, ℕ, ◌+◌, ◌<◌}}
-use Rattle.pagable_laws.specs.TreeSteps.{AllLow, BlobStands, Expects, Ground, IsAttained, IsDone, IsLow, Waits, Walks, WroteTree, followed-leads, ground_of, pair-leads, place_over, reference-leads}
-use Rattle.pagable_laws.{proofs.Words.{◌∙◌, ◌∷◌, ◌≡◌, ◌≤◌, ◌⊎◌}, specs.{DeepLaws.{ClaimIsDeep, DepthIsTold, HoldsAlong, MetDepthAlone, WaitsForAsker}, TreeSteps.variant-leads}}
-use Rattle.pagable_world.specs.{Headline.IsMetFailure, OneWorker.{HasNoForm, IsFormlessTask, IsLongBelow, IsTooDeepTask, KeyIsShallow, LeadsToNoForm, Reaches, in-first, in-part, in-rest, refers}}
-use Rattle.{pagable_model.specs.{Deep.{deepest_path, height}, Merkle.TreeForm, Writing.kind_of_arc}, pagable_world.specs.{OneWorker.refers-on, Pager.{StandsFor, kids_of}, Plain.longest_path}}
-use Rattle.{pagable_world.specs.{Runs.{Fact, TreesAlong}, Workers.Claims, World.is_identity}, std.{proofs.lemmas.Bool.or_cases, specs.Prelude.◌≢◌}}
+use Rattle.pagable_laws.proofs.{Answered.answered, Chains.{IsGoingOn, along-with, headline_law, idle-goes}, Coming.StandsIn, Following.{known-of, tree-form}, Goes.updated-at, Standing.AllStand}
+use Rattle.pagable_laws.proofs.{Standing.{Covers, is-same, is_open_in}, Stepping.next-among, Trees.{Along, each-two, form-along, integer-along, none-along, number-along, pair-along, pattern-along}}
+use Rattle.pagable_laws.proofs.{Trees.{reference-along, same_some, text-along, tree_is, variant-along}, Words.{Among, ArcRef, AreMoments, Bool, Core, Does, Err, Error, Event, EventReply, FollowsTo}}
+use Rattle.pagable_laws.proofs.Words.{Happens, HoldsSettled, Identity, IsIdle, IsLawful, IsMachineWhole, IsPublished, List, MachineState, Meaning, Moment, Ok, ReadsItsTypes, Seen, Shelf, Site, Some}
+use Rattle.pagable_laws.proofs.Words.{Task, Todo, Took, Tree, Types, Values, Walking, WorkFits, WorkerAnswer, Written, above, ap, arith, followed, identity_of, if◌then◌else◌, inl, inr, is_eager, max}
+use Rattle.pagable_laws.proofs.Words.{nat_tests, of_entry, of_item, pair, refl, subst, suc, sym, to_finish, to_item, to_start, tree, true, type_of, variant, world_of, zero, ℕ, ◌+◌, ◌<◌, ◌∙◌, ◌∷◌, ◌≡◌}
+use Rattle.pagable_laws.{proofs.Words.{◌≤◌, ◌⊎◌}, specs.{DeepLaws.{ClaimIsDeep, DepthIsTold, HoldsAlong, MetDepthAlone, WaitsForAsker}, TreeSteps.{AllLow, BlobStands, Expects, Ground, IsAttained}}}
+use Rattle.{pagable_laws.specs.TreeSteps.{IsDone, Waits, Walks, WroteTree, followed-leads, ground_of, pair-leads, place_over, reference-leads, variant-leads}, pagable_model.specs.Deep.deepest_path}
+use Rattle.{pagable_model.specs.{Deep.height, Merkle.TreeForm, Writing.kind_of_arc}, pagable_world.specs.{Headline.IsMetFailure, OneWorker.{HasNoForm, IsFormlessTask, IsTooDeepTask, KeyIsShallow}}}
+use Rattle.pagable_world.specs.{OneWorker.{LeadsToNoForm, Reaches, in-first, in-part, in-rest, refers, refers-on}, Pager.{StandsFor, kids_of}, Plain.longest_path, Runs.{Fact, TreesAlong}}
+use Rattle.{pagable_world.specs.{Workers.Claims, World.is_identity}, std.{proofs.lemmas.Bool.or_cases, specs.Prelude.◌≢◌}}
 
 -- ---- what a tree's references lead to is part of it
 
@@ -63,10 +63,7 @@ module _ {N E : Type 0} (v : Values N) (s : MachineState N E) (trees : ℕ → T
     pub stands : BlobStands v (ground_of s trees) shelf i.node.0 written key height
 
   pub known : (i : Identity) (key height : ℕ) → IsPublished shelf i key height → Known i key height
-  known i key height p =
-      let f = fit.slots t i p.slot p.claimed in
-      let b = f.publishes key height p.known in
-      record { written = b.0; wrote = f.writes b.0 b.1; typed = f.typed; stands = b.2 }
+  known i key height p = let f = fit.slots t i p.slot p.claimed in let b = f.publishes key height p.known in record { written = b.0; wrote = f.writes b.0 b.1; typed = f.typed; stands = b.2 }
 
   -- a height that references add is no more than that of the tree
   attained-height : (n : ℕ) (i : Identity) (h : ℕ) → size (trees i.node.0).meaning ≤ n → (written : Written) → WroteTree v.types (ground_of s trees) i.node.0 written
@@ -150,10 +147,6 @@ module _ {N E : Type 0} (v : Values N) (s : MachineState N E) (trees : ℕ → T
   shallow-tree : (i : Identity) (key h : ℕ) → IsPublished shelf i key h → (height (trees i.node.0).meaning ≤ h) × (deepest_path (trees i.node.0).meaning ≤ longest_path)
   shallow-tree i key h p = let k = known i key h p in shallow h k.written.references k.stands.within k.stands.low k.wrote.follows (trees i.node.0).meaning refl
 
-  -- a reference that is low leads to no path that is too long
-  not-long : (r : ArcRef) → IsLow shelf longest_path r → IsLongBelow r.kind.0 (trees r.node.0).meaning → ⊥
-  not-long r l long = let p = shallow-tree (identity_of r) l.key l.below l.known in grind (arith, nat_tests)
-
   -- ---- and the tree has a form, and so has each that it reaches
 
   has-form : (i : Identity) {key height : ℕ} → Known i key height → HasNoForm v.types (trees i.node.0) → ⊥
@@ -190,12 +183,12 @@ module _ {N E : Type 0} (v : Values N) (s : MachineState N E) (trees : ℕ → T
   -- a task that has come to a key leads down no path that is too long, and to no value that has no form
   task-is-fine : (task : Task) (key : ℕ) → IsDone v shelf task key → (¬ IsTooDeepTask trees task) × (¬ IsFormlessTask v.types trees task)
   task-is-fine (of_item written) key (keys, each, is, lows) = (
-    λ (r, among, long). not-long r (lows r among) long,
+    λ (r, among, long). let l = lows r among in let p = shallow-tree (identity_of r) l.key l.below l.known in grind (arith, nat_tests),
     λ (r, among, formless). let p = known-of shelf written.references keys each r among in has-forms (identity_of r) p.0 p.1.0 p.1.1 formless,
   )
   task-is-fine (of_entry h i) key (top, p) = (λ long. let d = (shallow-tree i key top p).1 in absurd (omega arith), has-forms i key top p)
 
-module _ {N B W E : Type 0} (m : Seen N B W) (s s' : MachineState N E) (trees trees' : ℕ → Tree) (fit : WorkFits m.values s trees) where
+module _ {N B W E : Type 0} (m : Seen N B W) (s s' : MachineState N E) (trees trees' : ℕ → Tree) (fit : WorkFits m.values s trees) (work : StandsIn (world_of s)) where
   key-is-shallow : (event : Event N B W) (reply : EventReply N B W) → Happens m (world_of s) event reply (world_of s') → KeyIsShallow m.values s trees event reply s' trees'
   key-is-shallow (Event.WorkerStep n) (EventReply.WorkerMoved (Ok reply)) is = λ walking key there e.
       let w = is.moves in
@@ -223,7 +216,6 @@ module _ {N B W E : Type 0} (m : Seen N B W) (s s' : MachineState N E) (trees tr
       of _ steps WorkerAnswer.AlreadyFailed alone e (i, among, elsewhere) none = absurd (alone.1 i among)
   depth-is-told event reply is shallow = tt
 
-module _ {N B W E : Type 0} (m : Seen N B W) (s s' : MachineState N E) (trees trees' : ℕ → Tree) (fit : WorkFits m.values s trees) (work : StandsIn (world_of s)) where
   module _ (n : ℕ) (walking : Walking) (there : s.work.walkings n ≡ Some walking) where
     abbrev site : Site
     site = record { core = s.pager.core; shelf = s.work.shelves walking.table; todo = walking.todo }

@@ -1,15 +1,15 @@
 -- What a step does: how it is felt, which handles and loads it leaves to others, and that the cache goes on to give for a kind and a key what it gave, as long as the node is held as the
 -- kind asks. The parts of which each call is made.
-use Rattle.pagable_laws.proofs.{Decoding.among-either, Goes.{Goes, Has, IsShut, NotLoads, NotValues, Quiet, Stands, a-handle, alike, among-kept, born, fell as quiet-fell, found-number, goes-known}}
-use Rattle.pagable_laws.proofs.Goes.{goes-quiet, goes-then, keyed, le-more, le-self, none-in-next, only-rows, parts, quiet-goes, quiet-self, rows-mode, rows-moved, rows-self, same-owner}
-use Rattle.pagable_laws.proofs.{Goes.{stands-alike, stands-changed, stands-fell, stands-more}, Trees.{at-most-sum, counted, one-true, same-number, same_some, self-number}, Words.{Alike, Among}}
-use Rattle.pagable_laws.proofs.Words.{ArcRef, Blob, Bool, Change, Core, Error, HandleNumber, HandleRow, Kind, List, LoadNumber, Mode, NodeNumber, None, OpenLoad, Option, OptionalDataKey, Owner}
-use Rattle.pagable_laws.proofs.Words.{Result, Some, [], and_parts, ap, arith, cases_Bool, false, false_from_ne_true, find_row, held, if_there, if◌then◌else◌, inl, inr, is_handle, is_in, is_named_by}
-use Rattle.pagable_laws.proofs.Words.{is_owned_by, is_owner, is_pinning, is_some, moved, nat_tests, not, nothing_felt, one, owner_value, owner_worker, pins, refl, rules, slice_get, subst, suc, sym}
-use Rattle.pagable_laws.{proofs.Words.{true, updated, with_handle, zero, ℕ, ◌&&◌, ◌++◌, ◌+◌, ◌<◌, ◌==◌, ◌∙◌, ◌∷◌, ◌≡◌, ◌≤◌}, specs.TreeSteps.{AreGood, Bears, Knows, sets_key}}
-use Rattle.pagable_world.specs.{Calls.{row_of, with_cached, with_key, with_mode, with_node}, Cascade.{Falls, fallen, left_rows, nobody, only_handle}, Kinds.{is_at, is_in_memory, is_loose, is_pin}}
-use Rattle.pagable_world.specs.{LoadCalls.{is_owned_in, numbers_of, with_load, without_load}, Pager.OwnersAreThere, Plain.{changed, is_pinned_kind}, Refusals.{Owns, OwnsLoad, earlier, named_fault}}
-use Rattle.{pagable_world.specs.{Workers.{is_load_of, is_workers, is_workers_at}, World.{Cell, Root, usable}}, std.specs.Prelude.nat_lt}
+use Rattle.pagable_laws.proofs.{Decoding.among-either, Goes.{Goes, Has, IsShut, NotLoads, NotValues, Quiet, Stands, a-handle, alike, born, fell as quiet-fell, found-number, goes-known, goes-quiet}}
+use Rattle.pagable_laws.proofs.Goes.{goes-then, keyed, le-more, le-self, none-in-next, only-rows, parts, quiet-goes, quiet-self, rows-mode, rows-moved, rows-self, same-owner, stands-alike}
+use Rattle.pagable_laws.proofs.{Goes.{stands-changed, stands-fell, stands-more}, Trees.{at-most-sum, counted, one-true, same-number, same_some, self-number}, Words.{Alike, Among, ArcRef, Blob, Bool}}
+use Rattle.pagable_laws.proofs.Words.{Change, Core, Error, HandleNumber, HandleRow, Kind, List, LoadNumber, Mode, NodeNumber, None, OpenLoad, Option, OptionalDataKey, Owner, Result, Some, []}
+use Rattle.pagable_laws.proofs.Words.{and_parts, ap, arith, cases_Bool, false, false_from_ne_true, find_row, held, if_there, if◌then◌else◌, inl, inr, is_handle, is_in, is_named_by, is_owned_by}
+use Rattle.pagable_laws.proofs.Words.{is_owner, is_pinning, is_some, moved, nat_tests, not, nothing_felt, one, owner_value, owner_worker, pins, refl, rules, slice_get, subst, suc, sym, true, updated}
+use Rattle.pagable_laws.{proofs.Words.{with_handle, zero, ℕ, ◌&&◌, ◌++◌, ◌+◌, ◌<◌, ◌==◌, ◌∙◌, ◌∷◌, ◌≡◌, ◌≤◌}, specs.TreeSteps.{AreGood, Bears, Knows, sets_key}}
+use Rattle.pagable_world.{proofs.Elements.among-left, specs.{Calls.{row_of, with_cached, with_key, with_mode, with_node}, Cascade.{Falls, fallen, left_rows, nobody, only_handle}, Kinds.is_at}}
+use Rattle.pagable_world.specs.{Kinds.{is_in_memory, is_loose, is_pin}, LoadCalls.{is_owned_in, numbers_of, with_load, without_load}, Pager.OwnersAreThere, Plain.{changed, is_pinned_kind}}
+use Rattle.{pagable_world.specs.{Refusals.{Owns, OwnsLoad, earlier, named_fault}, Workers.{is_load_of, is_workers, is_workers_at}, World.{Cell, Root, usable}}, std.specs.Prelude.nat_lt}
 
 module _ (kind key n : ℕ) where
   -- the cache has the node under kind and key, and it is there
@@ -58,7 +58,7 @@ module _ (kind key n : ℕ) where
   pub held-fell : {w m w' : Core} {given : ℕ → Bool} {r : Result (Unit {0}) Error} → m.rows ≡ w.rows → Falls w m given r w' → IsHeldFor w'.rows → IsHeldFor w.rows
   held-fell {w} {m} {w'} same f h = let g : IsHeldFor (left_rows f.gone m.rows ++ f.entries) = subst IsHeldFor f.leaves.rows h in
       elim (among-either (left_rows f.gone m.rows) f.entries g.live.0 g.row g.live.1) [
-        | inl left ↦ record { row = g.row; live = subst (λ rows. Among rows g.row) same (among-kept _ m.rows g.row left); at = g.at; pins_it = g.pins_it }
+        | inl left ↦ record { row = g.row; live = subst (λ rows. Among rows g.row) same (among-left _ m.rows g.row left).0; at = g.at; pins_it = g.pins_it }
         | inr new ↦
             let some : 0 < held n f.entries = let e : one (is_at n g.row) ≡ 1 = ap one (at-row g.row g.at) in omega (arith, e, at-most-sum (λ x. one (is_at n x)) f.entries g.row new) in
             let p = counted (λ x. one (is_pin n x)) w.rows (f.only n some).0.pinned in
@@ -156,10 +156,10 @@ module _ (mine : Owner) where
   -- handles that a load hands over aren't the owner's
   pub handed-free : ((load : LoadNumber) → is_owner (Owner.Load load) mine ≡ false) → (w : Core) (l : LoadNumber) (hs : List HandleNumber) (seen : List ℕ) → named_fault w (Owner.Load l) seen hs ≡ None
       → (q : ℕ) (row : HandleRow) → row.owner ≡ mine → Stands w.last.handle w.rows q row → is_in (numbers_of hs) q ≡ false
-  unfolding named_fault is_in
-  handed-free apart w l [] seen none q row own s = refl
-  handed-free apart w l (h ∷ hs) seen none q row own s =
-      let (first, rest) = both-none _ _ none in let more = handed-free apart w l hs (h.0 ∷ seen) rest q row own s in grind (arith, nat_tests, same-number, apart)
+  handed-free apart w l hs seen none q row own s = false_from_ne_true (is_in (numbers_of hs) q) (λ is.
+      let has = named w (Owner.Load l) seen hs none (record { 0 = q }) is in let same : row ≡ has.row = same_some _ _ (sym s.live ∙ has.live) in
+      let e : Owner.Load l ≡ mine = sym has.own ∙ ap (λ (x : HandleRow). x.owner) (sym same) ∙ own in
+      let f : is_owner (Owner.Load l) (Owner.Load l) ≡ false = ap (is_owner (Owner.Load l)) e ∙ apart l in let g = self-number l.0 in cc)
 
 -- an owner of whom nothing is taken: not the asker, no value and no load; and not the list, where its entries may be taken
 pub record IsOther (me : Owner) (lists : Bool) (w : Core) (mine : Owner) : Type 0 where

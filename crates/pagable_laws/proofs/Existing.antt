@@ -1,9 +1,9 @@
 -- The least set of handles that fall. What falls of a value of two levels; and a lone cell that is unpinned.
-use Rattle.pagable_laws.proofs.Words.{[], and_parts, ap, arith, cases_lt, false, false_from_ne_true, find_row, held, inl, inr, is_owned_by, is_owner, length, nat_tests, not, one, owner_value, pins}
-use Rattle.pagable_laws.proofs.{Trees.{at-most-sum, counted, one-small, one-true, same-number, sum-le, sum-plus, sum-zero}, Words.{Among, Blob, Bool, HandleRow, Last, List, Mode, Ok, Option, Owner}}
-use Rattle.pagable_laws.{proofs.{Trees.pins_filter, Words.{refl, suc, sum_by-cons, sym, true, zero, ℕ, ◌&&◌, ◌+◌, ◌<◌, ◌==◌, ◌||◌, ◌∙◌, ◌∷◌, ◌≡◌, ◌≤◌}}, specs.FallLaws.{FallLaws, OwnsNothing}}
-use Rattle.{pagable_laws.specs.FallLaws.{both, first, first_node, lone, lone_listed, lone_unlisted, outer, two_rows}, pagable_world.specs.{Calls.{row_of, with_mode}, Cascade.Falls}}
-use Rattle.{pagable_world.specs.{Cascade.{IsClosed, IsLeast, IsWithin, is_outside, loses_value, nobody, owned_outside}, Kinds.{is_at, is_pin}}, std.{proofs.Common.sum_by, specs.Prelude.nat_lt}}
+use Rattle.pagable_laws.proofs.{Trees.{at-most-sum, counted, one-small, one-true, pins_filter, same-number, sum-le, sum-plus, sum-zero}, Words.{Among, Blob, Bool, HandleRow, Last, List, Mode, Ok}}
+use Rattle.pagable_laws.proofs.Words.{Option, Owner, [], and_parts, ap, arith, cases_lt, false, false_from_ne_true, find_row, held, inl, inr, is_owned_by, is_owner, length, nat_tests, not, one}
+use Rattle.pagable_laws.{proofs.Words.{owner_value, pins, refl, suc, sum_by-cons, sym, true, zero, ℕ, ◌&&◌, ◌+◌, ◌<◌, ◌==◌, ◌||◌, ◌∙◌, ◌∷◌, ◌≡◌, ◌≤◌}, specs.FallLaws.{FallLaws, OwnsNothing, both}}
+use Rattle.{pagable_laws.specs.FallLaws.{first, first_node, lone, lone_listed, lone_unlisted, outer, two_rows}, pagable_world.specs.{Calls.{row_of, with_mode}, Cascade.{Falls, IsClosed, IsLeast}}}
+use Rattle.{pagable_world.specs.{Cascade.{IsWithin, is_outside, loses_value, nobody, owned_outside}, Kinds.{is_at, is_pin}}, std.{proofs.Common.sum_by, specs.Prelude.nat_lt}}
 
 -- 1 for a handle outside the set; one that the node's value owns; and one of the one set and not of the other
 abbrev outside : (ℕ → Bool) → HandleRow → ℕ
@@ -102,9 +102,6 @@ module _ (rows : List HandleRow) (keyed : ℕ → Bool) (entries : List HandleRo
   pub within-self : (given : ℕ → Bool) → IsWithin rows given given
   within-self given = sum-zero (only_in given given) rows (λ h among. grind (arith, nat_tests))
 
-  pub least_is_there : (given : ℕ → Bool) → (s : ℕ → Bool) × IsLeast rows keyed entries given s
-  least_is_there given = grows given (sum_by (outside given) rows) given (omega arith) (within-self given) (λ t holds closed. holds)
-
   pub least_is_one : (given s t : ℕ → Bool) (h : HandleRow) → IsLeast rows keyed entries given s → IsLeast rows keyed entries given t → Among rows h → s h.number.0 ≡ t h.number.0
   least_is_one given s t h a b among = grind (arith, nat_tests, inside s t h (a.least t b.holds b.closed) among, inside t s h (b.least s a.holds a.closed) among)
 
@@ -120,18 +117,17 @@ and-false x0 = grind (arith, nat_tests)
 -- ---- small worlds, and all laws of what falls
 
 fell : (stored : ℕ → Option Blob) → Falls (lone stored) (with_mode (lone stored) first Mode.LooseUnpinned) nobody (Ok tt) (lone_listed stored)
-fell stored =
-    record {
-      gone = nobody;
-      entries = row_of 2 first_node Mode.LooseUnpinned Owner.List ∷ [];
-      set = given-least _ _ _ nobody (omega arith);
-      new = (refl, refl, refl, tt);
-      only = λ n some. ((grind (arith, nat_tests, first)), (grind (arith, nat_tests)));
-      each = λ n must. inl (grind (arith, nat_tests));
-      tells = record { all = λ n must. grind (arith, nat_tests); not_all = tt };
-      within = omega arith;
-      leaves = grind (arith, nat_tests);
-    }
+fell stored = record {
+  gone = nobody;
+  entries = row_of 2 first_node Mode.LooseUnpinned Owner.List ∷ [];
+  set = given-least _ _ _ nobody (omega arith);
+  new = (refl, refl, refl, tt);
+  only = λ n some. ((grind (arith, nat_tests, first)), (grind (arith, nat_tests)));
+  each = λ n must. inl (grind (arith, nat_tests));
+  tells = record { all = λ n must. grind (arith, nat_tests); not_all = tt };
+  within = omega arith;
+  leaves = grind (arith, nat_tests);
+}
 
 two-fall : IsLeast two_rows both [] outer both
 two-fall = record { holds = refl; closed = grind (arith, nat_tests, and-false); least = λ t holds closed. let f : owned_outside two_rows t 1 ≡ 0 = closed 1 (grind (arith, nat_tests)) in omega arith }
@@ -139,7 +135,7 @@ two-fall = record { holds = refl; closed = grind (arith, nat_tests, and-false); 
 pub fall_laws : FallLaws
 unfolding find_row
 fall_laws = record {
-  least_set_is_there = least_is_there;
+  least_set_is_there = λ rows keyed entries given. grows rows keyed entries given (sum_by (outside given) rows) given (omega arith) (within-self rows keyed entries given) (λ t holds closed. holds);
   least_set_is_one = least_is_one;
   given_fall_alone = λ rows keyed entries given s h nothing least among. least_is_one rows keyed entries given s given h least (given-least rows keyed entries given nothing) among;
   pins_are_a_filter = pins_filter;

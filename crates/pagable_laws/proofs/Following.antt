@@ -1,16 +1,15 @@
 -- A form of a node's value is one of its tree: over its references it is followed to their nodes' trees, and with their keys it stands under the tree's own.
-use Rattle.pagable_laws.proofs.Words.{Bool, Core, FollowsTo, Form, HandleRow, HandlesAreWhole, HoldsSettled, Identity, IsLawful, IsPublished, IsReadable, List, Meaning, Ok, Option, PagerState}
-use Rattle.pagable_laws.proofs.Words.{ReadsItsTypes, Represents, Shape, Shelf, Slot, Some, Throughout, Tree, Types, Values, WellFormed, Written, [], ap, append-nil, arith, blob_of, held, identity_of}
-use Rattle.pagable_laws.proofs.Words.{if_there, inr, integer-leads, is_handle, is_owned_by, is_some, map, nat_tests, one, owner_value, reference, references_in, refl, rename, rest, slice_get}
-use Rattle.pagable_laws.proofs.{Again.{looks-itself, read_again}, Decoding.{among-left, among-right, given-too}, Related.{both-looked-up, each, keeps_forms, one_cause, read_par}, Trees.AllTwo}
-use Rattle.pagable_laws.proofs.{Trees.{Along, followed-along, more-two, no-two, one_tree, pair-along, reference-along, same-number, same_some, sum-le, sum-zero, variant-along}, Words.{Among, ArcRef}}
-use Rattle.pagable_laws.specs.TreeSteps.{KeyStands, LeadsBy, WroteTree, followed-leads, none-leads, number-leads, pair-leads, pattern-leads, reference-leads, text-leads, variant-leads}
-use Rattle.pagable_laws.{proofs.Words.{slice_get_within, subst, suc, sum_by-cons, sym, times, tree, true, type_of, zero, ℕ, ◌&&◌, ◌++◌, ◌<◌, ◌==◌, ◌∙◌, ◌∷◌, ◌≡◌, ◌≤◌}, specs.TreeSteps.Ground}
-use Rattle.pagable_model.specs.Trees.{IsFollowed, KeyRef, integer-followed, key_ref, none-followed, number-followed, pair-followed, pattern-followed, reference-followed, text-followed}
-use Rattle.pagable_model.specs.{Deep.{Kid, kid, kind_of_kid}, Merkle.{KeyOf, KeysOf, StoredAs, TreeForm, key-of, key_of_ref, kind_of_ref, more-keys, no-keys, unfolded}, Reading.deepest}
-use Rattle.pagable_world.specs.{Pager.{kids_of, number-stands, pair-stands, reference-stands, variant-stands}, World.{Outcome, digest, published, type_at}}
-use Rattle.std.{proofs.lemmas.Option.get_or_from_slice_get, specs.Prelude.nat_lt}
-use Rattle.{pagable_model.specs.{Trees.variant-followed, Writing.kind_of_arc}, pagable_world.specs.{Headline.AreKeysOf, Pager.{IsWrittenOf, MeaningStands, NodeStands, away, followed-stands, here}}}
+use Rattle.pagable_world.specs.{Headline.AreKeysOf, Pager.{IsWrittenOf, MeaningStands, NodeStands, away, followed-stands, here, kids_of, number-stands}, World.{Outcome, digest, published, type_at}}
+use Rattle.{pagable_model.specs.Deep.{Kid, kid}, pagable_world.specs.Pager.{pair-stands, reference-stands, variant-stands}, std.{proofs.lemmas.Option.get_or_from_slice_get, specs.Prelude.nat_lt}}
+use Rattle.pagable_model.specs.{Deep.kind_of_kid, Merkle.{KeyOf, KeysOf, StoredAs, TreeForm, key-of, key_of_ref, kind_of_ref, more-keys, no-keys, unfolded}, Reading.deepest, Trees.IsFollowed}
+use Rattle.pagable_model.specs.Trees.{KeyRef, integer-followed, key_ref, none-followed, number-followed, pair-followed, pattern-followed, reference-followed, text-followed, variant-followed}
+use Rattle.{pagable_laws.proofs.Words.{Among, ArcRef, Bool, Core, FollowsTo, Form, HandleRow, HandlesAreWhole, HoldsSettled, Identity, IsLawful, IsPublished}, pagable_model.specs.Writing.kind_of_arc}
+use Rattle.pagable_laws.proofs.Words.{IsReadable, List, Meaning, Ok, Option, PagerState, ReadsItsTypes, Represents, Shape, Shelf, Slot, Some, Throughout, Tree, Types, Values, WellFormed, Written, []}
+use Rattle.pagable_laws.proofs.Words.{ap, append-nil, arith, blob_of, held, identity_of, if_there, inr, integer-leads, is_handle, is_owned_by, is_some, map, nat_tests, one, owner_value, reference}
+use Rattle.pagable_laws.proofs.Words.{references_in, refl, rename, rest, slice_get, slice_get_within, subst, suc, sum_by-cons, sym, times, tree, true, type_of, zero, ℕ, ◌&&◌, ◌++◌, ◌<◌, ◌==◌, ◌∙◌}
+use Rattle.pagable_laws.proofs.{Trees.{AllTwo, Along, followed-along, more-two, no-two, one_tree, pair-along, reference-along, same-number, same_some, sum-le, sum-zero}, Words.{◌∷◌, ◌≡◌, ◌≤◌}}
+use Rattle.pagable_laws.proofs.{Again.{looks-itself, read_again}, Decoding.{among-left, among-right, given-too}, Related.{both-looked-up, each, keeps_forms, one_cause, read_par}, Trees.variant-along}
+use Rattle.pagable_laws.specs.TreeSteps.{Ground, KeyStands, LeadsBy, WroteTree, followed-leads, none-leads, number-leads, pair-leads, pattern-leads, reference-leads, text-leads, variant-leads}
 
 -- ---- the references in a form's meaning are those of the form, and none is followed
 
@@ -22,7 +21,7 @@ module _ {A : Type 0} where
   pub references-among : {kind_of : A → ℕ} {parts : ℕ → Shape} {s : Shape} {m : Meaning A} {b : List ℕ} {k : List A} → Throughout IsReadable parts s
       → Form A kind_of parts deepest s m b k → (n : Meaning A) × Along ⊥ (λ a c. Among k a) m n
   references-among {kind_of} {parts} {s} {m} {b} {k} can f =
-      let whole = read_again parts s can 0 (λ kind a. Ok a) kind_of m b [] k k [] (looks-itself k) f in
+      let whole = read_again parts s can 0 (λ kind a. Ok a) kind_of m b [] k k [] (looks-itself (λ a. refl) k) f in
       let par = read_par {E = one_cause} {F = ⊥} {T = AllTwo (λ a c. Among k a)} {R = λ a c. Among k a} (λ kind a. Ok a) (λ kind a. Ok a)
       (each _ _ (λ kind a c s. both-looked-up a c s)) 0 s (inr can) in
       let (n, left, is, along) = given-too (par.out (rest b k) (rest b k) (record { bytes = refl; refs = each-among (λ a. Among k a) k (λ a among. among) })) (rw (append-nil, append-nil) at whole) in
@@ -44,9 +43,7 @@ module _ {N E : Type 0} {v : Values N} {s : PagerState N E} (settled : HoldsSett
     one-meaning (pair-stands x y a b h g) (pair-stands x2 y2 a2 b2 h2 g2) e = rw (one-meaning h h2 cc, one-meaning g g2 cc) refl
     one-meaning (variant-stands i x a h) (variant-stands j y b h2) e = let same : i ≡ j = cc in rw (same, one-meaning h h2 cc) refl
     one-meaning (followed-stands i x a h) (followed-stands j y b h2) e = let same : i ≡ j = cc in rw (same, one-meaning h h2 cc) refl
-    one-meaning (reference-stands r a h) (reference-stands r2 b h2) e =
-        let same : r2 ≡ r = cc in
-        rw (same, one-node h (rw same at h2) refl) refl
+    one-meaning (reference-stands r a h) (reference-stands r2 b h2) e = let same : r2 ≡ r = cc in rw (same, one-node h (rw same at h2) refl) refl
     one-meaning h (number-stands j) e = cc
     one-meaning h g e = cc
 
@@ -151,7 +148,8 @@ module _ (shelf : Shelf) where
   keys-are x0 x1 x2 = grind (arith, nat_tests)
 
   -- of each reference a key is known
-  pub known-of : (rs : List ArcRef) (keys : List ℕ) → AreKeysOf shelf rs keys → (r : ArcRef) → Among rs r → (k : ℕ) × ((h : ℕ) × IsPublished shelf (identity_of r) k h)
+  pub known-of : (rs : List ArcRef) (keys : List ℕ) → AreKeysOf shelf rs keys → (r : ArcRef) (among : Among rs r)
+      → (k : ℕ) × ((h : ℕ) × IsPublished shelf (identity_of r) k h) × (slice_get keys among.0 ≡ Some k)
   known-of (x ∷ rs) (k ∷ ks) (p, known) r (suc i, e) = known-of rs ks known r (i, e)
   known-of x0 x1 x2 r x4 = grind (arith, nat_tests)
 

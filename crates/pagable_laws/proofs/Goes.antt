@@ -1,13 +1,13 @@
 -- What a step does to the plain world as far as trees feel it: the parts of each call's summary. And a live handle that no value owns and that isn't given up outlasts a cascade, with its row.
+use Rattle.pagable_laws.proofs.{Decoding.among-either, Existing.outlast, Trees.{same-number, same_some, self-number}, Words.{Alike, Among, ArcRef, Blob, Bool, Call, Change, CloneCall, Core, Event}}
 use Rattle.pagable_laws.proofs.Words.{EventReply, HandleNumber, HandleRow, HandlesAreWhole, Happens, Identity, IsReference, Kind, Last, List, LoadNumber, Mode, NodeNumber, None, Ok, OpenLoad, Option}
-use Rattle.pagable_laws.proofs.Words.{OptionalDataKey, Owner, PinCall, Reply, Seen, Site, Some, Todo, Took, World, [], adopted, answer_after, ap, arith, bears_known, false, false_from_ne_true, filter}
+use Rattle.pagable_laws.proofs.Words.{OptionalDataKey, Owner, PinCall, Reply, Seen, Site, Some, Todo, Took, World, [], adopted, answer_after, ap, arith, bears_known, false, false_from_ne_true}
 use Rattle.pagable_laws.proofs.Words.{find_row, if◌then◌else◌, inl, inr, is_handle, is_named_by, is_owner, is_pinning, le_trans, mode_of, moved, nat_tests, next_node, not, nothing_felt, one}
 use Rattle.pagable_laws.proofs.Words.{owner_value, owner_worker, pins, references_fault, refl, row_at, rules, subst, suc, sum_by-cons, sym, to_load, to_pin, true, type_of, updated, with_handle, zero}
-use Rattle.pagable_laws.proofs.{Decoding.among-either, Existing.outlast, Trees.{same-number, same_some, self-number}, Words.{Alike, Among, ArcRef, Blob, Bool, Call, Change, CloneCall, Core, Event}}
 use Rattle.pagable_laws.{proofs.Words.{ℕ, ◌&&◌, ◌++◌, ◌+◌, ◌<◌, ◌==◌, ◌∙◌, ◌∷◌, ◌≡◌, ◌≤◌, ◌⊎◌}, specs.TreeSteps.{AreGood, Bears, BeginsWell, HasPin, Knows, PinHolds, StaysAway, sets_key}}
+use Rattle.pagable_world.{proofs.Elements.{among-left, found-among}, specs.{Calls.{row_of, with_cached, with_key, with_mode, with_node}, Cascade.{AreNewEntries, Falls, FallsAnyhow, fallen, is_keyed}}}
 use Rattle.pagable_world.specs.{Cascade.left_rows, Kinds.{is_loose, is_pin}, LoadCalls.{EndCall, is_owned_in, with_load, with_pin, without_load}, Plain.{changed, or_else}, Refusals.reference_fault}
 use Rattle.pagable_world.specs.{Workers.PinsAtOnce, World.{Cell, Root}, declared.{answers.Pinning.Pinning, events.PinStep.PinStep}}
-use Rattle.pagable_world.{proofs.Elements.{among-left, found-among}, specs.{Calls.{row_of, with_cached, with_key, with_mode, with_node}, Cascade.{AreNewEntries, Falls, FallsAnyhow, fallen, is_keyed}}}
 use Rattle.pagable_world.specs.Workers as workers
 pub use Rattle.{pagable_laws.specs.TreeSteps.{CoreGoes as Goes, IsShut, Kept, RowsGo, Was}, pagable_world.proofs.Elements.{among-map as among-changed, among-one as only-one, once}}
 
@@ -41,10 +41,7 @@ pub rows-self : (last : ℕ) (rows rows' : List HandleRow) → rows' ≡ rows �
 rows-self last rows rows' same q row found few = record { was = row; live = subst (λ r. find_row q r ≡ Some row) same found; at = refl; mine = λ l is. refl; loose = λ is. is }
 
 pub rows-then : (last more : ℕ) (rows mid rows' : List HandleRow) → last ≤ more → RowsGo last rows mid → RowsGo more mid rows' → RowsGo last rows rows'
-rows-then last more rows mid rows' le first second q row found few =
-    let b = second q row found (omega arith) in
-    let a = first q b.was b.live few in
-    grind (arith, nat_tests)
+rows-then last more rows mid rows' le first second q row found few = let b = second q row found (omega arith) in let a = first q b.was b.live few in grind (arith, nat_tests)
 
 pub found-number : (q : ℕ) (rows : List HandleRow) (row : HandleRow) → find_row q rows ≡ Some row → row.number.0 ≡ q
 found-number q rows row found = (found-among q rows row found).1
@@ -66,12 +63,15 @@ rows-mode last rows h mode is_so free q row found few = grind (arith, nat_tests,
 pub rows-moved : (last : ℕ) (rows : List HandleRow) (s : ℕ → Bool) (owner : Owner) → NotLoads owner → RowsGo last rows (moved s owner rows)
 rows-moved last rows s owner free q row found few = grind (arith, nat_tests, found-changed)
 
+pub find-both : (q : ℕ) (xs ys : List HandleRow) → find_row q (xs ++ ys) ≡ or_else (find_row q xs) (find_row q ys)
+unfolding find_row
+find-both q [] ys = refl
+find-both q (h ∷ hs) ys = grind (arith, nat_tests, find-both q hs ys)
+
 -- handles that come at the end have greater numbers
 pub rows-more : (last : ℕ) (rows more : List HandleRow) → ((q : ℕ) → q ≤ last → find_row q more ≡ None) → RowsGo last rows (rows ++ more)
-unfolding find_row
-rows-more last [] more new q row found few = let none = new q few in absurd (cc)
-rows-more last (h ∷ hs) more new q row found few =
-    let back : find_row q (hs ++ more) ≡ Some row → Was hs q row = λ f. rows-more last hs more new q row f few in grind (arith, nat_tests, is_handle, find_row)
+rows-more last rows more new q row found few =
+    let back : find_row q rows ≡ Some row = grind (arith, nat_tests, find-both, new q few) in record { was = row; live = back; at = refl; mine = λ l is. refl; loose = λ is. is }
 
 pub none-in-new : (last q : ℕ) (entries : List HandleRow) → AreNewEntries last entries → q ≤ last → find_row q entries ≡ None
 unfolding find_row
@@ -129,6 +129,9 @@ quiet-goes c q = grind arith
 pub goes-quiet : {c : Change} {w m w' : Core} → Goes c w m → Quiet m w' → Goes c w w'
 goes-quiet {c} {w} {m} {w'} a b = search (rules, rows-then, le_trans, a.cells, b.cells, a.stored, b.stored, a.loads, b.loads, a.cache, b.cache, a.shut, b.shut)
 
+pub updated-at : {X : Type 0} (n : ℕ) (x : X) (f : ℕ → X) → updated n x f n ≡ x
+updated-at n x f = ap (λ b. if b then x else f n) (self-number n)
+
 pub at-updated : {X : Type 0} (m : ℕ) (x : Option X) (f : ℕ → Option X) (n : ℕ) (y : X) → updated m x f n ≡ Some y → ((n ≡ m) × (x ≡ Some y)) ⊎ (f n ≡ Some y)
 at-updated m x f n y is = grind (arith, same-number)
 
@@ -171,18 +174,11 @@ adopts w l kind key own references =
 abbrev pub NotValues : Owner → Type 0
 NotValues o = (n : NodeNumber) → o ≡ Owner.Value n → ⊥
 
--- ---- the one row of a number
-
 -- The handle q has this row, and no other; and its number isn't above the last one.
 pub record Stands (last : ℕ) (rows : List HandleRow) (q : ℕ) (row : HandleRow) : Type 0 where
   pub live : find_row q rows ≡ Some row
   pub only : (h : HandleRow) → Among rows h → h.number.0 ≡ q → h ≡ row
   pub given : q ≤ last
-
-pub find-both : (q : ℕ) (xs ys : List HandleRow) → find_row q (xs ++ ys) ≡ or_else (find_row q xs) (find_row q ys)
-unfolding find_row
-find-both q [] ys = refl
-find-both q (h ∷ hs) ys = grind (arith, nat_tests, find-both q hs ys)
 
 pub among-found : (q : ℕ) (rows : List HandleRow) (row : HandleRow) → find_row q rows ≡ Some row → Among rows row
 among-found q rows row found = (found-among q rows row found).0
@@ -191,9 +187,7 @@ among-found q rows row found = (found-among q rows row found).0
 pub none-found : (q : ℕ) (rows : List HandleRow) (h : HandleRow) → find_row q rows ≡ None → Among rows h → h.number.0 ≡ q → ⊥
 unfolding find_row
 none-found q [] h none among is = absurd (cc)
-none-found q (x ∷ xs) h none among is =
-    let rest : (find_row q xs ≡ None → Among xs h → ⊥) = λ no there. none-found q xs h no there is in
-    grind (arith, nat_tests, self-number, rest)
+none-found q (x ∷ xs) h none among is = let rest : (find_row q xs ≡ None → Among xs h → ⊥) = λ no there. none-found q xs h no there is in grind (arith, nat_tests, self-number, rest)
 
 -- no number of a row is above this one
 abbrev pub AreUpTo : ℕ → List HandleRow → Type 0
@@ -257,15 +251,12 @@ stands-new last rows row few next =
       given = omega arith;
     }
 
-pub among-kept : {X : Type 0} (test : X → Bool) (xs : List X) (x : X) → Among (filter test xs) x → Among xs x
-among-kept test xs x among = (among-left test xs x among).0
-
 -- a handle that isn't gone keeps its row
 pub stands-left : {before w w' : Core} {given : ℕ → Bool} {r : _} (f : Falls before w given r w') {q : ℕ} {row : HandleRow} → f.gone q ≡ false → Stands w.last.handle w.rows q row
     → Stands w'.last.handle w'.rows q row
 stands-left {w = w} f {q} {row} kept s =
     let left : Stands w.last.handle (left_rows f.gone w.rows) q row =
-    record { live = find-left f.gone q w.rows ∙ (rw kept s.live); only = λ h a is. s.only h (among-kept _ w.rows h a) is; given = s.given } in
+    record { live = find-left f.gone q w.rows ∙ (rw kept s.live); only = λ h a is. s.only h (among-left _ w.rows h a).0 is; given = s.given } in
     stands-alike {w = fallen w f.gone f.entries} f.leaves (stands-more f.entries (le-more _ _) (none-in-new w.last.handle q f.entries f.new s.given) left)
 
 pub stands-fell : {before w w' : Core} {given : ℕ → Bool} {r : _} {q : ℕ} {row : HandleRow} → Falls before w given r w' → NotValues row.owner → given q ≡ false
@@ -403,8 +394,7 @@ module _ {N B W : Type 0} (m : Seen N B W) (v : ℕ) (s s' : Site) (low : AreLow
 
 -- each pin of an event that answers one
 pub pins-hold : {N B W : Type 0} (m : Seen N B W) (u u' : World) (event : Event N B W) (reply : EventReply N B W) → HandlesAreWhole u.core → Happens m u event reply u' → PinHolds event reply u'.core
-pins-hold m u u' (Event.Call (Call.Pin h)) (EventReply.CallReply (Reply.Pin (Ok (Pinning.Pinned k)))) whole happens =
-    (pin-call u.core u'.core (low-whole whole) Owner.Caller h k happens.step.does).pin
+pins-hold m u u' (Event.Call (Call.Pin h)) (EventReply.CallReply (Reply.Pin (Ok (Pinning.Pinned k)))) whole happens = (pin-call u.core u'.core (low-whole whole) Owner.Caller h k happens.step.does).pin
 pins-hold m u u' (Event.LoadStep l) (EventReply.LoadMoved (Ok reply)) whole happens = λ k is.
     let e = rw is at happens.moves.does.does in (end-call u.core u'.core (low-whole whole) Owner.Caller happens.moves.reading.load e.0.x _ _ k (λ n is. absurd (cc)) e.0.ended).pin
 pins-hold m u u' (Event.Call (Call.LoadEnd l x)) (EventReply.CallReply (Reply.LoadEnded (Ok k))) whole happens =

@@ -1,7 +1,6 @@
 mod Words
 pub mod Again
 pub mod Trees
-mod Merkle
 pub mod Related
 pub mod Existing
 pub mod Goes
@@ -14,13 +13,10 @@ pub mod Answered
 pub mod Decoding
 pub mod Following
 mod Stepping
-mod Felt
 pub mod Taking
 pub mod Chains
-mod Few
 mod Level
 mod Deeply
 pub mod SparingSteps
 mod Sound
-mod OnePiece
 mod Laws

@@ -1,27 +1,23 @@
 -- The row of a handle that a load has got: it is new, of its node, and its mode fits the kind.
 use Rattle.pagable_laws.proofs.Called.{adopts, adopts-known, asks, begins, begins-key, call-knows, calls-go, clones, closes, ends-load, gets-known as was-known, hands-over, noted, pins, schedules}
+use Rattle.pagable_laws.proofs.{Called.stores, Decoding.among-left, Effects.{Effect, IsApart, IsHeldFor, IsMine, Lasts, Spares, ended-free, entry, fell, held-fell, moves, no-one, none, none-named}}
+use Rattle.pagable_laws.proofs.{Effects.{one-then, released-free, spares-then, stays, stays-alike, stays-fell, then-alike, then-fell, with-key, worker-apart}, Goes.{AreUpTo, Goes, KnowsNext}}
 use Rattle.pagable_laws.proofs.Goes.{NotLoads, Quiet, alike, alike-away, at-updated, fell-anyhow, find-both, find-left, goes-quiet, good, le-self, low-changed, low-whole, next-above, none-in-new}
+use Rattle.pagable_laws.proofs.{Goes.{parts, quiet-then, rows-self, stands-new}, Standing.{AllWait, WaitsWell}, Trees.{same_some, self-number}, Words.{Alike, Among, ArcRef, Beginning, Blob, Bool}}
 use Rattle.pagable_laws.proofs.Words.{Change, Claim, CloneCall, Core, Does, Err, Error, Event, EventReply, Frame, GetsKnown, HandleNumber, HandleRow, HandlesAreWhole, Happens, IsMachineWhole}
 use Rattle.pagable_laws.proofs.Words.{KeepsOpen, Kind, Last, List, LoadAnswer, LoadNumber, MachineState, NodeNumber, None, Ok, OpenLoad, Option, OptionalDataKey, Owner, Reading, ReadingFeels, Result}
 use Rattle.pagable_laws.proofs.Words.{Seen, Site, Some, Task, Todo, Took, Values, Walking, WorkerAnswer, WorkerNumber, WorkerReply, WorkerSteps, World, [], adopted, answer_after, ap, arith}
 use Rattle.pagable_laws.proofs.Words.{bears_known, false, find_row, first_key, give, inl, inr, is_named_by, is_some, mode_of, moved, nat_tests, next_node, nothing_felt, owner_value, owner_worker}
 use Rattle.pagable_laws.proofs.Words.{refl, row_at, rules, step_of, subst, sym, to_fail, to_load, to_pin, to_release, to_set, to_start, true, updated, world_of, ℕ, ◌++◌, ◌+◌, ◌<◌, ◌∙◌, ◌∷◌, ◌≡◌, ◌≤◌}
-use Rattle.pagable_laws.proofs.{Called.stores, Decoding.among-left, Effects.{Effect, IsApart, IsHeldFor, IsMine, Lasts, Spares, ended-free, entry, fell, held-fell, moves, no-one, none, none-named}}
-use Rattle.pagable_laws.proofs.{Effects.{one-then, released-free, spares-then, stays, stays-alike, stays-fell, then-alike, then-fell, with-key, worker-apart}, Goes.{AreUpTo, Goes, KnowsNext}}
-use Rattle.pagable_laws.proofs.{Goes.{parts, quiet-then, rows-self, stands-new}, Standing.{AllWait, WaitsWell}, Trees.{same_some, self-number}, Words.{Alike, Among, ArcRef, Beginning, Blob, Bool}}
 use Rattle.pagable_laws.{proofs.Words.◌⊎◌, specs.TreeSteps.{EventFeels, GetsRow, IsFresh, IsSteppedReading, KeepsReadings, Needs, NewNode, SameNode, StaysAway, StepsReading, by-call, by-key}}
-use Rattle.pagable_world.specs.declared.{answers.Pinning.Pinning, events.{PinStep.PinStep, TableNumber.TableNumber}}
+use Rattle.{pagable_laws.specs.TreeSteps.{by-nothing, by-reading, gets-known, gets-lazy, makes-known, makes-node, reading-ends, reads-blob, reads-root, sets_key}, pagable_world.specs.Calls.SetKeyCall}
 use Rattle.pagable_world.specs.{Calls.{StoreCall, row_of, with_cached_if_open, with_known}, Cascade.{FallsAnyhow, only_handle}, Events.{Ends, ReadingsAre, Starts, Stays, new_walking, reading_after}}
 use Rattle.pagable_world.specs.{Events.{reading_at, with_worker}, Kinds.is_loose, Loads.{MakesNode, ReadingDoes, gone_on, with_got}, OneWorker.LeavesCache, Pager.{EventBrings, IsNewNode, IsReadingOf}}
 use Rattle.pagable_world.specs.{Pager.{IsWhole, OwnersAreThere, TodoBrings, of_caller, of_worker}, Refusals.Owns, Workers.{fresh, give_known, next_start, without_worker}, World.{Cell, digest, usable}}
-use Rattle.{pagable_laws.specs.TreeSteps.{by-nothing, by-reading, gets-known, gets-lazy, makes-known, makes-node, reading-ends, reads-blob, reads-root, sets_key}, pagable_world.specs.Calls.SetKeyCall}
-
--- ---- what is found at a new number
+use Rattle.pagable_world.specs.declared.{answers.Pinning.Pinning, events.{PinStep.PinStep, TableNumber.TableNumber}}
 
 pub cached-rows : (w : Core) (kind : Kind) (key : ℕ) (n : NodeNumber) → ((with_cached_if_open w kind key n).rows ≡ w.rows) × ((with_cached_if_open w kind key n).last ≡ w.last)
 cached-rows w kind key n = grind (arith, nat_tests)
-
--- ---- the row that was made
 
 module _ {w w' : Core} (whole : HandlesAreWhole w) (kind : Kind) (k : HandleNumber) (row : HandleRow) (made : row_at w' k ≡ Some row) (next : k.0 ≡ w.last.handle + 1) where
   gets : (rows : List HandleRow) (node : NodeNumber) (owner : Owner) → AreUpTo w.last.handle rows → w.last.handle + 1 ≤ w'.last.handle
@@ -80,8 +76,6 @@ read-after u u' New are same callers workers after (of_worker n place walking r 
   | inl old ↦ inl (of_worker n place walking r through below old todo)
   | inr new ↦ inr (new (ap front_reading todo))
 ]
-
--- ---- a load of a worker's
 
 -- what it answers and reads, and that it stands in the worker's list afterwards only where it goes on
 pub record LoadsTodo {N : Type 0} (v : Values N) (me : Owner) (s s' : Site) (reading : Reading) : Type 0 where
@@ -171,7 +165,14 @@ module _ {N B W : Type 0} (m : Seen N B W) (w : Core) (me : Owner) (free : NotLo
   reading-feels (Some (LoadAnswer.Refused e)) frames d = ended (LoadAnswer.Refused e) frames d.does.1 (elim d.does.0 [
     | inl gives ↦
         -- a refusal that it meets changes nothing, but that a failure of the storage may be noted
-        let a : (f : ℕ) × Alike (record w { failures = f }) gives.mid = let does = gives.meets in search (rules) in
+        let a : (f : ℕ) × Alike (record w { failures = f }) gives.mid = elim gives.meets [
+          | inl b ↦ (w.failures, b.1)
+          | inr (inl r) ↦ let does = r.1 in search (rules)
+          | inr (inr (inl n)) ↦ elim n.3 [ inl does ↦ search (rules) | inr deep ↦ let does = deep.3 in search (rules) ]
+          | inr (inr (inr (inl z))) ↦ let does = z.3 in search (rules)
+          | inr (inr (inr (inr (inl n)))) ↦ let does = n.adopted in search (rules)
+          | inr (inr (inr (inr (inr r)))) ↦ elim r.refuses [ inl h ↦ let does = h.1 in search (rules) | inr h ↦ let does = h.1 in search (rules) ]
+        ] in
         one-then (λ kind key n h. subst (IsHeldFor kind key n) (sym a.1.rows) h) (λ mine load is. mine load (sym (a.1.loads reading.load.0) ∙ is)) (noted a.0 a.1)
         (closes reading.load (λ mine. mine) gives.closes)
     | inr ended ↦ ends-load free reading.load (Err (e, None)) ended.ended
@@ -197,8 +198,6 @@ reading-knows x0 = grind (arith, nat_tests)
 pub works-free : (v : ℕ) → NotLoads (owner_worker v)
 works-free v l is = absurd (cc)
 
--- ---- what stands at the front afterwards
-
 abbrev pub LoadsAnew : Site → Type 0
 LoadsAnew s = (reading : Reading) → front_reading s.todo ≡ Some reading → IsFresh s.core reading
 
@@ -213,8 +212,6 @@ given r key height x3 well = grind (arith, nat_tests, started)
 
 given-known : (r : ArcRef) (key height : ℕ) (below : List Todo) → AllWait below → front_reading (give_known r key height below) ≡ None
 given-known r key height x3 well = grind (arith, nat_tests, given r key height x3 well)
-
--- ---- the step
 
 -- A load makes its step; the key is set through the worker's own loose handle; or nothing is felt. But for the first, a load at the front afterwards has just begun.
 pub data WalkFeels {N B W : Type 0} (m : Seen N B W) (v : ℕ) (s s' : Site) (todo : List Todo) : Change → Type 0 where
@@ -280,8 +277,7 @@ module _ {N B W : Type 0} (m : Seen N B W) (v : ℕ) (s s' : Site) where
   ]
 
   pub walk-goes : (todo : List Todo) (step : Took W) → Does m v s todo step s' → WalkFelt m v s s' todo
-  walk-goes (to_start r place ∷ below) (Took.Claim i (Ok Claim.Waiting)) (is, c) = let t = c.finds.1.2 in
-      quiet (λ n x b. b) (λ front well. no-load s' _ (t.list_is ∙ front) refl) (stays t.pager_stays)
+  walk-goes (to_start r place ∷ below) (Took.Claim i (Ok Claim.Waiting)) (is, c) = let t = c.finds.1.2 in quiet (λ n x b. b) (λ front well. no-load s' _ (t.list_is ∙ front) refl) (stays t.pager_stays)
   walk-goes (to_pin r place ∷ below) (Took.Pin i (Ok (PinStep.Held k))) (is, p) = rests _ (λ n x b. b) p.pins.2.list_is (λ well. refl) (elim p.pins.1 [
     | inl (row, same, clone) ↦ clones (Ok k) clone
     | inr (row, (mid, clone, pin)) ↦ then-clone v clone (pins (works-free v) (Ok (Pinning.Pinned k)) pin)
@@ -308,8 +304,6 @@ module _ {N B W : Type 0} (m : Seen N B W) (v : ℕ) (s s' : Site) where
 
 -- What trees feel of each event that doesn't close the storage.
 
--- ---- workers that come and go
-
 -- workers come and go, and loads go
 others-work : (w : Core) (loads : ℕ → Option OpenLoad) (workers : ℕ → Bool) (worker : ℕ) → w.last.worker ≤ worker → ((l : ℕ) (load : OpenLoad) → loads l ≡ Some load → w.loads l ≡ Some load)
     → Quiet w (record w { loads = loads; workers = workers; last = record w.last { worker = worker } })
@@ -329,20 +323,6 @@ ends-last : (kind key n : ℕ) (answer : Option WorkerAnswer) (v : ℕ) {w m w' 
 ends-last kind key n None v e a = record { lasts = λ i h h'. stays-alike kind key n e (a.lasts i h (subst (IsHeldFor kind key n) e.rows h')) h' }
 ends-last kind key n (Some answer) v f a = record { lasts = λ i h h'. stays-fell kind key n f.falls (a.lasts i h (held-fell kind key n refl f.falls h')) h' }
 
--- ---- readings
-
-module _ (u u' : World) where
-  keeps-all : ReadingsAre u.work.readings u' → ((n : ℕ) → u'.work.walkings n ≡ u.work.walkings n) → KeepsReadings u u'
-  keeps-all are same = read-after u u' (λ r. IsFresh u'.core r) are same (λ q r is. inl is) (λ n w r there. inl there)
-
-  -- one worker is another afterwards, and has at most begun a load
-  keeps-but : ReadingsAre u.work.readings u' → (k : ℕ) (now : Walking) → ((n : ℕ) → u'.work.walkings n ≡ updated k (Some now) u.work.walkings n)
-      → ((reading : Reading) → front_reading now.todo ≡ Some reading → IsFresh u'.core reading) → KeepsReadings u u'
-  keeps-but are k now same anew = read-after u u' (λ r. IsFresh u'.core r) are same (λ q r is. inl is)
-      (λ n w r there. grind (arith, nat_tests, at-updated k (Some now) u.work.walkings, same_some, anew))
-
--- ---- events
-
 -- in no worker's list a load waits below what is done next
 abbrev pub AllWaitWell : World → Type 0
 AllWaitWell u = (n : ℕ) (walking : Walking) → u.work.walkings n ≡ Some walking → WaitsWell walking.todo
@@ -357,6 +337,15 @@ pub record EventGoes {N B W : Type 0} (m : Seen N B W) (u : World) (event : Even
   pub knows : IsWhole u.core → LeavesCache event → KnowsNext change u.core
 
 module _ {N B W : Type 0} (m : Seen N B W) (u u' : World) where
+  keeps-all : ReadingsAre u.work.readings u' → ((n : ℕ) → u'.work.walkings n ≡ u.work.walkings n) → KeepsReadings u u'
+  keeps-all are same = read-after u u' (λ r. IsFresh u'.core r) are same (λ q r is. inl is) (λ n w r there. inl there)
+
+  -- one worker is another afterwards, and has at most begun a load
+  keeps-but : ReadingsAre u.work.readings u' → (k : ℕ) (now : Walking) → ((n : ℕ) → u'.work.walkings n ≡ updated k (Some now) u.work.walkings n)
+      → ((reading : Reading) → front_reading now.todo ≡ Some reading → IsFresh u'.core reading) → KeepsReadings u u'
+  keeps-but are k now same anew = read-after u u' (λ r. IsFresh u'.core r) are same (λ q r is. inl is)
+      (λ n w r there. grind (arith, nat_tests, at-updated k (Some now) u.work.walkings, same_some, anew))
+
   callers : (v : ℕ) → Owner.Caller ≡ owner_worker v → ⊥
   callers v e = absurd (cc)
 
@@ -370,7 +359,7 @@ module _ {N B W : Type 0} (m : Seen N B W) (u u' : World) where
   event-rests brings keeps e = felt e (λ left. tt) (λ whole well. by-nothing brings keeps) (λ whole leaves k q n known. absurd known)
 
   same : {event : Event N B W} {reply : EventReply N B W} → Stays u u' → EventGoes m u event reply u'
-  same s = event-rests (λ n x b. inr (alike-away s.core n)) (keeps-all u u' s.readings s.work.walkings) (stays s.core)
+  same s = event-rests (λ n x b. inr (alike-away s.core n)) (keeps-all s.readings s.work.walkings) (stays s.core)
 
   -- a worker begins, after this was done
   starts : {event : Event N B W} {reply : EventReply N B W} → ((n : ℕ) (x : N) → EventBrings m.values u event n x → ⊥)
@@ -382,8 +371,7 @@ module _ {N B W : Type 0} (m : Seen N B W) (u u' : World) where
     spares = λ q there others.
         let a = e.spares (owner_worker q) (record { apart = worker-apart q; other = callers q; unlisted = λ yes. (refl, there) }) in then-alike (owner_worker q) s.pager (record { each = a.each });
     lasts = λ left kind key n. record { lasts = λ i h h'. stays-alike kind key n s.pager (e.lasts tt kind key n i h (λ f. absurd (cc))) h' };
-    feels = λ whole well. by-nothing (λ n x b. absurd (brings n x b))
-        (keeps-but u u' s.readings v.0 (new_walking t task) s.work.same_walkings (λ reading is. absurd (grind (arith, nat_tests, started))));
+    feels = λ whole well. by-nothing (λ n x b. absurd (brings n x b)) (keeps-but s.readings v.0 (new_walking t task) s.work.same_walkings (λ reading is. absurd (grind (arith, nat_tests, started))));
     knows = λ whole leaves k q n known. absurd known;
   }
 
@@ -391,7 +379,7 @@ module _ {N B W : Type 0} (m : Seen N B W) (u u' : World) where
     now : LoadsAnew s.after → KeepsReadings u u'
     now anew =
         let q = ends-quiet reply.answer k.0 s.ends in let le = q.loads_last in
-        keeps-but u u' s.readings k.0 (record s.walking { todo = s.after.todo; steps = reply.steps; answer = reply.answer }) s.work.same_walkings
+        keeps-but s.readings k.0 (record s.walking { todo = s.after.todo; steps = reply.steps; answer = reply.answer }) s.work.same_walkings
         (λ reading is. let a = anew reading is in let b = a.2 in (a.0, a.1, omega (arith, b, le)))
 
     worker-feels : (c : Change) → WalkFeels m k.0 (record { core = u.core; shelf = u.work.shelves s.walking.table; todo = s.walking.todo }) s.after s.walking.todo c
@@ -425,7 +413,7 @@ module _ {N B W : Type 0} (m : Seen N B W) (u u' : World) where
   pub event-goes : (event : Event N B W) (reply : EventReply N B W) → KeepsOpen event → Happens m u event reply u' → EventGoes m u event reply u'
   event-goes (Event.Call call) (EventReply.CallReply r) open_still is =
       let g = calls-go m u.core Owner.Caller caller-free u'.core call r open_still is.step.does in
-      felt g.does (λ left. left) (λ whole well. by-call g.change call r refl refl g.feels (keeps-all u u' is.readings is.work.walkings)) (λ whole leaves. call-knows W g.feels leaves)
+      felt g.does (λ left. left) (λ whole well. by-call g.change call r refl refl g.feels (keeps-all is.readings is.work.walkings)) (λ whole leaves. call-knows W g.feels leaves)
   event-goes (Event.LoadStep l) (EventReply.LoadMoved (Ok reply)) open_still is =
       let x = is.moves in
       let f = reading-feels m u.core Owner.Caller caller-free u'.core x.reading reply.ended x.frames x.does in
@@ -434,20 +422,18 @@ module _ {N B W : Type 0} (m : Seen N B W) (u u' : World) where
       felt f.does (λ left. tt)
       (λ whole well. by-reading f.change x.reading reply.ended x.frames (x.at, reading-stands u whole l x.reading x.at) f.opens (f.feels whole.handles) steps)
       (λ whole leaves. reading-knows (f.feels whole.handles))
-  event-goes (Event.LoadStart h) (EventReply.Started r) open_still is = event-rests (λ n x b. absurd b) (keeps-all u u' is.readings is.work.walkings) (begins r is.step)
-  event-goes (Event.LoadKey key t) (EventReply.Started (Err e)) open_still is = event-rests (λ n x b. absurd b) (keeps-all u u' is.refused is.work.walkings) (begins-key (Err e) is.step)
+  event-goes (Event.LoadStart h) (EventReply.Started r) open_still is = event-rests (λ n x b. absurd b) (keeps-all is.readings is.work.walkings) (begins r is.step)
+  event-goes (Event.LoadKey key t) (EventReply.Started (Err e)) open_still is = event-rests (λ n x b. absurd b) (keeps-all is.refused is.work.walkings) (begins-key (Err e) is.step)
   event-goes (Event.LoadKey key t) (EventReply.Started (Ok Beginning.InMemory)) open_still is = absurd is.step.begins
   event-goes (Event.LoadKey key t) (EventReply.Started (Ok (Beginning.Load l k))) open_still is =
       let next = is.step.begins.1.above in let last = ap (λ (x : Last). x.load) is.step.begins.2.last in
       event-rests (λ n x b. absurd b) (read-after u u' (λ r. IsFresh u'.core r) is.begun is.work.walkings
       (λ q r there. grind (arith, nat_tests, at-updated l.0 (Some (fresh l t)) u.work.readings, same_some, next, last)) (λ n w r there. inl there)) (begins-key (Ok (Beginning.Load l k)) is.step)
-  event-goes Event.TableNew (EventReply.TableMade (Ok t)) open_still is = let x = is.made in event-rests (λ n x b. absurd b) (keeps-all u u' x.2 x.3.same_walkings) (stays x.1)
+  event-goes Event.TableNew (EventReply.TableMade (Ok t)) open_still is = let x = is.made in event-rests (λ n x b. absurd b) (keeps-all x.2 x.3.same_walkings) (stays x.1)
   event-goes (Event.WorkerItem t item) (EventReply.WorkerMade (Ok v)) open_still is = starts (λ n x b. b) t _ u.core v (none u.core) is.starts
   event-goes (Event.WorkerListed t i) (EventReply.WorkerMade (Ok v)) open_still is = let x = is.starts in
       starts (λ n x b. b) t _ _ v (moves (none u.core) (only_handle x.0) (Owner.Worker v) _ (λ l is. absurd (cc)) (entry refl i x.0 x.3.listed)) x.5
   event-goes event reply open_still is = grind (arith, nat_tests, same, worker-steps)
-
--- ---- the plain world, as trees feel it
 
 module _ {c : Change} {w w' : Core} (g : Goes c w w') where
   pub old-node : (n : ℕ) → n ≤ w.last.node → is_some (w'.cells n) ≡ true → SameNode c w w' n

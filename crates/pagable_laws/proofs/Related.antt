@@ -1,18 +1,18 @@
 -- Reading does the same whatever stands for references: two readers over related inputs give related meanings. And readers of which a fault stays whatever follows, what is
 -- read of a front is read of the whole, and what was used reads alone.
-use Rattle.pagable_laws.proofs.Trees.{more-two, no-two, none-along, number-along, one-two, pair-along, pattern-along, plain-along, put_all-two, reference-along, sequence-two, sorted-two, text-along}
-use Rattle.pagable_laws.proofs.Words.{append_assoc, arith, cases_Bool, cases_lt, drop, followed, if◌then◌else◌, inl, inr, length, length-append, map, nat_tests, none, pair, put_all, read, refl}
 use Rattle.pagable_laws.proofs.{Again.{Under, alone, here, narrowed, part_of}, Trees.{AllTwo, Along, EntryAlong, entries-two, flag-same, followed-along, form-along, integer-along, lifted-along}}
+use Rattle.pagable_laws.proofs.Trees.{more-two, no-two, none-along, number-along, one-two, pair-along, pattern-along, plain-along, put_all-two, reference-along, sequence-two, sorted-two, text-along}
 use Rattle.pagable_laws.proofs.{Trees.variant-along, Words.{Bool, Err, Error, Form, IsReadable, LiesIn, List, Meaning, None, Ok, Option, Result, Shape, Some, Throughout, [], ap, append-nil}}
+use Rattle.pagable_laws.proofs.Words.{append_assoc, arith, cases_Bool, cases_lt, drop, followed, if◌then◌else◌, inl, inr, length, length-append, map, nat_tests, none, pair, put_all, read, refl}
 use Rattle.pagable_laws.{proofs.Words.{rename, rest, rules, subst, suc, sym, true, variant, zero, ℕ, ◌*◌, ◌++◌, ◌+◌, ◌==◌, ◌∙◌, ◌∷◌, ◌≡◌, ◌≤◌, ◌⊎◌}, specs.FormLaws.{IsLasting, IsLocal, IsNatural}}
-use Rattle.pagable_model.specs.Reading.{enter, flag_case, items, json_case, json_part, null_case, number_case, object_case, read_typed, read_with, reference_at, registered, seen, text_case, two}
-use Rattle.pagable_model.specs.Shape.{array, both, cases, duration, flag, hash_map, json, letter, list, nested, nothing, optional, outcome, placed_map, placed_set, run, signed, sorted_map, sorted_set}
+use Rattle.{pagable_laws.specs.FormLaws.{IsReadOver, IsReadThrough, IsRenamed, IsUsed, KeepsForms, at, with_more}, pagable_model.specs.Basic.{bool_at, bytes_at, carried, char_at, duration_at}}
 use Rattle.pagable_model.specs.{Basic.{length_at, longest, nanos_of_second, text_at}, Canonical.HasNoReference, Carried.{of_entries, of_hash_map, of_tagged}, Keys.{code_order, put_placed_item}}
 use Rattle.pagable_model.specs.{Keys.{put_sorted, put_sorted_item, text_order}, Meaning.{absent, entry, failure, lifted, present, sequence, success}, Numbers.{Read, byte_at, last_of, more_of}}
 use Rattle.pagable_model.specs.{Numbers.{signed_at, signed_from, unsigned_at, varint_at}, Reading.{Context, Deeper, Gets, JsonCase, Look, Rest, array_case, below, bytes_of, choose, counted, deepest}}
-use Rattle.std.{proofs.lemmas.List.{length-take-le, map-id, take-append-drop, take_at}, specs.{Int.{Width, w32, w64, w8}, List.AllByRecursion, Prelude.{IfErr, nat_le, nat_lt}, Str.{chars, is_utf8}}}
-use Rattle.{pagable_laws.specs.FormLaws.{IsReadOver, IsReadThrough, IsRenamed, IsUsed, KeepsForms, at, with_more}, pagable_model.specs.Basic.{bool_at, bytes_at, carried, char_at, duration_at}}
+use Rattle.pagable_model.specs.Reading.{enter, flag_case, items, json_case, json_part, null_case, number_case, object_case, read_typed, read_with, reference_at, registered, seen, text_case, two}
+use Rattle.pagable_model.specs.Shape.{array, both, cases, duration, flag, hash_map, json, letter, list, nested, nothing, optional, outcome, placed_map, placed_set, run, signed, sorted_map, sorted_set}
 use Rattle.{pagable_model.specs.{Shape.{static_value, tagged, unsigned}, Steps.◌>>=◌}, std.proofs.{Common.{get_or, take, ◌%◌, ◌-◌, ◌/◌, ◌^◌}, lemmas.{Bool.{le-ltb, lt-ltb}, List.drop_at}}}
+use Rattle.std.{proofs.lemmas.List.{length-take-le, map-id, take-append-drop, take_at}, specs.{Int.{Width, w32, w64, w8}, List.AllByRecursion, Prelude.{IfErr, nat_le, nat_lt}, Str.{chars, is_utf8}}}
 use Rattle.pagable_model.specs.Meaning as meanings
 use Rattle.pagable_model.specs.Shape as shapes
 
@@ -69,8 +69,6 @@ module _ {I : Type 0} {plus : I → I → I} {end : I} {K : Error → Type 0} (j
       → ((i : I) → whole i ≡ (get i >>= λ p. if pass p.0 then Ok (view p.0, p.1) else Err e)) → Tame plus K get → K e → Tame plus K whole
   tested {B = B} {whole = whole} pass view e is h known = and_then (λ v i. if pass v then Ok (view v, i) else Err e) whole is h (λ v. either (pass v) (gives (view v)) (refuses B e known))
 
--- ---- bytes
-
 pub bytes_join : Joins {I = List ℕ} ◌++◌ []
 bytes_join = record { assoc = append_assoc; start = λ a. refl }
 
@@ -78,8 +76,7 @@ pub byte_tame : Tame ◌++◌ Sober byte_at
 byte_tame = record { comes = elim [ [] ↦ (tt, inl (inl refl)) | b ∷ bs ↦ record { used = b ∷ []; whole = refl; reads = λ y. refl } ] }
 
 front_of : (n : ℕ) (bs : List ℕ) → n ≤ length bs → Front ◌++◌ (bytes_at n) bs (take n bs) (drop n bs)
-front_of n bs le =
-    record { used = take n bs; whole = sym (take-append-drop n bs); reads = λ y. grind (arith, nat_tests, le-ltb, length-append, take_at, drop_at, length-take-le n bs le) }
+front_of n bs le = record { used = take n bs; whole = sym (take-append-drop n bs); reads = λ y. grind (arith, nat_tests, le-ltb, length-append, take_at, drop_at, length-take-le n bs le) }
 
 pub bytes_tame : (n : ℕ) → Tame ◌++◌ Sober (bytes_at n)
 bytes_tame n = record { comes = λ bs. elim (cases_lt (length bs) n) [ inl lt ↦ rw (lt-ltb (length bs) n lt) (tt, inl (inl refl)) | inr le ↦ rw (le-ltb (length bs) n le) (front_of n bs le) ] }
@@ -109,8 +106,7 @@ length_tame = tested bytes_join (λ n. nat_le n longest) (λ n. n) Error.TooLong
 
 pub text_tame : Tame ◌++◌ Sober text_at
 unfolding text_at
-text_tame =
-    and_then bytes_join (λ n bs. bytes_at n bs >>= λ t. if is_utf8 t.0 then Ok t else Err Error.BadUtf8) _ (λ bs. refl) length_tame
+text_tame = and_then bytes_join (λ n bs. bytes_at n bs >>= λ t. if is_utf8 t.0 then Ok t else Err Error.BadUtf8) _ (λ bs. refl) length_tame
     (λ n. tested bytes_join is_utf8 (λ t. t) Error.BadUtf8 (λ bs. refl) (bytes_tame n) tt)
 
 pub char_tame : Tame ◌++◌ Sober char_at
@@ -119,11 +115,8 @@ char_tame = tested bytes_join (λ t. length (chars t) == 1) (λ t. get_or (chars
 
 pub duration_tame : Tame ◌++◌ Sober duration_at
 unfolding duration_at
-duration_tame =
-    and_then bytes_join (λ s bs. unsigned_at w32 bs >>= λ n. carried s n.0 n.1) _ (λ bs. refl) (unsigned_tame w64)
+duration_tame = and_then bytes_join (λ s bs. unsigned_at w32 bs >>= λ n. carried s n.0 n.1) _ (λ bs. refl) (unsigned_tame w64)
     (λ s. tested bytes_join (λ n. nat_lt (s + n / nanos_of_second) (2 ^ 64)) (λ n. (s + n / nanos_of_second, n % nanos_of_second)) Error.BadDuration (λ bs. refl) (unsigned_tame w32) tt)
-
--- ---- readers
 
 -- causes of two refusals: one for both; and any, where what comes of a refusal isn't asked
 abbrev pub one_cause : Error → Error → Type 0
@@ -230,8 +223,7 @@ module _ {A B : Type 0} {E : Error → Error → Type 0} {T : List A → List B 
   known_par : {X Y Z : Type 0} {V : X → Y → Type 0} (read : List ℕ → Read Z) → Tame ◌++◌ Sober read → (known : Z → Bool) {get other : Z → Gets A X} {get2 other2 : Z → Gets B Y}
       → ((z : Z) → known z ≡ true → Par E T V (get z) (get2 z)) → ((z : Z) → Par E T V (other z) (other2 z))
       → Par E T V (λ i. bytes_of read (λ z. z) i >>= λ p. choose (known p.0) (get p.0) (other p.0) p.1) (λ i. bytes_of read (λ z. z) i >>= λ p. choose (known p.0) (get2 p.0) (other2 p.0) p.1)
-  known_par read t known {get} {other} {get2} {other2} h g =
-      then_same {f = λ z. choose (known z) (get z) (other z)} {g = λ z. choose (known z) (get2 z) (other2 z)} (bytes_same read t)
+  known_par read t known {get} {other} {get2} {other2} h g = then_same {f = λ z. choose (known z) (get z) (other z)} {g = λ z. choose (known z) (get2 z) (other2 z)} (bytes_same read t)
       (λ z. elim (cases_Bool (known z)) [ inl e ↦ rw e (h z e) | inr e ↦ rw e (g z) ])
 
   pub items_par : {X Y : Type 0} {V : X → Y → Type 0} {get : Gets A X} {get2 : Gets B Y} → Par E T V get get2 → (n : ℕ) → Par E T (AllTwo V) (items get n) (items get2 n)
@@ -243,8 +235,6 @@ module _ {A B : Type 0} {E : Error → Error → Type 0} {T : List A → List B 
 
   pub counted_par : {X Y : Type 0} {V : X → Y → Type 0} {get : Gets A X} {get2 : Gets B Y} → Par E T V get get2 → Par E T (AllTwo V) (counted get) (counted get2)
   counted_par h = then_same (bytes_same length_at length_tame) (λ n. items_par h n)
-
--- ---- values
 
 -- it is read throughout, or F says that references may stand followed in what is read
 abbrev pub Covers : Type 0 → (ℕ → Shape) → Shape → Type 0
@@ -258,9 +248,6 @@ pub data OutLook {A B : Type 0} (E : Error → Error → Type 0) (R : A → B �
   both-looked-up : (a : A) (b : B) → R a b → OutLook E R (Ok a) (Ok b)
   both-not : (e f : Error) → E e f → OutLook E R (Err e) (Err f)
   first-not : (e : Error) (r : Result B Error) → ((f : Error) → E e f) → OutLook E R (Err e) r
-
-sober-case : (n : ℕ) → IfErr (json_case n) Sober
-sober-case n = grind (arith, nat_tests)
 
 -- readers of parts below that are related
 pub data DeeperPar {A B C D : Type 0} (E : Error → Error → Type 0) (F : Type 0) (T : List A → List B → Type 0) (R : C → D → Type 0) (parts : ℕ → Shape) : Deeper A C → Deeper B D → Type 0 where
@@ -309,12 +296,10 @@ module _ {A B C D : Type 0} {E : Error → Error → Type 0} {F : Type 0} {T : L
     unfolding IsReadable LiesIn
     json_par h null_case = gives_par _ _ (variant-along _ _ _ none-along)
     json_par h flag_case = bytes_par bool_at bool_tame _ _ (λ b. variant-along _ _ _ (flag-same b))
-    json_par h number_case =
-        known_par bool_at bool_tame (λ float. float) (λ float e. refuses_par (Along F R) Error.JsonNumber tt)
+    json_par h number_case = known_par bool_at bool_tame (λ float. float) (λ float e. refuses_par (Along F R) Error.JsonNumber tt)
         (λ float. bytes_par (signed_at w64) (signed_tame w64) _ _ (λ z. variant-along _ _ _ (integer-along z)))
     json_par h text_case = bytes_par text_at text_tame _ _ (λ t. variant-along _ _ _ (text-along t))
-    json_par h array_case =
-        then_same (bytes_same length_at length_tame) (λ count. enter_par (λ get. seen (λ ms. variant 4 (sequence ms)) (items (get json) count))
+    json_par h array_case = then_same (bytes_same length_at length_tame) (λ count. enter_par (λ get. seen (λ ms. variant 4 (sequence ms)) (items (get json) count))
         (λ get. seen (λ ms. variant 4 (sequence ms)) (items (get json) count)) h
         (λ get get2 g. seen_par _ _ (λ ms ns r. variant-along _ _ _ (sequence-two r)) (items_par (g json (inr (alone (λ n d. tt) tt))) count)))
     json_par {d} {d2} h object_case =
@@ -340,12 +325,10 @@ module _ {A B C D : Type 0} {E : Error → Error → Type 0} {F : Type 0} {T : L
       with_par h shapes.pattern t = bytes_par text_at text_tame _ _ (λ b. pattern-along b)
       with_par {d} {d2} h json t = then_same (bytes_same (unsigned_at w64) (unsigned_tame w64)) (λ n.
           elim (json_case n) as (λ c. IfErr c Sober → Par E T (Along F R) (λ i. c >>= λ case. json_part d case i) (λ i. c >>= λ case. json_part d2 case i))
-          [ Ok case ↦ λ s. json_par h case | Err e ↦ refuses_par (Along F R) e ] (sober-case n))
-      with_par h (optional s) t =
-          known_par bool_at bool_tame (λ some. some) (λ some e. seen_par present present (λ m n r. variant-along _ _ _ r) (with_par h s (over (λ p. p) (λ n d l. l) t)))
+          [ Ok case ↦ λ s. json_par h case | Err e ↦ refuses_par (Along F R) e ] (grind (arith, nat_tests)))
+      with_par h (optional s) t = known_par bool_at bool_tame (λ some. some) (λ some e. seen_par present present (λ m n r. variant-along _ _ _ r) (with_par h s (over (λ p. p) (λ n d l. l) t)))
           (λ some. gives_par absent absent (variant-along _ _ _ none-along))
-      with_par h (outcome s s2) t =
-          known_par bool_at bool_tame (λ ok. ok) (λ ok e. seen_par success success (λ m n r. variant-along _ _ _ r) (with_par h s (over (λ p. p.0) (λ n d l. l.0) t)))
+      with_par h (outcome s s2) t = known_par bool_at bool_tame (λ ok. ok) (λ ok e. seen_par success success (λ m n r. variant-along _ _ _ r) (with_par h s (over (λ p. p.0) (λ n d l. l.0) t)))
           (λ ok. seen_par failure failure (λ m n r. variant-along _ _ _ r) (with_par h s2 (over (λ p. p.1) (λ n d l. l.1) t)))
       with_par h (list s) t = seen_par sequence sequence (λ ms ns r. sequence-two r) (counted_par (with_par h s (over (λ p. p) (λ n d l. l) t)))
       with_par h (run s) t = refuses_par (Along F R) Error.WrongKind tt
@@ -354,8 +337,7 @@ module _ {A B C D : Type 0} {E : Error → Error → Type 0} {F : Type 0} {T : L
           (entry_par (with_par h s (over (λ p. p.0) (λ n d l. l.0) t)) (with_par h s2 (over (λ p. p.1) (λ n d l. l.1) t)))
       with_par h (sorted_map order s s2) t = seen_par _ _ (λ es fs r. sorted-two order r)
           (counted_par (entry_par (with_par h s (over (λ p. p.0) (λ n d l. l.0) t)) (with_par h s2 (over (λ p. p.1) (λ n d l. l.1) t))))
-      with_par h (placed_map s s2) t =
-          seen_par _ _ (λ es fs r. entries-two (put_all-two _ _ one-two (λ x u y w acc acc2 v g k l. search (rules, more-two, plain-along)) r no-two))
+      with_par h (placed_map s s2) t = seen_par _ _ (λ es fs r. entries-two (put_all-two _ _ one-two (λ x u y w acc acc2 v g k l. search (rules, more-two, plain-along)) r no-two))
           (counted_par (entry_par (with_par h s (over (λ p. p.0) (λ n d l. l.0) t)) (with_par h s2 (over (λ p. p.1) (λ n d l. l.1) t))))
       with_par h (hash_map s s2) t = seen_par of_hash_map of_hash_map (λ es fs r. sorted-two code_order r)
           (counted_par (entry_par (with_par h s (over (λ p. p.0) (λ n d l. l.0) t)) (with_par h s2 (over (λ p. p.1) (λ n d l. l.1) t))))
@@ -364,16 +346,13 @@ module _ {A B C D : Type 0} {E : Error → Error → Type 0} {F : Type 0} {T : L
       with_par h (placed_set s) t = seen_par _ _ (λ ms ns r. sequence-two (put_all-two {V = Along F R} put_placed_item put_placed_item one-two
           (λ x u y w acc acc2 v g k l. search (rules, more-two, plain-along)) r no-two)) (counted_par (with_par h s (over (λ p. p) (λ n d l. l) t)))
       with_par h (static_value registry) t = then_same (bytes_same (unsigned_at w32) (unsigned_tame w32)) (λ n. registered_par registry (grind (arith, nat_tests, here)) n)
-      with_par h (tagged written known body) t =
-          known_par text_at text_tame known
+      with_par h (tagged written known body) t = known_par text_at text_tame known
           (λ tag e. seen_par (of_tagged tag) (of_tagged tag) (λ m n r. pair-along _ _ _ _ (text-along tag) r) (with_par h (body tag) (over (λ p. p.1 tag e) (λ n d l. l.1 tag e) t)))
           (λ tag. refuses_par (Along F R) Error.UnknownTag tt)
-      with_par h (cases w known part) t =
-          known_par (unsigned_at w) (unsigned_tame w) known
+      with_par h (cases w known part) t = known_par (unsigned_at w) (unsigned_tame w) known
           (λ n e. seen_par (variant n) (variant n) (λ x y r. variant-along _ _ _ r) (with_par h (part n) (over (λ p. p n e) (λ nodes d l. l n e) t)))
           (λ n. refuses_par (Along F R) Error.UnknownTag tt)
-      with_par h (shapes.reference kind) t =
-          record { out = alike kind; tame = record { comes = λ i. reference_comes look kind i.bytes i.refs } }
+      with_par h (shapes.reference kind) t = record { out = alike kind; tame = record { comes = λ i. reference_comes look kind i.bytes i.refs } }
       with_par h (nested n) t = enter_par _ _ h (λ get get2 g. g (parts n) (grind (arith, nat_tests, part_of)))
 
       below_par : (left : ℕ) → DeeperPar E F T R parts (below look parts left) (below look2 parts left)
@@ -394,15 +373,12 @@ module _ {A B C D : Type 0} {E : Error → Error → Type 0} {F : Type 0} {T : L
 
 -- ---- reading is local: what is read of a front is read of the whole, a fault stays, and what was used reads alone
 
--- what is looked up stands for itself
-looked-same : {B : Type 0} (r : Result B Error) → OutLook any_cause (λ b c. Unit {0}) r r
-looked-same (Ok b) = both-looked-up b b tt
-looked-same (Err e) = both-not e e tt
-
 -- what comes of an input that is read so
 comes-of : {A B : Type 0} (context : Context A B) (s : Shape) (input : Rest A) {r : Result (Meaning B × Rest A) Error} → read context s input ≡ r → Comes more Any (read context s) input r
 comes-of {A} {B} context s input e =
-    let alike : (k : ℕ) (a b : A) → a ≡ b → OutLook any_cause (λ (c d : B). Unit {0}) (context.look k a) (context.look k b) = λ k a b is. rw is (looked-same (context.look k b)) in
+    -- what is looked up stands for itself
+    let alike : (k : ℕ) (a b : A) → a ≡ b → OutLook any_cause (λ (c d : B). Unit {0}) (context.look k a) (context.look k b) = λ k a b is. rw is
+    (elim (context.look k b) as (λ r. OutLook any_cause (λ (c d : B). Unit {0}) r r) [ Ok c ↦ both-looked-up c c tt | Err e ↦ both-not e e tt ]) in
     let par = read_par {E = any_cause} {F = Unit {0}} {T = AllTwo (λ a b. a ≡ b)} {R = λ c d. Unit {0}} {parts = context.parts} context.look context.look (each _ _ alike) context.levels s (inl tt) in
     subst (Comes more Any (read context s) input) e (par.tame.comes input)
 
@@ -469,9 +445,7 @@ rename_same (followed kind a) = rw (rename_same a) refl
 rename_same _ = refl
 
 pub read_over : {A B C : Type 0} → IsReadOver A B C
-read_over f look levels parts s input =
-    natural f (λ b. b) (λ kind a. look kind (f a)) look levels parts s input (λ kind a. grind (arith, nat_tests))
-    ∙ (grind (arith, nat_tests, rename_same))
+read_over f look levels parts s input = natural f (λ b. b) (λ kind a. look kind (f a)) look levels parts s input (λ kind a. grind (arith, nat_tests)) ∙ (grind (arith, nat_tests, rename_same))
 
 pub renamed : {A B D : Type 0} → IsRenamed A B D
 renamed {A} {B} {D} g look levels parts s input =
@@ -487,13 +461,10 @@ through-out : {A B C D : Type 0} (f : A → C) (g : B → D) (m : Meaning B) (af
     → Out any_cause (AllTwo (Leads f)) (Along (Unit {0}) (Leads g)) first second → first ≡ Ok (m, after) → second ≡ Ok (rename g m, rest after.bytes (map f after.refs))
 through-out f g m after x4 e = grind (arith, nat_tests, rename-along, map-all)
 
-found-through : {B D : Type 0} (g : B → D) (r : Result B Error) (q : Result D Error) → ((b : B) → r ≡ Ok b → q ≡ Ok (g b)) → OutLook any_cause (Leads g) r q
-found-through g (Ok b) q h = rw (h b refl) (both-looked-up b (g b) refl)
-found-through g (Err x) q h = first-not x q (λ f. tt)
-
 pub read_through : {A B C D : Type 0} → IsReadThrough A B C D
 read_through {A} {B} {C} {D} f g look other levels parts s input after m h e =
-    let alike : (kind : ℕ) (a : A) (c : C) → f a ≡ c → OutLook any_cause (Leads g) (look kind a) (other kind c) = λ kind a c i. found-through g (look kind a) (other kind c)
-    (λ b j. rw (← i) (h kind a b j)) in
+    let alike : (kind : ℕ) (a : A) (c : C) → f a ≡ c → OutLook any_cause (Leads g) (look kind a) (other kind c) = λ kind a c i.
+    elim (look kind a) as (λ r. look kind a ≡ r → OutLook any_cause (Leads g) r (other kind c))
+    [ Ok b ↦ λ j. (let q : other kind c ≡ Ok (g b) = rw (← i) (h kind a b j) in rw q (both-looked-up b (g b) refl)) | Err x ↦ λ j. first-not x (other kind c) (λ d. tt) ] refl in
     let par = read_par look other (each look other alike) levels s (inl tt) in
     through-out f g m after (par.out input (rest input.bytes (map f input.refs)) (record { bytes = refl; refs = all-map f input.refs })) e

@@ -2,24 +2,24 @@
 -- An event leaves each handle of a worker as it is that doesn't make it, and what the cache gives for a kind and a key, where the node is held before and after. What a worker's step
 -- does leaves the handles of the list too, so that this gets no shorter.
 -- Two kinds or keys never get one identity through one cache, and one kind and key gets the same for as long as its node is held.
+use Rattle.pagable_laws.proofs.{Called.{gets-known as was-known, releases}, Decoding.{asks-by-kinds, decodes, kinds-pushed, kinds_of, read_stands}, Effects.{Effect, IsHeldFor, IsOther, can-use}}
+use Rattle.pagable_laws.proofs.{Effects.{list-apart, named, stays-alike, stays-fell}, Following.{given-of, handles-once, one-less}, Goes.{Goes, IsShut, KnowsNext, Stands, a-handle, adopts, alike}}
 use Rattle.pagable_laws.proofs.Goes.{among-found, fell-anyhow, found-number, goes-quiet, none-found, once, quiet-goes, quiet-then, same-owner, stands-changed, stands-fell, stands-whole}
 use Rattle.pagable_laws.proofs.ReadingSteps.{AllWaitWell, cached-rows, caller-free, ends-spare, event-goes, got-born, got-fallen, got-known, is-cached, reading-feels, reading-open, reading-stands}
+use Rattle.pagable_laws.proofs.{ReadingSteps.{readings-on, walk-goes}, Taking.{Going, adopted-over, asked, eager-nested, first-fits, frames-stay, given-nodes, going-of, root-key, row-held, was-open}}
+use Rattle.pagable_laws.proofs.{Trees.{at-most-sum, counted, one-true, same-number, same_some, self-number, sum-le}, Words.{Alike, Among, ArcRef, AreMoments, Blob, Bool, Call, Change, Core, Error}}
 use Rattle.pagable_laws.proofs.Words.{Event, EventReply, Frame, FramesFit, GetsKnown, HandleNumber, HandleRow, HandlesAreWhole, Happens, IsIdle, IsLawful, IsMachineWhole, IsReference, KeepsOpen, Kind}
 use Rattle.pagable_laws.proofs.Words.{Last, List, LoadAnswer, LoadNumber, MachineState, Moment, NodeNumber, None, Ok, OpenLoad, Option, OptionalDataKey, Owner, PagerState, Reading, ReadingFeels}
 use Rattle.pagable_laws.proofs.Words.{ReadsItsTypes, ReadsRoot, ReadsTree, Represents, Result, Seen, Site, Some, Took, Tree, Types, Values, WellFormed, WorkerAnswer, World, [], adopted, and_parts, ap}
 use Rattle.pagable_laws.proofs.Words.{arith, false, find_row, first_key, held, inl, inr, is_eager, is_handle, is_in, is_owned_by, length, mode_of, moved, nat_tests, next_in, next_node, not}
 use Rattle.pagable_laws.proofs.Words.{nothing_felt, one, owner_worker, refl, root_frame, rules, slice_get_within, state_after, step_of, subst, suc, sum_by-cons, sym, times, true, type_of, with_handle}
-use Rattle.pagable_laws.proofs.{Called.{gets-known as was-known, releases}, Decoding.{asks-by-kinds, decodes, kinds-pushed, kinds_of, read_stands}, Effects.{Effect, IsHeldFor, IsOther, can-use}}
-use Rattle.pagable_laws.proofs.{Effects.{list-apart, named, stays-alike, stays-fell}, Following.{given-of, handles-once, one-less}, Goes.{Goes, IsShut, KnowsNext, Stands, a-handle, adopts, alike}}
-use Rattle.pagable_laws.proofs.{ReadingSteps.{readings-on, walk-goes}, Taking.{Going, adopted-over, asked, eager-nested, first-fits, frames-stay, given-nodes, going-of, root-key, row-held, was-open}}
-use Rattle.pagable_laws.proofs.{Trees.{at-most-sum, counted, one-true, same-number, same_some, self-number, sum-le}, Words.{Alike, Among, ArcRef, AreMoments, Blob, Bool, Call, Change, Core, Error}}
 use Rattle.pagable_laws.{proofs.Words.{world_of, zero, ℕ, ◌&&◌, ◌*◌, ◌++◌, ◌+◌, ◌<◌, ◌==◌, ◌∙◌, ◌∷◌, ◌≡◌, ◌≤◌, ◌⊎◌}, specs.TreeSteps.{EventFeels, GetsRow, HandsOver, IsFresh, KeepsStored, Needs}}
+use Rattle.{pagable_laws.specs.TreeSteps.{gets-known, gets-lazy, makes-known, makes-node, reading-ends, reads-blob, reads-root}, pagable_world.specs.{Calls.{ReleaseCall, with_node}, Events.Ends}}
 use Rattle.pagable_world.specs.{Events.LoadSteps, Headline.{LoadsHaveStepsLeft, ReadGives, ReadIsRight, StepIsWithin}, LoadCalls.{HandOverCall, is_owned_in, numbers_of}, Loads.Does as LoadDoes}
 use Rattle.pagable_world.specs.{Loads.{asks, gone_on, handles_of, need_of, needs_nested, nested_frame, to_adopt, with_got}, OneWorker.{GetsReference, IsFilledByReading, LeavesCache, OneIdentityLaw}}
 use Rattle.pagable_world.specs.{OneWorker.StaysAlive, Order.{IsWithinBound, Unfolds, UnfoldsFrom, after_kinds, unfolds}, Pager.{FrameFits, IsReadingOf, IsWhole, NodeStands, OwnersAreThere, SameTrees}}
-use Rattle.std.{proofs.lemmas.{List.Sums.sum_by-remove, Option.{get_or_from_slice_get, slice_get-get_or}}, specs.List.remove}
-use Rattle.{pagable_laws.specs.TreeSteps.{gets-known, gets-lazy, makes-known, makes-node, reading-ends, reads-blob, reads-root}, pagable_world.specs.{Calls.{ReleaseCall, with_node}, Events.Ends}}
 use Rattle.{pagable_world.specs.{Pager.StandsFor, Runs.Does, World.{type_at, usable}, declared.events.LoadReply.LoadReply}, std.proofs.{Common.get_or, lemmas.List.Edits.length-remove}}
+use Rattle.std.{proofs.lemmas.{List.Sums.sum_by-remove, Option.{get_or_from_slice_get, slice_get-get_or}}, specs.List.remove}
 use Rattle.pagable_world.specs.Workers as workers
 pub use Rattle.pagable_laws.proofs.Effects.{IsEntered, Spares, both-none as neither, entered-of, named-among, spares-then}
 
@@ -29,8 +29,6 @@ in-numbers : (rs : List ArcRef) (r : ArcRef) → Among rs r → is_in (numbers_o
 unfolding is_in
 in-numbers (x ∷ rs) r (suc i, is) = grind (arith, nat_tests, in-numbers rs r)
 in-numbers x0 r x2 = grind (arith, nat_tests, self-number)
-
--- ---- what is handed over
 
 pub hands : {w w' : Core} (l : LoadNumber) (references : List ArcRef) → HandlesAreWhole w → HandOverCall w Owner.Caller l (handles_of references) (Ok tt) w' → HandsOver w l references w'
 hands {w} {w'} l references whole c r among =
@@ -59,20 +57,17 @@ module _ {N E : Type 0} {v : Values N} (lawful : IsLawful v) (readable : ReadsIt
   read-right reading g load open_load x root hands =
       let after = frames-stay v.types load.key reading.node_type s.core.stored s'.core.stored trees trees' s.core.last.node reading.frames stored same
       (given-nodes reading.frames g.held) (g.fits load open_load) in
+      let here = subst (λ fs. FramesFit v.types s'.core.stored trees' load.key reading.node_type fs) root.frames after in
+      let fits = first-fits v.types load.key reading.node_type s'.core.stored trees' root.root [] here in
       let owned : (r : ArcRef) → Among (v.references x) r → IsReference s'.core Owner.Caller r = λ r among.
-      let here = subst (λ fs. FramesFit v.types s.core.stored trees load.key reading.node_type fs) root.frames (g.fits load open_load) in
-      let fits = first-fits v.types load.key reading.node_type s.core.stored trees root.root [] here in
       let got = (decodes lawful readable root.root x fits root.decoded).got r among in
       let front : Among reading.frames root.root = subst (λ fs. Among fs root.root) (sym root.frames) (zero, refl) in
       let moved = hands r among in let row : HandleRow = moved.0 in let there = g.held root.root r front got in
       let stood = there.is row moved.1 moved.2 in
       let live = row-held s'.core r.handle (record row { owner = Owner.Caller }) moved.3 in
       let typed : type_at s'.core r.node.0 ≡ Some (trees' r.node.0).type = stands'.typed r.node.0 (subst (λ (n : NodeNumber). 0 < held n.0 s'.core.rows) stood.0 live) in
-      let kept : trees' r.node.0 ≡ trees r.node.0 = same r.node.0 there.node_given in
-      let of_kind : type_at s'.core r.node.0 ≡ Some (type_of r.kind.0) = typed ∙ ap (λ (t : Tree). Some t.type) kept ∙ ap (λ (t : ℕ). Some t) (got-typed root.root fits r got) in
+      let of_kind : type_at s'.core r.node.0 ≡ Some (type_of r.kind.0) = typed ∙ ap (λ (t : ℕ). Some t) (got-typed root.root fits r got) in
       record { row = record row { owner = Owner.Caller }; live = moved.3; at = stood.0; owned = refl; fits = stood.1; typed = of_kind } in
-      let here = subst (λ fs. FramesFit v.types s'.core.stored trees' load.key reading.node_type fs) root.frames after in
-      let fits = first-fits v.types load.key reading.node_type s'.core.stored trees' root.root [] here in
       let nodes_stand : (r : ArcRef) → Among (v.references x) r → NodeStands v s' r.node.0 (trees' r.node.0) =
       λ r among. stands'.stands r.node.0 (given-of whole'.whole.handles r.node.0 (owned r among).typed).0 in
       let under = sym (root-key v.types s'.core.stored trees' load.key reading.node_type root.root here) in record {
@@ -96,8 +91,6 @@ module _ {N E B W : Type 0} (m : Seen N B W) (lawful : IsLawful m.values) (reada
 
 -- How many steps an open load still needs: at most two for each reference that its blobs still take, with all that it leads to, and one for each of its blobs.
 
--- ---- what a blob still takes
-
 root-unfolds : {types : Types} {store : ℕ → Option Blob} {t key many longest : ℕ} → Unfolds types store t key many longest → (blob : Blob) → store key ≡ Some blob
     → UnfoldsFrom types store t blob [] many longest
 root-unfolds {types} {store} (unfolds t key many longest other there from) blob is = subst (λ b. UnfoldsFrom types store t b [] many longest) (same_some _ _ (sym there ∙ is)) from
@@ -107,8 +100,6 @@ takes : {types : Types} {store : ℕ → Option Blob} {t many longest : ℕ} {bl
     → after_kinds types t blob kinds ≡ asks kind key → (rest deepest : ℕ) × UnfoldsFrom types store t blob (kinds ++ kind.0 ∷ []) rest deepest × (rest + 1 ≤ many)
     × (is_eager kind.0 ≡ true → (below deep : ℕ) × Unfolds types store (type_of kind.0) key below deep × (many ≡ 1 + below + rest))
 takes x0 kind key asked_is = grind (arith, nat_tests)
-
--- ---- what the open blobs still need
 
 -- a blob of which references of these kinds were got, and what waits below it
 pub record Owing (types : Types) (store : ℕ → Option Blob) (frame : Frame) (kinds : List ℕ) (Below : ℕ → Type 0) (owed : ℕ) : Type 0 where
@@ -167,22 +158,18 @@ module _ (types : Types) (store : ℕ → Option Blob) (many : ℕ) where
   owes-made top x1 owed row needs o = grind (arith, nat_tests, adopted-over, kinds-pushed)
 
 -- a load's step, where what was stored is still
-pub owes-less : {N : Type 0} {v : Values N} {w w' : Core} (store : ℕ → Option Blob) → KeepsStored w.stored store
-    → (reading : Reading) (load : OpenLoad) (frames : List Frame) (many longest owed : ℕ) {c : Change} → w.loads reading.load.0 ≡ Some load
-    → Unfolds v.types store reading.node_type load.key many longest → Owes v.types store many reading.frames owed → ReadingFeels v w reading None frames w' c → OwesLess v.types store many frames owed
-owes-less {v = v} {w} store kept reading load frames many longest owed open_load under o (reads-root l blob none_read at stored answer is) = search (rules, reads-root, owes-root)
-owes-less {v = v} store kept reading load frames many longest owed open_load under o (reads-blob kind key blob needs stored answer is) = grind (arith, nat_tests, owes-blob)
-owes-less {v = v} store kept reading load frames many longest owed open_load under o (gets-known kind key n row needs known got answer is) =
-    subst (λ fs. OwesLess v.types store many fs owed) (sym is) (owes-got v.types store many reading.frames kind key owed row needs o)
-owes-less {v = v} store kept reading load frames many longest owed open_load under o (gets-lazy kind key row needs got answer is) =
-    subst (λ fs. OwesLess v.types store many fs owed) (sym is) (owes-got v.types store many reading.frames kind key owed row (inr needs) o)
-owes-less {v = v} store kept reading load frames many longest owed open_load under o (makes-known x r n row known got answer is) = search (rules, makes-known, owes-made)
-owes-less {v = v} store kept reading load frames many longest owed open_load under o (makes-node x r row got answer is) = search (rules, makes-node, owes-made)
-owes-less store kept reading load frames many longest owed open_load under o (reading-ends end answer is) = absurd (cc)
+module _ {N : Type 0} {v : Values N} {w w' : Core} (store : ℕ → Option Blob) (kept : KeepsStored w.stored store) (reading : Reading) (load : OpenLoad) (frames : List Frame) (many longest owed : ℕ)
+    (open_load : w.loads reading.load.0 ≡ Some load) (under : Unfolds v.types store reading.node_type load.key many longest) (o : Owes v.types store many reading.frames owed) where
+  owes-less : {c : Change} → ReadingFeels v w reading None frames w' c → OwesLess v.types store many frames owed
+  owes-less (reads-root l blob none_read at stored answer is) = search (rules, reads-root, owes-root)
+  owes-less (reads-blob kind key blob needs stored answer is) = grind (arith, nat_tests, owes-blob)
+  owes-less (gets-known kind key n row needs known got answer is) = subst (λ fs. OwesLess v.types store many fs owed) (sym is) (owes-got v.types store many reading.frames kind key owed row needs o)
+  owes-less (gets-lazy kind key row needs got answer is) = subst (λ fs. OwesLess v.types store many fs owed) (sym is) (owes-got v.types store many reading.frames kind key owed row (inr needs) o)
+  owes-less (makes-known x r n row known got answer is) = search (rules, makes-known, owes-made)
+  owes-less (makes-node x r row got answer is) = search (rules, makes-node, owes-made)
+  owes-less (reading-ends end answer is) = absurd (cc)
 
 -- Each step of a load of the caller's is within its bound, and one that is open has a step left, along every chain.
-
--- ---- one load
 
 -- its steps so far, with those that it still needs, are within the bound, whatever is stored yet
 abbrev pub Bounded : Types → (ℕ → Option Blob) → ℕ → Reading → Type 0
@@ -192,8 +179,6 @@ Bounded types store key reading = (more : ℕ → Option Blob) → KeepsStored s
 bounded-step : {N : Type 0} {v : Values N} {w w' : Core} {c : Change} (reading : Reading) (load : OpenLoad) (frames : List Frame) → w.loads reading.load.0 ≡ Some load
     → Bounded v.types w.stored load.key reading → ReadingFeels v w reading None frames w' c → Bounded v.types w.stored load.key (gone_on reading frames)
 bounded-step reading load frames open_load b feels more kept many longest under = search (rules, owes-less)
-
--- ---- the machine's loads
 
 nothing-unfolds : {types : Types} {store : ℕ → Option Blob} {t key many longest : ℕ} → ((q : ℕ) → store q ≡ None) → Unfolds types store t key many longest → ⊥
 nothing-unfolds none (unfolds t key many longest blob there from) = let e = none key in absurd (cc)
@@ -266,8 +251,6 @@ event-spares m v u u' there event reply others still h = (event-goes m u u' even
 pub keeps-open : {N B W : Type 0} (event : Event N B W) → LeavesCache event → KeepsOpen event
 keeps-open x0 leaves = grind (arith, nat_tests)
 
--- ---- the list
-
 -- the list isn't who steps, and no entry of it is taken
 listed : {me : Owner} (w : Core) → (me ≡ Owner.List → ⊥) → IsOther me false w Owner.List
 listed w other = record { apart = list-apart; other = other; unlisted = λ yes. absurd (cc) }
@@ -323,8 +306,6 @@ none-shorter {w} {w'} whole whole' spares = fewer w.list w'.list (λ q. each q (
         let a = whole.owners_there.listed q in let b = whole'.owners_there.listed q in let c = x.2 in
         omega (arith, there, few, le, a, b, c)
 
--- ---- what is got
-
 -- a reference that is got is of the node that the cache gives, and has as long as the node is held; or of the next one where it gives none
 data Got (w : Core) (kind : Kind) (key n : ℕ) (w' : Core) : Type 0 where
   got-old : usable w kind.0 key ≡ Some n → Goes nothing_felt w w' → (IsHeldFor kind.0 key n w'.rows → IsEntered kind.0 key n w'.cache w'.cells) → Got w kind key n w'
@@ -366,16 +347,13 @@ module _ {w w' : Core} (whole : IsWhole w) (kind : Kind) (key n : ℕ) (g : Gets
     ]
   ]
 
--- ---- each node is known once
-
 -- the node was given, and each entry of the cache that names it is of this kind and key
 record IsKnownOnce (kind key n : ℕ) (w : Core) : Type 0 where
   given : n ≤ w.last.node
   only : (k q : ℕ) → w.cache k q ≡ Some n → (k ≡ kind) × (q ≡ key)
 
 once-goes : (kind key n : ℕ) {c : Change} {w w' : Core} → Goes c w w' → KnowsNext c w → IsKnownOnce kind key n w → IsKnownOnce kind key n w'
-once-goes kind key n {w = w} g next once =
-    let few = once.given in record { given = omega (arith, few, g.nodes); only = λ k q is. grind (arith, g.cache k q n is, once.only k q, next k q n, few) }
+once-goes kind key n {w = w} g next once = let few = once.given in record { given = omega (arith, few, g.nodes); only = λ k q is. grind (arith, g.cache k q n is, once.only k q, next k q n, few) }
 
 once-got : {w w' : Core} (kind : Kind) (key n : ℕ) → IsWhole w → IsFilledByReading w → Got w kind key n w' → IsKnownOnce kind.0 key n w'
 once-got {w} kind key n whole filled (got-old is q enters) = grind (arith, is-cached, once-goes, known)
@@ -384,8 +362,6 @@ once-got {w} {w'} kind key n whole filled (got-new none next l own references a)
     let made = with_handle (with_node w (type_of kind.0) own references) (next_node w) (mode_of kind.0) (Owner.Load l) in
     let last = ap (λ (x : Last). x.node) (a.last ∙ (cached-rows made kind key (next_node w)).1) in
     record { given = omega (arith, next, last); only = λ k q is. grind (arith, g.cache k q n is, whole.cache k q n, next) }
-
--- ---- along a chain
 
 module _ {N B W E : Type 0} (m : Seen N B W) (kind : Kind) (key n : ℕ) where
   along : (s : MachineState N E) (xs : List (Moment N E B W)) → IsMachineWhole m.values s → AreMoments m s xs → ((x : Moment N E B W) → Among xs x → LeavesCache x.event)
@@ -403,8 +379,6 @@ module _ {N B W E : Type 0} (m : Seen N B W) (kind : Kind) (key n : ℕ) where
             let h' : IsHeldFor kind.0 key n x.after.pager.core.rows = record { row = a.row; live = a.live; at = a.at; pins_it = λ is. grind (arith, nat_tests) } in
             used alive ((g.lasts kept kind.0 key n).lasts e h h') h',
       )
-
--- ---- the law
 
 same : {u last : Core} (kind other_kind : Kind) (key other_key n other_n : ℕ) → Got u other_kind other_key other_n last
     → (IsKnownOnce kind.0 key n u → other_n ≡ n → other_key ≡ key) × (usable u kind.0 key ≡ Some n → other_kind ≡ kind → other_key ≡ key → other_n ≡ n)

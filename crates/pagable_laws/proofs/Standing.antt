@@ -1,10 +1,10 @@
 -- What a worker's step does to the slots of its table: each grows, and only those of the worker change.
-use Rattle.pagable_laws.proofs.Words.{Written, [], above, and_parts, ap, arith, cases_Bool, drop, false, give, identity_of, if_there, if◌then◌else◌, inl, inr, is_some, max, nat_eq}
-use Rattle.pagable_laws.proofs.Words.{nat_tests, no_result, of_entry, of_item, refl, rules, subst, suc, sym, to_fail, to_finish, to_item, to_load, to_pin, to_release, to_set, to_start, to_write, true}
 use Rattle.pagable_laws.proofs.{Trees.same-number, Words.{Among, ArcRef, Bool, HandleNumber, Identity, IsPublished, List, None, Option, Shelf, Slot, Some, Task, Todo, Took, Walking, WorkerAnswer}}
-use Rattle.pagable_world.specs.{Workers.{first_todo, is_open_outcome, next_start, settle, with_changed_slot, with_failed, with_outcome, with_slot}, World.{Fault, Open, Outcome, SameShelf}}
-use Rattle.{pagable_laws.proofs.Words.{ℕ, ◌++◌, ◌<◌, ◌==◌, ◌||◌, ◌∙◌, ◌∷◌, ◌≡◌, ◌≤◌, ◌⊎◌}, pagable_world.specs.{Headline.{Meets, meets-below, meets-entry, meets-of-item}, Order.Follows}}
-use Rattle.{pagable_world.specs.World.{failed, is_identity, to_publish}, std.proofs.lemmas.Bool.{or_cases, or_right}}
+use Rattle.pagable_laws.proofs.Words.{Written, [], above, and_parts, ap, arith, cases_Bool, drop, false, give, identity_of, if_there, if◌then◌else◌, inl, inr, is_some, max, nat_eq, nat_tests}
+use Rattle.pagable_laws.proofs.Words.{no_result, of_entry, of_item, refl, rules, subst, suc, sym, to_fail, to_finish, to_item, to_load, to_pin, to_release, to_set, to_start, to_write, true, ℕ, ◌++◌}
+use Rattle.{pagable_laws.proofs.Words.{◌<◌, ◌==◌, ◌||◌, ◌∙◌, ◌∷◌, ◌≡◌, ◌≤◌, ◌⊎◌}, pagable_world.specs.{Headline.{Meets, meets-below, meets-entry, meets-of-item}, Order.Follows, Workers.first_todo}}
+use Rattle.pagable_world.specs.{Workers.{is_open_outcome, next_start, settle, with_changed_slot, with_failed, with_outcome, with_slot}, World.{Fault, Open, Outcome, SameShelf, failed, is_identity}}
+use Rattle.{pagable_world.specs.World.to_publish, std.proofs.lemmas.Bool.{or_cases, or_right}}
 
 -- the slot has the same worker, and what was written and the result stay
 pub record SlotGrows (slot slot' : Slot) : Type 0 where
@@ -46,8 +46,6 @@ KeepsKeys shelf shelf' = (i : Identity) (key height : ℕ) → IsPublished shelf
 
 pub keys-grow : {shelf shelf' : Shelf} → ShelfGrows shelf shelf' → KeepsKeys shelf shelf'
 keys-grow more i key height p = grind arith
-
--- ---- the ways in which a table changes
 
 pub same-slots : (v : ℕ) (shelf shelf' : Shelf) → ((i : Identity) → shelf'.slots i ≡ shelf.slots i) → Changes v shelf shelf'
 same-slots v shelf shelf' same i = stays (same i)
@@ -186,8 +184,6 @@ follows-waits f x1 x2 next x4 waits = grind (arith, nat_tests)
 pub true-false : {A : Type 0} {b : Bool} → b ≡ true → b ≡ false → A
 true-false is other = absurd (cc)
 
--- ---- what stands goes on to stand
-
 module _ (u : ℕ) (task : Task) (shelf shelf' : Shelf) (more : ShelfGrows shelf shelf') where
   -- where each claim that it is about is kept
   pub all-stay : (todo : List Todo) → ((i : Identity) → is_open_in i todo ≡ true → (slot : Slot) → shelf.slots i ≡ Some slot → slot.worker ≡ u → shelf'.slots i ≡ Some slot)
@@ -198,6 +194,10 @@ module _ (u : ℕ) (task : Task) (shelf shelf' : Shelf) (more : ShelfGrows shelf
     apart,
     all-stay below (λ i is. keeps i (or_right (is_open_of i x) (is_open_in i below) is)) rest,
   )
+
+pub among-drop : (k : ℕ) (rs : List ArcRef) (r : ArcRef) → Among (drop k rs) r → Among rs r
+among-drop (suc k) (x ∷ rs) r among = let a = among-drop k rs r among in (suc a.0, a.1)
+among-drop x0 x1 r among = grind (arith, nat_tests)
 
 module _ (v : ℕ) (task : Task) where
   module _ (shelf : Shelf) (i : Identity) where
@@ -234,10 +234,6 @@ module _ (v : ℕ) (task : Task) where
     pub swaps : (x y : Todo) (below : List Todo) → AllStand shelf v task (x ∷ below) → CoversBy shelf (x ∷ below) → ((i : Identity) → is_open_of i y ≡ is_open_of i x)
         → (Stands shelf v task x below → Stands shelf v task y below) → Goes shelf None shelf' (y ∷ below)
     swaps x y below (stands, apart, rest) covers about goes = plain None (y ∷ below) (λ a is. absurd (cc)) (goes stands, grind (arith, nat_tests), rest) (grind (arith, nat_tests))
-
-  among-drop : (k : ℕ) (rs : List ArcRef) (r : ArcRef) → Among (drop k rs) r → Among rs r
-  among-drop (suc k) (x ∷ rs) r among = let a = among-drop k rs r among in (suc a.0, a.1)
-  among-drop x0 x1 r among = grind (arith, nat_tests)
 
   module _ (shelf : Shelf) where
     started : (place : ℕ) (rs : List ArcRef) (todo : List Todo) → ((r : ArcRef) → Among rs r → Meets shelf task (identity_of r)) → AllStand shelf v task todo
@@ -277,9 +273,6 @@ module _ (v : ℕ) (task : Task) (shelf shelf' : Shelf) where
 
 -- What stands of all workers and tables goes on to stand, by what an event does to them.
 
-pub same-worker : (a b : ℕ) → nat_eq a b ≡ true → a ≡ b
-same-worker a b e = grind (arith, nat_tests)
-
 -- one worker, where what it claimed stays as it was
 walking-stays : (v : ℕ) (w : Walking) (shelf shelf' : Shelf) → ShelfGrows shelf shelf' → ((i : Identity) (slot : Slot) → shelf.slots i ≡ Some slot → slot.worker ≡ v → shelf'.slots i ≡ Some slot)
     → ((i : Identity) (slot : Slot) → shelf'.slots i ≡ Some slot → slot.worker ≡ v → shelf.slots i ≡ Some slot) → WalkingStands shelf v w → WalkingStands shelf' v w
@@ -301,7 +294,7 @@ pub record Turned (v : ℕ) (shelves shelves' : ℕ → Shelf) (walkings walking
 
 module _ (v : ℕ) (shelves shelves' : ℕ → Shelf) (walkings walkings' : ℕ → Option Walking) (turned : Turned v shelves shelves' walkings walkings') where
   pub keeps-task : (u : ℕ) (w : Walking) → walkings u ≡ Some w → KeepsTask walkings' u w
-  keeps-task u w there = grind (arith, same-worker)
+  keeps-task u w there = grind (arith, same-number)
 
   met-stays : (t : ℕ) (i : Identity) (u n : ℕ) → n ≡ u → IsMetBy (shelves t) walkings u t i → IsMetBy (shelves' t) walkings' n t i
   met-stays t i u n same met = let k = keeps-task u met.walking met.there in grind (arith, nat_tests, keeps-task, meets-grow, grows)
@@ -311,8 +304,8 @@ module _ (v : ℕ) (shelves shelves' : ℕ → Shelf) (walkings walkings' : ℕ 
       let each : (u : ℕ) (w : Walking) → walkings' u ≡ Some w → WalkingStands (shelves' w.table) u w = λ u w there.
       let c = turned.changes w.table in
       let more = grows v (shelves w.table) (shelves' w.table) c in
-      grind (arith, nat_tests, cases_Bool (nat_eq u v), same-worker, walking-stays u w (shelves w.table) (shelves' w.table) more, c, some-none, some-same, turned.others u, work.workers u w) in
-      grind (arith, nat_tests, each, met-stays, some-same, cases_Bool, nat_eq, same-worker)
+      grind (arith, nat_tests, cases_Bool (nat_eq u v), same-number, walking-stays u w (shelves w.table) (shelves' w.table) more, c, some-none, some-same, turned.others u, work.workers u w) in
+      grind (arith, nat_tests, each, met-stays, some-same, cases_Bool, nat_eq, same-number)
 
 pub first-stands : (shelf : Shelf) (v : ℕ) (task : Task) → AllStand shelf v task (first_todo task)
 first-stands shelf v (of_item written) = item-settles v (of_item written) shelf written [] [] ((refl, refl), (λ i is. absurd (cc)), tt)
@@ -347,5 +340,5 @@ pub is-stepped : (v : ℕ) (shelves shelves' : ℕ → Shelf) (walkings walkings
     → HasNoFailed (shelves w.table) v → WaitsWell now.todo → Goes v w.task (shelves w.table) now.answer (shelves' w.table) now.todo → Turned v shelves shelves' walkings walkings'
 is-stepped v shelves shelves' walkings walkings' w now at at_now same_table same_task others elsewhere clean waits goes =
     let changes : (t : ℕ) → Changes v (shelves t) (shelves' t) = λ t.
-    elim (cases_Bool (nat_eq t w.table)) [ inl e ↦ rw (same-worker t w.table e) goes.changes | inr e ↦ same-slots v (shelves t) (shelves' t) (elsewhere t e) ] in
-    grind (arith, nat_tests, same-worker, some-none, some-same, changes)
+    elim (cases_Bool (nat_eq t w.table)) [ inl e ↦ rw (same-number t w.table e) goes.changes | inr e ↦ same-slots v (shelves t) (shelves' t) (elsewhere t e) ] in
+    grind (arith, nat_tests, same-number, some-none, some-same, changes)

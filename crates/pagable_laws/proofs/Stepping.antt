@@ -1,13 +1,13 @@
 -- What tables and to-do lists hold of trees goes on as long as what is stored and each node's tree stay; and what a change of a table comes to.
-use Rattle.pagable_laws.proofs.Words.{EventReply, FollowsTo, HandleNumber, HoldsSettled, Identity, IsLawful, IsMachineWhole, IsPublished, List, MachineState, None, Ok, Option, ReadsItsTypes}
-use Rattle.pagable_laws.proofs.Words.{Represents, Seen, Shelf, Site, Slot, Some, Task, Todo, Took, Tree, Values, WorkFits, Written, [], above, answer_after, ap, arith, blob_of, drop, give}
-use Rattle.pagable_laws.proofs.Words.{identity_of, if◌then◌else◌, inl, inr, is_eager, length, max, nat_eq, nat_tests, no_result, of_entry, of_item, refl, rules, subst, suc, sym, to_fail, to_finish}
-use Rattle.pagable_laws.proofs.{Coming.{EventTurns, StandsIn, same-grow, turns-grow, turns-keep}, Following.{IdentityStands, key-stands, leads-on, wrote}, Standing.{AllStand, HasClaim, PutsSlot}}
-use Rattle.pagable_laws.proofs.{Standing.{KeepsKeys, ShelfGrows, changes-slot, keys-grow, put-cases, puts-slot, some-same}, Trees.followed-all, Words.{Among, ArcRef, Blob, Bool, Claim, Does, Event}}
-use Rattle.pagable_laws.specs.TreeSteps.{Expects, Ground, HasBlob, HasRoom, IsAttained, IsDone, IsLow, KeyStands, KeysSoFar, Placed, SlotFits, SlotsFit, Waits, Walks, WroteTree, ground_of}
-use Rattle.pagable_laws.{proofs.Words.{to_item, to_release, to_set, to_start, to_write, true, type_of, world_of, ℕ, ◌++◌, ◌+◌, ◌==◌, ◌∙◌, ◌∷◌, ◌≡◌, ◌≤◌}, specs.TreeSteps.{Above, AllLow, BlobStands}}
-use Rattle.pagable_world.specs.{Calls.Stores, Events.Ends, Headline.AreKeysOf, Pager.{ReplyWrites, TookWrites}, Plain.longest_path, Workers.{claim_fault, first_todo, give_known}}
-use Rattle.pagable_world.specs.{Workers.{next_start, open_node, with_failed, with_outcome, with_wait}, World.{Fault, Open, digest, failed, published, to_publish}}
+use Rattle.pagable_laws.proofs.{Coming.{EventTurns, StandsIn, same-grow, turns-grow, turns-keep}, Following.{IdentityStands, key-stands, leads-on, wrote}, Standing.{AllStand, HasClaim, KeepsKeys}}
+use Rattle.pagable_laws.proofs.{Standing.{PutsSlot, ShelfGrows, among-drop, changes-slot, keys-grow, put-cases, puts-slot, some-same}, Trees.followed-all, Words.{Among, ArcRef, Blob, Bool, Claim}}
+use Rattle.pagable_laws.proofs.Words.{Does, Event, EventReply, FollowsTo, HandleNumber, HoldsSettled, Identity, IsLawful, IsMachineWhole, IsPublished, List, MachineState, None, Ok, Option}
+use Rattle.pagable_laws.proofs.Words.{ReadsItsTypes, Represents, Seen, Shelf, Site, Slot, Some, Task, Todo, Took, Tree, Values, WorkFits, Written, [], above, answer_after, ap, arith, blob_of, drop}
+use Rattle.pagable_laws.proofs.Words.{give, identity_of, if◌then◌else◌, inl, inr, is_eager, length, max, nat_eq, nat_tests, no_result, of_entry, of_item, refl, rules, subst, suc, sym, to_fail}
+use Rattle.pagable_laws.{proofs.Words.{to_finish, to_item, to_release, to_set, to_start, to_write, true, type_of, world_of, zero, ℕ, ◌++◌, ◌+◌, ◌==◌, ◌∙◌, ◌∷◌, ◌≡◌, ◌≤◌}, specs.TreeSteps.Above}
+use Rattle.pagable_laws.specs.TreeSteps.{AllLow, BlobStands, Expects, Ground, HasBlob, HasRoom, IsAttained, IsDone, IsLow, KeyStands, KeysSoFar, Placed, SlotFits, SlotsFit, Waits, Walks, WroteTree}
+use Rattle.{pagable_laws.specs.TreeSteps.ground_of, pagable_world.specs.{Calls.Stores, Events.Ends, Headline.AreKeysOf, Pager.{ReplyWrites, TookWrites}, Plain.longest_path, Workers.claim_fault}}
+use Rattle.pagable_world.specs.{Workers.{first_todo, give_known, next_start, open_node, with_failed, with_outcome, with_wait}, World.{Fault, Open, digest, failed, published, to_publish}}
 
 -- ---- what is stored stays, and each node keeps its tree
 
@@ -114,10 +114,7 @@ module _ (shelf : Shelf) where
   all-low h x1 x2 e x4 r x6 = grind (arith, nat_tests)
 
   pub next-among : (rs : List ArcRef) (ks : List ℕ) (r : ArcRef) (more : List ArcRef) → drop (length ks) rs ≡ r ∷ more → Among rs r
-  next-among [] [] r more e = absurd (cc)
-  next-among [] (k ∷ ks) r more e = absurd (cc)
-  next-among (x ∷ rs) [] r more e = let same : x ≡ r = cc in (0, ap (λ (z : ArcRef). Some z) same)
-  next-among (x ∷ rs) (k ∷ ks) r more e = let a = next-among rs ks r more e in (suc a.0, a.1)
+  next-among rs ks r more e = among-drop (length ks) rs r (subst (λ (xs : List ArcRef). Among xs r) (sym e) (zero, refl))
 
   -- of two heights that are there the greater one is
   more-attained : (a b : ℕ) (rs : List ArcRef) → IsAttained shelf a rs → IsAttained shelf b rs → IsAttained shelf (max a b) rs
@@ -167,18 +164,15 @@ module _ {N : Type 0} (v : Values N) (g : Ground) (shelf : Shelf) (task : Task) 
 pub stands-for : {N : Type 0} (v : Values N) (g : Ground) (shelf : Shelf) → SlotsFit v g shelf → (i : Identity) (key height : ℕ) → IsPublished shelf i key height → IdentityStands v g i key
 stands-for v g shelf fits i key height p = let fit = fits i p.slot p.claimed in record { typed = fit.typed; right = (fit.publishes key height p.known).2.right }
 
--- what one step of a worker leaves
-pub record Did {N : Type 0} (v : Values N) (g' : Ground) (task : Task) (shelf' : Shelf) (todo : List Todo) : Type 0 where
-  pub slots : SlotsFit v g' shelf'
-  pub walks : Walks v g' shelf' task todo
-
 module _ {N B W : Type 0} (m : Seen N B W) (n : ℕ) {g g' : Ground} (task : Task) (s s' : Site) (goes : GroundGoes g g') (more : ShelfGrows s.shelf s'.shelf) (fits : SlotsFit m.values g s.shelf)
     (claimable : (r : ArcRef) → claim_fault s.core r ≡ None → (r.node.0 ≤ g.last) × ((g.trees r.node.0).type ≡ type_of r.kind.0)) where
   still : (r : ArcRef) (below : List Todo) → Above s.shelf task r below → Above s'.shelf task r below
   still r below above = above-on s.shelf s'.shelf more task r below above
 
-  abbrev Fits : Type 0
-  Fits = Did m.values g' task s'.shelf s'.todo
+  -- what one step of a worker leaves
+  record Fits : Type 0 where
+    slots : SlotsFit m.values g' s'.shelf
+    walks : Walks m.values g' s'.shelf task s'.todo
 
   did : SlotsFit m.values g' s'.shelf → {next : List Todo} → s'.todo ≡ next → Walks m.values g' s'.shelf task next → Fits
   did slots e walks = record { slots = slots; walks = subst (λ t. Walks m.values g' s'.shelf task t) (sym e) walks }
@@ -284,8 +278,8 @@ module _ {N B W E : Type 0} (m : Seen N B W) (s s' : MachineState N E) (trees tr
       let stay : GroundGoes g' g' = record { kept = λ key b e. e; last = omega arith; trees = λ n le. refl } in
       let h = turns-keep m turns (SlotsFit m.values g') (λ n shelf w. Walks m.values g' shelf w.task w.todo) (λ a b same fits. slots-on stay (same-grow a b same) fits same)
       (λ a b more fits n w. walks-on b stay more fits w.task w.todo) (λ t shelf more same. slots-on goes more (fit.slots t) same)
-      (λ n w none there. walks-on (s'.work.shelves w.table) goes (turns-grow m turns w.table) (fit.slots w.table) w.task w.todo (fit.walks n w there)) (λ n shelf t task. starts-well shelf task)
-      (λ k r w one more.
+      (λ n w none there. walks-on (s'.work.shelves w.table) goes (turns-grow m turns w.table) (fit.slots w.table) w.task w.todo (fit.walks n w there))
+      (λ n shelf t task. starts-well shelf task) (λ k r w one more.
       let ends : answer_after w.walking.todo r.took ≡ None → (key : ℕ) (b : Blob) → w.after.core.stored key ≡ Some b → s'.pager.core.stored key ≡ Some b =
       λ none key b is. (let e = subst (λ a. Ends a k.0 w.after.core s'.pager.core) (w.answers ∙ none) w.ends in e.stored key ∙ is) in
       let d = stepped m k.0 w.walking.task (record { core = s.pager.core; shelf = s.work.shelves w.walking.table; todo = w.walking.todo }) w.after goes more (fit.slots w.walking.table) claimable

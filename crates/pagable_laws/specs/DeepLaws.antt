@@ -57,9 +57,7 @@ LoadIsDeep v s trees event reply s' trees' = Unit {0}
 
 -- the worker was refused nothing but for depth, and nobody had failed where it came
 abbrev pub MetDepthAlone : {W : Type 0} → List (Took W) → Type 0
-MetDepthAlone {W} steps =
-    ((step : Took W) (e : Error) → Among steps step → MetError step e → e ≡ Error.TooDeep)
-    × ((i : Identity) → ¬ Among steps (Took.Claim i (Ok Claim.AlreadyFailed)))
+MetDepthAlone {W} steps = ((step : Took W) (e : Error) → Among steps step → MetError step e → e ≡ Error.TooDeep) × ((i : Identity) → ¬ Among steps (Took.Claim i (Ok Claim.AlreadyFailed)))
 
 -- A worker whose item or cell leads down too long a path, or to a value that has no form, answers TooDeep, if it met no other refusal on its way, by whatever chain the machine came there.
 abbrev pub DepthIsTold : {N E B W : Type 0} → Seen N B W → Fact N E B W
@@ -86,6 +84,5 @@ pub record HasBegun {N E B W : Type 0} (moments : List (Moment N E B W)) (n k : 
 
 -- A load of a cell whose key a page-out set is refused by chance alone, where each load that makes a step has begun in the chain, before that, and is done in one piece.
 abbrev pub SoundLaw : {N B W : Type 0} → (E : Type 0) → Seen N B W → Type 0
-SoundLaw {N} {B} {W} E m =
-    (start : MachineState N E) (moments : List (Moment N E B W)) → StandTogether moments
+SoundLaw {N} {B} {W} E m = (start : MachineState N E) (moments : List (Moment N E B W)) → StandTogether moments
     → ((k : ℕ) (c : Moment N E B W) (l : LoadNumber) → slice_get moments k ≡ Some c → c.event ≡ Event.LoadStep l → HasBegun moments l.0 k) → HoldsOf m LoadIsSound start moments

@@ -55,8 +55,7 @@ nested_value (suc n) = variant 4 (pair (nested_value n) none)
 
 -- numbers, a duration, a character, cases and lists
 abbrev pub BytesAreSpelled : Type 0
-BytesAreSpelled =
-    (unsigned_form w16 300 ≡ 0xAC ∷ 0x02 ∷ [])
+BytesAreSpelled = (unsigned_form w16 300 ≡ 0xAC ∷ 0x02 ∷ [])
     × (signed_form w64 (negsuc (2 ^ 63 - 1)) ≡ 0xFF ∷ 0xFF ∷ 0xFF ∷ 0xFF ∷ 0xFF ∷ 0xFF ∷ 0xFF ∷ 0xFF ∷ 0xFF ∷ 0x01 ∷ [])
     × (duration_form 1 500000000 ≡ 0x01 ∷ 0x80 ∷ 0xCA ∷ 0xB5 ∷ 0xEE ∷ 0x01 ∷ [])
     × (char_form 0xE9 ≡ 0x02 ∷ 0xC3 ∷ 0xA9 ∷ [])
@@ -67,8 +66,7 @@ BytesAreSpelled =
 
 -- a JSON number, registrations, and a tag that isn't registered
 abbrev pub NamesAreSpelled : Type 0
-NamesAreSpelled =
-    Spells json (variant 2 (integer (negsuc 0))) (0x02 ∷ 0x00 ∷ 0x01 ∷ [])
+NamesAreSpelled = Spells json (variant 2 (integer (negsuc 0))) (0x02 ∷ 0x00 ∷ 0x01 ∷ [])
     × Spells (static_value words) (text (codes "hello")) (0x01 ∷ [])
     × Spells (static_value words) (text (codes "world")) (0x02 ∷ [])
     × Spells (static_value words) (text []) (0x00 ∷ [])
@@ -76,8 +74,7 @@ NamesAreSpelled =
 
 -- numbers, cases, lists, maps, JSON, texts and characters
 abbrev pub BytesAreRead : Type 0
-BytesAreRead =
-    Means (unsigned w16) (0x80 ∷ 0x80 ∷ 0x00 ∷ []) (number 0) []
+BytesAreRead = Means (unsigned w16) (0x80 ∷ 0x80 ∷ 0x00 ∷ []) (number 0) []
     × Means (unsigned w16) (0xFF ∷ 0xFF ∷ 0x03 ∷ []) (number 65535) []
     × IsRefused (unsigned w16) (0xFF ∷ 0xFF ∷ 0x04 ∷ []) Error.BadVarint
     × IsRefused (unsigned w16) (0x80 ∷ 0x80 ∷ 0x80 ∷ []) Error.BadVarint
@@ -109,8 +106,7 @@ BytesAreRead =
 
 -- durations, types that are spelled as others are, registrations, references, which take keys, and tags and cases that aren't registered
 abbrev pub NamedTypesAreRead : Type 0
-NamedTypesAreRead =
-    Means duration (0x01 ∷ 0x80 ∷ 0x94 ∷ 0xEB ∷ 0xDC ∷ 0x03 ∷ []) (of_duration 2 0) []
+NamedTypesAreRead = Means duration (0x01 ∷ 0x80 ∷ 0x94 ∷ 0xEB ∷ 0xDC ∷ 0x03 ∷ []) (of_duration 2 0) []
     × IsRefused duration (0xFF ∷ 0xFF ∷ 0xFF ∷ 0xFF ∷ 0xFF ∷ 0xFF ∷ 0xFF ∷ 0xFF ∷ 0xFF ∷ 0x01 ∷ 0x80 ∷ 0x94 ∷ 0xEB ∷ 0xDC ∷ 0x03 ∷ []) Error.BadDuration
     × Means path_text (0x01 ∷ 0x61 ∷ []) (text (codes "a")) []
     × IsRefused path_text (0x01 ∷ 0xFF ∷ []) Error.BadUtf8
@@ -137,8 +133,7 @@ abbrev pub weighed : List ℕ → List ℕ → ℕ
 weighed bytes keys = key_of weigh_hash (blob_of bytes keys)
 
 abbrev pub KeysAreWeighed : Type 0
-KeysAreWeighed =
-    (preimage (blob_of (0x01 ∷ []) (2 ∷ [])) ≡ 1 ∷ 0 ∷ 0 ∷ 0 ∷ 0 ∷ 0 ∷ 0 ∷ 0 ∷ 1 ∷ 2 ∷ 0 ∷ 0 ∷ 0 ∷ 0 ∷ 0 ∷ 0 ∷ 0 ∷ 0 ∷ 0 ∷ 0 ∷ 0 ∷ 0 ∷ 0 ∷ 0 ∷ 0 ∷ [])
+KeysAreWeighed = (preimage (blob_of (0x01 ∷ []) (2 ∷ [])) ≡ 1 ∷ 0 ∷ 0 ∷ 0 ∷ 0 ∷ 0 ∷ 0 ∷ 0 ∷ 1 ∷ 2 ∷ 0 ∷ 0 ∷ 0 ∷ 0 ∷ 0 ∷ 0 ∷ 0 ∷ 0 ∷ 0 ∷ 0 ∷ 0 ∷ 0 ∷ 0 ∷ 0 ∷ 0 ∷ [])
     × (weighed (0x01 ∷ []) (2 ∷ []) ≡ 30)
     × (weighed [] [] ≡ 1)
     × (weighed (text_form (codes "hello world")) [] ≡ 16879)
@@ -163,8 +158,7 @@ chain n = shapes.both (unsigned w8) (optional (nested 0))
 
 -- what is asked of shapes can be met
 abbrev pub ShapesAreMet : Type 0
-ShapesAreMet =
-    Throughout IsReadable chain (nested 0)
+ShapesAreMet = Throughout IsReadable chain (nested 0)
     × Throughout IsCanonical chain (nested 0)
     × Throughout IsReadable no_parts (tagged_by only_cat cats)
     × Throughout IsCanonical no_parts (tagged_by only_cat cats)

@@ -25,16 +25,15 @@ sample_types = record { nodes = sample_shapes; parts = λ n. shapes.nothing }
 
 -- the hash is how many bytes there are, which tells the three blobs apart
 abbrev pub sample : Values Sample
-sample =
-    record {
-      node_type = if_there (λ r. 0) 1;
-      references = if_there (λ r. r ∷ []) [];
-      means = λ x own. own ≡ if_there reference none x;
-      read_causes = λ t e. ⊥;
-      write_causes = λ t e. ⊥;
-      types = sample_types;
-      hash = λ bytes. length bytes ∷ [];
-    }
+sample = record {
+  node_type = if_there (λ r. 0) 1;
+  references = if_there (λ r. r ∷ []) [];
+  means = λ x own. own ≡ if_there reference none x;
+  read_causes = λ t e. ⊥;
+  write_causes = λ t e. ⊥;
+  types = sample_types;
+  hash = λ bytes. length bytes ∷ [];
+}
 
 abbrev pub sample_seen : Seen Sample Blob Written
 sample_seen = record { values = sample; blob_of = λ b. b; written_of = λ w. w }
@@ -215,8 +214,7 @@ abbrev pub moment : Event Sample Blob Written → EventReply Sample Blob Written
 moment event reply after = record { event = event; reply = reply; after = after }
 
 abbrev pub births : List Happening
-births =
-    moment Event.TableNew (EventReply.TableMade (Ok (record { 0 = 1 }))) (machine new_core [] (work_of no_shelf None None))
+births = moment Event.TableNew (EventReply.TableMade (Ok (record { 0 = 1 }))) (machine new_core [] (work_of no_shelf None None))
     ∷ moment (Event.Call (Call.NewLoose None)) (EventReply.CallReply (Reply.Made (Ok (handle 1)))) (machine child_born (None ∷ Some None ∷ []) (work_of no_shelf None None))
     ∷ moment (Event.Call (Call.NewLoose (Some (to_leaf 1 1)))) (EventReply.CallReply (Reply.Made (Ok (handle 2)))) (machine both_born two_values (work_of no_shelf None None))
     ∷ moment (Event.WorkerItem (record { 0 = 1 }) item) (EventReply.WorkerMade (Ok (record { 0 = 1 }))) (at_work begun)
@@ -239,8 +237,7 @@ read_step l ended steps after = moment (Event.LoadStep (load_number l)) (EventRe
 
 -- the eviction, the load of the parent and that of the child's key
 abbrev pub loads : List Happening
-loads =
-    moment (Event.Call (Call.Unpin (handle 2))) (EventReply.CallReply (Reply.Done (Ok tt))) (afterwards evicted [] None)
+loads = moment (Event.Call (Call.Unpin (handle 2))) (EventReply.CallReply (Reply.Done (Ok tt))) (afterwards evicted [] None)
     ∷ moment (Event.LoadStart (handle 2)) (EventReply.Started (Ok (Beginning.Load (load_number 1) 24))) (afterwards loading [] None)
     ∷ read_step 1 None 1 (afterwards loading [] (Some parent_fetched))
     ∷ read_step 1 None 2 (afterwards child_got [] (Some parent_read))
