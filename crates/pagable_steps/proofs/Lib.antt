@@ -1,2 +1,1 @@
 pub mod Owning
-pub mod Calls

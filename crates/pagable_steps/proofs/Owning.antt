@@ -1,25 +1,25 @@
 -- What a pager's type says of values, row by row: a value owns the one row of each handle that it refers to, and no other; a node without a value owns nothing. And what is done before
 -- handles go, part by part: it leaves what values own as it is.
-use Rattle.pagable_laws.proofs.{Decoding.among-either, Following.{handles-once, one-less}, Goes.{NotValues, Stands, among-changed, among-found, found-after, found-number, only-one, same-owner}}
-use Rattle.pagable_laws.proofs.{Goes.{stands-changed, stands-whole}, SparingSteps.{entered-of, found}, Taking.row-pins, Trees.{at-most-sum, counted, one-true, same-number, self-number, sum-le}}
-use Rattle.pagable_world.specs.{Calls.{with_known, with_mode}, Cascade.only_handle, Events.{with_entry_taken, with_worker}, Kinds.{fits_mode, is_at, is_handle, is_in_memory, is_owned_by, is_owner}}
-use Rattle.pagable_world.specs.{Kinds.{is_pin, is_pinning, is_share, is_shared, mode_of, owner_value, pins}, LoadCalls.{BeginCall, BeginKeyCall, GetsKnown}, Pager.{HandlesAreWhole, IsWhole}}
-use Rattle.pagable_world.specs.{Pager.{PagerState, WellFormed}, Plain.{Among, ArcRef, Error, HandleNumber, Kind, LoadNumber, NodeNumber, SameAt, WorkerNumber, changed, is_shared_kind, one, times}}
-use Rattle.pagable_world.specs.{Plain.type_of, Refusals.Owns, World.{Alike, Core, Last, Values, is_here, key_at, row_at, type_at, usable}, declared.answers.{Beginning.Beginning, Pinning.Pinning}}
-use Rattle.std.proofs.{Common.{length, map, refl, subst, suc, sum_by, sym, true, ℕ, ◌&&◌, ◌+◌, ◌<◌, ◌==◌, ◌∙◌, ◌∷◌, ◌≡◌, ◌≤◌}, lemmas.Bool.{Decides.nat_tests, and_parts, false_from_ne_true}}
-use Rattle.std.{proofs.lemmas.{List.Sums.{sum_by-cons, sum_by_push}, Option.slice_get_within}, specs.Prelude.{Result, is_some, nat_lt, not, slice_get}}
-use Rattle.{pagable_laws.proofs.Trees.sum-zero, pagable_world.specs.Calls.{Asked, CloneCall, LoosenCall, PinCall, RecallCall, TakeCall, is_named_by, moved, row_of, with_cached, with_handle}}
-use Rattle.{pagable_world.specs.declared.{handles.{HandleRow.HandleRow, Owner.Owner}, rows.Mode.Mode}, std.proofs.Common.{Bool, Err, List, None, Ok, Option, Some, [], ap, arith, false, if◌then◌else◌}}
+use Rattle.pagable_laws.proofs.Goes.{NotLoads, NotValues, Stands, among-changed, among-found, fell-away, found-after, found-number, good, no-pins, only-one, or-none, same-owner, stands-changed}
+use Rattle.{pagable_laws.proofs.{Decoding.among-either, Existing.outlast, Following.{handles-once, held-of, one-less}, Goes.{stands-left, stands-whole}}, pagable_world.proofs.Elements.among-left}
+use Rattle.pagable_laws.proofs.{SparingSteps.{entered-of, found, named-among, neither}, Taking.{row-held, row-pins}, Trees.{at-most-sum, counted, one-true, same-number, self-number, sum-le, sum-zero}}
+use Rattle.pagable_world.specs.{Calls.{Asked, AwayBirthCall, BirthCall, CloneCall, CloseCall, LoosenCall, OfferCall, PinCall, RecallCall, ReleaseCall}, Workers.{WorkerEnds, is_load_of, is_workers_at}}
+use Rattle.pagable_world.specs.Calls.{ScheduleCall, SetKeyCall, TakeCall, UnpinCall, is_named_by, moved, next_node, row_of, with_cached, with_handle, with_key, with_known, with_mode, with_node}
+use Rattle.{pagable_world.specs.{Events.{with_entry_taken, with_worker}, LoadCalls.{Adopts, BeginCall, BeginKeyCall, DropCall}}, std.specs.Prelude.{Result, filter, is_some, nat_lt, not, slice_get}}
+use Rattle.pagable_world.specs.{Cascade.{AreNewEntries, Falls, FallsAnyhow, fallen}, LoadCalls.{HandOverCall, Installs, LazyCall, LoadCloses, MayEnd, is_owned_in, numbers_of, with_pin, without_load}}
+use Rattle.pagable_world.specs.{Cascade.{is_keyed, is_outside, left_rows, loses_value, only_handle, owned_outside}, Pager.{HandlesAreWhole, IsWhole, PagerState, WellFormed}, Plain.{Among, ArcRef}}
+use Rattle.pagable_world.specs.Plain.{Error, HandleNumber, Kind, LoadNumber, NodeNumber, OptionalDataKey, SameAt, WorkerNumber, changed, if_there, is_in, is_shared_kind, one, times, type_of, updated}
+use Rattle.std.proofs.Common.{Bool, Err, List, None, Ok, Option, Some, [], ap, arith, false, if◌then◌else◌, inl, inr, length, map, refl, subst, suc, sum_by, sym, true, ℕ, ◌&&◌, ◌++◌, ◌+◌, ◌<◌, ◌==◌}
+use Rattle.{pagable_world.specs.{Refusals.{IsReference, Owns, references_fault}, declared.{handles.{HandleRow.HandleRow, Owner.Owner}, rows.Mode.Mode}}, std.proofs.Common.{◌||◌, ◌∙◌, ◌∷◌, ◌≡◌, ◌≤◌}}
+use Rattle.pagable_world.specs.Kinds.{find_row, held, is_at, is_handle, is_in_memory, is_loose, is_owned_by, is_owner, is_pin, is_pinning, is_share, is_shared, mode_of, owner_value, owner_worker}
+use Rattle.pagable_world.specs.{Kinds.pins, World.{Alike, Cell, Core, Last, OpenLoad, Values, is_here, key_at, row_at, type_at, usable}, declared.answers.{Beginning.Beginning, Pinning.Pinning}}
+use Rattle.std.proofs.lemmas.{Bool.{Decides.nat_tests, and_parts, cases_Bool, false_from_ne_true}, List.Sums.{sum_by-append, sum_by-cons, sum_by_push}, Option.slice_get_within}
 use Rattle.pagable_laws.proofs.Effects as effects
 
 -- the reference names the one row of a handle that the node's value owns
 pub record Refers (w : Core) (n : ℕ) (r : ArcRef) : Type 0 where
-  pub row : HandleRow
-  pub stands : Stands w.last.handle w.rows r.handle.0 row
-  pub at : row.node ≡ r.node
-  pub owned : row.owner ≡ owner_value n
-  pub fits : fits_mode r.kind.0 row.mode ≡ true
-  pub typed : type_at w r.node.0 ≡ Some (type_of r.kind.0)
+  pub is : IsReference w (owner_value n) r
+  pub stands : Stands w.last.handle w.rows r.handle.0 is.row
 
 -- the value of the node is of its type, and owns what it refers to
 pub record Has {N : Type 0} (v : Values N) (w : Core) (n : ℕ) (x : N) : Type 0 where
@@ -40,7 +40,6 @@ holds_value w n = is_some (w.cells n) && is_here w n
 pub same-value : {n m : ℕ} (o : Owner) → o ≡ owner_value n → o ≡ owner_value m → m ≡ n
 same-value {n} {m} o a b = same-number m n (sym (ap (is_owner (owner_value n)) b) ∙ (ap (is_owner (owner_value n)) a ∙ self-number n))
 
--- what a reference names is named
 pub among-named : (rs : List ArcRef) (r : ArcRef) → Among rs r → is_named_by rs r.handle.0 ≡ true
 unfolding is_named_by
 among-named (x ∷ xs) r (suc i, is) = grind (arith, nat_tests, among-named xs r)
@@ -52,9 +51,6 @@ some-there test xs x among is = let a = at-most-sum (λ y. one (test y)) xs x am
 
 there-some : {X : Type 0} (test : X → Bool) (xs : List X) → 0 < times test xs → (x : X) × Among xs x × (test x ≡ true)
 there-some test xs some = let c = counted (λ y. one (test y)) xs some in (c.0, c.1, one-true _ c.2)
-
-none-there : {X : Type 0} (test : X → Bool) (xs : List X) → ((x : X) → Among xs x → test x ≡ true → ⊥) → times test xs ≡ 0
-none-there test xs none = sum-zero (λ y. one (test y)) xs (λ x among. ap one (false_from_ne_true (test x) (none x among)))
 
 -- the handle is this one, and the node's value owns it
 abbrev owns : ℕ → ℕ → HandleRow → Bool
@@ -82,9 +78,7 @@ module _ {N E : Type 0} {v : Values N} {s : PagerState N E} (is : WellFormed v s
       at None e = λ h among own. let none = is.bare n e in let some = some-there (is_owned_by (owner_value n)) s.core.rows h among (owned-test n h.owner own) in absurd (omega (arith, none, some))
       at (Some x) e = record {
         typed = is.typed n x e;
-        names = λ r among.
-            let a = is.references n x r e among in
-            record { row = a.row; stands = stands-whole is.whole.handles r.handle.0 a.row a.live; at = a.at; owned = a.owned; fits = a.fits; typed = a.typed };
+        names = λ r among. let a = is.references n x r e among in record { is = a; stands = stands-whole is.whole.handles r.handle.0 a.row a.live };
         once = λ q. subst (λ k. k ≤ 1) (sym (is.inside n x q e)) (owns-once is.whole.handles n q);
         owned = λ h among own.
             let some = some-there (owns n h.number.0) s.core.rows h among (owns-test n h.number.0 h refl own) in
@@ -101,8 +95,9 @@ settled {N} {v = v} s all valued counts whole = record {
   valued = valued;
   typed = λ n x e. (has n x e).typed;
   inside = λ n x q e. inside n x q (has n x e);
-  bare = λ n e. none-there (is_owned_by (owner_value n)) s.core.rows (λ h among own. subst (At v s.core n) e (all n) h among (same-owner (owner_value n) h.owner own));
-  references = λ n x r e among. let a = (has n x e).names r among in record { row = a.row; live = a.stands.live; at = a.at; owned = a.owned; fits = a.fits; typed = a.typed };
+  bare = λ n e. sum-zero (λ h. one (is_owned_by (owner_value n) h)) s.core.rows (λ h among.
+      ap one (false_from_ne_true (is_owned_by (owner_value n) h) (λ own. subst (At v s.core n) e (all n) h among (same-owner (owner_value n) h.owner own))));
+  references = λ n x r e among. ((has n x e).names r among).is;
 }
   where
     has : (n : ℕ) (x : N) → s.values n ≡ Some x → Has v s.core n x
@@ -112,9 +107,9 @@ settled {N} {v = v} s all valued counts whole = record {
     inside n x q a =
         let up : 0 < times (λ (r : ArcRef). r.handle.0 == q) (v.references x) → 0 < times (owns n q) s.core.rows = λ some.
         let c = there-some (λ (r : ArcRef). r.handle.0 == q) (v.references x) some in
-        let is = a.names c.0 c.1 in
-        let number = found-number c.0.handle.0 s.core.rows is.row is.stands.live ∙ same-number _ _ c.2 in
-        some-there (owns n q) s.core.rows is.row (among-found c.0.handle.0 s.core.rows is.row is.stands.live) (owns-test n q is.row number is.owned) in
+        let is = (a.names c.0 c.1).is in
+        let number = found-number c.0.handle.0 s.core.rows is.row is.live ∙ same-number _ _ c.2 in
+        some-there (owns n q) s.core.rows is.row (among-found c.0.handle.0 s.core.rows is.row is.live) (owns-test n q is.row number is.owned) in
         let down : 0 < times (owns n q) s.core.rows → 0 < times (λ (r : ArcRef). r.handle.0 == q) (v.references x) = λ some.
         let c = there-some (owns n q) s.core.rows some in
         let both = and_parts (is_handle q c.0) (is_owned_by (owner_value n) c.0) c.2 in
@@ -163,18 +158,17 @@ module _ {n : ℕ} where
   pub owns-then : {w m w' : Core} → OwnsAlike n w m → OwnsAlike n m w' → OwnsAlike n w w'
   owns-then a b = let spares = effects.spares-then (owner_value n) a.spares b.spares in search (a.typed, b.typed, spares, a.owned, b.owned)
 
-  -- rows are the same
   pub owns-same : {w m : Core} → m.rows ≡ w.rows → m.last.handle ≡ w.last.handle → ((p t : ℕ) → type_at w p ≡ Some t → type_at m p ≡ Some t) → OwnsAlike n w m
   owns-same {w} {m} rows last typed = grind (arith, nat_tests)
 
-  -- and so does what is so of the node
   pub sits-on : {N : Type 0} (v : Values N) {w m : Core} → OwnsAlike n w m → (o : Option N) → At v w n o → At v m n o
   sits-on v k None a = λ h among own. a h (k.owned h among own) own
   sits-on v k (Some x) a = record {
     typed = k.typed n _ a.typed;
     names = λ r among.
-        let b = a.names r among in
-        record { row = b.row; stands = k.spares.each r.handle.0 b.row b.owned b.stands; at = b.at; owned = b.owned; fits = b.fits; typed = k.typed _ _ b.typed };
+        let b = (a.names r among).is in
+        let stands = k.spares.each r.handle.0 b.row b.owned (a.names r among).stands in
+        record { is = record { row = b.row; live = stands.live; at = b.at; owned = b.owned; fits = b.fits; typed = k.typed _ _ b.typed }; stands = stands };
     once = a.once;
     owned = λ h among own. a.owned h (k.owned h among own) own;
   }
@@ -182,12 +176,8 @@ module _ {n : ℕ} where
 pub spares-then : {w m w' : Core} → Spares w m → Spares m w' → Spares w w'
 spares-then a b = record { owns = λ n. owns-then (a.owns n) (b.owns n); holds = λ n. b.holds n ∙ a.holds n }
 
--- whatever else changes
 pub spares-same : {w w' : Core} → w'.rows ≡ w.rows → SameAt w.cells w'.cells → w'.last.handle ≡ w.last.handle → Spares w w'
 spares-same {w} {w'} rows cells last = grind (arith, nat_tests, owns-same)
-
-pub spares-alike : {w w' : Core} → Alike w w' → Spares w w'
-spares-alike a = spares-same a.rows a.cells (ap (λ (l : Last). l.handle) a.last)
 
 -- ---- nothing comes to the list or the cache once the storage is closed
 
@@ -200,10 +190,10 @@ pub record Rests (w w' : Core) : Type 0 where
   pub shut : IsShut w'
 
 pub rests-then : {w m w' : Core} → Spares w m → Alike m w' → IsShut m → Rests w w'
-rests-then spares a shut = record { spares = spares-then spares (spares-alike a); shut = shut-alike a shut }
+rests-then spares a shut = record { spares = spares-then spares (spares-same a.rows a.cells (ap (λ (l : Last). l.handle) a.last)); shut = shut-alike a shut }
 
 pub unmoved : {w w' : Core} → Alike w w' → IsShut w → Rests w w'
-unmoved a shut = record { spares = spares-alike a; shut = shut-alike a shut }
+unmoved a shut = rests-then (spares-same refl (λ n. refl) refl) a shut
 
 -- the cache may learn a node
 pub rests-cached : {m w' : Core} (kind : Kind) (key : ℕ) (n : NodeNumber) (b : Bool) → Alike (if b then m else with_cached m kind key n) w' → m.closed ≡ b → IsShut m → Rests m w'
@@ -222,7 +212,6 @@ pub sum-mapped : {X : Type 0} (f : X → X) (g h : X → ℕ) (xs : List X) → 
 sum-mapped f g h [] each = refl
 sum-mapped f g h (x ∷ xs) each = grind (arith, nat_tests, sum_by-cons, map, sum-mapped f g h xs (λ y among. each y (suc among.0, among.1)))
 
--- a node that is pinned has its value in memory
 pub pinned-here : (w : Core) (n : ℕ) → 0 < pins n w.rows → is_here w n ≡ true
 pinned-here w n pinned = let some : nat_lt 0 (pins n w.rows) ≡ true = grind (arith, nat_tests) in rw some refl
 
@@ -230,17 +219,14 @@ pub row-here : (w : Core) (h : HandleNumber) (row : HandleRow) → row_at w h �
 row-here w h row live pinning = pinned-here w row.node.0 (row-pins w h row live pinning)
 
 module _ (w : Core) (node : NodeNumber) (mode : Mode) (me : Owner) (free : NotValues me) where
-  abbrev new : HandleRow
-  new = row_of (w.last.handle + 1) node mode me
-
   pub owns-handle : (n : ℕ) → OwnsAlike n w (with_handle w node mode me)
   owns-handle n = grind (arith, nat_tests, effects.spares-handle, among-either, only-one)
 
-  -- if it pins, its node's value is in memory
   pub spares-handle : (is_pinning mode ≡ true → is_here w node.0 ≡ true) → Spares w (with_handle w node mode me)
   spares-handle may = record {
     owns = owns-handle;
-    holds = λ n. ap (λ p. is_some (w.cells n) && is_in_memory p (key_at w n)) (sum_by_push (λ h. one (is_pin n h)) w.rows new) ∙ (let f = same-number node.0 n in grind (arith, nat_tests));
+    holds = λ n. ap (λ p. is_some (w.cells n) && is_in_memory p (key_at w n)) (sum_by_push (λ h. one (is_pin n h)) w.rows (row_of (w.last.handle + 1) node mode me))
+        ∙ (let f = same-number node.0 n in grind (arith, nat_tests));
   }
 
 -- those that change aren't this value's, before or afterwards
@@ -262,7 +248,6 @@ module _ (w : Core) (test : HandleRow → Bool) (f : HandleRow → HandleRow) (n
         subst (Among w.rows) e a.1;
   }
 
--- handles that move pin as before
 pub moved-pins : (rows : List HandleRow) (set : ℕ → Bool) (owner : Owner) (n : ℕ) → pins n (moved set owner rows) ≡ pins n rows
 moved-pins rows set owner n = grind (arith, nat_tests, sum-mapped)
 
@@ -279,15 +264,11 @@ module _ (w : Core) (h : HandleNumber) (mode : Mode) (row : HandleRow) (stands :
   is-row x among is = stands.only x among (same-number _ _ is)
 
   pub mode-owns : NotValues row.owner → (n : ℕ) → OwnsAlike n w (with_mode w h mode)
-  mode-owns free n =
-      owns-changed w (is_handle h.0) to (λ x. refl) n (λ x among is. let f = subst (λ (y : HandleRow). NotValues y.owner) (sym (is-row x among is)) free (record { 0 = n }) in (f, f))
+  mode-owns free n = owns-changed w (is_handle h.0) to (λ x. refl) n (λ x among is. let f = subst (λ (y : HandleRow). NotValues y.owner) (sym (is-row x among is)) free (record { 0 = n }) in (f, f))
 
-  -- other nodes are pinned as often
   pub mode-others : (n : ℕ) → (row.node.0 == n) ≡ false → pins n (with_mode w h mode).rows ≡ pins n w.rows
-  mode-others n other =
-      sum-mapped (λ x. if is_handle h.0 x then to x else x) (λ x. one (is_pin n x)) (λ x. one (is_pin n x)) w.rows (λ x among. (let r = is-row x among in grind (arith, nat_tests)))
+  mode-others n other = sum-mapped (λ x. if is_handle h.0 x then to x else x) (λ x. one (is_pin n x)) (λ x. one (is_pin n x)) w.rows (λ x among. (let r = is-row x among in grind (arith, nat_tests)))
 
-  -- its own is pinned, if the mode is one that pins
   pub mode-here : is_pinning mode ≡ true → is_here (with_mode w h mode) row.node.0 ≡ true
   mode-here pinning =
       let number : is_handle h.0 row ≡ true = ap (λ n. n == h.0) (found-number h.0 w.rows row stands.live) ∙ self-number h.0 in
@@ -318,9 +299,15 @@ module _ {w : Core} (whole : IsWhole w) where
   pub begins-key : {w' : Core} {me : Owner} {key : ℕ} (r : Result Beginning Error) → BeginKeyCall w me key r w' → Rests w w'
   begins-key x0 c = grind (arith, nat_tests, rests-then, spares-same, unmoved)
 
-  -- handles that are no value's, by their rows
   pub rowed : (given : ℕ → Bool) → ((n : NodeNumber) → effects.Free (Owner.Value n) w given) → AreFree w given
   rowed given free h among is n own = let no = (free n).each h.number.0 h own (stands-whole whole.handles h.number.0 h (found whole.handles h.number.0 h among refl)) in cc
+
+  -- handles whose rows pass a test that no value's passes
+  by-row : (test : HandleRow → Bool) → ((h : HandleRow) (n : NodeNumber) → h.owner ≡ Owner.Value n → test h ≡ false) → AreFree w (λ q. if_there test false (find_row q w.rows))
+  by-row test none = rowed _ (λ n. record { each = λ q row own s. ap (if_there test false) s.live ∙ none row n own })
+
+  pub load-free : (l : LoadNumber) → AreFree w (is_owned_in w (Owner.Load l))
+  load-free l = by-row (is_owned_by (Owner.Load l)) (λ h n own. ap (is_owner (Owner.Load l)) own)
 
   -- an own handle, and an entry of the list
   pub own-free : {me : Owner} {fits : Mode → Bool} (h : HandleNumber) (row : HandleRow) → NotValues me → Owns w me h fits row → AreFree w (only_handle h)
@@ -329,7 +316,6 @@ module _ {w : Core} (whole : IsWhole w) where
   pub listed-free : (i : ℕ) (h : HandleNumber) → slice_get w.list i ≡ Some h → AreFree w (only_handle h)
   listed-free i h at = rowed (only_handle h) (λ n. effects.listed-free (Owner.Value n) refl whole.owners_there i h at)
 
-  -- once the storage is closed there is no entry
   listed-open : (i : ℕ) (h : HandleNumber) → slice_get w.list i ≡ Some h → w.closed ≡ true → ⊥
   listed-open i h at closed = let some = slice_get_within w.list i h at in let none = ap (λ (hs : List HandleNumber). length hs) (whole.shut closed).0 in omega (arith, some, none)
 
@@ -367,12 +353,11 @@ module _ {w : Core} (whole : IsWhole w) where
   takes {me = me} i free (Some h) c = rests-then (spares-moved w (only_handle h) me free (listed-free i h c.0)) c.1 (λ e. absurd (listed-open i h c.0 e))
   takes i free None c = unmoved c.1 whole.shut
 
-  -- where a handle is made that pins, the node's value is in memory
   pub known-here : (kind key n : ℕ) → usable w kind key ≡ Some n → is_pinning (mode_of kind) ≡ true → is_here w n ≡ true
   known-here kind key n known pinning =
       let entered = entered-of kind key n w known in
       let shared : is_shared_kind kind ≡ true → is_here w n ≡ true = λ is.
-      let holds = counted (λ h. one (is_at n h)) w.rows (let there = entered.there in let live = whole.handles.live n in grind (arith, nat_tests)) in
+      let holds = counted (λ h. one (is_at n h)) w.rows (held-of whole.handles n entered.there) in
       let at : (holds.0.node.0 == n) ≡ true = one-true _ holds.2 in
       let shares : is_shared holds.0.mode ≡ true = (whole.cache kind key n entered.entry).shares holds.0 holds.1 (same-number _ _ at) ∙ is in
       let one_share : one (is_share n holds.0) ≡ 1 = rw (at, shares) refl in
@@ -381,7 +366,6 @@ module _ {w : Core} (whole : IsWhole w) where
       grind (arith, nat_tests) in
       grind (arith, nat_tests, not, is_some, is_here)
 
-  -- a handle of such a node
   pub spares-known : {owner : Owner} (kind : Kind) (key n : ℕ) → NotValues owner → usable w kind.0 key ≡ Some n → Spares w (with_known w kind n owner)
   spares-known {owner} kind key n free known = spares-handle w (record { 0 = n }) (mode_of kind.0) owner free (known-here kind.0 key n known)
 
@@ -389,5 +373,438 @@ module _ {w : Core} (whole : IsWhole w) where
   recalls {kind = kind} {key} free (Ok (Some k)) c = rests-then (spares-known kind key c.answers.0 free c.answers.1) c.answers.3 whole.shut
   recalls free x0 c = grind (arith, nat_tests, unmoved)
 
-  pub gets-known : {w' : Core} {l : LoadNumber} {kind : Kind} {key : ℕ} {k : HandleNumber} → GetsKnown w l kind key k w' → Rests w w'
-  gets-known {l = l} {kind} {key} g = rests-then (spares-known kind key g.n (not-load l) g.known) g.leaves whole.shut
+-- ---- calls by which values go: they go with a cascade. Where a call has done what it does directly, a value stays exactly where its node is in memory afterwards, and owns what it did
+
+times-left : (t : HandleRow → Bool) (gone : ℕ → Bool) (rows : List HandleRow) → times t (left_rows gone rows) ≡ times (λ h. t h && is_outside gone h) rows
+times-left t gone [] = refl
+times-left t gone (x ∷ xs) = grind (arith, nat_tests, sum_by-cons (λ h. one (t h)) x (left_rows gone xs), sum_by-cons (λ h. one (t h && is_outside gone h)) x xs, times-left t gone xs)
+
+listed : (last : ℕ) (entries : List HandleRow) → AreNewEntries last entries → (h : HandleRow) → Among entries h → h.owner ≡ Owner.List
+listed last (x ∷ xs) (number, mode, owner, new) h (suc i, is) = listed (last + 1) xs new h (i, is)
+listed last x1 x2 h x4 = grind (arith, nat_tests)
+
+-- none is there where no node has one
+no-entries : (es : List HandleRow) → ((n : ℕ) → 0 < held n es → ⊥) → es ≡ []
+no-entries [] none = refl
+no-entries (h ∷ hs) none = absurd (none h.node.0 (let a = sum_by-cons (λ x. one (is_at h.node.0 x)) h hs in grind (arith, nat_tests)))
+
+typed-cell : (w : Core) (n t : ℕ) → type_at w n ≡ Some t → (cell : Cell) × (w.cells n ≡ Some cell)
+typed-cell w n t is = grind (arith, nat_tests)
+
+module _ {before w w' : Core} {given : ℕ → Bool} {r : _} (f : Falls before w given r w') where
+  -- a node has lost its value exactly where it isn't in memory any more
+  loses : (n : ℕ) (cell : Cell) → w.cells n ≡ Some cell → loses_value w.rows (is_keyed w) f.entries f.gone n ≡ not (holds_value w' n)
+  loses n cell live =
+      let counts : (t : HandleRow → Bool) → times t w'.rows ≡ times (λ h. t h && is_outside f.gone h) w.rows + times t f.entries =
+      λ t. ap (times t) f.leaves.rows ∙ (sum_by-append (λ h. one (t h)) (left_rows f.gone w.rows) f.entries ∙ ap (λ k. k + times t f.entries) (times-left t f.gone w.rows)) in
+      let h = counts (is_at n) in
+      let p = counts (is_pin n) in
+      let none = no-pins n w.last.handle f.entries f.new in
+      let fewer = sum-le (λ h. one (is_pin n h && is_outside f.gone h)) (λ h. one (is_at n h && is_outside f.gone h)) w.rows (λ h among. grind (arith, nat_tests)) in
+      let cells : w'.cells n ≡ (if nat_lt 0 (held n w'.rows) then Some cell else None) = f.leaves.cells n ∙ rw (f.leaves.rows, live) refl in
+      grind (arith, nat_tests)
+
+  -- a row that a value owns was there, and isn't gone
+  was : (n : ℕ) (h : HandleRow) → Among w'.rows h → h.owner ≡ owner_value n → Among w.rows h × (f.gone h.number.0 ≡ false)
+  was n h (i, at) own = elim (among-either (left_rows f.gone w.rows) f.entries i h (subst (λ rows. slice_get rows i ≡ Some h) f.leaves.rows at)) [
+    | inl left ↦ (let (there, passes) = among-left _ w.rows h left in (there, grind (arith, nat_tests)))
+    | inr new ↦ absurd (let e : Owner.List ≡ owner_value n = sym (listed w.last.handle f.entries f.new h new) ∙ own in cc)
+  ]
+
+  same-cell : (n : ℕ) → is_some (w'.cells n) ≡ true → w'.cells n ≡ w.cells n
+  same-cell n is = grind (arith, nat_tests)
+
+  same-type : (n : ℕ) → is_some (w'.cells n) ≡ true → type_at w' n ≡ type_at w n
+  same-type n is = ap (λ o. if_there (λ (cell : Cell). Some cell.node_type) None o) (same-cell n is)
+
+  held-there : (n : ℕ) (t : ℕ) → type_at w n ≡ Some t → 0 < held n w'.rows → is_some (w'.cells n) ≡ true
+  held-there n t typed some = let c = typed-cell w n t typed in grind (arith, nat_tests, held, nat_lt, left_rows, is_some)
+
+  pub shut-fell : IsShut w → IsShut w'
+  shut-fell shut closed =
+      let e : w.closed ≡ true = sym f.leaves.closed ∙ closed in
+      let none : f.entries ≡ [] = no-entries f.entries (λ n some. let open_still = (f.only n some).0.stands_open in absurd (let x : true ≡ false = sym e ∙ open_still in cc)) in
+      let listed = ap (λ (qs : List HandleNumber). filter (λ (q : HandleNumber). not (f.gone q.0)) qs ++ map (λ (h : HandleRow). h.number) f.entries) (shut e).0 in
+      shut-alike {w = fallen w f.gone f.entries} f.leaves (λ c. (listed ∙ ap (map (λ (h : HandleRow). h.number)) none, (shut e).1)) closed
+
+  module _ {N : Type 0} (v : Values N) (values : ℕ → Option N) (at : (n : ℕ) → At v w n (values n)) (free : AreFree w given) where
+    has : (n : ℕ) (x : N) → values n ≡ Some x → Has v w n x
+    has n x e = subst (At v w n) e (at n)
+
+    loses-it : (n : ℕ) (x : N) → values n ≡ Some x → loses_value w.rows (is_keyed w) f.entries f.gone n ≡ not (holds_value w' n)
+    loses-it n x e = let c = typed-cell w n (v.node_type x) (has n x e).typed in loses n c.0 c.1
+
+    -- what a value refers to that stays isn't gone
+    kept : (n : ℕ) (x : N) → values n ≡ Some x → holds_value w' n ≡ true → (r : ArcRef) → Among (v.references x) r → f.gone r.handle.0 ≡ false
+    kept n x e still r among =
+        let a = ((has n x e).names r among).is in
+        let number = found-number r.handle.0 w.rows a.row a.live in
+        let owner : (h : HandleRow) → Among w.rows h → is_named_by (v.references x) h.number.0 ≡ true → h.owner ≡ owner_value n = λ h there named.
+        let c = named-among (v.references x) h.number.0 named in
+        let b = (has n x e).names c.0 c.1 in
+        ap (λ (y : HandleRow). y.owner) (b.stands.only h there (sym c.2)) ∙ b.is.owned in
+        ap f.gone (sym number)
+        ∙ outlast w.rows (is_keyed w) f.entries given f.gone (is_named_by (v.references x)) f.set
+        (λ h there is. false_from_ne_true (is_named_by (v.references x) h.number.0) (λ named. free h there is (record { 0 = n }) (owner h there named)))
+        (λ m h there own lost. false_from_ne_true (is_named_by (v.references x) h.number.0) (λ named.
+        let same : m ≡ n = same-value h.owner (owner h there named) (same-owner (owner_value m) h.owner own) in
+        let goes : loses_value w.rows (is_keyed w) f.entries f.gone n ≡ true = ap (loses_value w.rows (is_keyed w) f.entries f.gone) (sym same) ∙ lost in
+        let stays = loses-it n x e in
+        cc))
+        a.row (among-found r.handle.0 w.rows a.row a.live) (ap (is_named_by (v.references x)) number ∙ among-named (v.references x) r among)
+
+    pub at-left : (n : ℕ) → At v w' n (if holds_value w' n then values n else None)
+    at-left n = by (values n) refl (holds_value w' n) refl
+      where
+        by : (o : Option N) → values n ≡ o → (b : Bool) → holds_value w' n ≡ b → At v w' n (if b then o else None)
+        by (Some x) e true still =
+            let a = has n x e in
+            record {
+              typed = same-type n (and_parts (is_some (w'.cells n)) (is_here w' n) still).0 ∙ a.typed;
+              names = λ r among.
+                  let is = (a.names r among).is in
+                  let s = stands-left f (kept n x e still r among) (a.names r among).stands in
+                  let there = held-there r.node.0 _ is.typed (subst (λ (k : _). 0 < held k w'.rows) (ap (λ k. k.0) is.at) (row-held w' r.handle is.row s.live)) in
+                  record { is = record { row = is.row; live = s.live; at = is.at; owned = is.owned; fits = is.fits; typed = same-type r.node.0 there ∙ is.typed }; stands = s };
+              once = a.once;
+              owned = λ h among own. a.owned h (was n h among own).0 own;
+            }
+        by (Some x) e false goes = λ h among own.
+            let none : owned_outside w.rows f.gone n ≡ 0 = f.set.closed n (loses-it n x e ∙ ap not goes) in
+            let a = was n h among own in
+            let some = at-most-sum (λ y. one (is_owned_by (owner_value n) y && is_outside f.gone y)) w.rows h a.0 in
+            let counts : one (is_owned_by (owner_value n) h && is_outside f.gone h) ≡ 1 = rw (owned-test n h.owner own, a.1) refl in
+            absurd (omega (arith, none, some, counts))
+        by None e true still = λ h among own. subst (At v w n) e (at n) h (was n h among own).0 own
+        by None e false goes = λ h among own. subst (At v w n) e (at n) h (was n h among own).0 own
+
+-- Where values stand in the world between, and each node in memory there has one, a pager is in step after the cascade.
+pub fell-from : {N E : Type 0} {v : Values N} {m : Core} {values : ℕ → Option N} → ((n : ℕ) → At v m n (values n)) → ((n : ℕ) → holds_value m n ≡ true → is_some (values n) ≡ true)
+    → {before : Core} {given : ℕ → Bool} {r : _} (s' : PagerState N E) → Falls before m given r s'.core → IsShut m → AreFree m given → Leaves values s' → WellFormed v s'
+fell-from {N} {v = v} {m} {values} at there s' f shut free l = settled s' (λ n. subst (At v s'.core n) (sym (l.swept n)) (at-left f v values at free n))
+    (λ n.
+    let was : holds_value s'.core n ≡ true → holds_value m n ≡ true = λ is.
+    (let c = same-cell f n (and_parts (is_some (s'.core.cells n)) (is_here s'.core n) is).0 in let g = fell-away f n in grind (arith, nat_tests)) in
+    ap is_some (l.swept n) ∙ (let t = there n in grind (arith, nat_tests))) l.right.counted (l.right.whole (shut-fell f shut))
+
+-- The handles go from a world where values stand as they stood, and none of them is a value's.
+pub fell : {N E : Type 0} {v : Values N} {s s' : PagerState N E} {before m : Core} {given : ℕ → Bool} {r : _} → WellFormed v s → Keeps s.core m → Falls before m given r s'.core → IsShut m
+    → AreFree s.core given → Leaves s.values s' → WellFormed v s'
+fell {v = v} {s} {s'} is k f shut free =
+    fell-from (λ n. sits-on v (k.owns n) (s.values n) (sits is n)) (λ n held. is.valued n ∙ k.held n held) s' f shut (λ h among given n own. free h ((k.owns n.0).owned h among own) given n own)
+
+unpin-keeps : {w : Core} {me : Owner} {fits : Mode → Bool} → IsWhole w → (h : HandleNumber) (row : HandleRow) → NotValues me → Owns w me h fits row → row.mode ≡ Mode.LoosePinned
+    → Keeps w (with_mode w h Mode.LooseUnpinned)
+unpin-keeps {w} whole h row none owns pinned =
+    let s = stands-whole whole.handles h.0 row owns.live in
+    record {
+      owns = mode-owns w h Mode.LooseUnpinned row s (subst NotValues (sym owns.own) none);
+      held = λ n is. (let here = row-here w h row owns.live (ap is_pinning pinned) in let other = mode-others w h Mode.LooseUnpinned row s n in grind (arith, nat_tests, same-number));
+    }
+
+keyed-keeps : (w : Core) (node : NodeNumber) (key : ℕ) → Keeps w (with_key w node key)
+keyed-keeps w node key = record { owns = λ n. owns-same refl refl (λ p t is. grind (arith, nat_tests)); held = λ n is. grind (arith, nat_tests) }
+
+module _ {N E : Type 0} {v : Values N} {s s' : PagerState N E} (is : WellFormed v s) (left : Leaves s.values s') where
+  stays : Alike s.core s'.core → WellFormed v s'
+  stays a = stayed is (unmoved a is.whole.shut) left
+
+  pub load_closed : (l : LoadNumber) {r : Result (Unit {0}) Error} → LoadCloses s.core l r s'.core → WellFormed v s'
+  load_closed l f = fell is (spares-keeps (spares-same refl (λ n. refl) refl)) f is.whole.shut (load-free is.whole l) left
+
+  pub dropped : {me : Owner} {l : LoadNumber} {r : Result (Unit {0}) Error} → DropCall s.core me l r s'.core → WellFormed v s'
+  dropped {l = l} c = elim c.does [ inl refused ↦ stays refused.stays | inr (load, owned, f) ↦ load_closed l f ]
+
+  -- what was read is dropped, since the cache gives a node
+  pub adopted_known : {me : Owner} {l : LoadNumber} {kind : Kind} {key t n : ℕ} {references : List ArcRef} {k : HandleNumber} → Adopts s.core me l kind key t references k s'.core
+      → usable s.core kind.0 key ≡ Some n → WellFormed v s'
+  adopted_known {l = l} {kind} {key} {references = references} a known = elim a.makes [
+    | inl (n, usable, f) ↦
+        let right = good s.core (Owner.Load l) [] references a.good in
+        let free = rowed is.whole (is_named_by references) (λ m. effects.named-free (Owner.Value m) s.core (Owner.Load l) references (not-load l m) right) in
+        fell is (spares-keeps (spares-known is.whole kind key n (not-load l) usable)) f.falls is.whole.shut free left
+    | inr (none, few, alike) ↦ absurd (let e : None ≡ Some _ = sym none ∙ known in cc)
+  ]
+
+  pub closed : {r : Result (Unit {0}) Error} → CloseCall s.core r s'.core → WellFormed v s'
+  closed c = fell is (spares-keeps (spares-same refl (λ n. refl) refl)) c.falls.falls (λ e. (refl, λ kind key. refl)) (grind (arith, nat_tests, counted, listed-free)) left
+
+  -- a worker releases the node that it has walked
+  pub worker_released : (u n : ℕ) → FallsAnyhow s.core s.core (is_workers_at s.core u n) s'.core → WellFormed v s'
+  worker_released u n f = fell is (spares-keeps (spares-same refl (λ n. refl) refl)) f.falls is.whole.shut
+      (by-row is.whole (λ row. is_owned_by (owner_worker u) row && is_at n row) (λ h m own. ap (λ o. is_owner (owner_worker u) o && is_at n h) own)) left
+
+  pub worker_ended : (u : ℕ) → WorkerEnds s.core u s'.core → WellFormed v s'
+  worker_ended u f =
+      let free = by-row is.whole (λ row. is_owner (owner_worker u) row.owner || is_load_of s.core u row.owner) (λ h m own. ap (λ o. is_owner (owner_worker u) o || is_load_of s.core u o) own) in
+      fell is (spares-keeps (spares-same refl (λ n. refl) refl)) f.falls is.whole.shut free left
+
+  module _ {me : Owner} (none : NotValues me) where
+    pub released : {h : HandleNumber} {r : Result (Unit {0}) Error} → ReleaseCall s.core me h r s'.core → WellFormed v s'
+    released {h} c = elim c.does [ inl e ↦ stays e.stays | inr (row, own, f) ↦ fell is (spares-keeps (spares-same refl (λ n. refl) refl)) f is.whole.shut (own-free is.whole h row none own) left ]
+
+    pub unpinned : {h : HandleNumber} {r : Result (Unit {0}) Error} → UnpinCall s.core me h r s'.core → WellFormed v s'
+    unpinned {h} c = elim c.does [
+      | inl refused ↦ stays refused.stays
+      | inr (row, owns, inl (mode, told, a)) ↦ stays a
+      | inr (row, owns, inr (mode, f)) ↦ fell is (unpin-keeps is.whole h row none owns mode) f is.whole.shut (λ x among e. absurd (cc)) left
+    ]
+
+    pub key_set : {h : HandleNumber} {key : ℕ} {r : Result (Unit {0}) Error} → SetKeyCall s.core me h key r s'.core → WellFormed v s'
+    key_set {key = key} c = elim c.does [
+      | inl refused ↦ stays refused.stays
+      | inr (row, owns, inl (mode, told, a)) ↦ stays a
+      | inr (row, owns, inr (loose, f)) ↦ fell is (keyed-keeps s.core row.node key) f is.whole.shut (λ x among e. absurd (cc)) left
+    ]
+
+    pub scheduled : {h : HandleNumber} (r : Result (Unit {0}) Error) → ScheduleCall s.core me h r s'.core → WellFormed v s'
+    scheduled {h} (Ok u) c = elim c.moves.2 [
+      | inl (open_still, a) ↦
+          let listed = spares-moved s.core (only_handle h) Owner.List (λ n e. cc) (own-free is.whole h c.moves.0 none c.moves.1) in
+          stayed is (rests-then listed a (λ e. absurd (let x : true ≡ false = sym e ∙ open_still in cc))) left
+      | inr (shut, f) ↦ fell is (spares-keeps (spares-same refl (λ n. refl) refl)) f.falls is.whole.shut (own-free is.whole h c.moves.0 none c.moves.1) left
+    ]
+    scheduled (Err e) c = stays c.refused.stays
+
+    pub offered : {kind : Kind} {key : ℕ} {h : HandleNumber} (r : Result (Option HandleNumber) Error) → OfferCall s.core me kind key h r s'.core → WellFormed v s'
+    offered (Ok None) c = stayed is (rests-then (spares-same refl (λ n. refl) refl) c.answers.3.2 (λ e. absurd (let x : true ≡ false = sym e ∙ c.answers.3.0 in cc))) left
+    offered {kind} {key} {h} (Ok (Some k)) c = elim c.answers.3 [
+      | inl (shut, same, a) ↦ stays a
+      | inr (open_still, (n, usable, next, f)) ↦ fell is (spares-keeps (spares-known is.whole kind key n none usable)) f.falls is.whole.shut
+          (own-free is.whole h c.answers.0 none c.answers.1) left
+    ]
+    offered (Err e) c = stays c.refused.stays
+
+    pub handed_over : {l : LoadNumber} {hs : List HandleNumber} (r : Result (Unit {0}) Error) → HandOverCall s.core me l hs r s'.core → WellFormed v s'
+    handed_over {l} {hs} (Ok u) c =
+        let named = (neither _ _ (neither _ _ c.hands.0).1).1 in
+        let free = rowed is.whole (is_in (numbers_of hs)) (λ n. record { each = effects.handed-free (Owner.Value n) (λ m. refl) s.core l hs [] named }) in
+        let moves = spares-moved s.core (is_in (numbers_of hs)) me {list = s.core.list} none free in
+        fell is (spares-keeps (spares-then moves (spares-same refl (λ n. refl) refl))) c.hands.1.falls is.whole.shut
+        (λ h among is_so. load-free is.whole l h among (and_parts (is_owned_in s.core (Owner.Load l) h.number.0) _ is_so).0) left
+    handed_over (Err e) c = stays c.refused.1
+
+-- ---- a value comes to a node that had none: the handles that it names move to it, and it owns each once
+
+-- references that nothing is to be said against name each handle once at most, and none that was seen
+named-once : (w : Core) (owner : Owner) (seen : List ℕ) (rs : List ArcRef) (q : ℕ) → references_fault w owner seen rs ≡ None → times (λ (r : ArcRef). r.handle.0 == q) rs ≤ one (not (is_in seen q))
+unfolding references_fault is_in
+named-once w owner seen [] q none = omega arith
+named-once w owner seen (r ∷ rs) q none =
+    let (first, others) = or-none _ _ none in
+    let rest = named-once w owner (r.handle.0 ∷ seen) rs q others in
+    let sum = sum_by-cons (λ (x : ArcRef). one (x.handle.0 == q)) r rs in
+    grind (arith, nat_tests, same-number)
+
+-- What names handles may come as a value to the node p, to which they moved.
+pub record Receives {N : Type 0} (v : Values N) (w given : Core) (values : ℕ → Option N) (references : List ArcRef) (p : ℕ) : Type 0 where
+  -- what is so of each node, if that is so of this one
+  pub all : (o : Option N) → At v given p o → (n : ℕ) → At v given n (if n == p then o else values n)
+  pub value : (x : N) → v.references x ≡ references → type_at given p ≡ Some (v.node_type x) → At v given p (Some x)
+  pub pins : (n : ℕ) → pins n given.rows ≡ pins n w.rows
+  -- what it owns is named, and what another one owns was its own
+  pub named : (h : HandleRow) → Among given.rows h → h.owner ≡ owner_value p → is_named_by references h.number.0 ≡ true
+  pub before : (n : ℕ) → (n == p) ≡ false → OwnsAlike n w given
+
+module _ {N E : Type 0} {v : Values N} {s : PagerState N E} (is : WellFormed v s) {me : Owner} (free : NotValues me) (references : List ArcRef) (fine : references_fault s.core me [] references ≡ None)
+    (p : ℕ) (cells : ℕ → Option Cell) (loads : ℕ → Option OpenLoad) (node : ℕ) (typed : (n t : ℕ) → type_at s.core n ≡ Some t → type_at (record s.core { cells = cells }) n ≡ Some t)
+    (no_value : s.values p ≡ None) where
+  abbrev given : Core
+  given = record s.core { rows = moved (is_named_by references) (owner_value p) s.core.rows; cells = cells; loads = loads; last = record s.core.last { node = node } }
+
+  abbrev named : HandleRow → Bool
+  named h = is_named_by references h.number.0
+
+  abbrev given_row : HandleRow → HandleRow
+  given_row h = record h { owner = owner_value p }
+
+  others : (n : ℕ) → (n == p) ≡ false → OwnsAlike n s.core given
+  others n other =
+      let apart : owner_value p ≡ owner_value n → ⊥ = λ own. let same = same-value (owner_value p) refl own in let e = self-number p in grind (arith, nat_tests) in
+      let before = rowed is.whole (is_named_by references) (λ m. effects.named-free (Owner.Value m) s.core me references (free m) (good s.core me [] references fine)) in
+      owns-then (owns-changed s.core named given_row (λ h. refl) n (λ h among is. (before h among is (record { 0 = n }), apart)) {list = s.core.list}) (owns-same refl refl typed)
+
+  owned : (h : HandleRow) → Among given.rows h → h.owner ≡ owner_value p → named h ≡ true
+  owned h among own = let a = among-changed (λ x. if named x then given_row x else x) s.core.rows h among in let none = subst (At v s.core p) no_value (sits is p) a.0 a.1 in grind (arith, nat_tests)
+
+  new : (x : N) → v.references x ≡ references → type_at given p ≡ Some (v.node_type x) → Has v given p x
+  unfolding is_in
+  new x same its_type = record {
+    typed = its_type;
+    names = λ r among.
+        let a = good s.core me [] references fine r (subst (λ rs. Among rs r) same among) in
+        let hit : named a.row ≡ true = ap (is_named_by references) (found-number r.handle.0 s.core.rows a.row a.live) ∙ among-named references r (subst (λ rs. Among rs r) same among) in
+        let kept = stands-changed named given_row (λ h. refl) (stands-whole is.whole.handles r.handle.0 a.row a.live) in
+        let stands = subst (λ b. Stands s.core.last.handle given.rows r.handle.0 (if b then given_row a.row else a.row)) hit kept in
+        record { is = record { row = given_row a.row; live = stands.live; at = a.at; owned = refl; fits = a.fits; typed = typed _ _ a.typed }; stands = stands };
+    once = λ q. subst (λ (rs : List ArcRef). times (λ (r : ArcRef). r.handle.0 == q) rs ≤ 1) (sym same) (named-once s.core me [] references q fine);
+    owned = λ h among own. named-among (v.references x) h.number.0 (ap (λ rs. is_named_by rs h.number.0) same ∙ owned h among own);
+  }
+
+  pub receives : Receives v s.core given s.values references p
+  receives = record {
+    all = λ o here n. elim (cases_Bool (n == p)) [
+      | inl e ↦ rw e (subst (λ k. At v given k o) (sym (same-number n p e)) here)
+      | inr e ↦ rw e (sits-on v (others n e) (s.values n) (sits is n))
+    ];
+    value = new;
+    pins = moved-pins s.core.rows (is_named_by references) (owner_value p);
+    named = owned;
+    before = others;
+  }
+
+module _ {N E : Type 0} {v : Values N} {s : PagerState N E} (s' : PagerState N E) (is : WellFormed v s) {me : Owner} (free : NotValues me) (t : ℕ) (own : OptionalDataKey)
+    (references : List ArcRef) (mode : Mode) (fine : references_fault s.core me [] references ≡ None)
+    (like : Rests (with_handle (with_node s.core t own references) (next_node s.core) mode me) s'.core) where
+  abbrev next : ℕ
+  next = s.core.last.node + 1
+
+  abbrev bearing : Core
+  bearing = with_node s.core t own references
+
+  abbrev made : Core
+  made = with_handle bearing (next_node s.core) mode me
+
+  no-cell : s.core.cells next ≡ None
+  no-cell = grind (arith, nat_tests)
+
+  no-value : s.values next ≡ None
+  no-value = grind (arith, nat_tests)
+
+  receives-it : Receives v s.core bearing s.values references next
+  receives-it = receives is free references fine next bearing.cells s.core.loads next (λ n u has. grind (arith, nat_tests, no-cell)) no-value
+
+  pins-made : (n : ℕ) → pins n made.rows ≡ pins n s.core.rows + one ((next == n) && is_pinning mode)
+  pins-made n = sum_by_push (λ h. one (is_pin n h)) bearing.rows (row_of (s.core.last.handle + 1) (next_node s.core) mode me) ∙ ap (λ p. p + one ((next == n) && is_pinning mode)) (receives-it.pins n)
+
+  new-cell : bearing.cells next ≡ Some (record { node_type = t; key = own })
+  new-cell = ap (λ b. if b then Some (record { node_type = t; key = own }) else s.core.cells next) (self-number next)
+
+  comes : (o : Option N) → At v bearing next o → is_some o ≡ is_here made next → ((n : ℕ) → s'.values n ≡ (if n == next then o else s.values n)) → IsRight s' → WellFormed v s'
+  comes o new here values right =
+      settled s' (λ n. subst (At v s'.core n) (sym (values n)) (sits-on v (owns-then (owns-handle bearing (next_node s.core) mode me free n) (like.spares.owns n)) _ (receives-it.all o new n)))
+      (λ n.
+      let valued : is_some (if n == next then o else s.values n) ≡ holds_value made n = let v = is.valued n in let h = new-cell in let p = pins-made n in grind (arith, nat_tests, same-number) in
+      ap is_some (values n) ∙ (valued ∙ sym (like.spares.holds n))) right.counted (right.whole like.shut)
+
+  comes-with : (x : N) → v.node_type x ≡ t → v.references x ≡ references → is_pinning mode ≡ true → ((n : ℕ) → s'.values n ≡ (if n == next then Some x else s.values n)) → IsRight s' → WellFormed v s'
+  comes-with x is_typed named pinning = comes (Some x) (receives-it.value x named (ap (λ c. if_there (λ (cell : Cell). Some cell.node_type) None c) new-cell ∙ ap (λ u. Some u) (sym is_typed)))
+      (sym (pinned-here made next (let p = pins-made next in let q = self-number next in grind (arith, nat_tests))))
+
+  comes-away : (key : ℕ) → own ≡ OptionalDataKey.Some key → references ≡ [] → is_pinning mode ≡ false → ((n : ℕ) → s'.values n ≡ s.values n) → IsRight s' → WellFormed v s'
+  unfolding is_named_by
+  comes-away key keyed nothing unpinned same =
+      let no-pins : pins next s.core.rows ≡ 0 = grind (arith, nat_tests, sum-le, one-less, no-cell) in
+      let away : is_here made next ≡ false = let p = pins-made next in let q = self-number next in grind (arith, nat_tests) in
+      comes None (λ h among mine. let e = ap (λ rs. is_named_by rs h.number.0) (sym nothing) ∙ receives-it.named h among mine in absurd (cc)) (sym away)
+      (λ n. let a = same n in grind (arith, nat_tests, no-value))
+
+module _ {N E : Type 0} {v : Values N} {s s' : PagerState N E} (is : WellFormed v s) where
+  pub born : {me : Owner} {x : N} {mode : Mode} {k : HandleNumber} → NotValues me → is_pinning mode ≡ true → BirthCall s.core me x (v.node_type x) (v.references x) mode (Ok k) s'.core
+      → ((n : ℕ) → s'.values n ≡ (if n == s.core.last.node + 1 then Some x else s.values n)) → IsRight s' → WellFormed v s'
+  born {x = x} {mode} free pinning b = comes-with s' is free (v.node_type x) OptionalDataKey.None (v.references x) mode b.made.0 (unmoved b.made.3 is.whole.shut) x refl refl pinning
+
+  -- what a load read becomes a node, where the cache gives none
+  pub adopts-new : {me : Owner} {l : LoadNumber} {kind : Kind} {key : ℕ} {x : N} {k : HandleNumber} → Adopts s.core me l kind key (v.node_type x) (v.references x) k s'.core
+      → usable s.core kind.0 key ≡ None → ((n : ℕ) → s'.values n ≡ (if n == s.core.last.node + 1 then Some x else s.values n)) → IsRight s' → WellFormed v s'
+  adopts-new {l = l} {kind} {key} {x} a unknown = elim a.makes [
+    | inl (n, known, f) ↦ absurd (let e : None ≡ Some n = sym unknown ∙ known in cc)
+    | inr (none, few, alike) ↦ comes-with s' is (not-load l) (type_of kind.0) _ (v.references x) (mode_of kind.0) a.good
+        (rests-cached kind key (next_node s.core) s.core.closed alike refl is.whole.shut) x a.typed refl (let eager = a.eager in grind (arith, nat_tests))
+  ]
+
+  pub born-away : {me : Owner} {t key : ℕ} (r : Result HandleNumber Error) → NotValues me → AwayBirthCall s.core me t key r s'.core
+      → ((n : ℕ) → s'.values n ≡ s.values n) → IsRight s' → WellFormed v s'
+  unfolding references_fault
+  born-away {me} {t} {key} (Ok k) free b = comes-away s' is free t (OptionalDataKey.Some key) [] Mode.LooseUnpinned refl (unmoved b.made.2 is.whole.shut) key refl refl refl
+  born-away (Err e) free b = spared is (unmoved b.refused.stays is.whole.shut)
+
+  pub lazily : {me : Owner} {l : LoadNumber} {kind : Kind} {key : ℕ} (r : Result HandleNumber Error) → LazyCall s.core me l kind key r s'.core
+      → ((n : ℕ) → s'.values n ≡ s.values n) → IsRight s' → WellFormed v s'
+  unfolding references_fault
+  lazily {l = l} {kind} {key} (Ok k) c = elim c.makes.3 [
+    | inl g ↦ spared is (rests-then (spares-known is.whole kind key g.n (not-load l) g.known) g.leaves is.whole.shut)
+    | inr (none, few, is_next, a) ↦
+        comes-away s' is (not-load l) (type_of kind.0) (OptionalDataKey.Some key) [] (mode_of kind.0) refl
+        (rests-cached kind key (next_node s.core) s.core.closed a refl is.whole.shut) key refl refl (let loose = c.makes.2 in grind (arith, nat_tests))
+  ]
+  lazily (Err e) c = spared is (unmoved c.refused.stays is.whole.shut)
+
+-- ---- a load of a cell ends with a pin: where the cell has no value, what was read comes into it; else it is dropped. What the load still owns goes
+
+module _ {N E : Type 0} {v : Values N} {s : PagerState N E} (is : WellFormed v s) {me : Owner} {l : LoadNumber} {node : NodeNumber} {h : HandleNumber} {x : N}
+    (may : MayEnd s.core me l node h (v.node_type x) (v.references x)) (row : HandleRow) (own : Owns s.core me h is_loose row) (at_node : row.node ≡ node) where
+  free : NotValues me × NotLoads me
+  free = (grind (arith, nat_tests))
+
+  stands : Stands s.core.last.handle s.core.rows h.0 row
+  stands = stands-whole is.whole.handles h.0 row own.live
+
+  there-keeps : is_here s.core node.0 ≡ true → Keeps s.core (with_pin (without_load s.core l) h node me)
+  there-keeps there =
+      let first = turned is.whole free.0 h row own (subst (λ (m : NodeNumber). is_here s.core m.0 ≡ true) (sym at_node) there) in
+      let here = subst (λ (m : NodeNumber). is_here (with_mode s.core h Mode.LoosePinned) m.0 ≡ true) at_node (mode-here s.core h Mode.LoosePinned row stands refl) in
+      spares-keeps (spares-then first (spares-then (spares-handle (with_mode s.core h Mode.LoosePinned) node Mode.Pinned me free.0 (λ e. here)) (spares-same refl (λ n. refl) refl)))
+
+  module _ (away : is_here s.core node.0 ≡ false) where
+    -- the load is closed, and what the value names is its own
+    abbrev closed-given : Core
+    closed-given = record (without_load s.core l) { rows = moved (is_named_by (v.references x)) (owner_value node.0) s.core.rows }
+
+    abbrev values : ℕ → Option N
+    values = updated node.0 (Some x) s.values
+
+    -- the handle has its row still
+    stands-still : Stands closed-given.last.handle closed-given.rows h.0 row
+    stands-still =
+        let right = good s.core (Owner.Load l) [] (v.references x) may.good in
+        let unnamed = (effects.named-free me s.core (Owner.Load l) (v.references x) (λ e. free.1 l (sym e)) right).each h.0 row own.own stands in
+        effects.moved-free me (is_named_by (v.references x)) (owner_value node.0) unnamed stands
+
+    after : (n : ℕ) → OwnsAlike n closed-given (with_pin closed-given h node me)
+    after n = owns-then (mode-owns closed-given h Mode.LoosePinned row stands-still (subst NotValues (sym own.own) free.0) n) (owns-handle _ node Mode.Pinned me free.0 n)
+
+    takes-it : Receives v s.core closed-given s.values (v.references x) node.0
+    takes-it = receives is (not-load l) (v.references x) may.good node.0 s.core.cells closed-given.loads s.core.last.node (λ n t e. e) (grind (arith, nat_tests))
+
+    sits-all : (n : ℕ) → At v (with_pin closed-given h node me) n (values n)
+    sits-all n = sits-on v (after n) (values n) (takes-it.all (Some x) (takes-it.value x refl (grind (arith, nat_tests, row-held))) n)
+
+    there : (n : ℕ) → holds_value (with_pin closed-given h node me) n ≡ true → is_some (values n) ≡ true
+    there n holds =
+        let same-pins : (n == node.0) ≡ false → pins n (with_pin closed-given h node me).rows ≡ pins n s.core.rows = λ e.
+        let apart : (node.0 == n) ≡ false = grind (arith, nat_tests) in
+        let a = sum_by_push (λ r. one (is_pin n r)) (with_mode closed-given h Mode.LoosePinned).rows (row_of (s.core.last.handle + 1) node Mode.Pinned me) in
+        let b = mode-others closed-given h Mode.LoosePinned row stands-still n (ap (λ (m : NodeNumber). m.0 == n) at_node ∙ apart) in
+        let c = takes-it.pins n in
+        let d : one (is_pin n (row_of (s.core.last.handle + 1) node Mode.Pinned me)) ≡ 0 = rw apart refl in
+        omega (arith, a, b, c, d) in
+        let v = is.valued n in grind (arith, nat_tests)
+
+    none-goes : AreFree (with_pin closed-given h node me) (λ q. is_owned_in s.core (Owner.Load l) q && not (is_named_by (v.references x) q))
+    none-goes q among goes n mine =
+        let before = (after n.0).owned q among mine in
+        let (owned_so, unnamed) = and_parts (is_owned_in s.core (Owner.Load l) q.number.0) _ goes in
+        elim (cases_Bool (n.0 == node.0)) [
+          | inl e ↦ let named = takes-it.named q before (mine ∙ ap owner_value (same-number n.0 node.0 e)) in cc
+          | inr e ↦
+              let row_found = found is.whole.handles q.number.0 q ((takes-it.before n.0 e).owned q before mine) refl in
+              let other : is_owned_in s.core (Owner.Load l) q.number.0 ≡ is_owner (Owner.Load l) q.owner = ap (if_there (is_owned_by (Owner.Load l)) false) row_found in
+              let f = ap (is_owner (Owner.Load l)) mine in
+              cc
+        ]
+
+module _ {N E : Type 0} {v : Values N} {s s' : PagerState N E} (is : WellFormed v s) {me : Owner} {l : LoadNumber} {node : NodeNumber} {h k : HandleNumber} {x : N}
+    (may : MayEnd s.core me l node h (v.node_type x) (v.references x)) (i : Installs s.core me l node h k (v.references x) s'.core) where
+  pub installed_there : is_here s.core node.0 ≡ true → Leaves s.values s' → WellFormed v s'
+  installed_there there left = elim i.falls [
+    | inl (away, f) ↦ absurd (let e : false ≡ true = sym away ∙ there in cc)
+    | inr (here, f) ↦ fell is (there-keeps is may i.row i.owned i.at there) f.falls is.whole.shut (load-free is.whole l) left
+  ]
+
+  pub installed_away : is_here s.core node.0 ≡ false → Leaves (updated node.0 (Some x) s.values) s' → WellFormed v s'
+  installed_away away left = elim i.falls [
+    | inl (none, f) ↦ fell-from (sits-all is may i.row i.owned i.at away) (there is may i.row i.owned i.at away) s' f.falls is.whole.shut
+        (none-goes is may i.row i.owned i.at away) left
+    | inr (there, f) ↦ absurd (let e : true ≡ false = sym there ∙ away in cc)
+  ]

@@ -17,14 +17,12 @@ one-le b = grind (arith, nat_tests)
 pub not-so : (b : Bool) → not b ≡ true → b ≡ false
 not-so b e = grind (arith, nat_tests)
 
--- what passes a test is there
 pub there-is : {X : Type 0} (test : X → Bool) (o : Option X) → if_there test false o ≡ true → (x : X) × (o ≡ Some x) × (test x ≡ true)
 there-is test (Some x) is = (x, refl, is)
 there-is test None is = absurd (cc)
 
 -- ---- rows that are left when a set of handles goes, counted and listed, and handles that leave
 
--- a sum is at most two others where each of its parts is
 pub sum-most : {X : Type 0} (f g h : X → ℕ) (xs : List X) → ((x : X) → f x ≤ g x + h x) → sum_by f xs ≤ sum_by g xs + sum_by h xs
 sum-most f g h [] le = omega arith
 sum-most f g h (x ∷ xs) le = omega (arith, le x, sum_by-cons f x xs, sum_by-cons g x xs, sum_by-cons h x xs, sum-most f g h xs le)
@@ -33,29 +31,22 @@ sum-most f g h (x ∷ xs) le = omega (arith, le x, sum_by-cons f x xs, sum_by-co
 abbrev pub and_one : (ℕ → Bool) → ℕ → ℕ → Bool
 and_one gone q r = gone r || r == q
 
--- what is counted of the left is counted of all that aren't in the set
 pub times-left : (f : HandleRow → Bool) (gone : ℕ → Bool) (rows : List HandleRow) → times f (left_rows gone rows) ≡ times (λ h. f h && not (gone h.number.0)) rows
 times-left f gone [] = refl
-times-left f gone (x ∷ xs) =
-    grind (arith, nat_tests, times-left f gone xs, sum_by-cons (λ h. one (f h && not (gone h.number.0))) x xs, sum_by-cons (λ h. one (f h)) x (left_rows gone xs))
+times-left f gone (x ∷ xs) = grind (arith, nat_tests, times-left f gone xs, sum_by-cons (λ h. one (f h && not (gone h.number.0))) x xs, sum_by-cons (λ h. one (f h)) x (left_rows gone xs))
 
--- one handle more goes
 pub left-more : (gone : ℕ → Bool) (q : ℕ) (rows : List HandleRow) → left_rows (λ r. r == q) (left_rows gone rows) ≡ left_rows (and_one gone q) rows
 left-more gone q [] = refl
 left-more gone q (x ∷ xs) = grind (arith, nat_tests, left-more gone q xs)
 
--- a handle that isn't there can go
 pub left-none : (q : ℕ) (rows : List HandleRow) → times (is_handle q) rows ≡ 0 → left_rows (λ r. r == q) rows ≡ rows
 left-none q [] none = refl
-left-none q (x ∷ xs) none =
-    let a = sum_by-cons (λ h. one (is_handle q h)) x xs in let rest = left-none q xs (omega arith) in grind (arith, nat_tests)
+left-none q (x ∷ xs) none = let a = sum_by-cons (λ h. one (is_handle q h)) x xs in let rest = left-none q xs (omega arith) in grind (arith, nat_tests)
 
--- rows are as many as a sum of ones
 pub ones : (rows : List HandleRow) → sum_by (λ (h : HandleRow). 1) rows ≡ length rows
 ones [] = refl
 ones (x ∷ xs) = let a = sum_by-cons (λ (h : HandleRow). 1) x xs in let b = ones xs in omega arith
 
--- nothing has gone
 pub all-kept : {X : Type 0} (list : List X) → filter (λ (x : X). true) list ≡ list
 all-kept [] = refl
 all-kept (x ∷ xs) = ap (λ r. x ∷ r) (all-kept xs)
@@ -64,8 +55,7 @@ all-kept (x ∷ xs) = ap (λ r. x ∷ r) (all-kept xs)
 pub kept-more : (gone : ℕ → Bool) (q : ℕ) (list : List HandleNumber) → times (λ (h : HandleNumber). h.0 == q) list ≡ 0
     → filter (λ (h : HandleNumber). not (and_one gone q h.0)) list ≡ filter (λ (h : HandleNumber). not (gone h.0)) list
 kept-more gone q [] none = refl
-kept-more gone q (x ∷ xs) none =
-    let a = sum_by-cons (λ (h : HandleNumber). one (h.0 == q)) x xs in let rest = kept-more gone q xs (omega arith) in grind (arith, nat_tests)
+kept-more gone q (x ∷ xs) none = let a = sum_by-cons (λ (h : HandleNumber). one (h.0 == q)) x xs in let rest = kept-more gone q xs (omega arith) in grind (arith, nat_tests)
 
 -- new entries pin nothing, and only the list owns them
 pub entries-none : (f : HandleRow → Bool) → ((h : HandleRow) → h.mode ≡ Mode.LooseUnpinned → h.owner ≡ Owner.List → f h ≡ false) → (last : ℕ) (entries : List HandleRow)
@@ -91,10 +81,9 @@ of_list q h = is_handle q h && is_owned_by Owner.List h
 
 pub none-listed : {old new : Handles} {x : HandleRow} → Leaves old x false new → is_owned_by Owner.List x ≡ false → times (of_list x.number.0) (live old.places.items) ≡ 0
 none-listed {old} {x = x} leaves owner =
-    let rows = ap (times (of_list x.number.0)) leaves.becomes.rows in
-    let left = times-left (of_list x.number.0) (only_handle x.number) (live old.places.items) in
     let others = sum-none (λ h. one (of_list x.number.0 h && not (h.number.0 == x.number.0))) (live old.places.items) (λ h among. grind (arith, nat_tests)) in
-    grind (arith, nat_tests, leaves.sums (λ h. one (of_list x.number.0 h)), others)
+    let left = ap (times (of_list x.number.0)) leaves.becomes.rows ∙ times-left (of_list x.number.0) (only_handle x.number) (live old.places.items) in
+    grind (arith, nat_tests, leaves.sums (λ h. one (of_list x.number.0 h)), others, left)
 
 pub none-entered : (q last : ℕ) (rows left entries : List HandleRow) → rows ≡ left ++ entries → AreNewEntries last entries → times (of_list q) rows ≡ 0 → times (is_handle q) entries ≡ 0
 none-entered q last rows left entries is new none =
@@ -105,7 +94,6 @@ none-entered q last rows left entries is new none =
 
 -- ---- the live rows after a place changes, and how halving finds one
 
--- clearing the dead away leaves the live
 pub live-filter : (ss : List Place) → live (filter is_live_place ss) ≡ live ss
 live-filter [] = refl
 live-filter (s ∷ ss) = grind (arith, nat_tests, live-filter ss)
@@ -118,7 +106,6 @@ pub length-live-le : (ss : List Place) → length (live ss) ≤ length ss
 length-live-le [] = omega arith
 length-live-le (s ∷ ss) = grind (arith, nat_tests, length-live-le ss)
 
--- a dead place more
 pub take-dead : (ss : List Place) (n : ℕ) (d : Place) → n < length ss → (get_or ss n d).is_live ≡ false → live (take (suc n) ss) ≡ live (take n ss)
 take-dead [] n d within dead = absurd (omega arith)
 take-dead (s ∷ ss) zero d within dead = grind (arith, nat_tests)
@@ -147,13 +134,11 @@ unfolding find_row
 none-live q [] h = refl
 none-live q (s ∷ ss) h = let a = h 0 s (omega arith) in grind (arith, nat_tests, none-live q ss (λ k d lt e. h (suc k) d (omega arith) e))
 
--- a number that isn't found is counted nowhere
 pub none-found : (q : ℕ) (rows : List HandleRow) → find_row q rows ≡ None → sum_by (λ h. one (is_handle q h)) rows ≡ 0
 unfolding find_row
 none-found q [] e = refl
 none-found q (h ∷ hs) e = grind (arith, nat_tests, none-found q hs)
 
--- what is found of rows with more behind them
 pub found-append : (q : ℕ) (rows more : List HandleRow) → find_row q (rows ++ more) ≡ or_else (find_row q rows) (find_row q more)
 unfolding find_row
 found-append q [] more = refl
@@ -188,7 +173,6 @@ pub changed-known : (ss : List Place) (i : ℕ) (row : HandleRow) → AllPairs I
     → changed (is_handle row.number.0) (λ _. f row) (live ss) ≡ changed (is_handle row.number.0) f (live ss)
 changed-known ss i row ordered at f = let p = at-place ss i row ordered at in sym (p.1 (λ _. f row)) ∙ p.1 f
 
--- sums after a place changes
 pub sum-live-set : (f : HandleRow → ℕ) (ss : List Place) (i : ℕ) (row : HandleRow) (new : Place) → slice_get ss i ≡ Some (alive row)
     → sum_by f (live (set ss i new)) + f row ≡ sum_by f (live ss) + weigh f new
 sum-live-set f ss i row new at =
@@ -199,21 +183,17 @@ pub row-le-live : (f : HandleRow → ℕ) (ss : List Place) (i : ℕ) (row : Han
 row-le-live f ss i row at = omega (arith, sum-live-set f ss i row (record { row = row; is_live = false }) at)
 
 pub length-live-set : (ss : List Place) (i : ℕ) (row : HandleRow) (new : Place) → slice_get ss i ≡ Some (alive row) → length (live (set ss i new)) + 1 ≡ length (live ss) + one new.is_live
-length-live-set ss i row new at =
-    omega (arith, sum-live-set (λ _. 1) ss i row new at, ones (live ss), ones (live (set ss i new)))
+length-live-set ss i row new at = omega (arith, sum-live-set (λ _. 1) ss i row new at, ones (live ss), ones (live (set ss i new)))
 
 pub row-got : (ss : List Place) (i : ℕ) (p : Place) (q : ℕ) → AllPairs IsBefore ss → slice_get ss i ≡ Some p → p.is_live ≡ true → p.row.number.0 ≡ q → find_row q (live ss) ≡ Some p.row
-row-got ss i p q ordered at is number =
-    subst (λ n. find_row n (live ss) ≡ Some p.row) number (at-place ss i p.row ordered (at ∙ ap (λ b. Some (record { row = p.row; is_live = b })) is)).2
+row-got ss i p q ordered at is number = subst (λ n. find_row n (live ss) ≡ Some p.row) number (at-place ss i p.row ordered (at ∙ ap (λ b. Some (record { row = p.row; is_live = b })) is)).2
 
--- each place's number is below q still, after a place of it changes
 pub next-set : (q : ℕ) (ss : List Place) (i : ℕ) (row : HandleRow) (new : Place) → slice_get ss i ≡ Some (alive row) → new.row.number.0 ≡ row.number.0 → IsNext q ss → IsNext q (set ss i new)
 next-set q ss i row new at same next =
     let lt = slice_get_within ss i (alive row) at in
     let is : (get_or ss i new).row.number.0 ≡ row.number.0 = ap (λ (x : Place). x.row.number.0) (get_or_from_slice_get ss i (alive row) new at) in
     All-set (λ (s : Place). s.row.number.0 < q) ss i new (omega arith) next
 
--- what is left has not the number
 sum-without : (q : ℕ) (rows : List HandleRow) → sum_by (λ h. one (is_handle q h)) (left_rows (λ n. n == q) rows) ≡ 0
 sum-without q [] = refl
 sum-without q (h ∷ hs) = grind (arith, nat_tests, sum-without q hs)
@@ -239,7 +219,6 @@ sound-set old new i row p sound at same is dead =
     λ j k d less lt. let n = length-set ss i p in omega (arith, number j d (omega arith), number k d (omega arith), sound.ordered j k d less (omega arith)) in
     grind (arith, nat_tests, ap (λ ss. length (live ss)) is, length-set, length-live-set)
 
--- a row more, above all that are there
 pub ordered-push : (ss : List Place) (row : HandleRow) → AllPairs IsBefore ss → IsNext row.number.0 ss → AllPairs IsBefore (ss ++ alive row ∷ [])
 ordered-push ss row ordered next = all_pairs_push IsBefore ss (alive row) ordered next
 

@@ -1,24 +1,24 @@
 -- Calls by which handles go to the list, come from it or fall keep the world whole.
+use Rattle.pagable_tables.proofs.{Alive.of_list, Kept.{GoOn, IsIn, alike-rows, among-both, among-last, among-map, among-one, apart-sum, counted, found-among, found-so, holder-in, is-in, keeps-whole}}
+use Rattle.pagable_tables.proofs.{Kept.{loads-stay, may-own, once, same-rows, stays-old, sum-map, there-then}, Newer.no-load, Told.{Goes, GoesOn, beside, born-whole, falls-lost, lone-falling}}
 use Rattle.pagable_tables.proofs.Told.{loose-unshared, moved-free, moved-on, moved-so, moved-to-value, named-own, named-unlisted, newer-falls, newer-moved, newer-then, not-list, opened, own-of}
-use Rattle.pagable_tables.proofs.Words.{Bool, CloseCall, Core, Error, Falls, HandOverCall, HandleNumber, HandleRow, Installs, IsEntryWhole, IsHandleBefore, IsRootWhole, IsWhole, Kind, List}
-use Rattle.pagable_tables.proofs.Words.{LoadCloses, LoadNumber, MayEnd, MayHold, MayOwnLoad, Mode, NodeNumber, None, Ok, OpenLoad, OptionalDataKey, Owner, Owns, Result, Root, ScheduleCall, Some}
-use Rattle.pagable_tables.proofs.Words.{Suits, TakeCall, [], adopted, ap, arith, cases_eq, cell_fault, earlier, false, fits_mode, get_or_from_slice_get, greatest, hand_over_fault, has_key, if_there}
-use Rattle.pagable_tables.proofs.Words.{if◌then◌else◌, inl, inr, is_handle, is_in, is_loose, is_named_by, is_owned_by, is_owned_in, is_owner, is_shared, is_shared_kind, is_workers, load_fault}
-use Rattle.pagable_tables.proofs.Words.{mode_of, moved, named_fault, nat_tests, next_node, not, numbers_of, of_cell, of_key, one, only_handle, owner_value, owner_worker, references_fault, refl}
-use Rattle.pagable_tables.proofs.Words.{row_of, shut, slice_get_within, subst, sum_by-remove, sum_by_push, sym, times, true, type_at, type_of, usable, with_cached, with_handle, with_key, with_load}
-use Rattle.pagable_tables.proofs.{Alive.of_list, Kept.{GoOn, IsIn, alike-rows, among-both, among-last, among-map, among-one, changed-sum, counted, found-among, found-so, holder-in, is-in}}
-use Rattle.pagable_tables.proofs.{Kept.{keeps-whole, loads-stay, may-own, once, same-rows, stays-old, there-then}, Newer.no-load, Told.{Goes, GoesOn, beside, born-whole, falls-lost, lone-falling}}
-use Rattle.pagable_tables.proofs.{Told.{pin-comes, roomy, roomy-whole, settled, settles, stays-on, then-on}, Words.{Alike, AllPairs, Among, ArcRef, ArePlaced, BeginCall, BeginKeyCall, Beginning}}
-use Rattle.pagable_tables.proofs.{Words.{with_mode, with_node, with_pin, with_worker, without_load, without_worker, ℕ, ◌&&◌, ◌++◌, ◌+◌, ◌<◌, ◌==◌, ◌||◌, ◌∙◌, ◌∷◌, ◌≡◌, ◌≤◌}, Worlds.both-none}
-use Rattle.{pagable_tables.proofs.Worlds.{fault-by, found-map, one-fault, owner-self}, pagable_world.specs.Workers.{WorkerEnds, is_load_of}, std.specs.List.remove}
+use Rattle.pagable_tables.proofs.{Told.{pin-comes, roomy, roomy-whole, settled, settles, stays-on, then-on}, Words.{Alike, AllPairs, Among, ArcRef, ArePlaced, BeginCall, Beginning, Bool, CloseCall}}
+use Rattle.pagable_tables.proofs.Words.{Core, Error, Falls, HandOverCall, HandleNumber, HandleRow, Installs, IsEntryWhole, IsHandleBefore, IsRootWhole, IsWhole, Kind, List, LoadNumber, MayEnd}
+use Rattle.pagable_tables.proofs.Words.{MayHold, MayOwnLoad, Mode, NodeNumber, None, Ok, OpenLoad, OptionalDataKey, Owner, Owns, Result, Root, ScheduleCall, Some, Suits, TakeCall, [], adopted, ap}
+use Rattle.pagable_tables.proofs.Words.{arith, cases_eq, cell_fault, earlier, false, fits_mode, get_or_from_slice_get, greatest, hand_over_fault, has_key, if_there, if◌then◌else◌, inl, inr, is_handle}
+use Rattle.pagable_tables.proofs.Words.{is_in, is_loose, is_named_by, is_owned_by, is_owned_in, is_owner, is_shared, is_shared_kind, is_workers, load_fault, mode_of, moved, named_fault, nat_tests}
+use Rattle.pagable_tables.proofs.Words.{next_node, not, numbers_of, of_cell, one, only_handle, owner_value, owner_worker, references_fault, refl, row_of, shut, slice_get_within, subst, sum_by-remove}
+use Rattle.pagable_tables.proofs.Words.{sum_by_push, sym, times, true, type_at, type_of, usable, with_cached, with_handle, with_key, with_load, with_mode, with_node, with_pin, with_worker}
+use Rattle.pagable_tables.proofs.{Words.{without_load, without_worker, ℕ, ◌&&◌, ◌++◌, ◌+◌, ◌<◌, ◌==◌, ◌||◌, ◌∙◌, ◌∷◌, ◌≡◌, ◌≤◌}, Worlds.{both-none, fault-by, found-map, one-fault, owner-self}}
+use Rattle.{pagable_world.specs.Workers.{WorkerEnds, is_load_of}, std.specs.List.remove}
 
 -- The handle h of this row alone moves: what the list's handles of a number are then.
 lists-moved : {w : Core} → IsWhole w → (h : HandleNumber) (row : HandleRow) (owner : Owner) → Among w.rows row → row.number.0 ≡ h.0 → (q : ℕ)
     → times (of_list q) (moved (only_handle h) owner w.rows) + one (h.0 == q && is_owned_by Owner.List row) ≡ times (of_list q) w.rows + one (h.0 == q && is_owner Owner.List owner)
 lists-moved {w} whole h row owner among number q =
     let to = λ (x : HandleRow). if only_handle h x.number.0 then record x { owner = owner } else x in
-    let a = changed-sum (λ x. one (of_list q x)) to w.rows row whole.handles.ordered among (λ x other. grind (arith, nat_tests)) in
-    grind (arith, nat_tests)
+    let a = apart-sum (λ x. one (of_list q (to x))) (λ x. one (of_list q x)) w.rows row whole.handles.ordered among (λ x other. grind (arith, nat_tests)) in
+    grind (arith, nat_tests, sum-map (λ x. one (of_list q x)) (λ x. one (of_list q (to x))) to w.rows (λ x there. refl))
 
 pub schedule-goes : {w w' : Core} (me : Owner) (h : HandleNumber) → IsWhole (opened w) → MayHold w me → ScheduleCall w me h (Ok tt) w' → Goes w w'
 schedule-goes {w} me h whole holder call = let (row, owns, does) = call.moves in elim does [
@@ -33,8 +33,7 @@ schedule-goes {w} me h whole holder call = let (row, owns, does) = call.moves in
 ]
 
 pub take-whole : {w : Core} (w' : Core) (me : Owner) (i : ℕ) (h : HandleNumber) → IsWhole w → MayHold w me → TakeCall w me i (Some h) w' → ArePlaced (opened w') → IsWhole (opened w')
-take-whole {w} w' me i h whole holder call placed =
-    settles (moved-so whole (only_handle h) me (remove w.list i) still (λ x there e. holder-in w x.mode me holder)) call.1 placed
+take-whole {w} w' me i h whole holder call placed = settles (moved-so whole (only_handle h) me (remove w.list i) still (λ x there e. holder-in w x.mode me holder)) call.1 placed
   where
     less : (q : ℕ) → times (λ (k : HandleNumber). k.0 == q) (remove w.list i) + one (h.0 == q) ≡ times (λ (k : HandleNumber). k.0 == q) w.list
     less q = grind (arith, nat_tests, sum_by-remove (λ (k : HandleNumber). one (k.0 == q)) w.list i h (slice_get_within w.list i h call.0), slice_get_within, get_or_from_slice_get)
@@ -50,18 +49,17 @@ take-whole {w} w' me i h whole holder call placed =
 
 -- a cell that isn't shared gets a key
 pub keyed-whole : {w : Core} → IsWhole w → (row : HandleRow) → Among w.rows row → (key : ℕ) → is_shared row.mode ≡ false → IsWhole (roomy (with_key w row.node key))
-keyed-whole {w} whole row there key unshared =
-    keeps-whole whole (record {
-      on = grind (arith, nat_tests, stays-old, alike-rows whole);
-      within = whole.handles.within;
-      places = (omega arith, omega arith);
-      listed = whole.owners_there.listed;
-      owners = is-in whole;
-      loads = loads-stay whole (λ v at. at);
-      cache = whole.cache;
-      workers = whole.workers_numbered;
-      stands_open = refl;
-    })
+keyed-whole {w} whole row there key unshared = keeps-whole whole (record {
+  on = grind (arith, nat_tests, stays-old, alike-rows whole);
+  within = whole.handles.within;
+  places = (omega arith, omega arith);
+  listed = whole.owners_there.listed;
+  owners = is-in whole;
+  loads = loads-stay whole (λ v at. at);
+  cache = whole.cache;
+  workers = whole.workers_numbered;
+  stands_open = refl;
+})
 
 -- ---- what the cache gives
 
@@ -102,13 +100,6 @@ loaded-whole {w} key root me whole may left good =
     let owners : (h : HandleRow) → Among w.rows h → IsIn after h.mode h.owner = λ h among. let i = is-in whole h among in grind (arith, nat_tests) in
     keeps-whole whole (grind (arith, nat_tests, loads-stay, may-own))
 
-pub begin-key-whole : {w w' : Core} {l : LoadNumber} {k : ℕ} (me : Owner) (key : ℕ) → IsWhole w → MayOwnLoad w me
-    → BeginKeyCall w me key (Ok (Beginning.Load l k)) w' → ArePlaced (opened w') → IsWhole (opened w')
-begin-key-whole me key whole may call placed =
-    let (same, next, leaves) = call.begins in
-    settles (loaded-whole key of_key me whole may next.is_left (λ node t h is. absurd (cc))) leaves placed
-
--- who may own a load may hold
 pub may-hold : (w : Core) (o : Owner) → MayOwnLoad w o → MayHold w o
 may-hold w x1 may = grind (arith, nat_tests)
 
@@ -131,24 +122,19 @@ begin-whole {w} {w'} {l} {key} me h whole may call placed =
 -- ---- calls by which a load goes on or ends, and the close of the storage, keep the world whole: a load closes
 
 -- a load closes and what it owns is given
-closes : {before u w' : Core} {r : Result (Unit {0}) Error} (l : LoadNumber) (given : ℕ → Bool) → IsWhole (roomy u) → GoesOn before u
+pub closes : {before u w' : Core} {r : Result (Unit {0}) Error} (l : LoadNumber) (given : ℕ → Bool) → IsWhole (roomy u) → GoesOn before u
     → ((h : HandleRow) → Among u.rows h → h.owner ≡ Owner.Load l → given h.number.0 ≡ true) → Falls before (without_load u l) given r w' → ArePlaced (opened w') → IsWhole (opened w')
-closes {before} {u} l given whole on gives falls placed =
-    falls-lost u (without_load u l) whole on (record {
-      listed = λ q. inl (whole.owners_there.listed q);
-      owners = λ h among. let i = is-in whole h among in grind (arith, nat_tests, gives);
-      loads = λ k load is. let was : u.loads k ≡ Some load = grind (arith, nat_tests) in (was, whole.loads.owned k load was);
-      cache = λ kind key n is. is;
-      workers = λ v is. is;
-    }) falls placed
+closes {before} {u} l given whole on gives falls placed = falls-lost u (without_load u l) whole on (record {
+  listed = λ q. inl (whole.owners_there.listed q);
+  owners = λ h among. let i = is-in whole h among in grind (arith, nat_tests, gives);
+  loads = λ k load is. let was : u.loads k ≡ Some load = grind (arith, nat_tests) in (was, whole.loads.owned k load was);
+  cache = λ kind key n is. is;
+  workers = λ v is. is;
+}) falls placed
 
--- what a load owns, it owns by its number too
-owned-in : {w : Core} → IsWhole w → (l : LoadNumber) (x : HandleRow) → Among w.rows x → x.owner ≡ Owner.Load l → is_owned_in w (Owner.Load l) x.number.0 ≡ true
+pub owned-in : {w : Core} → IsWhole w → (l : LoadNumber) (x : HandleRow) → Among w.rows x → x.owner ≡ Owner.Load l → is_owned_in w (Owner.Load l) x.number.0 ≡ true
 owned-in {w} whole l x among own =
     ap (if_there (is_owned_by (Owner.Load l)) false) (found-so x.number.0 w.rows x whole.handles.ordered among refl) ∙ ap (is_owner (Owner.Load l)) own ∙ owner-self (Owner.Load l)
-
-pub load-closes : {w w' : Core} (l : LoadNumber) (r : Result (Unit {0}) Error) → IsWhole (opened w) → LoadCloses w l r w' → ArePlaced (opened w') → IsWhole (opened w')
-load-closes {w} l r whole falls placed = closes l (is_owned_in w (Owner.Load l)) (roomy-whole whole) (stays-on w) (owned-in whole l) falls placed
 
 -- ---- a load ends
 
@@ -200,8 +186,7 @@ installs-goes {w} me l node h k node_type refs whole ends i =
         let mine = named-own w whole.handles.ordered (Owner.Load l) refs ends.good row (found-among h.0 w.rows row owns.live).0 in
         let none = no-load w me l may in
         let spared : is_named_by refs row.number.0 ≡ false = grind (arith, nat_tests) in
-        let same = found-map (λ y. if is_named_by refs y.number.0 then record y { owner = owner_value node.0 } else y) (λ y. grind (arith, nat_tests)) h.0 w.rows in
-        let live = owns.live in grind (arith, nat_tests)
+        grind (arith, nat_tests, found-map (λ y. if is_named_by refs y.number.0 then record y { owner = owner_value node.0 } else y) (λ y. grind (arith, nat_tests)) h.0 w.rows, owns.live)
 
 -- ---- a load of a key hands over
 
@@ -212,7 +197,6 @@ handed-mine w owner seen (h ∷ hs) good q named =
     let parts = both-none (one-fault w owner seen h) (named_fault w owner (h.0 ∷ seen) hs) good in
     let a = parts.0 in grind (arith, nat_tests, cases_eq h.0 q, handed-mine w owner (h.0 ∷ seen) hs parts.1 q)
 
--- what is handed over is the load's
 pub handed-own : (w : Core) → AllPairs IsHandleBefore w.rows → (l : LoadNumber) (hs : List HandleNumber) → named_fault w (Owner.Load l) [] hs ≡ None → (x : HandleRow) → Among w.rows x
     → is_in (numbers_of hs) x.number.0 ≡ true → x.owner ≡ Owner.Load l
 handed-own w ordered l hs good x among named = own-of w ordered (Owner.Load l) x among (handed-mine w (Owner.Load l) [] hs good x.number.0 named)
@@ -250,14 +234,13 @@ hand-over-whole {w} me l hs whole call placed =
 -- ---- the close of the storage
 
 pub close-whole : {w w' : Core} (r : Result (Unit {0}) Error) → IsWhole (opened w) → CloseCall w r w' → ArePlaced (opened w') → IsWhole (opened w')
-close-whole {w} {w'} r whole call placed =
-    falls-lost w (shut w w'.failures) (roomy-whole whole) (stays-on w) (record {
-      listed = λ q. let a = whole.owners_there.listed q in grind (arith, nat_tests);
-      owners = λ h among. inl (is-in whole h among);
-      loads = λ l load is. (is, whole.loads.owned l load is);
-      cache = λ kind key n is. absurd (cc);
-      workers = λ v is. is;
-    }) call.falls.falls placed
+close-whole {w} {w'} r whole call placed = falls-lost w (shut w w'.failures) (roomy-whole whole) (stays-on w) (record {
+  listed = λ q. let a = whole.owners_there.listed q in grind (arith, nat_tests);
+  owners = λ h among. inl (is-in whole h among);
+  loads = λ l load is. (is, whole.loads.owned l load is);
+  cache = λ kind key n is. absurd (cc);
+  workers = λ v is. is;
+}) call.falls.falls placed
 
 -- ---- a node that was read
 

@@ -1,13 +1,14 @@
 -- A handle is given up: handles and nodes fit again.
 use Rattle.pagable_tables.proofs.{Alive.{all-kept, and_one, entries-none, length-live-le, none-found, of_list, one-le, ones, only-row, row-le-live, sum-most, times-left}, Kept.{found-among, only-at}}
-use Rattle.pagable_tables.proofs.Words.{AllPairs, Among, ArcRef, Blob, Bool, Cell, Chain, Core, Counts, Error, Fits, GetsKey, HandleNumber, HandleRow, HasFallen, HasRoom, Holdings, IsApart, IsBefore}
-use Rattle.pagable_tables.proofs.Words.{IsClosed, IsFalling, IsSome, IsWithin, List, Mode, NodeNumber, None, OpenLoad, Option, OptionalDataKey, Owner, Place, Right, SoFar, Some, Tables, TellsListing}
+use Rattle.pagable_tables.proofs.Words.{AllPairs, Among, ArcRef, Blob, Bool, Cell, Chain, Core, Counts, Error, Fits, HandleNumber, HandleRow, HasFallen, HasRoom, Holdings, IsApart, IsBefore}
+use Rattle.pagable_tables.proofs.Words.{IsClosed, IsFalling, IsSome, IsWithin, List, Mode, None, OpenLoad, Option, OptionalDataKey, Owner, Place, Right, SoFar, Some, Tables, TellsListing}
 use Rattle.pagable_tables.proofs.Words.{[], after, alive, ap, append-nil, arith, cases_Bool, cases_eq, cell_in, core_of, counts_at, entry, falls_in, false, filter, find_row, get_or, get_or-le-sum_by}
 use Rattle.pagable_tables.proofs.Words.{greatest, has_key, has_value, held, holds_in, if_there, if◌then◌else◌, inl, inr, is_at, is_fallen_by, is_handle, is_keyed, is_listed, is_listing, is_outside}
 use Rattle.pagable_tables.proofs.Words.{is_owned_by, is_owned_in, is_owner, is_pin, is_pinning, is_plain_pin, is_share, is_shared, is_some, is_valued, keyed, landed, left_rows, length, live, map}
 use Rattle.pagable_tables.proofs.Words.{named, nat_lt, nat_tests, next_in, nobody, not, often, one, owner_value, owns, owns_nothing, pins, refl, sharing, slice_get, slice_get-get_or, subst, sum_by}
-use Rattle.pagable_tables.proofs.Words.{sum_by-append, sum_by-cons, sum_by-le-sum_by, sum_by_push, sym, times, told_by, true, unpinned, with_key, with_tables, ℕ, ◌&&◌, ◌++◌, ◌+◌, ◌-◌, ◌<◌, ◌==◌, ◌∙◌}
+use Rattle.pagable_tables.proofs.Words.{sum_by-append, sum_by-cons, sum_by-le-sum_by, sum_by_push, sym, times, told_by, true, unpinned, with_tables, ℕ, ◌&&◌, ◌++◌, ◌+◌, ◌-◌, ◌<◌, ◌==◌, ◌∙◌}
 use Rattle.{pagable_tables.{proofs.Words.{◌∷◌, ◌≡◌, ◌≢◌, ◌≤◌, ◌⊎◌}, specs.Core.IsWhole}, pagable_world.proofs.Elements.sum-none}
+use Rattle.pagable_tables.proofs.Words.{GetsKey, NodeNumber, with_key}
 use Rattle.pagable_world.specs.Pager as pager
 
 -- 1 for the handle q that the node's value owns
@@ -59,22 +60,16 @@ module _ (at at' : ℕ → Option Counts) (refs refs' : ℕ → List ArcRef) (ro
   pub given-fits : (b : Bool) → now_falls ≡ b → Fits at' refs' rows' (if b then x.node.0 else top) (if b then x.node.0 ∷ stack else stack) owns_nothing
   given-fits b e = grind (arith, nat_tests, given-owned, given-chain, given-marked, given-right, given-one)
 
--- what waits first is there and waits
 pub first-waits : (at : ℕ → Option Counts) (refs : ℕ → List ArcRef) (rows : List HandleRow) (n : ℕ) (ns : List ℕ) (extra : ℕ → ℕ → ℕ) → Fits at refs rows n (n ∷ ns) extra → falls_in (at n) ≡ true
 first-waits at refs rows n ns extra fits = let a = sum_by-cons (λ y. one (y == n)) n ns in let b = fits.marked n in grind (arith, nat_tests)
 
--- the top stands first
 pub top-stands : (t : Holdings) (stack : List ℕ) → t.top ≢ 0 → IsFalling t stack owns_nothing → (ns : List ℕ) × (stack ≡ t.top ∷ ns) × IsFalling t (t.top ∷ ns) owns_nothing
 top-stands t [] some w = absurd (some w.fits.chain)
 top-stands t (n ∷ ns) some w = let top = sym w.fits.chain.0 in (ns, ap (λ m. m ∷ ns) top, subst (λ m. IsFalling t (m ∷ ns) owns_nothing) top w)
 
 pub top-there : (t : Holdings) (stack : List ℕ) → t.top ≢ 0 → IsFalling t stack owns_nothing → counts_at t.nodes t.top ≡ None → ⊥
-top-there t stack some w none =
-    let waits = first-waits _ _ _ _ _ _ (top-stands t stack some w).2.fits in
-    let a = ap falls_in none in
-    absurd (cc)
+top-there t stack some w none = let waits = first-waits _ _ _ _ _ _ (top-stands t stack some w).2.fits in let a = ap falls_in none in absurd (cc)
 
--- a node has no more pins than handles
 pub pins-le-held : (n : ℕ) (rows : List HandleRow) → pins n rows ≤ held n rows
 pins-le-held n rows = sum_by-le-sum_by (λ h. one (is_pin n h)) (λ h. one (is_at n h)) rows (λ h. grind (arith, nat_tests))
 
@@ -89,16 +84,15 @@ module _ (at at' : ℕ → Option Counts) (refs refs' : ℕ → List ArcRef) (ro
   done-gone = grind (arith, nat_tests, first-waits at refs rows n ns owns_nothing fits, fits.right n)
 
   pub done-fits : Fits at' refs' rows c.next ns owns_nothing
-  done-fits =
-      record {
-        pinned = λ m. grind (arith, nat_tests, cases_eq m n, pins-le-held n rows, fits.pinned m, fits.holding m, others m);
-        holding = λ m. grind (arith, nat_tests, cases_eq m n, fits.holding m, others m);
-        owned = λ m q. ap (λ r. named q r + 0) (same m) ∙ fits.owned m q;
-        chain = chain-frame at at' c.next ns (λ m within. ap next_in (others m (in-none n ns m once within))) (subst (λ t. Chain at t ns) (ap next_in is) fits.chain.1);
-        marked = λ m. grind (arith, nat_tests, cases_eq m n, fits.marked m, others m, once, sum_by-cons);
-        right = λ m. grind (arith, nat_tests, cases_eq m n, fits.right m, others m);
-        from_one = others 0 (λ e. one' (sym e)) ∙ fits.from_one;
-      }
+  done-fits = record {
+    pinned = λ m. grind (arith, nat_tests, cases_eq m n, pins-le-held n rows, fits.pinned m, fits.holding m, others m);
+    holding = λ m. grind (arith, nat_tests, cases_eq m n, fits.holding m, others m);
+    owned = λ m q. ap (λ r. named q r + 0) (same m) ∙ fits.owned m q;
+    chain = chain-frame at at' c.next ns (λ m within. ap next_in (others m (in-none n ns m once within))) (subst (λ t. Chain at t ns) (ap next_in is) fits.chain.1);
+    marked = λ m. grind (arith, nat_tests, cases_eq m n, fits.marked m, others m, once, sum_by-cons);
+    right = λ m. grind (arith, nat_tests, cases_eq m n, fits.right m, others m);
+    from_one = others 0 (λ e. one' (sym e)) ∙ fits.from_one;
+  }
 
 -- the last reference of the first node that waits is taken: its row is owned by that node's value
 module _ (at at' : ℕ → Option Counts) (refs refs' : ℕ → List ArcRef) (rows : List HandleRow) (n : ℕ) (ns : List ℕ) (p : ArcRef)
@@ -106,29 +100,24 @@ module _ (at at' : ℕ → Option Counts) (refs refs' : ℕ → List ArcRef) (ro
   times-popped : (r : ℕ) → named r (refs n) ≡ named r (refs' n) + one (p.handle.0 == r)
   times-popped r = ap (named r) popped ∙ sum_by_push (λ (y : ArcRef). one (y.handle.0 == r)) (refs' n) p
 
-  -- it is owned
   pub taken-owned : 1 ≤ sum_by (is_owned n p.handle.0) rows
   taken-owned = let a = fits.owned n p.handle.0 in let b = times-popped p.handle.0 in grind (arith, nat_tests)
 
   pub taken-there : 1 ≤ times (is_handle p.handle.0) rows
   taken-there = let a = taken-owned in let b = sum_by-le-sum_by (is_owned n p.handle.0) (λ h. one (is_handle p.handle.0 h)) rows (λ h. grind (arith, nat_tests)) in omega arith
 
-  taken-right : (m : ℕ) → Right (at' m) (refs' m)
-  taken-right m =
-      let w = first-waits at refs rows n ns owns_nothing fits in let r = fits.right m in grind (arith, nat_tests, cases_eq m n)
-
   -- where the row is that one, the tables fit but for it
   pub taken-fits : (x : HandleRow) → ((m r : ℕ) → is_owned m r x ≡ one (n == m && p.handle.0 == r)) → Fits at' refs' rows n (n ∷ ns) (λ m r. is_owned m r x)
-  taken-fits x owner = grind (arith, nat_tests, cases_eq, named, times-popped, chain-frame, taken-right)
+  taken-fits x owner =
+      let right : (m : ℕ) → Right (at' m) (refs' m) = λ m. grind (arith, nat_tests, cases_eq m n, first-waits at refs rows n ns owns_nothing fits, fits.right m) in
+      grind (arith, nat_tests, cases_eq, named, times-popped, chain-frame, right)
 
--- the same tables, by look-ups that agree
 pub fits-same : (at at' : ℕ → Option Counts) (refs refs' : ℕ → List ArcRef) (rows : List HandleRow) (top : ℕ) (stack : List ℕ) → Fits at refs rows top stack owns_nothing
     → ((m : ℕ) → at' m ≡ at m) → ((m : ℕ) → refs' m ≡ refs m) → Fits at' refs' rows top stack owns_nothing
 fits-same at at' refs refs' rows top stack fits same refs-same = grind (arith, nat_tests, named, chain-frame)
 
 pub fallen : (at : ℕ → Option Counts) (refs : ℕ → List ArcRef) (rows : List HandleRow) (n : ℕ) (ns : List ℕ) → Fits at refs rows n (n ∷ ns) owns_nothing → HasFallen at rows n
-fallen at refs rows n ns fits =
-    let w = first-waits at refs rows n ns owns_nothing fits in let r = fits.right n in let p = fits.pinned n in let h = fits.holding n in grind (arith, nat_tests)
+fallen at refs rows n ns fits = let w = first-waits at refs rows n ns owns_nothing fits in let r = fits.right n in let p = fits.pinned n in let h = fits.holding n in grind (arith, nat_tests)
 
 pub ruleset landing = (nat_tests, cases_eq)
 
@@ -140,7 +129,6 @@ no-value n x1 e = grind (arith, nat_tests)
 pub owned-by-none : (n q : ℕ) (x : HandleRow) → is_valued x.owner ≡ false → is_owned n q x ≡ 0
 owned-by-none n q x e = let a = no-value n x.owner e in grind (arith, nat_tests)
 
--- a node that is there isn't 0
 pub not-zero : (at : ℕ → Option Counts) (n : ℕ) (c : Counts) → at 0 ≡ None → at n ≡ Some c → 0 ≢ n
 not-zero at n c none is z = absurd (let a : at 0 ≡ Some c = ap at z ∙ is in cc (a, none))
 
@@ -149,27 +137,23 @@ module _ (at at' : ℕ → Option Counts) (refs refs' : ℕ → List ArcRef) (ro
     (here : at' x.node.0 ≡ Some (record c { pins = c.pins + one (is_pinning x.mode); holds = c.holds + 1 }))
     (others : (n : ℕ) → n ≢ x.node.0 → at' n ≡ at n) (same : (n : ℕ) → refs' n ≡ refs n) (owner : is_valued x.owner ≡ false) where
   pub come-fits : Fits at' refs' (rows ++ x ∷ []) top [] owns_nothing
-  come-fits =
-      record {
-        pinned = λ n. grind (arith, nat_tests, cases_eq, sum_by_push, pin-here);
-        holding = λ n. grind (arith, nat_tests, cases_eq, sum_by_push, held-here);
-        owned = λ n q. grind (arith, nat_tests, named, sum_by_push, owned-by-none);
-        chain = fits.chain;
-        marked = λ n. grind (arith, nat_tests, cases_eq);
-        right = λ n. grind (arith, nat_tests, cases_eq n x.node.0, fits.right n);
-        from_one = others 0 (not-zero at x.node.0 c fits.from_one is) ∙ fits.from_one;
-      }
+  come-fits = record {
+    pinned = λ n. grind (arith, nat_tests, cases_eq, sum_by_push, pin-here);
+    holding = λ n. grind (arith, nat_tests, cases_eq, sum_by_push, held-here);
+    owned = λ n q. grind (arith, nat_tests, named, sum_by_push, owned-by-none);
+    chain = fits.chain;
+    marked = λ n. grind (arith, nat_tests, cases_eq);
+    right = λ n. grind (arith, nat_tests, cases_eq n x.node.0, fits.right n);
+    from_one = others 0 (not-zero at x.node.0 c fits.from_one is) ∙ fits.from_one;
+  }
 
--- a node that has a handle is there
 pub some-held : (o : Option Counts) → 0 < holds_in o → IsSome o
 some-held x0 h = grind (arith, nat_tests)
 
--- the rows are told anew
 pub rows-told : (at : ℕ → Option Counts) (refs : ℕ → List ArcRef) (rows rows' : List HandleRow) (top : ℕ) → rows' ≡ rows → Fits at refs rows top [] owns_nothing
     → Fits at refs rows' top [] owns_nothing
 rows-told at refs rows rows' top e f = subst (λ r. Fits at refs r top [] owns_nothing) (sym e) f
 
--- a node has no more handles than there are
 pub held-few : (n : ℕ) (rows : List HandleRow) → held n rows ≤ length rows
 held-few n rows = omega (arith, ones rows, sum_by-le-sum_by (λ h. one (is_at n h)) (λ h. 1) rows (λ h. one-le (is_at n h)))
 
@@ -201,8 +185,7 @@ module _ (list : List HandleNumber) (ss : List Place) (i : ℕ) (h : HandleNumbe
   some-entry = grind (arith, nat_tests, get_or-le-sum_by)
 
   pub entry-lives : find_row h.0 (live ss) ≡ None → ⊥
-  entry-lives none =
-      absurd (omega (arith, none-found h.0 (live ss) none, sum_by-le-sum_by (λ r. one (of_list h.0 r)) (λ r. one (is_handle h.0 r)) (live ss) (entry-less h.0), some-entry))
+  entry-lives none = absurd (omega (arith, none-found h.0 (live ss) none, sum_by-le-sum_by (λ r. one (of_list h.0 r)) (λ r. one (is_handle h.0 r)) (live ss) (entry-less h.0), some-entry))
 
   pub entry-unvalued : (place : ℕ) (row : HandleRow) → AllPairs IsBefore ss → slice_get ss place ≡ Some (alive row) → row.number ≡ h → is_valued row.owner ≡ false
   entry-unvalued place row ordered at number = grind (arith, nat_tests, entry-less, only-row, some-entry, list-owner)
@@ -224,7 +207,6 @@ share-plain : (n : ℕ) (rows : List HandleRow) → sharing n rows + times (is_p
 share-plain n [] = omega arith
 share-plain n (x ∷ xs) = grind (arith, nat_tests, sum_by-cons (λ h. one (is_share n h)) x xs, sum_by-cons (λ h. one (is_plain_pin n h)) x xs, sum_by-cons (λ h. one (is_at n h)) x xs, share-plain n xs)
 
--- no node has pins that are Shared and others
 pub unmixed : (t : Tables) → IsWhole t → (n : ℕ) → (sharing n (live t.holdings.handles.places.items) ≡ 0) ⊎ (times (is_plain_pin n) (live t.holdings.handles.places.items) ≡ 0)
 unmixed t w n = let a = share-plain n (live t.holdings.handles.places.items) in let b = w.core.handles.uniform n in grind (arith, nat_tests)
 
@@ -237,33 +219,32 @@ abbrev pub begun : (before w : Core) (lists : Bool) (t : Holdings) → lists ≡
     → ((n : ℕ) → (sharing n before.rows ≡ 0) ⊎ (times (is_plain_pin n) before.rows ≡ 0)) → ((q : ℕ) → times (λ (h : HandleNumber). h.0 == q) w.list ≤ times (of_list q) w.rows)
     → live t.handles.places.items ≡ w.rows → t.list.items ≡ w.list → t.last_handle ≡ w.last.handle → t.last_handle ≤ greatest → HasRoom w.places (with_tables w t).places
     → ((n : ℕ) → cell_in (counts_at t.nodes n) ≡ w.cells n) → t.unlisted ≡ None → SoFar before w nobody lists t
-begun before w lists t e many unmixed listed rows list last within places cells told =
-    record {
-      begins = record {
-        open_storage = e;
-        fewer = λ n. let a = many (is_pin n) (λ x o. refl) in omega arith;
-        shared = λ n. let a = many (is_share n) (λ x o. refl) in omega arith;
-        uniform = λ n. elim (unmixed n) [ inl none ↦ inl none | inr none ↦ inr (many (is_plain_pin n) (λ x o. refl) ∙ none) ];
-        listed = listed;
-      };
-      gone = nobody;
-      entries = [];
-      rows = rows ∙ sym (append-nil _ ∙ all-kept w.rows);
-      list = list ∙ sym (append-nil _ ∙ all-kept w.list);
-      last = omega arith;
-      within = within;
-      places = places;
-      cells = λ n there. cells n;
-      holds = none-within nobody w.rows;
-      least = λ s final bare has closed. none-within s w.rows;
-      new = tt;
-      only = λ n some. absurd (omega arith);
-      tells = subst (λ u. TellsListing before w [] (told_by u) (with_tables w t)) (sym told) (record {
-        all = λ n must. let a = must.pinned in let b = must.unpinned in let c = many (is_pin n) (λ x o. refl) in let d = ap (pins n) rows in absurd (omega arith);
-        not_all = tt;
-      });
-      few = λ some. let a = ap length rows in omega arith;
-    }
+begun before w lists t e many unmixed listed rows list last within places cells told = record {
+  begins = record {
+    open_storage = e;
+    fewer = λ n. let a = many (is_pin n) (λ x o. refl) in omega arith;
+    shared = λ n. let a = many (is_share n) (λ x o. refl) in omega arith;
+    uniform = λ n. elim (unmixed n) [ inl none ↦ inl none | inr none ↦ inr (many (is_plain_pin n) (λ x o. refl) ∙ none) ];
+    listed = listed;
+  };
+  gone = nobody;
+  entries = [];
+  rows = rows ∙ sym (append-nil _ ∙ all-kept w.rows);
+  list = list ∙ sym (append-nil _ ∙ all-kept w.list);
+  last = omega arith;
+  within = within;
+  places = places;
+  cells = λ n there. cells n;
+  holds = none-within nobody w.rows;
+  least = λ s final bare has closed. none-within s w.rows;
+  new = tt;
+  only = λ n some. absurd (omega arith);
+  tells = subst (λ u. TellsListing before w [] (told_by u) (with_tables w t)) (sym told) (record {
+    all = λ n must. let a = must.pinned in let b = must.unpinned in let c = many (is_pin n) (λ x o. refl) in let d = ap (pins n) rows in absurd (omega arith);
+    not_all = tt;
+  });
+  few = λ some. let a = ap length rows in omega arith;
+}
 
 -- nothing has gone of a whole world, nor of the one with other loads and workers
 abbrev pub begun-less : (t : Tables) (loads : ℕ → Option OpenLoad) (workers : ℕ → Bool) (stored : ℕ → Option Blob) (closed lists : Bool) (failures : ℕ) → IsWhole t → lists ≡ not closed
@@ -277,15 +258,9 @@ abbrev pub begun-whole : (t : Tables) (stored : ℕ → Option Blob) (closed lis
     → SoFar (core_of t stored closed failures) (core_of t stored closed failures) nobody lists (record t.holdings { unlisted = None })
 begun-whole t stored closed lists failures w e = let c = core_of t stored closed failures in begun-less t c.loads c.workers stored closed lists failures w e
 
--- the storage can be open or closed as it is listed or not
-pub not-closed : (lists : Bool) → lists ≡ not (not lists)
-not-closed x0 = grind (arith, nat_tests)
-
-pub shut-then : (lists closed : Bool) → lists ≡ false → lists ≡ not closed → closed ≡ true
-shut-then lists x1 a b = grind (arith, nat_tests)
-
-pub open-then : (lists closed : Bool) → lists ≡ true → lists ≡ not closed → closed ≡ false
-open-then lists x1 a b = grind (arith, nat_tests)
+-- cells are listed exactly while the storage is open
+pub closed-is : (lists closed : Bool) → lists ≡ not closed → closed ≡ not lists
+closed-is lists x1 e = grind (arith, nat_tests)
 
 -- ---- what is known of handles and cells once a handle has gone: what still counts, which handle is a last pin, and why an entry did not come. And the list gives up all that it owns
 
@@ -324,7 +299,6 @@ pub cell-keyed : (o : Option Counts) (c : Counts) (cell : Option Cell) → o ≡
     → has_key (if_there (λ (c : Cell). c.key) OptionalDataKey.None cell) ≡ nat_lt 0 c.key
 cell-keyed o c cell is same = grind (arith, nat_tests)
 
--- an entry came or none was wanted; or one was and didn't come
 pub which : (listed wanted : Bool) → ((listed ≡ true) ⊎ (wanted ≡ false)) ⊎ ((listed ≡ false) × (wanted ≡ true))
 which listed wanted = grind (arith, nat_tests)
 
@@ -340,7 +314,7 @@ none-kept gone q (x ∷ xs) none = grind (arith, nat_tests, none-kept gone q xs)
 
 module _ {before w : Core} {given : ℕ → Bool} {lists : Bool} {t : Holdings} (f : SoFar before w given lists t) (shut : lists ≡ false) where
   pub none-came : f.entries ≡ []
-  none-came = no-entries f.entries (λ n some. let a = shut-then lists w.closed shut f.begins.open_storage in let b = (f.only n some).0.stands_open in absurd (cc))
+  none-came = no-entries f.entries (λ n some. let a : w.closed ≡ true = closed-is lists w.closed f.begins.open_storage ∙ ap not shut in let b = (f.only n some).0.stands_open in absurd (cc))
 
   -- a handle goes apart from a list that has no entry
   pub entry-apart : (q : ℕ) → t.list.items ≡ [] → IsApart before w given lists t f q
@@ -348,7 +322,6 @@ module _ {before w : Core} {given : ℕ → Bool} {lists : Bool} {t : Holdings} 
       let list = f.list ∙ ap (λ es. filter (λ (h : HandleNumber). not (f.gone h.0)) w.list ++ map (λ (h : HandleRow). h.number) es) none-came ∙ append-nil _ in
       record { unentered = ap (times (is_handle q)) none-came; kept = none-kept f.gone q w.list (sym list ∙ empty) }
 
--- the list of a whole world has what it owns
 pub owned-listed : {w : Core} → pager.IsWhole w → (q : ℕ) → is_owned_in w Owner.List q ≡ is_listed w q
 owned-listed {w} whole q =
     let less = sum_by-le-sum_by (λ h. one (of_list q h)) (λ h. one (is_handle q h)) w.rows (λ h. grind (arith, nat_tests)) in
@@ -360,11 +333,10 @@ owned-listed {w} whole q =
 module _ (at at' : ℕ → Option Counts) (refs refs' : ℕ → List ArcRef) (rows : List HandleRow) (top n : ℕ) (c : Counts) (key : ℕ) (fits : Fits at refs rows top [] owns_nothing)
     (is : at n ≡ Some c) (some : 0 < key)
     (here : at' n ≡ Some (keyed c key top)) (others : (m : ℕ) → m ≢ n → at' m ≡ at m) (same : (m : ℕ) → refs' m ≡ refs m) where
-  key-right : (m : ℕ) → Right (at' m) (refs' m)
-  key-right m = grind (arith, nat_tests, cases_eq m n, fits.marked, fits.right)
-
   pub key-fits : (b : Bool) → (c.pins == 0) ≡ b → Fits at' refs' rows (if b then n else top) (if b then n ∷ [] else []) owns_nothing
-  key-fits b e = grind (arith, nat_tests, cases_eq, named, key-right, not-zero at n c fits.from_one is)
+  key-fits b e =
+      let right : (m : ℕ) → Right (at' m) (refs' m) = λ m. grind (arith, nat_tests, cases_eq m n, fits.marked, fits.right) in
+      grind (arith, nat_tests, cases_eq, named, right, not-zero at n c fits.from_one is)
 
 module _ (T : Tables) (stored : ℕ → Option Blob) (closed lists : Bool) (failures : ℕ) (whole : IsWhole T) (opened : lists ≡ not closed) (node : NodeNumber) (key : ℕ) (new : Holdings) where
   abbrev old : Core
@@ -372,7 +344,6 @@ module _ (T : Tables) (stored : ℕ → Option Blob) (closed lists : Bool) (fail
 
   pub keyed-on : new ≡ record T.holdings { unlisted = None; nodes = new.nodes; top = new.top } → GetsKey (counts_at T.holdings.nodes) (counts_at new.nodes) node.0 key
       → SoFar old (with_key old node key) nobody lists new
-  keyed-on same cells =
-      subst (SoFar old (with_key old node key) nobody lists) (sym same)
+  keyed-on same cells = subst (SoFar old (with_key old node key) nobody lists) (sym same)
       (begun old (with_key old node key) lists (record T.holdings { unlisted = None; nodes = new.nodes; top = new.top }) opened (λ p own. refl) (unmixed T whole)
       (λ q. let a = whole.core.owners_there.listed q in omega arith) refl refl refl whole.core.handles.within.0 (record { handles = omega arith; entries = omega arith }) cells refl)

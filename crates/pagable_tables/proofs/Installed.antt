@@ -6,11 +6,10 @@ use Rattle.pagable_tables.proofs.Words.{is_owned_by, is_owned_in, is_pin, is_pin
 use Rattle.pagable_tables.proofs.Words.{option_map, owner_value, owns_nothing, pins, plain_of, reference_fault, references_fault, refl, row_of, sharing, subst, sum_by, sum_by-cons, sum_by_push, sym}
 use Rattle.pagable_tables.proofs.Words.{times, true, vec_capacity, with_handle, with_mode, with_pin, with_tables, without_load, ℕ, ◌&&◌, ◌++◌, ◌+◌, ◌<◌, ◌==◌, ◌∙◌, ◌∷◌, ◌≡◌, ◌≢◌, ◌≤◌, ◌⊎◌}
 use Rattle.pagable_tables.proofs.{Alive.{and-left, there-is}, Calls.may-hold, Fitting.{begun, held-here, is_owned, owned-by, owned-by-none, pin-here, turned, unmixed}, Kept.{among-map, at-most-sum}}
-use Rattle.pagable_tables.proofs.{Kept.{found-among, once, only-at, ordered-map, sum-map, sum-none}, Newer.{load-closed, moved-times, no-load, not-named, owned-given, seen-before, stays-pinned}}
+use Rattle.pagable_tables.proofs.{Kept.{found-among, once, only-at, ordered-map, sum-map, sum-none}, Newer.{moved-times, no-load, not-named, owned-given, seen-before, stays-pinned, updated-by}}
 use Rattle.pagable_tables.proofs.{Next.{found-first, passes-here, passes-none}, Told.{moved-to-value, named-mine, named-own, named-unlisted, not-a-value, or-none, owned-mode, owned-moved}}
 use Rattle.pagable_tables.{proofs.Worlds.fault-by, specs.Core.IsWhole}
 
--- what is named wasn't named before
 unseen : (w : Core) (me : Owner) (seen : List ℕ) (rs : List ArcRef) → references_fault w me seen rs ≡ None → (q : ℕ) → is_named_by rs q ≡ true → is_in seen q ≡ false
 unfolding references_fault is_named_by is_in
 unseen w me seen [] fit q is = absurd (cc)
@@ -21,14 +20,12 @@ unfolding references_fault is_named_by is_in
 once-named w me seen [] fit q = refl
 once-named w me seen (r ∷ rs) fit q =
     let rest = (or-none (reference_fault w me seen r) _ fit).1 in
-    let once = once-named w me (r.handle.0 ∷ seen) rs rest q in let new = unseen w me (r.handle.0 ∷ seen) rs rest q in
-    grind (arith, nat_tests, sum_by-cons (λ (x : ArcRef). one (x.handle.0 == q)) r rs)
+    grind (arith, nat_tests, sum_by-cons (λ (x : ArcRef). one (x.handle.0 == q)) r rs, once-named w me (r.handle.0 ∷ seen) rs rest q, unseen w me (r.handle.0 ∷ seen) rs rest q)
 
 module _ (w : Core) (me : Owner) (n : ℕ) (rs : List ArcRef) (ordered : AllPairs IsHandleBefore w.rows) (fit : references_fault w me [] rs ≡ None) (unvalued : is_valued me ≡ false) where
   abbrev to : HandleRow → HandleRow
   to h = if is_named_by rs h.number.0 then owned-by (owner_value n) h else h
 
-  -- a row that is named isn't a value's
   named-free : (h : HandleRow) → Among w.rows h → is_named_by rs h.number.0 ≡ true → is_valued h.owner ≡ false
   named-free h among is = ap is_valued (named-own w ordered me rs fit h among is) ∙ unvalued
 
@@ -42,8 +39,7 @@ module _ (w : Core) (me : Owner) (n : ℕ) (rs : List ArcRef) (ordered : AllPair
   sum-both q true is =
       let (row, live, own) = there-is (is_owned_by me) (find_row q w.rows) (named-mine w me [] rs fit q is) in
       let (there, number) = found-among q w.rows row live in
-      let a = only-at (both q) w.rows row ordered there (λ x other. grind (arith, nat_tests)) in
-      grind (arith, nat_tests)
+      grind (arith, nat_tests, only-at (both q) w.rows row ordered there (λ x other. grind (arith, nat_tests)))
   sum-both q false is = sum-none (both q) w.rows (λ h among. grind (arith, nat_tests))
 
   pub own-own : (q : ℕ) → sum_by (is_owned n q) w.rows ≡ 0 → sum_by (is_owned n q) (map to w.rows) ≡ named q rs
@@ -68,22 +64,19 @@ module _ (w : Core) (me : Owner) (rs : List ArcRef) (ordered : AllPairs IsHandle
       let l = sum_by_push (is_owned n q) given-rows x in
       let bare : refs n ≡ [] = subst (λ o. Right o (refs n)) free (fits.right n) in let none = ap (named q) bare in
       let before : sum_by (is_owned n q) w.rows ≡ 0 = omega arith in
-      let own = own-own w me n rs ordered fit unvalued q before in
-      let some = ap (named q) refers in
-      grind (arith, nat_tests)
+      grind (arith, nat_tests, own-own w me n rs ordered fit unvalued q before, ap (named q) refers)
 
   pub born-fits : Fits at' refs' rows' top [] owns_nothing
-  born-fits =
-      record {
-        pinned = λ m. grind (arith, nat_tests, cases_eq, pin-here, sum_by_push (λ h. one (is_pin m h)) given-rows x, moved-times (is_pin m) (is_named_by rs) (owner_value n) w.rows (λ h. refl));
-        holding = λ m. grind (arith, nat_tests, cases_eq, held-here, sum_by_push (λ h. one (is_at m h)) given-rows x, moved-times (is_at m) (is_named_by rs) (owner_value n) w.rows (λ h. refl));
-        owned = λ m q. let free = owned-by-none m q x (ap is_valued owner ∙ unvalued) in
-            grind (arith, nat_tests, cases_eq, owned-here q, sum_by_push (is_owned m q) given-rows x, free, same m, others-own w me n rs ordered fit unvalued m q);
-        chain = fits.chain;
-        marked = λ m. let k : c.is_falling ≡ false = ap (λ (d : Counts). d.is_falling) new in grind (arith, nat_tests, cases_eq);
-        right = λ m. grind (arith, nat_tests, cases_eq m n, new, bare, fits.right m);
-        from_one = others 0 (λ z. absurd (omega arith)) ∙ fits.from_one;
-      }
+  born-fits = record {
+    pinned = λ m. grind (arith, nat_tests, cases_eq, pin-here, sum_by_push (λ h. one (is_pin m h)) given-rows x, moved-times (is_pin m) (is_named_by rs) (owner_value n) w.rows (λ h. refl));
+    holding = λ m. grind (arith, nat_tests, cases_eq, held-here, sum_by_push (λ h. one (is_at m h)) given-rows x, moved-times (is_at m) (is_named_by rs) (owner_value n) w.rows (λ h. refl));
+    owned = λ m q. let free = owned-by-none m q x (ap is_valued owner ∙ unvalued) in
+        grind (arith, nat_tests, cases_eq, owned-here q, sum_by_push (is_owned m q) given-rows x, free, same m, others-own w me n rs ordered fit unvalued m q);
+    chain = fits.chain;
+    marked = λ m. let k : c.is_falling ≡ false = ap (λ (d : Counts). d.is_falling) new in grind (arith, nat_tests, cases_eq);
+    right = λ m. grind (arith, nat_tests, cases_eq m n, new, bare, fits.right m);
+    from_one = others 0 (λ z. absurd (omega arith)) ∙ fits.from_one;
+  }
 
 -- handles that are pinned and handles that move do so in any order
 pub moved-turned : (s : ℕ → Bool) (o : Owner) (q : ℕ) (x : HandleRow) (rows : List HandleRow) → s x.number.0 ≡ false
@@ -91,7 +84,6 @@ pub moved-turned : (s : ℕ → Bool) (o : Owner) (q : ℕ) (x : HandleRow) (row
 moved-turned s o q x [] spared = grind (arith, nat_tests)
 moved-turned s o q x (y ∷ ys) spared = grind (arith, nat_tests, moved-turned s o q x ys spared)
 
--- what is counted whether handles are pinned or not
 pub turned-sum : (f : HandleRow → ℕ) (q : ℕ) (rows : List HandleRow) → ((x : HandleRow) → f (turned x) ≡ f x) → sum_by f (changed (is_handle q) turned rows) ≡ sum_by f rows
 turned-sum f q rows same = grind (arith, nat_tests, sum-map)
 
@@ -106,32 +98,25 @@ module _ (w : Core) (me : Owner) (n : ℕ) (rs : List ArcRef) (ordered : AllPair
   abbrev joined-rows : List HandleRow
   joined-rows = moved (is_named_by rs) (owner_value n) before
 
-  own-before : (m q : ℕ) → sum_by (is_owned m q) before ≡ sum_by (is_owned m q) w.rows
-  own-before m q = grind (arith, nat_tests, sum_by_push, turned-sum, owned-by-none)
-
-  own-after : (m q : ℕ) → sum_by (is_owned m q) joined-rows ≡ sum_by (is_owned m q) (moved (is_named_by rs) (owner_value n) w.rows)
-  own-after m q = grind (arith, nat_tests, moved-turned, sum_by_push, turned-sum, owned-by-none)
-
   pub joined-fits : Fits at refs' joined-rows top [] owns_nothing
-  joined-fits =
-      record {
-        pinned = λ m. fits.pinned m ∙ sym (moved-times (is_pin m) (is_named_by rs) (owner_value n) before (λ y. refl));
-        holding = λ m. fits.holding m ∙ sym (moved-times (is_at m) (is_named_by rs) (owner_value n) before (λ y. refl));
-        owned = λ m q. let own = own-own w me n rs ordered fit unvalued q (none q) in
-            grind (arith, nat_tests, cases_eq, own-after m q, own-before m q, others-own w me n rs ordered fit unvalued m q);
-        chain = fits.chain;
-        marked = fits.marked;
-        right = λ m. grind (arith, nat_tests, cases_eq);
-        from_one = fits.from_one;
-      }
+  joined-fits = record {
+    pinned = λ m. fits.pinned m ∙ sym (moved-times (is_pin m) (is_named_by rs) (owner_value n) before (λ y. refl));
+    holding = λ m. fits.holding m ∙ sym (moved-times (is_at m) (is_named_by rs) (owner_value n) before (λ y. refl));
+    owned = λ m q.
+        let was : sum_by (is_owned m q) before ≡ sum_by (is_owned m q) w.rows = grind (arith, nat_tests, sum_by_push, turned-sum, owned-by-none) in
+        let is : sum_by (is_owned m q) joined-rows ≡ sum_by (is_owned m q) (moved (is_named_by rs) (owner_value n) w.rows) = grind (arith, nat_tests, moved-turned, sum_by_push, turned-sum, owned-by-none) in
+        grind (arith, nat_tests, cases_eq, is, was, own-own w me n rs ordered fit unvalued q (none q), others-own w me n rs ordered fit unvalued m q);
+    chain = fits.chain;
+    marked = fits.marked;
+    right = λ m. grind (arith, nat_tests, cases_eq);
+    from_one = fits.from_one;
+  }
 
 -- ---- a load of a cell ends with a pin, and gives up what it still owns. The pin stays, so that cells are listed as of the world before
 
--- references are as good where there are other places
 pub references-placed : (w : Core) (places : Places) (owner : Owner) (seen : List ℕ) (refs : List ArcRef) → references_fault (record w { places = places }) owner seen refs ≡ references_fault w owner seen refs
 references-placed w places = fault-by w (record w { places = places })
 
--- who ends a load may own one
 pub ready-owner : (t : Tables) (me : Owner) (l : LoadNumber) (node_type : ℕ) (refs : List ArcRef) (e : Ending) → IsWhole t → IsReady (plain_of t) me l node_type refs e → MayOwnLoad (plain_of t) me
 ready-owner t me l node_type refs e whole r = subst (MayOwnLoad (plain_of t)) r.may.owned.own (whole.core.loads.owned l.0 r.may.load r.may.owned.stands_open)
 
@@ -156,12 +141,6 @@ module _ (t t1 : Tables) (stored : ℕ → Option Blob) (closed lists : Bool) (f
   abbrev o : Owner
   o = owner_value row.node.0
 
-  spared : s (t.holdings.last_handle + 1) ≡ false
-  spared = not-named (plain_of t) l rs was.core.handles good (t.holdings.last_handle + 1) (omega arith)
-
-  unvalued : is_valued me ≡ false
-  unvalued = not-a-value (plain_of t) me (may-hold (plain_of t) me may)
-
   abbrev w : Core
   w = core_of t stored closed failures
 
@@ -181,29 +160,23 @@ module _ (t t1 : Tables) (stored : ℕ → Option Blob) (closed lists : Bool) (f
   given q = is_owned_in w (Owner.Load l) q && not (s q)
 
   of : (y : HandleRow) → Among rows0 y → is_handle row.number.0 y ≡ true → y.node ≡ row.node
-  of y among is =
-      grind (arith, nat_tests, row-of, among-map (λ (z : HandleRow). if s z.number.0 then record z { owner = o } else z) w.rows y among)
+  of y among is = grind (arith, nat_tests, row-of, among-map (λ (z : HandleRow). if s z.number.0 then record z { owner = o } else z) w.rows y among)
 
   come : moved s o (live t1.holdings.handles.places.items) ≡ u.rows
-  come = ap (moved s o) a.rows ∙ moved-turned s o row.number.0 x w.rows spared
+  come = ap (moved s o) a.rows ∙ moved-turned s o row.number.0 x w.rows (not-named (plain_of t) l rs was.core.handles good (t.holdings.last_handle + 1) (omega arith))
 
   as-moved : (f : HandleRow → Bool) → ((y : HandleRow) → f (record y { owner = o }) ≡ f y) → times f u.rows ≡ times f (live t1.holdings.handles.places.items)
   as-moved f keeps = ap (times f) (sym come) ∙ moved-times f s o (live t1.holdings.handles.places.items) keeps
 
-  list-has : (q : ℕ) → times (λ (h : HandleNumber). h.0 == q) u.list ≡ times (λ h. is_handle q h && is_owned_by Owner.List h) u.rows
-  list-has q =
-      let b = sum_by_push (λ (h : HandleRow). one (is_handle q h && is_owned_by Owner.List h)) mid x in
-      let had = (moved-to-value was.core s (named-unlisted was.core (Owner.Load l) rs refl good) row.node.0).owners_there.listed q in
-      grind (arith, nat_tests, turned-sum (λ (h : HandleRow). one (is_handle q h && is_owned_by Owner.List h)) row.number.0 rows0 (λ y. refl), had)
-
   module _ (k : Holdings) (rows : live k.handles.places.items ≡ moved s o (live t1.holdings.handles.places.items)) (list : k.list ≡ t1.holdings.list) (last : k.last_handle ≡ t1.holdings.last_handle)
       (capacity : vec_capacity k.handles.places ≡ vec_capacity t1.holdings.handles.places) (cells : (n : ℕ) → cell_in (counts_at k.nodes n) ≡ cell_in (counts_at t1.holdings.nodes n)) where
-    -- nothing has gone of it
     begun-pinned : SoFar u u nobody lists (record k { unlisted = None })
-    begun-pinned =
-        begun u u lists (record k { unlisted = None }) e (λ p own. refl)
+    begun-pinned = begun u u lists (record k { unlisted = None }) e (λ p own. refl)
         (λ n. let b = unmixed t1 whole n in let p = as-moved (is_share n) (λ y. refl) in let q = as-moved (is_plain_pin n) (λ y. refl) in grind (arith, nat_tests))
-        (λ q. let a = list-has q in omega arith) (rows ∙ come) (ap (λ v. v.items) list ∙ a.list) (last ∙ ap (λ (v : Last). v.handle) a.last)
+        (λ q.
+        let had = (moved-to-value was.core s (named-unlisted was.core (Owner.Load l) rs refl good) row.node.0).owners_there.listed q in
+        let more = sum_by_push (λ (h : HandleRow). one (is_handle q h && is_owned_by Owner.List h)) mid x in
+        grind (arith, nat_tests, turned-sum (λ (h : HandleRow). one (is_handle q h && is_owned_by Owner.List h)) row.number.0 rows0 (λ y. refl), had)) (rows ∙ come) (ap (λ v. v.items) list ∙ a.list) (last ∙ ap (λ (v : Last). v.handle) a.last)
         (let b = whole.core.handles.within.0 in omega arith)
         (record { handles = (let b = a.places.handles in omega arith); entries = (let b = a.places.entries in let d = ap vec_capacity list in omega arith) }) (λ n. cells n ∙ a.cells n) refl
 
@@ -217,7 +190,7 @@ module _ (t t1 : Tables) (stored : ℕ → Option Blob) (closed lists : Bool) (f
     as-before : {w' : Core} {r : Result (Unit {0}) Error} → Falls u u given r w' → Falls w u given r w'
     as-before {w'} {r} falls = seen-before {b = u} {w = w} {u = u} u.places (record { handles = omega arith; entries = omega arith }) (λ n none.
         let kept = owned-given (plain_of t) (Owner.Load l) (t.holdings.last_handle + 1) was.core.handles in
-        let stays = stays-pinned (record w { rows = mid }) u w' given r x refl ordered unvalued (grind (arith, nat_tests, and-left)) falls n none in
+        let plain = not-a-value (plain_of t) me (may-hold (plain_of t) me may) in let stays = stays-pinned (record w { rows = mid }) u w' given r x refl ordered plain (grind (arith, nat_tests, and-left)) falls n none in
         let more = sum_by_push (λ y. one (is_pin n y)) mid x in
         let z : one (is_pin n x) ≡ 0 = (let b = stays.0 in omega arith) in
         let other : (row.node.0 == n) ≡ false = grind (arith, nat_tests) in (
@@ -236,7 +209,7 @@ module _ (t t1 : Tables) (stored : ℕ → Option Blob) (closed lists : Bool) (f
         (λ q own. let mine = and-left (is_owned_in w (Owner.Load l) q) (not (s q)) (sym (owned-pinned q) ∙ own) in
         (later q mine, (let g = owned-given (plain_of t) (Owner.Load l) q was.core.handles mine in let b = ap (λ (v : Last). v.handle) a.last in omega arith))) in
         let fell = as-before (subst (λ g. Falls u u g r (with_tables u new)) (λ i q. owned-pinned q i) falls) in
-        let closed-one = load-closed (load_at t.loads) loads l.0 gone (λ q other. others q other ∙ ap (λ (v : Tables). load_at v.loads q) same) in
+        let closed-one = updated-by (option_map load_in) (load_at t.loads) loads l.0 None gone (λ q other. others q other ∙ ap (λ (v : Tables). load_at v.loads q) same) in
         subst (λ (v : Tables). Falls w u given r (record (core_of (record v { holdings = new }) stored closed failures) { loads = λ q. option_map load_in (loads q) })) (sym same)
         (subst (λ f. Falls w u given r (record (with_tables u new) { loads = f })) (λ i q. closed-one q i) fell)
 

@@ -32,17 +32,14 @@ among-changed test f P xs x among does stays = grind (arith, nat_tests, among-ma
 
 -- ---- counted
 
--- smaller at each element and less at one, so less in sum
 pub sum-less : {X : Type 0} (f g : X → ℕ) (xs : List X) (x : X) → ((y : X) → f y ≤ g y) → Among xs x → f x < g x → sum_by f xs < sum_by g xs
 sum-less f g (y ∷ ys) x le (suc i, is) lt = grind (arith, nat_tests, sum_by-le-sum_by, sum_by-cons, sum-less f g ys x le (i, is) lt)
 sum-less f g x2 x le x5 lt = grind (arith, nat_tests, sum_by-le-sum_by, sum_by-cons)
 
--- the sum after each element changed
 pub sum-map : {X : Type 0} (f g : X → ℕ) (to : X → X) (xs : List X) → ((x : X) → Among xs x → f (to x) ≡ g x) → sum_by f (map to xs) ≡ sum_by g xs
 sum-map f g to [] h = refl
 sum-map f g to (x ∷ xs) h = grind (arith, nat_tests, sum_by-cons, sum-map f g to xs (λ y among. h y (suc among.0, among.1)))
 
--- two sums that are the same at each element
 pub same-sum : {X : Type 0} (f g : X → ℕ) (xs : List X) → ((x : X) → Among xs x → f x ≡ g x) → sum_by f xs ≡ sum_by g xs
 same-sum f g xs h = ap (sum_by f) (sym (map-id xs)) ∙ sum-map f g (λ x. x) xs h
 
@@ -55,7 +52,6 @@ ordered-map to rows same ordered j k d less lt = grind (arith, nat_tests, length
 pub ordered-push : (rows : List HandleRow) (row : HandleRow) → ((h : HandleRow) → Among rows h → h.number.0 < row.number.0) → AllPairs IsHandleBefore rows → AllPairs IsHandleBefore (rows ++ row ∷ [])
 ordered-push rows row above ordered = all_pairs_push IsHandleBefore rows row ordered (λ k d lt. above (get_or rows k d) (k, slice_get-get_or rows k d lt))
 
--- the first has the smallest number
 first-less : (x : HandleRow) (xs : List HandleRow) → AllPairs IsHandleBefore (x ∷ xs) → (y : HandleRow) → Among xs y → x.number.0 < y.number.0
 first-less x xs ordered y (j, at) =
     let lt = slice_get_within xs j y at in
@@ -64,28 +60,19 @@ first-less x xs ordered y (j, at) =
     omega arith
 
 -- two sums that are the same but at one row
-apart-sum : (f g : HandleRow → ℕ) (rows : List HandleRow) (row : HandleRow) → AllPairs IsHandleBefore rows → Among rows row → ((x : HandleRow) → (x.number.0 == row.number.0) ≡ false → f x ≡ g x)
+pub apart-sum : (f g : HandleRow → ℕ) (rows : List HandleRow) (row : HandleRow) → AllPairs IsHandleBefore rows → Among rows row → ((x : HandleRow) → (x.number.0 == row.number.0) ≡ false → f x ≡ g x)
     → sum_by f rows + g row ≡ sum_by g rows + f row
 apart-sum f g [] row ordered among same = let a = among.1 in absurd (cc)
 apart-sum f g (x ∷ xs) row ordered (zero, is) same =
-    let c = same-sum f g xs (λ y among. same y (let less = first-less x xs ordered y among in grind (arith, nat_tests))) in
-    grind (arith, nat_tests, sum_by-cons f x xs, sum_by-cons g x xs)
+    grind (arith, nat_tests, sum_by-cons f x xs, sum_by-cons g x xs, same-sum f g xs (λ y among. same y (let less = first-less x xs ordered y among in grind (arith, nat_tests))))
 apart-sum f g (x ∷ xs) row ordered (suc i, is) same =
     let less = first-less x xs ordered row (i, is) in
-    let rest = apart-sum f g xs row (λ j k d less lt. ordered (suc j) (suc k) d (omega arith) (omega arith)) (i, is) same in
-    omega (arith, sum_by-cons f x xs, sum_by-cons g x xs, same x (grind (arith, nat_tests)))
+    omega (arith, sum_by-cons f x xs, sum_by-cons g x xs, same x (grind (arith, nat_tests)), apart-sum f g xs row (λ j k d less lt. ordered (suc j) (suc k) d (omega arith) (omega arith)) (i, is) same)
 
--- what changes one row changes the sum by what it changes there
-pub changed-sum : (f : HandleRow → ℕ) (to : HandleRow → HandleRow) (rows : List HandleRow) (row : HandleRow) → AllPairs IsHandleBefore rows → Among rows row
-    → ((x : HandleRow) → (x.number.0 == row.number.0) ≡ false → f (to x) ≡ f x) → sum_by f (map to rows) + f row ≡ sum_by f rows + f (to row)
-changed-sum f to rows row ordered among same = omega (arith, sum-map f (λ x. f (to x)) to rows (λ x there. refl), apart-sum (λ x. f (to x)) f rows row ordered among same)
-
--- what is counted of one number is counted of its row
 pub only-at : (f : HandleRow → ℕ) (rows : List HandleRow) (row : HandleRow) → AllPairs IsHandleBefore rows → Among rows row → ((x : HandleRow) → (x.number.0 == row.number.0) ≡ false → f x ≡ 0)
     → sum_by f rows ≡ f row
 only-at f rows row ordered among none = omega (arith, sum-none (λ (x : HandleRow). 0) rows (λ x there. refl), apart-sum f (λ x. 0) rows row ordered among none)
 
--- a row that stands there is found
 pub found-so : (q : ℕ) (rows : List HandleRow) (row : HandleRow) → AllPairs IsHandleBefore rows → Among rows row → row.number.0 ≡ q → find_row q rows ≡ Some row
 found-so q rows row ordered among number = at (find_row q rows) refl
   where
@@ -101,7 +88,6 @@ module _ {X : Type 0} (number : X → ℕ) (f : X → Bool) (q : ℕ) (only : (x
   one-left b e [] = grind (arith, nat_tests)
   one-left b e (x ∷ xs) = let goes = only x in grind (arith, nat_tests, one-left b e xs, sum_by-cons (λ y. one (f y)) x xs, sum_by-cons (λ y. one (f y)) x (filter (λ x. not (gone (number x))) xs))
 
--- a row of the given ones goes
 pub within-goes : (rows : List HandleRow) (given gone : ℕ → Bool) (h : HandleRow) → IsWithin rows given gone → Among rows h → given h.number.0 ≡ true → gone h.number.0 ≡ true
 within-goes rows given gone h within among is = grind (arith, nat_tests, at-most-sum (λ x. one (given x.number.0 && not (gone x.number.0))) rows h among)
 
@@ -117,7 +103,6 @@ pub entry-is : (last : ℕ) (entries : List HandleRow) (h : HandleRow) → AreNe
 entry-is last (x ∷ xs) h new (suc i, is) = grind (arith, nat_tests, entry-is (last + 1) xs h new.3 (i, is))
 entry-is last x1 h new x4 = grind (arith, nat_tests)
 
--- the list gets each entry
 pub entries-listed : (q last : ℕ) (entries : List HandleRow) → AreNewEntries last entries
     → times (λ (h : HandleNumber). h.0 == q) (map (λ (h : HandleRow). h.number) entries) ≡ times (λ h. is_handle q h && is_owned_by Owner.List h) entries
 entries-listed q last [] new = refl
@@ -128,8 +113,7 @@ entries-listed q last (x ∷ xs) new =
 pub ordered-entries : (last : ℕ) (rows entries : List HandleRow) → ((h : HandleRow) → Among rows h → h.number.0 ≤ last) → AreNewEntries last entries → AllPairs IsHandleBefore rows
     → AllPairs IsHandleBefore (rows ++ entries)
 ordered-entries last rows [] few new ordered = subst (λ r. AllPairs IsHandleBefore r) (sym (append-nil rows)) ordered
-ordered-entries last rows (x ∷ xs) few new ordered =
-    subst (λ r. AllPairs IsHandleBefore r) (append_assoc rows (x ∷ []) xs)
+ordered-entries last rows (x ∷ xs) few new ordered = subst (λ r. AllPairs IsHandleBefore r) (append_assoc rows (x ∷ []) xs)
     (ordered-entries (last + 1) (rows ++ x ∷ []) xs (λ h among. let number = new.0 in grind (arith, nat_tests, among-both rows (x ∷ []) h among, among-one x h, few h)) new.3
     (ordered-push rows x (λ h among. let a = few h among in omega arith) ordered))
 
@@ -166,8 +150,7 @@ stays-old {rows} {h} among = record { row = h; there = among; number = refl; nod
 pub record IsNew (w u : Core) (fresh : Bool) (h : HandleRow) : Type 0 where
   pub above : w.last.handle < h.number.0
   pub few : h.number.0 ≤ u.last.handle
-  pub like : HasLike w.rows h.node.0 (is_shared h.mode)
-      ⊎ ((w.last.node < h.node.0) × (h.node.0 ≤ u.last.node) × (is_shared h.mode ≡ fresh) × (fresh ≡ true → keyed_in (u.cells h.node.0) ≡ false))
+  pub like : HasLike w.rows h.node.0 (is_shared h.mode) ⊎ ((w.last.node < h.node.0) × (h.node.0 ≤ u.last.node) × (is_shared h.mode ≡ fresh) × (fresh ≡ true → keyed_in (u.cells h.node.0) ≡ false))
 
 -- rows and nodes as they go on
 pub record GoOn (w u : Core) : Type 0 where
@@ -179,7 +162,6 @@ pub record GoOn (w u : Core) : Type 0 where
   pub typed : (n t : ℕ) → n ≤ w.last.node → type_in (u.cells n) ≡ Some t → type_in (w.cells n) ≡ Some t
   pub keyed : (n : ℕ) → HasLike w.rows n true → n ≤ w.last.node → keyed_in (w.cells n) ≡ false → keyed_in (u.cells n) ≡ false
 
--- no row changes
 pub same-rows : {w u : Core} → IsWhole w → u.rows ≡ w.rows → SameAt w.cells u.cells → u.last.node ≡ w.last.node → u.last.handle ≡ w.last.handle → w.last.load ≤ u.last.load → GoOn w u
 same-rows {w} {u} whole rows cells node handle load = grind (arith, nat_tests, stays-old)
 
@@ -194,10 +176,9 @@ IsIn w mode _ = Unit {0}
 
 pub is-in : {w : Core} → IsWhole w → (h : HandleRow) → Among w.rows h → IsIn w h.mode h.owner
 is-in {w} whole h among =
-    let a = whole.owners_there.waiting h among in
     let b = λ (l : LoadNumber). whole.owners_there.loads h l among in
     let c = λ (v : ℕ). whole.owners_there.workers h v among in
-    grind (arith, nat_tests)
+    grind (arith, nat_tests, whole.owners_there.waiting h among)
 
 pub holder-in : (w : Core) (mode : Mode) (o : Owner) → MayHold w o → IsIn w mode o
 holder-in w mode o may = grind (arith, nat_tests)
@@ -236,7 +217,6 @@ at-then n h some = grind (arith, nat_tests)
 share-then : (n : ℕ) (h : HandleRow) → 0 < one (is_share n h) → (h.node.0 ≡ n) × (is_shared h.mode ≡ true)
 share-then n h some = grind (arith, nat_tests)
 
--- a row counts among those of its node
 pub held-some : (n : ℕ) (rows : List HandleRow) (h : HandleRow) → Among rows h → h.node.0 ≡ n → 0 < held n rows
 held-some n rows h among e = let a = at-most-sum (λ x. one (is_at n x)) rows h among in grind (arith, nat_tests)
 
@@ -247,7 +227,6 @@ there-then {w} whole h among = let a = held-some h.node.0 w.rows h among refl in
 abbrev pub AreAlike : List HandleRow → Type 0
 AreAlike rows = (x y : HandleRow) → Among rows x → Among rows y → x.node.0 ≡ y.node.0 → is_shared x.mode ≡ is_shared y.mode
 
--- a row is Shared exactly where one of its node is
 shared-by : {w : Core} → IsWhole w → (x : HandleRow) → Among w.rows x → is_shared x.mode ≡ nat_lt 0 (sharing x.node.0 w.rows)
 shared-by {w} whole x among =
     let less = sum-less (λ h. one (is_share x.node.0 h)) (λ h. one (is_at x.node.0 h)) w.rows x (λ h. grind (arith, nat_tests)) among in
@@ -299,21 +278,20 @@ module _ {w u : Core} (whole : IsWhole w) (k : Keeps w u) where
       }
 
   pub keeps-whole : IsWhole u
-  keeps-whole =
-      record {
-        handles = handles;
-        owners_there = record {
-          listed = k.listed;
-          waiting = λ h among is. subst (IsIn u h.mode) is (k.owners h among);
-          loads = λ h l among is. subst (IsIn u h.mode) is (k.owners h among);
-          workers = λ h v among is. subst (IsIn u h.mode) is (k.owners h among);
-        };
-        loads = record {
-          numbered = λ l some. grind (arith, nat_tests, k.loads, whole.loads.numbered, k.on.last);
-          owned = λ l load is. (k.loads l load is).0;
-          roots = λ l load node t h is of. root node t h (elim (k.loads l load is).1 [ inl was ↦ whole.loads.roots l load node t h was of | inr new ↦ new.root node t h of ]);
-        };
-        cache = λ kind key n is. let e = k.cache kind key n is in grind (arith, nat_tests, like, k.on.typed);
-        workers_numbered = k.workers;
-        shut = λ so. absurd (let stands = k.stands_open in cc);
-      }
+  keeps-whole = record {
+    handles = handles;
+    owners_there = record {
+      listed = k.listed;
+      waiting = λ h among is. subst (IsIn u h.mode) is (k.owners h among);
+      loads = λ h l among is. subst (IsIn u h.mode) is (k.owners h among);
+      workers = λ h v among is. subst (IsIn u h.mode) is (k.owners h among);
+    };
+    loads = record {
+      numbered = λ l some. grind (arith, nat_tests, k.loads, whole.loads.numbered, k.on.last);
+      owned = λ l load is. (k.loads l load is).0;
+      roots = λ l load node t h is of. root node t h (elim (k.loads l load is).1 [ inl was ↦ whole.loads.roots l load node t h was of | inr new ↦ new.root node t h of ]);
+    };
+    cache = λ kind key n is. let e = k.cache kind key n is in grind (arith, nat_tests, like, k.on.typed);
+    workers_numbered = k.workers;
+    shut = λ so. absurd (let stands = k.stands_open in cc);
+  }

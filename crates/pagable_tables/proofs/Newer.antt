@@ -1,31 +1,28 @@
 -- A load is closed or hands handles over, or a worker leaves, and what they still own is given up.
-use Rattle.pagable_tables.proofs.Words.{ArcRef, AreLater, ArePlaced, AwayBirthCall, Bears, Blob, Bool, Core, Error, Falls, Fits, Giving, HandleNumber, HandleRow, Handles, HandlesAreWhole, HasRoom}
-use Rattle.pagable_tables.proofs.Words.{Holdings, InReach, IndexMap, IsBefore, IsClosed, IsFalling, IsHandleBefore, IsLeast, IsNoLess, Last, List, LoadNumber, LoadRow, MayHold, MayOwnLoad, Mode}
-use Rattle.pagable_tables.proofs.Words.{NodeNumber, NodeRow, None, Ok, OnlyRoom, OpenLoad, Option, OptionalDataKey, Owner, Place, Places, Reach, Result, Sheds, SoFar, Some, Tables, TakeCall}
-use Rattle.pagable_tables.proofs.Words.{ValueStays, [], alive, and_parts, ap, arith, cases_Bool, cases_eq, cell_in, changed, core_of, counts_at, false, find_row, get, get_or, get_or_default}
-use Rattle.pagable_tables.proofs.Words.{gives_row, greatest, has_key, has_value, held, if_there, if◌then◌else◌, inl, inr, is_at, is_handle, is_keyed, is_loose_kind, is_named_by, is_outside}
-use Rattle.pagable_tables.proofs.Words.{is_owned_by, is_owned_in, is_owner, is_pin, is_pinning, is_plain_pin, is_shared, is_some, is_valued, key_in, known_at, left_rows, length, live, load_at}
-use Rattle.pagable_tables.proofs.Words.{load_in, loses_value, mode_of, moved, nat_eq, nat_lt, nat_tests, next_node, nobody, not, one, only_handle, option_map, or_else, owner_value, owner_worker}
-use Rattle.pagable_tables.proofs.Words.{owns_nothing, passes_in, pins, plain_of, reach_at, references_fault, refl, refs_at, row_of, sharing, slice_get, slice_get-get_or, subst, suc, sum_by}
-use Rattle.pagable_tables.proofs.Words.{sum_by-append, sum_by-cons, sum_by-le-sum_by, sum_by_push, sym, take, times, true, updated, with_handle, with_mode, with_node, with_worker, ℕ, ◌&&◌, ◌++◌, ◌+◌}
-use Rattle.pagable_tables.proofs.{Fitting.{begun, is_owned, list-owner, no-value, none-came, not-closed, owned-by-none, rows-told, unmixed}, Kept.{among-last, at-most-sum, found-among, once, sum-map}}
-use Rattle.pagable_tables.proofs.{Kept.sum-none, Next.{and_owned, no-entry, none-falls-in, owned, passes-here, passes-left, passes-none, regiven, sheds-still}, Told.{Goes, IsNewer, OnlyNewer}}
-use Rattle.pagable_tables.proofs.{Told.{alike-goes, born-whole, named-mine, newer-handle, newer-moved, newer-then, no-references, not-list, owned-moved, settled}, Words.{Alike, AllPairs, Among}}
-use Rattle.pagable_tables.proofs.{Words.{◌-◌, ◌<◌, ◌==◌, ◌||◌, ◌∙◌, ◌∷◌, ◌≡◌, ◌≢◌, ◌≤◌, ◌⊎◌}, Worlds.{born-past, found-map, moved-twice, named-none, named-take, next-past, owner-same, owner-self}}
 use Rattle.{pagable_model.specs.declared.numbers.WorkerNumber.WorkerNumber, pagable_tables.proofs.Alive.{and-left, at-place, found-append, le_or_lt, of_list, there-is, times-left, whole-so}}
-use Rattle.{pagable_tables.{proofs.Worlds.{room-alike, same-cache}, specs.{Core.{Does, DoesShed, IsWhole, TakesWorker, gives}, Falling.{Becomes, Widens}}}, pagable_world.specs.Workers.is_load_of}
+use Rattle.pagable_tables.proofs.{Fitting.{begun, closed-is, is_owned, list-owner, no-value, none-came, owned-by-none, rows-told, unmixed}, Kept.{among-last, at-most-sum, found-among, once, sum-map}}
+use Rattle.pagable_tables.proofs.{Kept.sum-none, Next.{and_owned, no-entry, owned, passes-here, passes-left, passes-none, regiven, sheds-still}, Told.{Goes, IsNewer, OnlyNewer, alike-goes}}
+use Rattle.pagable_tables.proofs.{Told.{born-whole, named-mine, newer-handle, newer-moved, newer-then, not-list, owned-moved, settled}, Words.{Alike, AllPairs, Among, ArcRef, AreLater, ArePlaced}}
+use Rattle.pagable_tables.proofs.Words.{AwayBirthCall, Bears, Blob, Bool, Core, Error, Falls, Fits, Giving, HandleNumber, HandleRow, Handles, HandlesAreWhole, HasRoom, Holdings, InReach, IndexMap}
+use Rattle.pagable_tables.proofs.Words.{IsBefore, IsClosed, IsFalling, IsHandleBefore, IsLeast, IsNoLess, Last, List, LoadNumber, LoadRow, MayHold, MayOwnLoad, Mode, NodeNumber, NodeRow, None, Ok}
+use Rattle.pagable_tables.proofs.Words.{OnlyRoom, OpenLoad, Option, OptionalDataKey, Owner, Place, Places, Reach, Result, Sheds, SoFar, Some, Tables, TakeCall, [], alive, and_parts, ap, arith}
+use Rattle.pagable_tables.proofs.Words.{cases_Bool, cases_eq, changed, core_of, counts_at, false, find_row, get, get_or, get_or_default, gives_row, greatest, has_key, held, if_there, if◌then◌else◌}
+use Rattle.pagable_tables.proofs.Words.{inl, inr, is_at, is_handle, is_keyed, is_loose_kind, is_named_by, is_outside, is_owned_by, is_owned_in, is_owner, is_pin, is_pinning, is_plain_pin, is_shared}
+use Rattle.pagable_tables.proofs.Words.{is_some, is_valued, key_in, known_at, left_rows, length, live, load_at, load_in, loses_value, mode_of, moved, nat_eq, nat_lt, nat_tests, next_node, nobody, not}
+use Rattle.pagable_tables.proofs.Words.{one, only_handle, option_map, or_else, owner_value, owner_worker, owns_nothing, passes_in, pins, plain_of, reach_at, references_fault, refl, refs_at, row_of}
+use Rattle.pagable_tables.proofs.Words.{sharing, slice_get, slice_get-get_or, subst, suc, sum_by, sum_by-append, sum_by-cons, sum_by-le-sum_by, sum_by_push, sym, take, times, true, updated}
+use Rattle.pagable_tables.proofs.{Words.{with_handle, with_mode, with_node, with_tables, with_worker, ℕ, ◌&&◌, ◌++◌, ◌+◌, ◌-◌, ◌<◌, ◌==◌, ◌||◌, ◌∙◌, ◌∷◌, ◌≡◌, ◌≢◌, ◌≤◌, ◌⊎◌}, Worlds.born-past}
+use Rattle.pagable_tables.{proofs.Worlds.{found-map, moved-twice, named-none, named-take, next-past, owner-same, owner-self, room-alike, same-cache}, specs.Core.{Does, DoesShed, IsWhole, TakesWorker}}
+use Rattle.{pagable_tables.specs.{Core.gives, Falling.{Becomes, Widens}}, pagable_world.specs.Workers.is_load_of}
 use Rattle.pagable_world.specs.Pager as pager
 
--- what is counted of handles whoever owns them
 pub moved-times : (f : HandleRow → Bool) (s : ℕ → Bool) (o : Owner) (rows : List HandleRow) → ((x : HandleRow) → f (record x { owner = o }) ≡ f x) → times f (moved s o rows) ≡ times f rows
 moved-times f s o [] same = refl
 moved-times f s o (x ∷ xs) same = let here = same x in grind (arith, nat_tests, moved-times f s o xs same, sum_by-cons (λ h. one (f h)))
 
--- who began a load isn't one, nor a value
 pub no-load : (w : Core) (o : Owner) (l : LoadNumber) → MayOwnLoad w o → is_owner (Owner.Load l) o ≡ false
 no-load w o l may = grind (arith, nat_tests)
 
--- handles move, and none that is a value's
 pub moved-stands : (t : Holdings) (h : Handles) (s : ℕ → Bool) (o : Owner) → IsFalling t [] owns_nothing → is_valued o ≡ false → ((x : HandleRow) → Among (live t.handles.places.items) x → s x.number.0 ≡ true → is_valued x.owner ≡ false)
     → Becomes t.handles (moved s o (live t.handles.places.items)) h → IsFalling (record t { handles = h }) [] owns_nothing
 moved-stands t h s o w plain free is =
@@ -38,9 +35,9 @@ moved-stands t h s o w plain free is =
     let fits : Fits (counts_at t.nodes) (refs_at t.nodes) (moved s o rows) t.top [] owns_nothing = grind (arith, nat_tests, w.fits, pinned, holding, own) in
     record { sound = is.sound; next = is.next (t.last_handle + 1) w.next; fits = rows-told (counts_at t.nodes) (refs_at t.nodes) (moved s o rows) (live h.places.items) t.top is.rows fits }
 
--- a load isn't there any more
-pub load-closed : (at at' : ℕ → Option LoadRow) (l : ℕ) → at' l ≡ None → ((q : ℕ) → q ≢ l → at' q ≡ at q) → (q : ℕ) → updated l None (λ q. option_map load_in (at q)) q ≡ option_map load_in (at' q)
-load-closed at at' l gone others q = grind (arith, nat_tests)
+-- a look-up of what changes at one number, as it is told
+pub updated-by : {A B : Type 0} (f : Option A → B) (at at' : ℕ → Option A) (n : ℕ) (o : Option A) → at' n ≡ o → ((q : ℕ) → q ≢ n → at' q ≡ at q) → (q : ℕ) → updated n (f o) (λ q. f (at q)) q ≡ f (at' q)
+updated-by f at at' n o here others q = grind (arith, nat_tests)
 
 -- a handle whose row passes a test was given
 pub passes-given : (test : HandleRow → Bool) (w : Core) (q : ℕ) → pager.HandlesAreWhole w → passes_in test w.rows q ≡ true → (0 < q) × (q ≤ w.last.handle)
@@ -69,12 +66,8 @@ in-reach t whole later v q is = let (row, e, passes) = there-is (gives_row w (Gi
 pub loads-anew : (before u w' : Core) (given : ℕ → Bool) (r : Result (Unit {0}) Error) (loads : ℕ → Option OpenLoad) → ((q : ℕ) → w'.loads q ≡ loads q) → Falls before u given r w' → Falls before u given r (record w' { loads = loads })
 loads-anew before u w' given r loads same falls = subst (λ l. Falls before u given r (record w' { loads = l })) (λ i q. same q i) falls
 
--- one more is at work, or one less
 pub one-more-works : (at at' : ℕ → Option Reach) (v : ℕ) (reach : Reach) → at' v ≡ Some reach → ((q : ℕ) → q ≢ v → at' q ≡ at q) → (q : ℕ) → is_some (at' q) ≡ updated v true (λ u. is_some (at u)) q
-one-more-works at at' v reach here others q = grind (arith, nat_tests)
-
-pub worker-gone : (at at' : ℕ → Option Reach) (v : ℕ) → at' v ≡ None → ((q : ℕ) → q ≢ v → at' q ≡ at q) → (q : ℕ) → updated v false (λ u. is_some (at u)) q ≡ is_some (at' q)
-worker-gone at at' v gone others q = grind (arith, nat_tests)
+one-more-works at at' v reach here others q = sym (updated-by is_some at at' v (Some reach) here others q)
 
 -- the entry moves to it
 pub takes-worker : (w w1 w' : Core) (place : ℕ) (v : WorkerNumber) (found : Option HandleNumber) → w1 ≡ with_worker w → v.0 ≡ w.last.worker + 1 → place < length w.list → TakeCall w1 (Owner.Worker v) place found w' → TakesWorker w place (Ok v) w'
@@ -92,28 +85,21 @@ later-by {t} {t'} later last loads less own work =
     let wider : (v q : ℕ) → owned (owner_worker v) q (plain_of t).rows ≡ true → InReach (reach_at t'.workers v) q = λ v q had. less.wider v q (later.reach v q had) in
     grind (arith, nat_tests, later.given, later.since, later.begun, later.loads, less.before, wider, loads, own, work)
 
-still-reaches : {S : Type 0} {workers workers' : IndexMap ℕ Reach S} → workers' ≡ workers → IsNoLess workers workers'
+pub still-reaches : {S : Type 0} {workers workers' : IndexMap ℕ Reach S} → workers' ≡ workers → IsNoLess workers workers'
 still-reaches {S} {workers} {workers'} same = subst (λ u. IsNoLess workers u) (sym same) (record { wider = λ v q in-reach. in-reach; before = λ v. omega arith })
 
 pub later-less : {t t' : Tables} → AreLater t → OnlyNewer (plain_of t) (plain_of t') → ((l : ℕ) (load : LoadRow) → load_at t'.loads l ≡ Some load → load_at t.loads l ≡ Some load) → IsNoLess t.workers t'.workers → AreLater t'
 later-less later newer loads less = grind (arith, nat_tests, later-by)
 
--- the same, where the workers are those that were
-pub later-so : {t t' : Tables} → AreLater t → OnlyNewer (plain_of t) (plain_of t') → ((l : ℕ) (load : LoadRow) → load_at t'.loads l ≡ Some load → load_at t.loads l ≡ Some load) → t'.workers ≡ t.workers → AreLater t'
-later-so later newer loads same = later-less later newer loads (still-reaches same)
-
 pub later-on : {t t' : Tables} → AreLater t → OnlyNewer (plain_of t) (plain_of t') → t'.loads ≡ t.loads → t'.workers ≡ t.workers → AreLater t'
-later-on later newer loads same = later-so later newer (λ l load is. ap (λ m. load_at m l) (sym loads) ∙ is) same
+later-on later newer loads same = later-less later newer (λ l load is. ap (λ m. load_at m l) (sym loads) ∙ is) (still-reaches same)
 
--- a load is closed
 pub closed-still : (at at' : ℕ → Option LoadRow) (m : ℕ) → at' m ≡ None → ((q : ℕ) → q ≢ m → at' q ≡ at q) → (l : ℕ) (load : LoadRow) → at' l ≡ Some load → at l ≡ Some load
 closed-still at at' m gone others l load is = grind (arith, nat_tests)
 
--- one who isn't there owns nothing
 none-owned : (w : Core) (o : Owner) (q : ℕ) → ((h : HandleRow) → Among w.rows h → h.owner ≡ o → ⊥) → is_owned_in w o q ≡ true → ⊥
 none-owned w o q nobody own = let (row, e, is) = there-is (is_owned_by o) (find_row q w.rows) own in nobody row (found-among q w.rows row e).0 (owner-same o row.owner is)
 
--- one load more is open
 pub later-opened : {t t' : Tables} → pager.IsWhole (plain_of t) → AreLater t → OnlyNewer (plain_of t) (plain_of t') → (m : ℕ) (row : LoadRow) → load_at t.loads m ≡ None → load_at t'.loads m ≡ Some row → row.since ≡ t.holdings.last_handle
     → ((q : ℕ) → q ≢ m → load_at t'.loads q ≡ load_at t.loads q) → t'.workers ≡ t.workers → AreLater t'
 later-opened {t} {t'} whole later newer m row none here since others same =
@@ -123,7 +109,6 @@ later-opened {t} {t'} whole later newer m row none here since others same =
     let reaches : (v : ℕ) → reach_at t'.workers v ≡ reach_at t.workers v = λ v. ap (λ u. reach_at u v) same in
     grind (arith, nat_tests, cases_eq, here, since, others, reaches, later.given, later.since, later.begun, later.reach, later.loads, newer.last, newer.kept, new-owns)
 
--- one worker more is at work
 pub later-begun : {t t' : Tables} → pager.IsWhole (plain_of t) → AreLater t → t' ≡ record t { workers = t'.workers; last_worker = t'.last_worker } → (v : ℕ) → v ≡ t.last_worker + 1
     → reach_at t'.workers v ≡ record { since = t.holdings.last_handle; beside = 0 } → ((u : ℕ) → u ≢ v → reach_at t'.workers u ≡ reach_at t.workers u) → AreLater t'
 later-begun {t} {t'} whole later same v new here others =
@@ -137,18 +122,15 @@ later-begun {t} {t'} whole later same v new here others =
 
 -- ---- handles that come to a worker
 
--- a handle that doesn't move is owned as before
-owned-unmoved : (s : ℕ → Bool) (o a : Owner) (q : ℕ) (rows : List HandleRow) → s q ≡ false → owned a q (moved s o rows) ≡ owned a q rows
-owned-unmoved s o a q rows stays =
-    let is = found-map (λ x. if s x.number.0 then record x { owner = o } else x) (λ x. grind (arith, nat_tests)) q rows in grind (arith, nat_tests, found-among q rows)
-
 module _ (t : Tables) (later : AreLater t) (s : ℕ → Bool) (me : Owner) (other : (l : LoadNumber) → is_owner (Owner.Load l) me ≡ false) (rows : List HandleRow) (are : rows ≡ moved s me (plain_of t).rows) where
   pub load-kept : (l q : ℕ) → owned (Owner.Load (record { 0 = l })) q rows ≡ true → owned (Owner.Load (record { 0 = l })) q (plain_of t).rows ≡ true
   load-kept l q own = let o : Owner = Owner.Load (record { 0 = l }) in and-left (owned o q (plain_of t).rows) (not (s q)) (sym (ap (owned o q) are ∙ owned-moved s me o q (plain_of t).rows (other (record { 0 = l }))) ∙ own)
 
-  -- what a worker owns then it owned, or it has moved
   pub worker-kept : (v q : ℕ) → owned (owner_worker v) q rows ≡ true → (owned (owner_worker v) q (plain_of t).rows ≡ true) ⊎ ((is_owner (owner_worker v) me ≡ true) × (s q ≡ true))
-  worker-kept v q own = grind (arith, nat_tests, and-left, owned-moved, owned-unmoved)
+  worker-kept v q own =
+      let is = found-map (λ x. if s x.number.0 then record x { owner = me } else x) (λ x. grind (arith, nat_tests)) q (plain_of t).rows in
+      let unmoved : s q ≡ false → owned (owner_worker v) q (moved s me (plain_of t).rows) ≡ owned (owner_worker v) q (plain_of t).rows = λ stays. grind (arith, nat_tests, found-among q (plain_of t).rows) in
+      grind (arith, nat_tests, and-left, owned-moved, unmoved)
 
   -- a load of the same owner hands handles of its own to it and is closed: they came after the worker began
   pub later-handed : {t' : Tables} (l : LoadNumber) (row : LoadRow) → load_at t.loads l.0 ≡ Some row → is_owner me row.owner ≡ true → ((q : ℕ) → s q ≡ true → is_owned_in (plain_of t) (Owner.Load l) q ≡ true)
@@ -171,16 +153,14 @@ module _ (rows : List HandleRow) (keyed : ℕ → Bool) (entries : List HandleRo
   fewer : (f : HandleRow → Bool) → times (λ h. f h && is_outside s h) rows ≤ times (λ h. f h && is_outside less h) rows
   fewer f = grind (arith, nat_tests, sum_by-le-sum_by)
 
-  closed-less : IsClosed rows keyed entries less
-  closed-less n e =
-      let a = fewer (is_pin n) in let b = fewer (is_at n) in
+  pub not-least : s x.number.0 ≡ false
+  not-least =
+      let closed-less : IsClosed rows keyed entries less = λ n e.
+      (let a = fewer (is_pin n) in let b = fewer (is_at n) in
       let loses : loses_value rows keyed entries s n ≡ true = grind (arith, nat_tests, cases_Bool (keyed n)) in
       sum-none (λ h. one (is_owned_by (owner_value n) h && is_outside less h)) rows (λ h among.
       let most = at-most-sum (λ h. one (is_owned_by (owner_value n) h && is_outside s h)) rows h among in
-      grind (arith, nat_tests, least.closed n loses, once rows ordered h x among there, no-value n x.owner plain))
-
-  pub not-least : s x.number.0 ≡ false
-  not-least =
+      grind (arith, nat_tests, least.closed n loses, once rows ordered h x among there, no-value n x.owner plain))) in
       grind (arith, nat_tests, least.least less (grind (arith, nat_tests)) closed-less, at-most-sum (λ h. one (s h.number.0 && not (less h.number.0))) rows x there)
 
 -- why a cell must be listed, seen from another world before
@@ -205,40 +185,32 @@ eager-pins kind eager = grind (arith, nat_tests)
 pub loaded-append : (l : LoadNumber) (q : ℕ) (rows more : List HandleRow) → owned (Owner.Load l) q rows ≡ true → owned (Owner.Load l) q (rows ++ more) ≡ true
 loaded-append l q rows more own = grind (arith, nat_tests, found-append q rows more)
 
--- what references name that are good was given
 pub not-named : (w : Core) (l : LoadNumber) (refs : List ArcRef) → HandlesAreWhole w → references_fault w (Owner.Load l) [] refs ≡ None → (q : ℕ) → w.last.handle < q → is_named_by refs q ≡ false
 not-named w l refs whole good q above = grind (arith, nat_tests, owned-given w (Owner.Load l) q whole, named-mine w (Owner.Load l) [] refs good q)
 
-pub swapped : (w : Core) (node : NodeNumber) (mode : Mode) (me : Owner) → AllPairs IsHandleBefore (with_handle w node mode me).rows
-    → is_valued me ≡ false → {w' : Core} {given : ℕ → Bool} {r : Result (Unit {0}) Error}
-    → Falls (with_handle w node mode me) (with_handle w node mode me) given r w' → given (w.last.handle + 1) ≡ false → Falls w (with_handle w node mode me) given r w'
-swapped w node mode me ordered plain {w'} {given} {r} f spared =
-    let u = with_handle w node mode me in
-    seen-before {b = u} {w = w} {u = u} u.places (record { handles = omega arith; entries = omega arith })
-    (stays-pinned w u w' given r (row_of (w.last.handle + 1) node mode me) refl ordered plain spared f) f
+module _ (t t1 : Tables) (stored : ℕ → Option Blob) (closed : Bool) (failures : ℕ) (node : NodeNumber) (mode : Mode) (me : Owner) (after : IsWhole t1)
+    (a : Alike (with_handle (core_of t stored closed failures) node mode me) (core_of t1 stored closed failures)) where
+  abbrev before : Core
+  before = core_of t stored closed failures
 
--- where rows and cells stay no value comes or goes
-pub values-still : (t new : Tables) → IsWhole t → IsWhole new → live new.holdings.handles.places.items ≡ live t.holdings.handles.places.items
-    → ((n : ℕ) → cell_in (counts_at new.holdings.nodes n) ≡ cell_in (counts_at t.holdings.nodes n)) → (n : ℕ) → ValueStays (counts_at t.holdings.nodes n) (counts_at new.holdings.nodes n)
-values-still t new was after rows cells n falls = grind (arith, nat_tests)
+  abbrev made : Core
+  made = with_handle before node mode me
 
-module _ (t new : Tables) (stored : ℕ → Option Blob) (closed : Bool) (failures : ℕ) (node : NodeNumber) (mode : Mode) (me : Owner) (after : IsWhole new)
-    (a : Alike (with_handle (core_of t stored closed failures) node mode me) (core_of new stored closed failures)) where
-  -- nothing has gone since the handle came
-  pub begun-made : (lists : Bool) → lists ≡ not closed
-      → SoFar (with_handle (core_of t stored closed failures) node mode me) (with_handle (core_of t stored closed failures) node mode me) nobody lists (record new.holdings { unlisted = None })
-  begun-made lists e =
-      let u = with_handle (core_of t stored closed failures) node mode me in
-      begun u u lists (record new.holdings { unlisted = None }) e (λ p own. refl)
-      (λ n. subst (λ r. (sharing n r ≡ 0) ⊎ (times (is_plain_pin n) r ≡ 0)) a.rows (unmixed new after n))
+  pub begun-made : (lists : Bool) → lists ≡ not closed → SoFar made made nobody lists (record t1.holdings { unlisted = None })
+  begun-made lists e = begun made made lists (record t1.holdings { unlisted = None }) e (λ p own. refl)
+      (λ n. subst (λ r. (sharing n r ≡ 0) ⊎ (times (is_plain_pin n) r ≡ 0)) a.rows (unmixed t1 after n))
       (λ q. let d = ap (times (λ (h : HandleNumber). h.0 == q)) a.list in let e = ap (times (of_list q)) a.rows in let f = after.core.owners_there.listed q in omega arith)
       a.rows a.list (ap (λ (l : Last). l.handle) a.last) after.core.handles.within.0 (record { handles = a.places.handles; entries = a.places.entries }) a.cells refl
 
-  -- and no value came or went
-  pub values-made : IsWhole t → (is_pinning mode ≡ true → has_value (counts_at t.holdings.nodes node.0) ≡ true) → (n : ℕ) → ValueStays (counts_at t.holdings.nodes n) (counts_at new.holdings.nodes n)
-  values-made was there n falls = grind (arith, nat_tests, none-falls-in, sum_by_push, live)
+  -- others fall then, as seen from before it came
+  pub falls-made : t1 ≡ record t { holdings = t1.holdings } → is_valued me ≡ false → (new : Holdings) {given : ℕ → Bool} {r : Result (Unit {0}) Error}
+      → Falls made made given r (with_tables made new) → given (t.holdings.last_handle + 1) ≡ false → Falls before made given r (core_of (record t1 { holdings = new }) stored closed failures)
+  falls-made same plain new {given} {r} f spared =
+      let ordered = subst (AllPairs IsHandleBefore) a.rows after.core.handles.ordered in
+      let stays = stays-pinned before made (with_tables made new) given r (row_of (t.holdings.last_handle + 1) node mode me) refl ordered plain spared f in
+      subst (λ (z : Tables). Falls before made given r (core_of (record z { holdings = new }) stored closed failures)) (sym same)
+      (seen-before {b = made} {w = before} {u = made} made.places (record { handles = omega arith; entries = omega arith }) stays f)
 
--- a row of another number stays
 pub changed-push : (q : ℕ) (f : HandleRow → HandleRow) (rows : List HandleRow) (x : HandleRow) → q < x.number.0 → changed (is_handle q) f (rows ++ x ∷ []) ≡ changed (is_handle q) f rows ++ x ∷ []
 changed-push q f [] x less = let other : is_handle q x ≡ false = grind (arith, nat_tests) in rw other refl
 changed-push q f (y ∷ ys) x less = ap (λ l. (if is_handle q y then f y else y) ∷ l) (changed-push q f ys x less)
@@ -253,10 +225,6 @@ found-again q rows rows' more row o is came again = sym again ∙ ap (find_row q
 
 -- ---- a birth, by what it is made of
 
-pub none-named : (w : Core) (me : Owner) (rs : List ArcRef) → rs ≡ [] → references_fault w me [] rs ≡ None
-none-named w me rs is = ap (references_fault w me []) is ∙ no-references w me
-
--- the number of a key
 pub key-is : (k : ℕ) → 0 < k → key_in k ≡ OptionalDataKey.Some k
 key-is x0 some = grind (arith, nat_tests)
 
@@ -275,20 +243,19 @@ bears-goes {w} me node_type key rs mode k whole holder fit left unkeyed b =
 
 -- a world of these loads alone
 abbrev pub bare : (ℕ → Option OpenLoad) → Core
-bare loads =
-    record {
-      rows = [];
-      cells = λ n. None;
-      list = [];
-      cache = λ kind key. None;
-      stored = λ key. None;
-      closed = false;
-      failures = 0;
-      loads = loads;
-      workers = λ v. false;
-      last = record { node = 0; handle = 0; load = 0; worker = 0 };
-      places = record { handles = 0; entries = 0 };
-    }
+bare loads = record {
+  rows = [];
+  cells = λ n. None;
+  list = [];
+  cache = λ kind key. None;
+  stored = λ key. None;
+  closed = false;
+  failures = 0;
+  loads = loads;
+  workers = λ v. false;
+  last = record { node = 0; handle = 0; load = 0; worker = 0 };
+  places = record { handles = 0; entries = 0 };
+}
 
 -- neither a value's handle is given up so, nor the list's where others are
 pub given-plain : (w : Core) (giving : Giving) (o : Owner) (node : NodeNumber) → gives w giving o node ≡ true → (is_valued o ≡ false) × ((is_owner Owner.List o ≡ false) ⊎ (giving ≡ Giving.Listed))
@@ -314,14 +281,10 @@ module _ (before u w : Core) (lists : Bool) (giving : Giving) (shut : giving ≡
         | inr other ↦ no-entry (gives_row w giving) q (λ h is. grind (arith, nat_tests)) u.last.handle f.entries f.new
       ])
 
-  pub none-past : (t : Holdings) (left : ℕ) → ((q : ℕ) → passes q ≡ true → q ≤ left) → SoFar before u nobody lists t → SoFar before u (past left) lists t
-  none-past t left up f = regiven before u nobody (past left) lists t f (λ r e. let u = up r in grind (arith, nat_tests)) (λ r e. absurd (cc))
-
   -- what is given of the numbers that are left and isn't there has gone
-  onto : (t : Holdings) (left : ℕ) (s : ℕ → Bool) → ((r : ℕ) → s r ≡ true → passes r ≡ true) → ((r : ℕ) → past left r ≡ true → s r ≡ true)
+  pub onto : (t : Holdings) (left : ℕ) (s : ℕ → Bool) → ((r : ℕ) → s r ≡ true → passes r ≡ true) → ((r : ℕ) → past left r ≡ true → s r ≡ true)
       → ((r : ℕ) → s r ≡ true → r ≤ left → passes_in (gives_row w giving) (live t.handles.places.items) r ≡ false) → SoFar before u (past left) lists t → SoFar before u s lists t
-  onto t left s up over none f =
-      regiven before u (past left) s lists t f (λ r e. let p = up r e in let n = none r e in let g = told t (past left) f r in grind (arith, nat_tests)) over
+  onto t left s up over none f = regiven before u (past left) s lists t f (λ r e. let p = up r e in let n = none r e in let g = told t (past left) f r in grind (arith, nat_tests)) over
 
   -- one more is given, the last of those that are left
   pub one-past : (t new : Holdings) (left : ℕ) (x : HandleRow) → 0 < x.number.0 → x.number.0 ≤ left → find_row x.number.0 (live t.handles.places.items) ≡ Some x → gives_row w giving x ≡ true
@@ -334,15 +297,10 @@ module _ (before u w : Core) (lists : Bool) (giving : Giving) (shut : giving ≡
       (λ r e. none r (within r (let p : passes r ≡ true = grind (arith, nat_tests) in p)) (let l : n < r = grind (arith, nat_tests) in l)) f in
       regiven before u (λ q. past n q || q == n) (past (n - 1)) lists new (gives (past n) narrowed) (λ r e. grind (arith, nat_tests)) (λ r e. grind (arith, nat_tests, cases_eq r n))
 
-  pub all-past : (t : Holdings) (left : ℕ) → ((q : ℕ) → InReach reach q → q ≤ left → passes_in (gives_row w giving) (live t.handles.places.items) q ≡ false)
-      → SoFar before u (past left) lists t → SoFar before u passes lists t
-  all-past t left none f = onto t left passes (λ r e. e) (λ r e. grind (arith, nat_tests)) (λ r e below. none r (within r e) below) f
-
 none-passes : (test : HandleRow → Bool) (q : ℕ) (ss : List Place) → ((k : ℕ) (d : Place) → k < length ss → (get_or ss k d).row.number.0 ≡ q → (get_or ss k d).is_live ≡ true → test (get_or ss k d).row ≡ false)
     → passes_in test (live ss) q ≡ false
 none-passes test q [] h = passes-none test q
-none-passes test q (s ∷ ss) h =
-    let rest = none-passes test q ss (λ k d lt e. h (suc k) d (omega arith) e) in let first = h 0 s (omega arith) in grind (arith, nat_tests, passes-here)
+none-passes test q (s ∷ ss) h = let rest = none-passes test q ss (λ k d lt e. h (suc k) d (omega arith) e) in let first = h 0 s (omega arith) in grind (arith, nat_tests, passes-here)
 
 -- below a place numbers are smaller, and from there on those that pass are too great
 pub none-from : (test : HandleRow → Bool) (ss : List Place) (p q left : ℕ) → ((k : ℕ) (d : Place) → k < p → (get_or ss k d).row.number.0 < q) → q ≤ left
@@ -369,8 +327,7 @@ module _ (before w : Core) (lists : Bool) (t : Holdings) (l : LoadNumber) (rs : 
   none-given f = regiven before w nobody (named_owned w l rs 0) lists t f (λ r e. absurd (let a = and-left (is_named_by (take 0 rs) r) _ e in let b = named-none r in cc)) (λ r e. absurd (cc))
 
   pub one-given : (i : ℕ) (d : ArcRef) → i < length rs → SoFar before w (and_owned w l (named_owned w l rs i) (get_or rs i d).handle.0) lists t → SoFar before w (named_owned w l rs (i + 1)) lists t
-  one-given i d lt f =
-      regiven before w (and_owned w l (named_owned w l rs i) (get_or rs i d).handle.0) (named_owned w l rs (i + 1)) lists t f
+  one-given i d lt f = regiven before w (and_owned w l (named_owned w l rs i) (get_or rs i d).handle.0) (named_owned w l rs (i + 1)) lists t f
       (λ r e. grind (arith, nat_tests, named-take rs i d r lt)) (λ r e. grind (arith, nat_tests, named-take rs i d r lt))
 
   pub all-given : (i : ℕ) → take i rs ≡ rs → ((q : ℕ) → is_named_by rs q ≡ true → is_owned_in w (Owner.Load l) q ≡ true) → SoFar before w (named_owned w l rs i) lists t → SoFar before w (is_named_by rs) lists t
@@ -378,7 +335,6 @@ module _ (before w : Core) (lists : Bool) (t : Holdings) (l : LoadNumber) (rs : 
 
 pub ruleset places = (nat_tests, place-got, row-there)
 
--- one more moves, after others
 pub moved-then : {old mid new : Handles} (s s' : ℕ → Bool) (h : HandleNumber) (o : Owner) (rows : List HandleRow) → Becomes old (moved s o rows) mid
     → Becomes mid (moved (only_handle h) o (live mid.places.items)) new → ((q : ℕ) → (h.0 == q || s q) ≡ s' q) → Becomes old (moved s' o rows) new
 moved-then s s' h o rows a b next = record {
@@ -390,18 +346,21 @@ moved-then s s' h o rows a b next = record {
 
 -- ---- calls that leave the tables whole, as their steps leave the plain world
 
+-- the step is made whatever is stored, whether the storage was closed, and however often it failed
+abbrev pub Each : Tables → (Core → Core → Type 0) → Tables → Type 0
+Each old step new = (stored : ℕ → Option Blob) (closed : Bool) (failures : ℕ) → step (core_of old stored closed failures) (core_of new stored closed failures)
+
 module _ {old new : Tables} {step : Core → Core → Type 0} where
-  pub does-by : ((stored : ℕ → Option Blob) (closed : Bool) (failures : ℕ) → step (core_of old stored closed failures) (core_of new stored closed failures)) → IsFalling new.holdings [] owns_nothing
-      → (step (plain_of old) (plain_of new) → ArePlaced (plain_of new) → pager.IsWhole (plain_of new)) → (step (plain_of old) (plain_of new) → AreLater old → AreLater new) → Does old step new
+  pub does-by : Each old step new → IsFalling new.holdings [] owns_nothing → (step (plain_of old) (plain_of new) → ArePlaced (plain_of new) → pager.IsWhole (plain_of new))
+      → (step (plain_of old) (plain_of new) → AreLater old → AreLater new) → Does old step new
   does-by does steady whole later = let plain = does (λ key. None) false 0 in record { does = does; whole = whole-so steady (whole plain); later = later plain }
 
   -- loads and workers are those that were
-  pub does-so : ((stored : ℕ → Option Blob) (closed : Bool) (failures : ℕ) → step (core_of old stored closed failures) (core_of new stored closed failures)) → IsFalling new.holdings [] owns_nothing
-      → (step (plain_of old) (plain_of new) → Goes (plain_of old) (plain_of new)) → new.loads ≡ old.loads → new.workers ≡ old.workers → Does old step new
+  pub does-so : Each old step new → IsFalling new.holdings [] owns_nothing → (step (plain_of old) (plain_of new) → Goes (plain_of old) (plain_of new)) → new.loads ≡ old.loads
+      → new.workers ≡ old.workers → Does old step new
   does-so does steady goes loads workers = does-by does steady (λ plain. (goes plain).whole) (λ plain later. later-on later (goes plain).newer loads workers)
 
--- nothing changes
-pub nothing-does : {t : Tables} {step : Core → Core → Type 0} → IsWhole t → ((stored : ℕ → Option Blob) (closed : Bool) (failures : ℕ) → step (core_of t stored closed failures) (core_of t stored closed failures)) → Does t step t
+pub nothing-does : {t : Tables} {step : Core → Core → Type 0} → IsWhole t → Each t step t → Does t step t
 nothing-does whole does = record { does = does; whole = whole; later = λ later. later }
 
 pub does-then : {a b c : Tables} {one two both : Core → Core → Type 0} → Does a one b → Does b two c
@@ -409,58 +368,37 @@ pub does-then : {a b c : Tables} {one two both : Core → Core → Type 0} → D
     → both (core_of a stored closed failures) (core_of c stored closed failures)) → Does a both c
 does-then p q both = record { does = λ stored closed failures. both stored closed failures (p.does stored closed failures) (q.does stored closed failures); whole = q.whole; later = λ later. q.later (p.later later) }
 
+-- the same, of a step that follows from it
+pub does-as : {old new : Tables} {one two : Core → Core → Type 0} → Does old one new → Each old (λ w w'. one w w' → two w w') new → Does old two new
+does-as step so = record { does = λ stored closed failures. so stored closed failures (step.does stored closed failures); whole = step.whole; later = step.later }
+
 -- the plain world where cells are listed or not
 abbrev pub listing : Bool → Tables → Core
 listing lists t = core_of t (λ key. None) (not lists) 0
 
-module _ {X S : Type 0} {lists : Bool} {old new : Tables} {values values' : IndexMap ℕ X S} {step : Core → Core → Type 0} where
-  pub sheds-by : ((stored : ℕ → Option Blob) (closed : Bool) (failures : ℕ) → lists ≡ not closed → step (core_of old stored closed failures) (core_of new stored closed failures))
-      → IsFalling new.holdings [] owns_nothing → (step (listing lists old) (listing lists new) → ArePlaced (plain_of new) → pager.IsWhole (plain_of new))
-      → (step (listing lists old) (listing lists new) → AreLater old → AreLater new) → Sheds (counts_at old.holdings.nodes) (get nat_eq values) (counts_at new.holdings.nodes) (get nat_eq values')
-      → DoesShed lists old values step new values'
-  sheds-by does steady whole later sheds =
-      let plain = does (λ key. None) (not lists) 0 (not-closed lists) in
-      record { does = does; whole = whole-so steady (whole plain); later = later plain; sheds = sheds }
-
-  pub sheds-so : ((stored : ℕ → Option Blob) (closed : Bool) (failures : ℕ) → lists ≡ not closed → step (core_of old stored closed failures) (core_of new stored closed failures))
-      → IsFalling new.holdings [] owns_nothing → (step (listing lists old) (listing lists new) → Goes (listing lists old) (listing lists new)) → new.loads ≡ old.loads → new.workers ≡ old.workers
-      → Sheds (counts_at old.holdings.nodes) (get nat_eq values) (counts_at new.holdings.nodes) (get nat_eq values') → DoesShed lists old values step new values'
-  sheds-so does steady goes loads workers = sheds-by does steady (λ plain. (goes plain).whole) (λ plain later. later-on later (goes plain).newer loads workers)
-
--- the same, of a step that is made as cells are listed, while no value goes
-module _ {lists : Bool} {old new : Tables} {step : Core → Core → Type 0} where
-  pub lazily-by : ((stored : ℕ → Option Blob) (closed : Bool) (failures : ℕ) → lists ≡ not closed → step (core_of old stored closed failures) (core_of new stored closed failures))
-      → IsFalling new.holdings [] owns_nothing → (step (listing lists old) (listing lists new) → ArePlaced (plain_of new) → pager.IsWhole (plain_of new))
+-- the same, of a step that is made as cells are listed
+module _ {lists : Bool} {old new : Tables} {step : Core → Core → Type 0} (does : Each old (λ w w'. lists ≡ not w.closed → step w w') new) (steady : IsFalling new.holdings [] owns_nothing) where
+  pub lazily-by : (step (listing lists old) (listing lists new) → ArePlaced (plain_of new) → pager.IsWhole (plain_of new))
       → (step (listing lists old) (listing lists new) → AreLater old → AreLater new) → Does old (λ w w'. lists ≡ not w.closed → step w w') new
-  lazily-by does steady whole later = let plain = does (λ key. None) (not lists) 0 (not-closed lists) in record { does = does; whole = whole-so steady (whole plain); later = later plain }
+  lazily-by whole later = let plain = does (λ key. None) (not lists) 0 (closed-is (not lists) lists refl) in record { does = does; whole = whole-so steady (whole plain); later = later plain }
 
-pub nothing-shed : {X S : Type 0} {lists : Bool} {t : Tables} {values : IndexMap ℕ X S} {step : Core → Core → Type 0} → IsWhole t
-    → ((stored : ℕ → Option Blob) (closed : Bool) (failures : ℕ) → lists ≡ not closed → step (core_of t stored closed failures) (core_of t stored closed failures)) → DoesShed lists t values step t values
+  pub lazily-so : (step (listing lists old) (listing lists new) → Goes (listing lists old) (listing lists new)) → new.loads ≡ old.loads → new.workers ≡ old.workers
+      → Does old (λ w w'. lists ≡ not w.closed → step w w') new
+  lazily-so goes loads workers = lazily-by (λ plain. (goes plain).whole) (λ plain later. later-on later (goes plain).newer loads workers)
+
+-- and values go
+pub sheds-with : {X S : Type 0} {lists : Bool} {old new : Tables} {values values' : IndexMap ℕ X S} {step : Core → Core → Type 0} → Does old (λ w w'. lists ≡ not w.closed → step w w') new
+    → Sheds (counts_at old.holdings.nodes) (get nat_eq values) (counts_at new.holdings.nodes) (get nat_eq values') → DoesShed lists old values step new values'
+sheds-with does sheds = record { does = does.does; whole = does.whole; later = does.later; sheds = sheds }
+
+pub nothing-shed : {X S : Type 0} {lists : Bool} {t : Tables} {values : IndexMap ℕ X S} {step : Core → Core → Type 0} → IsWhole t → Each t (λ w w'. lists ≡ not w.closed → step w w') t
+    → DoesShed lists t values step t values
 nothing-shed {t = t} whole does = record { does = does; whole = whole; later = λ later. later; sheds = sheds-still t.holdings _ whole.steady }
 
--- handles widen, and nodes are told as they were
-pub widens-does : (t : Tables) (h : Handles) (nodes : IndexMap ℕ NodeRow _) → IsWhole t → Widens t.holdings.handles h → ((n : ℕ) → counts_at nodes n ≡ counts_at t.holdings.nodes n)
-    → ((n : ℕ) → refs_at nodes n ≡ refs_at t.holdings.nodes n) → Does t OnlyRoom (record t { holdings = record t.holdings { handles = h; nodes = nodes } })
-widens-does t h nodes whole e counts refs =
-    does-so (λ stored closed failures. grind (arith, nat_tests, e.rows, e.capacity, counts))
+-- handles widen, and nodes and the cache are told as they were
+pub widens-does : (t : Tables) (h : Handles) (nodes : IndexMap ℕ NodeRow _) (cache : IndexMap (ℕ × ℕ) NodeNumber _) → IsWhole t → Widens t.holdings.handles h
+    → ((n : ℕ) → counts_at nodes n ≡ counts_at t.holdings.nodes n) → ((n : ℕ) → refs_at nodes n ≡ refs_at t.holdings.nodes n) → ((kind key : ℕ) → known_at cache kind key ≡ known_at t.cache kind key)
+    → Does t OnlyRoom (record t { holdings = record t.holdings { handles = h; nodes = nodes }; cache = cache })
+widens-does t h nodes cache whole e counts refs known = does-so (λ stored closed failures. grind (arith, nat_tests, e.rows, e.capacity, counts, known))
     (record { sound = e.sound; next = e.next (t.holdings.last_handle + 1) whole.steady.next; fits = grind (arith, nat_tests, whole.steady.fits, e.rows, counts, refs) })
     (λ room. alike-goes whole.core (room-alike room)) refl refl
-
--- and then the cache
-pub learns-does : (t u : Tables) (cache : IndexMap (ℕ × ℕ) NodeNumber _) → Does t OnlyRoom u → ((kind key : ℕ) → known_at cache kind key ≡ known_at u.cache kind key)
-    → Does t OnlyRoom (record u { cache = cache })
-learns-does t u cache made known =
-    let learns : Does u OnlyRoom (record u { cache = cache }) = does-so (λ stored closed failures. grind (arith, nat_tests, known)) made.whole.steady
-    (λ room. alike-goes made.whole.core (room-alike room)) refl refl in
-    does-then made learns (λ stored closed failures one two. grind (arith, nat_tests))
-
--- the same, of a step that follows from it
-pub does-as : {old new : Tables} {one two : Core → Core → Type 0} → Does old one new
-    → ((stored : ℕ → Option Blob) (closed : Bool) (failures : ℕ) → one (core_of old stored closed failures) (core_of new stored closed failures)
-    → two (core_of old stored closed failures) (core_of new stored closed failures)) → Does old two new
-does-as step so = record { does = λ stored closed failures. so stored closed failures (step.does stored closed failures); whole = step.whole; later = step.later }
-
-pub sheds-as : {X S : Type 0} {lists : Bool} {old new : Tables} {values values' : IndexMap ℕ X S} {one two : Core → Core → Type 0} → DoesShed lists old values one new values'
-    → ((stored : ℕ → Option Blob) (closed : Bool) (failures : ℕ) → one (core_of old stored closed failures) (core_of new stored closed failures)
-    → two (core_of old stored closed failures) (core_of new stored closed failures)) → DoesShed lists old values two new values'
-sheds-as step so = record { does = λ stored closed failures e. so stored closed failures (step.does stored closed failures e); whole = step.whole; later = step.later; sheds = step.sheds }

@@ -4,42 +4,35 @@ use Rattle.pagable_tables.proofs.Words.{Falls, GivesUp, HandleNumber, HandleRow,
 use Rattle.pagable_tables.proofs.Words.{List, LoadNumber, MustList, NodeNumber, NodeRow, None, Option, Owner, Result, Sheds, SoFar, Some, Steps, TellsListing, ValueStays, [], and_parts, ap}
 use Rattle.pagable_tables.proofs.Words.{append-nil, append_assoc, arith, cases_Bool, cases_eq, cell_in, counts_at, entries_of, entry, fallen, falls_in, false, filter, filter-append, find_row}
 use Rattle.pagable_tables.proofs.Words.{has_value, held, if◌then◌else◌, inl, inr, is_at, is_handle, is_keyed, is_listing, is_outside, is_owned_by, is_owned_in, is_owner, is_pin, is_plain_pin}
-use Rattle.pagable_tables.proofs.Words.{is_share, is_shared, is_some, is_valued, left_rows, length, length-append, live, map-append, nat_tests, not, one, only_handle, or_else, owner_value, owns}
+use Rattle.pagable_tables.proofs.Words.{is_share, is_shared, is_some, is_valued, left_rows, length, length-append, live, map-append, nat_tests, not, one, or_else, owner_value, owns}
 use Rattle.pagable_tables.proofs.Words.{owns_nothing, passes_in, pins, pins_in, refl, subst, sum_by, sum_by-cons, sum_by-le-sum_by, sym, times, told_by, true, valued, with_tables, ℕ, ◌&&◌, ◌++◌, ◌+◌}
-use Rattle.pagable_tables.proofs.{Alive.with-entry, Fitting.{cell-keyed, counted, forced, listing-is, no-more, open-then, which}, Words.{Alike, AreNewEntries, Begins, Bool, Cell, Core, Counts, Error}}
+use Rattle.pagable_tables.proofs.{Alive.with-entry, Fitting.{cell-keyed, closed-is, counted, forced, listing-is, no-more, which}, Words.{Alike, AreNewEntries, Begins, Bool, Cell, Core, Counts, Error}}
 use Rattle.{pagable_tables.proofs.{Words.{◌<◌, ◌==◌, ◌||◌, ◌∙◌, ◌∷◌, ◌≡◌, ◌≢◌, ◌≤◌, ◌⊎◌}, Worlds.same-cache}, pagable_world.proofs.Elements.{at-most-sum, sum-none}}
 
--- nothing falls
 pub none-falls-in : (t : Holdings) → IsFalling t [] owns_nothing → (n : ℕ) → falls_in (counts_at t.nodes n) ≡ false
 none-falls-in t w n = let m = w.fits.marked n in grind (arith, nat_tests)
 
 none-owned : (n : ℕ) (rows : List HandleRow) → ((q : ℕ) → sum_by (λ h. owns h n q) rows ≡ 0) → times (is_owned_by (owner_value n)) rows ≡ 0
-none-owned n rows none =
-    sum-none (λ h. one (is_owned_by (owner_value n) h)) rows (λ h among. grind (arith, nat_tests, none h.number.0, at-most-sum (λ x. owns x n h.number.0) rows h among))
+none-owned n rows none = sum-none (λ h. one (is_owned_by (owner_value n) h)) rows (λ h among. grind (arith, nat_tests, none h.number.0, at-most-sum (λ x. owns x n h.number.0) rows h among))
 
 module _ (before w : Core) (given : ℕ → Bool) (lists : Bool) (t : Holdings) (f : SoFar before w given lists t) (whole : IsFalling t [] owns_nothing) where
   pub closed : IsClosed w.rows (is_keyed w) f.entries f.gone
   closed n lost =
       let pinless = entries-none (is_pin n) (λ h mode owner. grind (arith, nat_tests)) w.last.handle f.entries f.new in
       let fell : HasFallen (counts_at t.nodes) (live t.handles.places.items) n = grind (arith, nat_tests, cases_Bool (is_keyed w n), counted f (is_pin n), counted f (is_at n)) in
-      let fits = whole.fits in
-      let none = none-owned n (live t.handles.places.items) (λ q. grind (arith, nat_tests)) in
-      omega (arith, counted f (is_owned_by (owner_value n)))
-
-  leaves : Alike (fallen w f.gone f.entries) (with_tables w t)
-  leaves = grind (arith, nat_tests, none-falls-in, same-cache, live, fallen)
+      omega (arith, counted f (is_owned_by (owner_value n)), none-owned n (live t.handles.places.items) (λ q. grind (arith, nat_tests, whole.fits)))
 
   -- what the world says of a cascade
   pub ended : Falls before w given (told_by t.unlisted) (with_tables w t)
   ended =
       let set : IsLeast w.rows (is_keyed w) f.entries given f.gone =
       record { holds = f.holds; closed = closed; least = λ s has is. f.least s f.entries (λ n none. let a = counted f (is_at n) in omega arith) has is } in
+      let leaves : Alike (fallen w f.gone f.entries) (with_tables w t) = grind (arith, nat_tests, none-falls-in, same-cache, live, fallen) in
       grind (arith, nat_tests, leaves)
 
 pub valued-le : (rows : List HandleRow) → valued rows ≤ length rows
 valued-le rows = omega (arith, ones rows, sum_by-le-sum_by (λ (h : HandleRow). one (is_valued h.owner)) (λ h. 1) rows (λ h. one-le (is_valued h.owner)))
 
--- where no node is first, none falls
 pub none-falls : (t : Holdings) (stack : List ℕ) → IsFalling t stack owns_nothing → t.top ≡ 0 → IsFalling t [] owns_nothing
 none-falls t [] w z = w
 none-falls t (n ∷ ns) w z = absurd (let m = w.fits.marked n in let top = w.fits.chain.0 in let none = w.fits.from_one in grind (arith, nat_tests, sum_by-cons (λ m. one (m == n)) n ns))
@@ -53,11 +46,9 @@ pub lasts-on : {X : Type 0} (done : Bool) (o o' : Option Counts) (old now now' :
 lasts-on done o o' old now now' is stays gone l = grind (arith, nat_tests)
 
 module _ {X : Type 0} where
-  -- nothing has happened
   pub sheds-still : (t : Holdings) (values : ℕ → Option X) → IsFalling t [] owns_nothing → Sheds (counts_at t.nodes) values (counts_at t.nodes) values
   sheds-still t values w = record { left = λ kept n. (inl refl, kept n (none-falls-in t w n)) }
 
-  -- one after another
   pub sheds-then : {at at1 at2 : ℕ → Option Counts} {old mid new : ℕ → Option X} → Sheds at old at1 mid → Sheds at1 mid at2 new → Sheds at old at2 new
   sheds-then {old = old} {mid} {new} a b = grind (arith, nat_tests)
 
@@ -70,11 +61,6 @@ pub ruleset falls = (nat_tests, valued-le, none-falls-in, none-falls)
 pub ruleset shedding = (nat_tests, sheds-then)
 
 -- ---- what has gone so far, after one step of a cascade, and after a handle that is given; which cells must be listed then, and what is told of it
-
-rows-leaves : (rows entries before left : List HandleRow) (gone : ℕ → Bool) (x : HandleRow) → left ≡ left_rows (only_handle x.number) before → before ≡ left_rows gone rows ++ entries
-    → times (is_handle x.number.0) entries ≡ 0 → left ≡ left_rows (and_one gone x.number.0) rows ++ entries
-rows-leaves rows entries before left gone x leaves is none =
-    grind (arith, nat_tests, filter-append, left-more gone x.number.0 rows, left-none x.number.0 entries)
 
 list-kept : (gone : ℕ → Bool) (q : ℕ) (rows : List HandleRow) (list : List HandleNumber) → times (λ (h : HandleNumber). h.0 == q) list ≤ times (of_list q) rows
     → times (λ h. of_list q h && not (gone h.number.0)) rows ≡ 0
@@ -91,7 +77,6 @@ unlisted-apart {w = w} {t = t} {x = x} f g owner =
       kept = list-kept f.gone x.number.0 w.rows w.list (f.begins.listed x.number.0) (omega (arith, counted f (of_list x.number.0)));
     }
 
--- handles are no more
 pub gives-fewer : {old new : Holdings} {stack : List ℕ} {x : HandleRow} {lists : Bool} → GivesUp old stack x false lists new → length (live new.handles.places.items) ≤ length (live old.handles.places.items)
 gives-fewer {old} {new} g = omega (arith, gives-sums g (λ h. 1), ones (live old.handles.places.items), ones (live new.handles.places.items), one-le g.listed)
 
@@ -137,13 +122,11 @@ module _ {before w : Core} {given : ℕ → Bool} {lists stays : Bool} {t new : 
   -- the last pin of a cell without a key has gone
   new-must : wanted ≡ true → MustList before w (with_tables w new) x.node.0
   new-must want =
-      let w' = and_parts lists (is_listing g.counts x.mode) want in
-      let l = listing-is g.counts x.mode w'.1 in
+      let l = listing-is g.counts x.mode (and_parts lists (is_listing g.counts x.mode) want).1 in
       let n = x.node.0 in
       let pinned = no-more f (is_pin n) (λ h mode owner. grind (arith, nat_tests)) in
       let plain = no-more f (is_plain_pin n) (λ h mode owner. grind (arith, nat_tests)) in
-      let key = cell-keyed (counts_at t.nodes n) g.counts (w.cells n) is (f.cells n) in
-      grind (arith, nat_tests, open-then, one-pin want, left n, f.begins.fewer n, here (is_plain_pin n), f.begins.uniform n)
+      grind (arith, nat_tests, closed-is, one-pin want, left n, f.begins.fewer n, here (is_plain_pin n), f.begins.uniform n, cell-keyed (counts_at t.nodes n) g.counts (w.cells n) is (f.cells n))
 
   -- a cell must be listed: its last pin had gone before, or it has gone now
   must-before : (n : ℕ) → MustList before w (with_tables w new) n → MustList before w (with_tables w t) n ⊎ ((n ≡ x.node.0) × (wanted ≡ true))
@@ -164,7 +147,6 @@ module _ {before w : Core} {given : ℕ → Bool} {lists stays : Bool} {t new : 
   only-more : (n : ℕ) → 0 < held n entries → MustList before w (with_tables w new) n × (held n entries ≡ 1)
   only-more n some = grind (arith, nat_tests, held-more, new-must, must-kept, none-held)
 
-  -- the first cause is told
   told : TellsListing before w entries (told_by new.unlisted) (with_tables w new)
   told = by t.unlisted refl f.tells
     where
@@ -207,25 +189,24 @@ module _ {before w : Core} {given : ℕ → Bool} {lists stays : Bool} {t new : 
       → ((s : ℕ → Bool) (final : List HandleRow) → ((n : ℕ) → held n (live new.handles.places.items) ≡ 0 → held n final ≡ 0) → IsWithin rows given' s
       → IsClosed rows (is_keyed w) final s → IsWithin rows gone s)
       → (new.top ≢ 0 → length (live new.handles.places.items) ≤ length rows) → SoFar before (record w { rows = rows }) given' lists new
-  entered-on rows long given' gone begins rest kept holds least few' =
-      record {
-        begins = begins;
-        gone = gone;
-        entries = entries;
-        rows = ap (λ (h : Holdings). live h.handles.places.items) g.same ∙ g.comes.comes.rows ∙ ap (λ r. r ++ entries_of g.listed (t.last_handle + 1) x.node) rest
-            ∙ append_assoc (left_rows gone rows) f.entries (entries_of g.listed (t.last_handle + 1) x.node);
-        list = grind (arith, nat_tests, map-append, added, append_assoc);
-        last = grind (arith, nat_tests, last, length-append);
-        within = grind (arith, nat_tests, last, g.comes.comes.left, f.within);
-        places = let p : HasPlaces t new = grind (arith, nat_tests) in let q = f.places in record { handles = omega arith; entries = omega arith };
-        cells = λ n there. let s = g.cells n there in s.1 ∙ ap cell_in (counts n) ∙ f.cells n (sym (ap is_some (counts n)) ∙ s.0);
-        holds = holds;
-        least = least;
-        new = let a = f.last in let n = f.new in grind (arith, nat_tests, entries-more, append-nil);
-        only = λ n some. let o = only-more n some in (must-as rows (λ n. cell_in (counts_at new.nodes n)) o.0, o.1);
-        tells = tells-as rows (λ n. cell_in (counts_at new.nodes n)) long (told_by new.unlisted) told;
-        few = few';
-      }
+  entered-on rows long given' gone begins rest kept holds least few' = record {
+    begins = begins;
+    gone = gone;
+    entries = entries;
+    rows = ap (λ (h : Holdings). live h.handles.places.items) g.same ∙ g.comes.comes.rows ∙ ap (λ r. r ++ entries_of g.listed (t.last_handle + 1) x.node) rest
+        ∙ append_assoc (left_rows gone rows) f.entries (entries_of g.listed (t.last_handle + 1) x.node);
+    list = grind (arith, nat_tests, map-append, added, append_assoc);
+    last = grind (arith, nat_tests, last, length-append);
+    within = grind (arith, nat_tests, last, g.comes.comes.left, f.within);
+    places = let p : HasPlaces t new = grind (arith, nat_tests) in let q = f.places in record { handles = omega arith; entries = omega arith };
+    cells = λ n there. let s = g.cells n there in s.1 ∙ ap cell_in (counts n) ∙ f.cells n (sym (ap is_some (counts n)) ∙ s.0);
+    holds = holds;
+    least = least;
+    new = let a = f.last in let n = f.new in grind (arith, nat_tests, entries-more, append-nil);
+    only = λ n some. let o = only-more n some in (must-as rows (λ n. cell_in (counts_at new.nodes n)) o.0, o.1);
+    tells = tells-as rows (λ n. cell_in (counts_at new.nodes n)) long (told_by new.unlisted) told;
+    few = few';
+  }
 
 module _ {before w : Core} {given : ℕ → Bool} {lists : Bool} {t new : Holdings} {nodes : IndexMap ℕ NodeRow _} {stack : List ℕ} {x : HandleRow} (given' : ℕ → Bool) (f : SoFar before w given lists t)
     (g : GivesUp (record t { nodes = nodes }) stack x false lists new) (counts : (n : ℕ) → counts_at nodes n ≡ counts_at t.nodes n)
@@ -234,12 +215,10 @@ module _ {before w : Core} {given : ℕ → Bool} {lists : Bool} {t new : Holdin
   one-goes : IsWithin w.rows given' (and_one f.gone x.number.0) → ((s : ℕ → Bool) (final : List HandleRow)
       → ((n : ℕ) → held n (live new.handles.places.items) ≡ 0 → held n final ≡ 0) → IsWithin w.rows given' s → IsClosed w.rows (is_keyed w) final s
       → IsWithin w.rows (and_one f.gone x.number.0) s) → SoFar before w given' lists new
-  one-goes holds least =
-      entered-on f g counts pinned few w.rows refl given' (and_one f.gone x.number.0) f.begins
-      (rows-leaves w.rows f.entries (live t.handles.places.items) (live g.left.places.items) f.gone x g.leaves.becomes.rows f.rows apart.unentered) apart.kept holds least
+  one-goes holds least = entered-on f g counts pinned few w.rows refl given' (and_one f.gone x.number.0) f.begins
+      (grind (arith, nat_tests, filter-append, left-more f.gone x.number.0 w.rows, left-none x.number.0 f.entries, g.leaves.becomes.rows, f.rows, apart.unentered)) apart.kept holds least
       (λ falls. let a = gives-fewer g in omega arith)
 
--- no handle comes where there was none
 none-comes : {old new : Holdings} {stack : List ℕ} {x : HandleRow} {lists : Bool} → GivesUp old stack x false lists new → (m : ℕ) → held m (live old.handles.places.items) ≡ 0
     → held m (live new.handles.places.items) ≡ 0
 none-comes g m none = let a = gives-sums g (λ h. one (is_at m h)) in grind (arith, nat_tests)
@@ -263,20 +242,15 @@ least-more {w = w} {t = t} {x = x} {n} f g owner fell s final bare has closed =
 pub within-less : (a b c d : ℕ → Bool) (rows : List HandleRow) → ((r : ℕ) → one (a r && not (b r)) ≤ one (c r && not (d r))) → IsWithin rows c d → IsWithin rows a b
 within-less a b c d rows less is = grind (arith, nat_tests, sum_by-le-sum_by)
 
-within-both : (gone given s : ℕ → Bool) (q : ℕ) (rows : List HandleRow) → IsWithin rows gone s → IsWithin rows (and_one given q) s → IsWithin rows (and_one gone q) s
-within-both gone given s q rows a b = grind (arith, nat_tests, sum-most)
-
--- one step of a cascade
 pub steps-on : (before w : Core) (given : ℕ → Bool) (lists : Bool) (t new : Holdings) (stack : List ℕ) (r : Option NodeNumber) → SoFar before w given lists t
     → IsFalling t stack owns_nothing → t.top ≢ 0 → Steps t stack lists r new → SoFar before w given lists new
-steps-on before w given lists t new stack r f falling some s =
-    elim s.what [
-      | inl done ↦ let stay = s.cells in subst (SoFar before w given lists) (sym done.1) (grind (arith, nat_tests, tells-as, must-as))
-      | inr (x, n, is, by) ↦
-          let g : GivesUp (record t { nodes = by.popped.nodes }) by.stack x false lists new = subst (λ p. GivesUp p by.stack x false lists new) by.same by.gives in
-          one-goes given f g by.counts falling.fits.pinned (f.few some) (unlisted-apart f g (ap (is_owner Owner.List) by.owner))
-          (within-less given (and_one f.gone x.number.0) given f.gone w.rows (λ r. grind (arith, nat_tests)) f.holds) (least-more f g by.owner by.fallen)
-    ]
+steps-on before w given lists t new stack r f falling some s = elim s.what [
+  | inl done ↦ let stay = s.cells in subst (SoFar before w given lists) (sym done.1) (grind (arith, nat_tests, tells-as, must-as))
+  | inr (x, n, is, by) ↦
+      let g : GivesUp (record t { nodes = by.popped.nodes }) by.stack x false lists new = subst (λ p. GivesUp p by.stack x false lists new) by.same by.gives in
+      one-goes given f g by.counts falling.fits.pinned (f.few some) (unlisted-apart f g (ap (is_owner Owner.List) by.owner))
+      (within-less given (and_one f.gone x.number.0) given f.gone w.rows (λ r. grind (arith, nat_tests)) f.holds) (least-more f g by.owner by.fallen)
+]
 
 -- a handle is given that the list doesn't own, or one apart from the list
 pub gives-on : (before w : Core) (given : ℕ → Bool) (lists : Bool) (t new : Holdings) (stack : List ℕ) (x : HandleRow) → (f : SoFar before w given lists t)
@@ -285,8 +259,9 @@ pub gives-on : (before w : Core) (given : ℕ → Bool) (lists : Bool) (t new : 
 gives-on before w given lists t new stack x f pinned free few g =
     one-goes {nodes = t.nodes} (and_one given x.number.0) f g (λ n. refl) pinned few (elim free [ inl other ↦ unlisted-apart {nodes = t.nodes} f g other | inr apart ↦ apart ])
     (within-less (and_one given x.number.0) (and_one f.gone x.number.0) given f.gone w.rows (λ r. grind (arith, nat_tests)) f.holds)
-    (λ s final bare has closed. within-both f.gone given s x.number.0 w.rows
-    (f.least s final (λ n none. bare n (none-comes g n none)) (within-less given s (and_one given x.number.0) s w.rows (λ r. grind (arith, nat_tests)) has) closed) has)
+    (λ s final bare has closed.
+    let rest = f.least s final (λ n none. bare n (none-comes g n none)) (within-less given s (and_one given x.number.0) s w.rows (λ r. grind (arith, nat_tests)) has) closed in
+    grind (arith, nat_tests, sum-most, has, rest))
 
 pub gives-unlisted : {t new : Holdings} {stack : List ℕ} {x : HandleRow} {lists : Bool} → lists ≡ false → GivesUp t stack x false lists new → new.list.items ≡ t.list.items
 gives-unlisted {t} {new} shut g = grind (arith, nat_tests, append-nil)
@@ -322,7 +297,6 @@ module _ (test : HandleRow → Bool) (q : ℕ) where
   no-entry none last [] new = passes-none
   no-entry none last (x ∷ xs) new = grind (arith, nat_tests, passes-none, passes-here, no-entry none (last + 1) xs new.3)
 
-  -- what has gone isn't found, and all else is
   pub found-left : (gone : ℕ → Bool) (rows : List HandleRow) → passes_in test (left_rows gone rows) q ≡ (not (gone q) && passes_in test rows q)
   found-left gone [] = grind (arith, nat_tests, passes-none)
   found-left gone (x ∷ xs) = grind (arith, nat_tests, passes-here, found-left gone xs)
@@ -342,13 +316,11 @@ passes-so-far before w given lists t f test none q = ap (λ rows. passes_in test
 abbrev pub and_owned : Core → LoadNumber → (ℕ → Bool) → ℕ → ℕ → Bool
 and_owned w l given n q = given q || (q == n && is_owned_in w (Owner.Load l) q)
 
--- the load doesn't have the handle now
 pub given-none : (before w : Core) (given : ℕ → Bool) (lists : Bool) (t : Holdings) (l : LoadNumber) (n : ℕ) → SoFar before w given lists t → owned (Owner.Load l) n (live t.handles.places.items) ≡ false → SoFar before w (and_owned w l given n) lists t
 given-none before w given lists t l n f none =
     let left = passes-so-far before w given lists t f (is_owned_by (Owner.Load l)) (unlisting (Owner.Load l) refl) n in
     regiven before w given (and_owned w l given n) lists t f (λ r e. grind (arith, nat_tests, cases_eq r n)) (λ r e. grind (arith, nat_tests))
 
--- the load had the handle, and it was given
 pub given-one : (before w : Core) (given : ℕ → Bool) (lists : Bool) (t new : Holdings) (l : LoadNumber) (n : ℕ) → SoFar before w given lists t → owned (Owner.Load l) n (live t.handles.places.items) ≡ true → SoFar before w (and_one given n) lists new → SoFar before w (and_owned w l given n) lists new
 given-one before w given lists t new l n f some g =
     let mine : is_owned_in w (Owner.Load l) n ≡ true =

@@ -12,10 +12,8 @@ use Rattle.{pagable_tables.proofs.Worlds.{found-map, owner-same}, std.proofs.lem
 
 -- ---- what loads and workers own is what they owned, or has come since
 
--- what one owns once handles have moved to another
 pub owned-moved : (s : ℕ → Bool) (o a : Owner) (q : ℕ) (rows : List HandleRow) → is_owner a o ≡ false → owned a q (moved s o rows) ≡ (owned a q rows && not (s q))
-owned-moved s o a q rows other =
-    let is = found-map (λ x. if s x.number.0 then record x { owner = o } else x) (λ x. grind (arith, nat_tests)) q rows in grind (arith, nat_tests, found-among q rows)
+owned-moved s o a q rows other = let is = found-map (λ x. if s x.number.0 then record x { owner = o } else x) (λ x. grind (arith, nat_tests)) q rows in grind (arith, nat_tests, found-among q rows)
 
 -- loads and workers give up what they have together
 abbrev pub is_giver : Owner → Bool
@@ -43,12 +41,8 @@ newer-handle w node mode owner = record { last = omega arith; kept = λ o q give
 pub newer-moved : (w : Core) (s : ℕ → Bool) (o : Owner) → is_giver o ≡ false → OnlyNewer w (record w { rows = moved s o w.rows })
 newer-moved w s o other = grind (arith, nat_tests, and-left, owned-moved)
 
--- a handle's mode says nothing of who owns it
 pub owned-mode : (o : Owner) (q : ℕ) (test : HandleRow → Bool) (mode : Mode) (rows : List HandleRow) → owned o q (changed test (λ row. record row { mode = mode }) rows) ≡ owned o q rows
 owned-mode o q test mode rows = let is = found-map (λ x. if test x then record x { mode = mode } else x) (λ x. grind (arith, nat_tests)) q rows in grind (arith, nat_tests)
-
-pub newer-mode : (w : Core) (h : HandleNumber) (mode : Mode) → OnlyNewer w (with_mode w h mode)
-newer-mode w h mode = record { last = omega arith; kept = λ o q gives own. inl (sym (owned-mode o q (is_handle h.0) mode w.rows) ∙ own) }
 
 pub newer-falls : {before u w' : Core} {given : ℕ → Bool} {r : Result (Unit {0}) Error} → Falls before u given r w' → OnlyNewer u w'
 newer-falls {before} {u} {w'} falls = grind (arith, nat_tests, passes-left, no-entry, unlisting)
@@ -76,7 +70,6 @@ module _ {m : Core} (w' : Core) (whole : IsWhole m) (rows : w'.rows ≡ m.rows) 
 pub roomy-whole : {w : Core} → IsWhole w → IsWhole (roomy w)
 roomy-whole {w} whole = told-whole (roomy w) whole refl (λ n. refl) refl (λ kind key n is. is) (λ l. refl) (λ v. refl) refl (record { rows = omega arith; list = omega arith })
 
--- what a call has made directly, told alike
 pub settles : {m w' : Core} → IsWhole (roomy m) → Alike m w' → ArePlaced (opened w') → IsWhole (opened w')
 settles {m} {w'} whole a placed = told-whole {m = roomy m} w' whole a.rows a.cells a.list a.cache.only a.loads a.workers a.last placed
 
@@ -152,8 +145,7 @@ module _ {w : Core} (whole : IsWhole w) (test : HandleRow → Bool) (f : HandleR
   -- where no handle comes to the list or from it
   pub turned-still : ((x : HandleRow) → Among w.rows x → test x ≡ true → is_owned_by Owner.List (f x) ≡ is_owned_by Owner.List x)
       → ((x : HandleRow) → Among w.rows x → test x ≡ true → IsIn w (f x).mode (f x).owner) → IsWhole (roomy (record w { rows = changed test f w.rows }))
-  turned-still same owners =
-      turned-whole w.list (λ q. whole.owners_there.listed q ∙ sym (sum-map (λ x. one (of_list q x)) (λ x. one (of_list q x)) to w.rows (λ x among.
+  turned-still same owners = turned-whole w.list (λ q. whole.owners_there.listed q ∙ sym (sum-map (λ x. one (of_list q x)) (λ x. one (of_list q x)) to w.rows (λ x among.
       each-changed test f (λ y. one (of_list q y) ≡ one (of_list q x)) x (λ e. ap (λ k. one (k == q && is_owned_by Owner.List (f x))) (number x) ∙ ap (λ b. one (is_handle q x && b)) (same x among e)) (λ e. refl)))) owners
 
 -- ---- another mode
@@ -168,7 +160,7 @@ moded {w} whole h row mode live shared loose waits =
     λ x among e was. loose (ap (λ (y : HandleRow). is_loose y.mode) (sym (the-row x among e)) ∙ was) in (
       turned-still whole (is_handle h.0) (λ x. record x { mode = mode }) (λ x. refl) (λ x. refl) same loosely (λ x among e. refl) (λ x among e. let i = is-in whole x among in let r = the-row x among e in grind (arith, nat_tests, waits)),
       turned-on whole (is_handle h.0) (λ x. record x { mode = mode }) (λ x. refl) (λ x. refl) same loosely,
-      newer-mode w h mode,
+      record { last = omega arith; kept = λ o q gives own. inl (sym (owned-mode o q (is_handle h.0) mode w.rows) ∙ own) },
     )
 
 -- ---- a handle comes, under the next number
@@ -242,8 +234,7 @@ module _ {before : Core} (m u : Core) {w' : Core} {given : ℕ → Bool} {r : Re
   entered n some =
       let must = (f.only n some).0 in
       let (x, among, counts) = counted (λ h. one (is_pin n h)) before.rows must.pinned in
-      let none = at-most-sum (λ h. one (is_share n h)) before.rows x among in
-      let y = on.like x among in grind (arith, nat_tests, must.unshared)
+      grind (arith, nat_tests, must.unshared, at-most-sum (λ h. one (is_share n h)) before.rows x among, on.like x among)
 
   -- what is true of each row that is left, and of each entry
   each-row : (P : HandleRow → Type 0) → ((h : HandleRow) → Among m.rows h → f.gone h.number.0 ≡ false → P h)
@@ -266,8 +257,7 @@ module _ {before : Core} (m u : Core) {w' : Core} {given : ℕ → Bool} {r : Re
       let kept = one-left (λ (h : HandleNumber). h.0) (λ h. h.0 == q) q (λ h is. grind (arith, nat_tests)) f.gone (f.gone q) refl u.list in
       let rows = one-left (λ (h : HandleRow). h.number.0) (of_list q) q (λ h is. grind (arith, nat_tests)) f.gone (f.gone q) refl m.rows in
       let list = sum_by-append (λ (h : HandleNumber). one (h.0 == q)) (filter (λ (h : HandleNumber). not (f.gone h.0)) u.list) (map (λ (h : HandleRow). h.number) f.entries) in
-      let all = sum_by-append (λ h. one (of_list q h)) left f.entries in
-      grind (arith, nat_tests, lost.listed q, none, entries-listed q m.last.handle f.entries f.new)
+      grind (arith, nat_tests, lost.listed q, none, entries-listed q m.last.handle f.entries f.new, sum_by-append (λ h. one (of_list q h)) left f.entries)
 
   fallen-whole : IsWhole after
   fallen-whole =
@@ -329,8 +319,7 @@ module _ {w : Core} (whole : IsWhole w) (s : ℕ → Bool) (owner : Owner) where
 -- to the value of a node, or to one who may hold, where none is the list's
 module _ {w : Core} (whole : IsWhole w) (s : ℕ → Bool) (mine : (x : HandleRow) → Among w.rows x → s x.number.0 ≡ true → is_owned_by Owner.List x ≡ false) where
   pub moved-free : (owner : Owner) → is_owner Owner.List owner ≡ false → ((mode : Mode) → IsIn w mode owner) → IsWhole (roomy (record w { rows = moved s owner w.rows }))
-  moved-free owner other there =
-      turned-still whole (λ x. s x.number.0) (λ x. record x { owner = owner }) (λ x. refl) (λ x. refl) (λ x among e. refl) (λ x among e was. was)
+  moved-free owner other there = turned-still whole (λ x. s x.number.0) (λ x. record x { owner = owner }) (λ x. refl) (λ x. refl) (λ x among e. refl) (λ x among e was. was)
       (λ x among e. other ∙ sym (mine x among e)) (λ x among e. there x.mode)
 
   pub moved-to-value : (n : ℕ) → IsWhole (roomy (record w { rows = moved s (owner_value n) w.rows }))
@@ -357,7 +346,6 @@ pin-comes {w} h row me whole holder owns left =
 
 -- ---- references that are good
 
--- who owns what has a row's number is the row's owner
 pub own-of : (w : Core) → AllPairs IsHandleBefore w.rows → (owner : Owner) (x : HandleRow) → Among w.rows x → is_owned_in w owner x.number.0 ≡ true → x.owner ≡ owner
 own-of w ordered owner x among own = owner-same owner x.owner (sym (ap (if_there (is_owned_by owner) false) (found-so x.number.0 w.rows x ordered among refl)) ∙ own)
 
@@ -386,11 +374,10 @@ module _ {w : Core} (whole : IsWhole w) (node_type : ℕ) (key : OptionalDataKey
     (good : references_fault w from [] refs ≡ None)
     (holder : MayHold w me) (node_left : w.last.node < greatest) (left : w.last.handle < greatest) (unkeyed : is_shared mode ≡ true → has_key key ≡ false) where
   pub born-whole : IsWhole (roomy (with_handle (with_node w node_type key refs) (next_node w) mode me))
-  born-whole =
-      grown-whole (moved-to-value whole (is_named_by refs) (named-unlisted whole from refs other good) (w.last.node + 1)) (row_of (w.last.handle + 1) (next_node w) mode me)
+  born-whole = grown-whole (moved-to-value whole (is_named_by refs) (named-unlisted whole from refs other good) (w.last.node + 1)) (row_of (w.last.handle + 1) (next_node w) mode me)
       (updated (w.last.node + 1) (Some (record { node_type = node_type; key = key })) w.cells) (w.last.node + 1)
       refl left (omega arith) (omega arith) (grind (arith, nat_tests)) (λ n old. grind (arith, nat_tests)) (inr (omega arith, omega arith, λ is. grind (arith, nat_tests, unkeyed is))) holder
 
-pub no-references : (w : Core) (owner : Owner) → references_fault w owner [] [] ≡ None
+pub none-named : (w : Core) (owner : Owner) (refs : List ArcRef) → refs ≡ [] → references_fault w owner [] refs ≡ None
 unfolding references_fault
-no-references w owner = refl
+none-named w owner refs is = ap (references_fault w owner []) is

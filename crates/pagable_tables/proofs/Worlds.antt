@@ -1,10 +1,10 @@
 -- Two worlds that are told alike.
-use Rattle.pagable_tables.proofs.Words.{Adopts, Alike, ArcRef, AreHandlesFull, Bool, Cell, Core, Counts, Err, Error, FallsAnyhow, HandleNumber, HandleRow, HasRoom, Kind, LazyCall, List, LoadNumber}
+use Rattle.pagable_tables.proofs.Words.{Adopts, Alike, ArcRef, AreHandlesFull, Bool, Cell, Core, Err, Error, FallsAnyhow, HandleNumber, HandleRow, HasRoom, Kind, LazyCall, List, LoadNumber}
 use Rattle.pagable_tables.proofs.Words.{LoadRow, Makes, Mode, NodeNumber, None, Ok, OnlyRoom, OpenLoad, Option, OptionalDataKey, Owner, OwnsLoad, Places, RecallCall, Refused, Result, SameAt}
-use Rattle.pagable_tables.proofs.Words.{SameCache, Some, [], add-one, adopt_fault, adopted, ap, arith, at_drop_all, at_drop_more, birth_fault, cell_in, closed_fault, drop, drop-cons, drop_all}
+use Rattle.pagable_tables.proofs.Words.{SameCache, Some, [], add-one, adopt_fault, adopted, ap, arith, at_drop_all, at_drop_more, birth_fault, closed_fault, drop, drop-cons, drop_all}
 use Rattle.pagable_tables.proofs.Words.{earlier, early_fault, false, find_row, first_key, get_or, greatest, handle_fault, if_there, if◌then◌else◌, inl, inr, is_in, is_in_memory, is_loose_kind}
-use Rattle.pagable_tables.proofs.Words.{is_named_by, is_owner, is_pinned_kind, is_some, key_in, length, load_fault, load_in, map, mode_of, moved, named_at, named_fault, nat_tests, next_node}
-use Rattle.pagable_tables.proofs.Words.{node_fault, not, numbers_of, only_handle, option_map, or_else, pins, pins_in, rank, reference_fault, references_fault, refl, refused_if, seen, spent, subst}
+use Rattle.pagable_tables.proofs.Words.{is_named_by, is_owner, is_pinned_kind, is_some, length, load_fault, load_in, map, mode_of, moved, named_at, named_fault, nat_tests, next_node}
+use Rattle.pagable_tables.proofs.Words.{node_fault, not, numbers_of, only_handle, option_map, or_else, pins, rank, reference_fault, references_fault, refl, refused_if, seen, spent, subst}
 use Rattle.pagable_tables.proofs.Words.{suc, sym, take, take-suc, take_all, true, type_of, usable, where_so, with_cached, with_handle, with_node, zero, ℕ, ◌&&◌, ◌++◌, ◌+◌, ◌<◌, ◌==◌, ◌||◌, ◌∙◌, ◌∷◌}
 use Rattle.{pagable_tables.proofs.Words.{◌≡◌, ◌≢◌, ◌≤◌, ◌⊎◌}, pagable_world.specs.Calls.IsNext, std.{proofs.lemmas.List.map-id, specs.Result.IsErrAnd}}
 
@@ -23,8 +23,7 @@ pub still : (w : Core) → Alike w w
 still w = grind (arith, nat_tests, same-cache)
 
 -- rows, cells and room may be told anew
-pub alike : (w w' : Core) → w'.rows ≡ w.rows → SameAt w.cells w'.cells → HasRoom w.places w'.places
-    → w' ≡ record w { rows = w'.rows; cells = w'.cells; places = w'.places } → Alike w w'
+pub alike : (w w' : Core) → w'.rows ≡ w.rows → SameAt w.cells w'.cells → HasRoom w.places w'.places → w' ≡ record w { rows = w'.rows; cells = w'.cells; places = w'.places } → Alike w w'
 alike w w' rows cells places same = grind (arith, nat_tests, same-cache)
 
 -- what is answered where a call within was refused
@@ -32,7 +31,6 @@ pub failed : {T E : Type 0} {e : E} (r : Result T E) → IsErrAnd r (λ y. y ≡
 failed (Err e) is = ap (λ y. Err y) is
 failed (Ok x) is = absurd is
 
--- who passes the test is the same owner
 pub owner-same : (a b : Owner) → is_owner a b ≡ true → b ≡ a
 owner-same a b h = grind (arith, nat_tests)
 
@@ -44,14 +42,12 @@ fault-by w u me seen (r ∷ rs) = ap (or_else (reference_fault w me seen r)) (fa
 
 -- ---- why calls are refused, and which of several causes is told. Loads that are opened and closed again, and what is offered to the cache
 
--- of two causes the first is told unless the other comes before it
 pub earlier-first : (a x : Option Error) (e : Error) → a ≡ Some e → ((f : Error) → x ≡ Some f → rank e ≤ rank f) → earlier a x ≡ Some e
 earlier-first a x e is late = grind (arith, nat_tests)
 
 pub both-none : (a b : Option Error) → earlier a b ≡ None → (a ≡ None) × (b ≡ None)
 both-none a b e = grind (arith, nat_tests)
 
--- of two late causes any is late
 pub late : (a b : Option Error) (m : ℕ) → ((f : Error) → a ≡ Some f → m ≤ rank f) → ((f : Error) → b ≡ Some f → m ≤ rank f) → (f : Error) → earlier a b ≡ Some f → m ≤ rank f
 late None b m one two f is = two f is
 late (Some e) None m one two f is = one f is
@@ -91,11 +87,6 @@ handle-first w me h fits e x is late = grind (arith, nat_tests, earlier-first, f
 pub owner-self : (o : Owner) → is_owner o o ≡ true
 owner-self o = grind (arith, nat_tests)
 
--- whether a node of these counts has its value in memory
-pub here-told : (at : ℕ → Option Counts) (rows : List HandleRow) (n : ℕ) (c : Counts) → pins_in (at n) ≡ pins n rows → at n ≡ Some c → is_in_memory (pins n rows) (if_there (λ (cell : Cell). cell.key) OptionalDataKey.None (cell_in (at n))) ≡ is_in_memory c.pins (key_in c.key)
-here-told at rows n c pinned is = grind (arith, nat_tests)
-
--- the causes of a load come before those of modes, kinds and numbers
 pub load-low : (w : Core) (me : Owner) (l : LoadNumber) (e : Error) → load_fault w me l ≡ Some e → rank e ≤ 1
 load-low w me l e is = grind (arith, nat_tests)
 
@@ -158,7 +149,6 @@ pub in-none : (hs : List HandleNumber) (q : ℕ) → is_in (seen hs 0) q ≡ fal
 unfolding is_in seen
 in-none hs q = refl
 
--- one more is seen
 pub in-more : (hs : List HandleNumber) (n q : ℕ) → is_in (seen hs (n + 1)) q ≡ (named_at hs n == q || is_in (seen hs n) q)
 unfolding is_in seen
 in-more hs n q = let e : n + 1 ≡ suc n = omega arith in ap (λ m. is_in (seen hs m) q) e
@@ -167,32 +157,23 @@ pub in-there : (hs : List HandleNumber) (m n q : ℕ) → n < m → named_at hs 
 in-there hs zero n q lt is = absurd (omega arith)
 in-there hs (suc m) n q lt is = let a = in-more hs m q in let e : suc m ≡ m + 1 = omega arith in ap (λ k. is_in (seen hs k) q) e ∙ a ∙ grind (arith, nat_tests, in-there hs m n q)
 
-seen-next : (hs : List HandleNumber) (n : ℕ) → seen hs (n + 1) ≡ named_at hs n ∷ seen hs n
-unfolding seen
-seen-next hs n = let e : n + 1 ≡ suc n = omega arith in ap (seen hs) e
-
 abbrev pub one-fault : Core → Owner → List ℕ → HandleNumber → Option Error
 one-fault w o before h = if_there (λ (row : HandleRow). refused_if (not (is_owner o row.owner) || is_in before h.0) Error.NotYours) (Some Error.NoSuchHandle) (find_row h.0 w.rows)
 
--- past the last there is no fault
 pub last-named : (w : Core) (o : Owner) (hs : List HandleNumber) → None ≡ named_fault w o (seen hs (length hs)) (drop (length hs) hs)
 unfolding named_fault
 last-named w o hs = sym (at_drop_all (named_fault w o (seen hs (length hs))) hs (length hs) (omega arith))
 
--- the fault of one and of those after it
 pub one-named : (w : Core) (o : Owner) (hs : List HandleNumber) (p : ℕ) (x rest : Option Error) → p < length hs → x ≡ one-fault w o (seen hs p) (get_or hs p (record { 0 = 0 })) → rest ≡ named_fault w o (seen hs (p + 1)) (drop (p + 1) hs) → earlier x rest ≡ named_fault w o (seen hs p) (drop p hs)
-unfolding named_fault
-one-named w o hs p x rest lt is follows =
-    ap (λ x. earlier x rest) is
-    ∙ ap (earlier (one-fault w o (seen hs p) (get_or hs p (record { 0 = 0 })))) (follows ∙ ap (λ before. named_fault w o before (drop (p + 1) hs)) (seen-next hs p))
+unfolding named_fault seen
+one-named w o hs p x rest lt is follows = ap (λ x. earlier x rest) is
+    ∙ ap (earlier (one-fault w o (seen hs p) (get_or hs p (record { 0 = 0 })))) (follows ∙ ap (λ n. named_fault w o (seen hs n) (drop (p + 1) hs)) (let e : p + 1 ≡ suc p = omega arith in e))
     ∙ sym (at_drop_more (named_fault w o (seen hs p)) hs p (record { 0 = 0 }) lt)
 
--- all of them
 pub all-named : (w : Core) (o : Owner) (hs : List HandleNumber) (p : ℕ) (x : Option Error) → p ≡ 0 → x ≡ named_fault w o (seen hs p) (drop p hs) → x ≡ named_fault w o [] hs
 unfolding seen
 all-named w o hs p x zero' is = is ∙ ap (λ p. named_fault w o (seen hs p) (drop p hs)) zero'
 
--- nothing is moved where none is named
 pub none-moved : (o : Owner) (rows : List HandleRow) → moved (is_in []) o rows ≡ rows
 unfolding is_in
 none-moved o rows = map-id rows
@@ -209,7 +190,6 @@ in-push (x ∷ xs) h q = grind (arith, nat_tests, in-push xs h q)
 pub in-take : (hs : List HandleNumber) (i : ℕ) (d : HandleNumber) (q : ℕ) → i < length hs → is_in (numbers_of (take (i + 1) hs)) q ≡ ((get_or hs i d).0 == q || is_in (numbers_of (take i hs)) q)
 in-take hs i d q lt = ap (λ l. is_in (numbers_of l) q) (ap (λ n. take n hs) (add-one i) ∙ take-suc hs i d lt) ∙ in-push (take i hs) (get_or hs i d) q
 
--- what is found of rows that keep their numbers
 pub found-map : (f : HandleRow → HandleRow) → ((h : HandleRow) → (f h).number.0 ≡ h.number.0) → (q : ℕ) (rows : List HandleRow) → find_row q (map f rows) ≡ option_map f (find_row q rows)
 unfolding find_row
 found-map f same q [] = refl
@@ -219,7 +199,6 @@ pub ruleset handing = (nat_tests, in-none, in-more, in-there, last-named, all-na
 
 -- ---- handles that references name come to another owner
 
--- no row has the number
 pub moved-none : (h : HandleNumber) (owner : Owner) (rows : List HandleRow) → find_row h.0 rows ≡ None → moved (only_handle h) owner rows ≡ rows
 unfolding find_row
 moved-none h owner [] is = refl
@@ -248,9 +227,7 @@ pub named-take : (rs : List ArcRef) (i : ℕ) (d : ArcRef) (q : ℕ) → i < len
 named-take rs i d q lt = ap (λ l. is_named_by l q) (ap (λ n. take n rs) (add-one i) ∙ take-suc rs i d lt) ∙ named-push (take i rs) (get_or rs i d) q
 
 pub named-other : (rs : List ArcRef) (i : ℕ) (d : ArcRef) (q : ℕ) → (get_or rs i d).handle.0 ≢ q → i < length rs → is_named_by (take i rs) q ≡ false → is_named_by (take (i + 1) rs) q ≡ false
-named-other rs i d q other lt before =
-    let a : ((get_or rs i d).handle.0 == q) ≡ false = grind (arith, nat_tests) in
-    named-take rs i d q lt ∙ ap (λ b. b || is_named_by (take i rs) q) a ∙ before
+named-other rs i d q other lt before = let a : ((get_or rs i d).handle.0 == q) ≡ false = grind (arith, nat_tests) in named-take rs i d q lt ∙ ap (λ b. b || is_named_by (take i rs) q) a ∙ before
 
 pub seen-more : (seen : List ℕ) (rs : List ArcRef) (i : ℕ) (d : ArcRef) → i < length rs → ((q : ℕ) → is_in seen q ≡ is_named_by (take i rs) q) → (q : ℕ) → is_in ((get_or rs i d).handle.0 ∷ seen) q ≡ is_named_by (take (i + 1) rs) q
 unfolding is_in
@@ -261,15 +238,10 @@ unfolding is_in is_named_by
 seen-none q = refl
 
 module _ (w : Core) (me : Owner) (seen : List ℕ) (rs : List ArcRef) (i : ℕ) where
-  fault-drop : (d : ArcRef) → i < length rs → references_fault w me seen (drop i rs) ≡ or_else (reference_fault w me seen (get_or rs i d)) (references_fault w me ((get_or rs i d).handle.0 ∷ seen) (drop (i + 1) rs))
+  pub fault-at : (d : ArcRef) (o : Option Error) → i < length rs → reference_fault w me seen (get_or rs i d) ≡ o
+      → references_fault w me seen (drop i rs) ≡ or_else o (references_fault w me ((get_or rs i d).handle.0 ∷ seen) (drop (i + 1) rs))
   unfolding references_fault
-  fault-drop d lt = rw (add-one, drop-cons rs i d) refl
-
-  pub fault-some : (d : ArcRef) (e : Error) → i < length rs → reference_fault w me seen (get_or rs i d) ≡ Some e → references_fault w me seen (drop i rs) ≡ Some e
-  fault-some d e lt is = fault-drop d lt ∙ ap (λ f. or_else f (references_fault w me ((get_or rs i d).handle.0 ∷ seen) (drop (i + 1) rs))) is
-
-  pub fault-none : (d : ArcRef) → i < length rs → reference_fault w me seen (get_or rs i d) ≡ None → references_fault w me seen (drop i rs) ≡ references_fault w me ((get_or rs i d).handle.0 ∷ seen) (drop (i + 1) rs)
-  fault-none d lt is = fault-drop d lt ∙ ap (λ f. or_else f (references_fault w me ((get_or rs i d).handle.0 ∷ seen) (drop (i + 1) rs))) is
+  fault-at d o lt is = subst (λ f. references_fault w me seen (drop i rs) ≡ or_else f (references_fault w me ((get_or rs i d).handle.0 ∷ seen) (drop (i + 1) rs))) is (rw (add-one, drop-cons rs i d) refl)
 
   pub fault-end : length rs ≤ i → references_fault w me seen (drop i rs) ≡ None
   unfolding references_fault
@@ -348,7 +320,6 @@ module _ (w : Core) (me : Owner) (l : LoadNumber) (kind : Kind) (key node_type :
     pub owner-of : (load : OpenLoad) × OwnsLoad w me l load
     owner-of = let own = parts.0 in grind (arith, nat_tests)
 
-    -- memory is wanting
     pub refused-memory : {w' : Core} → OnlyRoom w w' → Refused (adopt_fault w me l kind key node_type refs) (load_fault w me l) (Unit {0}) w Error.OutOfMemory w'
     refused-memory room = record { why = inr (refl, parts.0, tt); stays = room-alike room }
 
@@ -377,8 +348,7 @@ module _ (w : Core) (me : Owner) (l : LoadNumber) (kind : Kind) (key node_type :
 
 -- room is nothing to the causes that come first
 pub early-past : {w w' : Core} (me : Owner) (l : LoadNumber) (kind : Kind) (node_type : ℕ) (refs : List ArcRef) → OnlyRoom w w' → early_fault w' me l kind node_type refs ≡ early_fault w me l kind node_type refs
-early-past {w} {w'} me l kind node_type refs o =
-    ap (λ (u : Core). early_fault u me l kind node_type refs) o.same
+early-past {w} {w'} me l kind node_type refs o = ap (λ (u : Core). early_fault u me l kind node_type refs) o.same
     ∙ ap (λ x. earlier (load_fault w me l) (earlier (refused_if (is_loose_kind kind.0) Error.WrongMode) (earlier (refused_if (not (node_type == type_of kind.0)) Error.WrongKind) x)))
     (fault-by w (record w { places = w'.places }) (Owner.Load l) [] refs)
 

@@ -18,20 +18,19 @@ load_in row = record { owner = row.owner; key = row.key; root = root_in row.root
 
 -- with what is stored, whether the storage was closed, and how often it failed
 abbrev pub core_of : Tables → (ℕ → Option Blob) → Bool → ℕ → Core
-core_of t stored closed failures =
-    record {
-      rows = live t.holdings.handles.places.items;
-      cells = λ n. cell_in (counts_at t.holdings.nodes n);
-      list = t.holdings.list.items;
-      cache = λ kind key. option_map (λ (n : NodeNumber). n.0) (known_at t.cache kind key);
-      stored = stored;
-      closed = closed;
-      failures = failures;
-      loads = λ l. option_map load_in (load_at t.loads l);
-      workers = λ v. is_some (worker_at t.workers v);
-      last = record { node = t.last_node; handle = t.holdings.last_handle; load = t.last_load; worker = t.last_worker };
-      places = record { handles = vec_capacity t.holdings.handles.places; entries = vec_capacity t.holdings.list };
-    }
+core_of t stored closed failures = record {
+  rows = live t.holdings.handles.places.items;
+  cells = λ n. cell_in (counts_at t.holdings.nodes n);
+  list = t.holdings.list.items;
+  cache = λ kind key. option_map (λ (n : NodeNumber). n.0) (known_at t.cache kind key);
+  stored = stored;
+  closed = closed;
+  failures = failures;
+  loads = λ l. option_map load_in (load_at t.loads l);
+  workers = λ v. is_some (worker_at t.workers v);
+  last = record { node = t.last_node; handle = t.holdings.last_handle; load = t.last_load; worker = t.last_worker };
+  places = record { handles = vec_capacity t.holdings.handles.places; entries = vec_capacity t.holdings.list };
+}
 
 -- the same, while nothing is stored
 abbrev pub plain_of : Tables → Core

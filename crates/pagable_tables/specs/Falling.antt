@@ -318,14 +318,13 @@ GetsKey old new n key = SameAt (updated n (if_there (λ (cell : Cell). Some (rec
 
 -- the world with the handles, nodes and list of the tables
 abbrev pub with_tables : Core → Holdings → Core
-with_tables w t =
-    record w {
-      rows = live t.handles.places.items;
-      cells = λ n. cell_in (counts_at t.nodes n);
-      list = t.list.items;
-      last = record w.last { handle = t.last_handle };
-      places = record { handles = vec_capacity t.handles.places; entries = vec_capacity t.list };
-    }
+with_tables w t = record w {
+  rows = live t.handles.places.items;
+  cells = λ n. cell_in (counts_at t.nodes n);
+  list = t.list.items;
+  last = record w.last { handle = t.last_handle };
+  places = record { handles = vec_capacity t.handles.places; entries = vec_capacity t.list };
+}
 
 -- the answer, by the cause that was kept
 abbrev pub told_by : Option Error → Result (Unit {0}) Error

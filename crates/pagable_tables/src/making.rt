@@ -41,7 +41,7 @@ pub fn come(
     requires live { IsSome (counts_at t.old.nodes node.0) }
     requires owner { is_valued owner ≡ false }
     ensures made { (w : Core) → Makes (with_tables w t.old) node mode owner result (with_tables w t.new) }
-    ensures values { (n : ℕ) → (n ≡ node.0 → has_value (counts_at t.old.nodes n) ≡ true) → ValueStays (counts_at t.old.nodes n) (counts_at t.new.nodes n) }
+    ensures values { (n : ℕ) → (n ≡ node.0 → is_pinning mode ≡ true → has_value (counts_at t.old.nodes n) ≡ true) → ValueStays (counts_at t.old.nodes n) (counts_at t.new.nodes n) }
     ensures steady { IsFalling t.new [] owns_nothing }
 {
     let counts = tables::counts_of(&t.nodes, node.0).unwrap();
@@ -69,7 +69,7 @@ pub fn make(t: &mut Tables, node: NodeNumber, mode: Mode, me: Owner) -> Result<H
     requires suits { Suits (plain_of t.old) node mode }
     requires holder { MayHold (plain_of t.old) me }
     ensures does { Does t.old (λ w w'. Makes w node mode me result w') t.new }
-    ensures values { (n : ℕ) → (n ≡ node.0 → has_value (counts_at t.old.holdings.nodes n) ≡ true) → ValueStays (counts_at t.old.holdings.nodes n) (counts_at t.new.holdings.nodes n) }
+    ensures values { (n : ℕ) → (n ≡ node.0 → is_pinning mode ≡ true → has_value (counts_at t.old.holdings.nodes n) ≡ true) → ValueStays (counts_at t.old.holdings.nodes n) (counts_at t.new.holdings.nodes n) }
     ensures same { t.new ≡ record t.old { holdings = t.new.holdings } }
 {
     come(&mut t.holdings, node, mode, me)

@@ -1,12 +1,13 @@
-use Rattle.pagable_tables.proofs.{Fitting.{aside, entry-apart}, Newer.{all-past, bare, given-plain, none-past, one-past}, Next.{sheds-still, sheds-then}, Words.{None, [], arith, inl, inr, load_at}}
-use Rattle.pagable_tables.proofs.Words.{load_in, option_map, owns_nothing, refl, ◌∙◌}
+use Rattle.pagable_tables.proofs.{Fitting.{aside, entry-apart}, Newer.{bare, given-plain, one-past, onto, past_of}, Next.{regiven, sheds-still, sheds-then}, Words.{None, [], arith, inl, inr, load_at}}
+use Rattle.pagable_tables.proofs.Words.{gives_row, load_in, nat_tests, nobody, option_map, owns_nothing, passes_in, refl, ◌∙◌}
 use Rattle.pagable_tables.proofs.giving.give_all.Goals as goal
 
 pub loop-at-init : goal.loop-at-init
 loop-at-init g c = (
   aside c.args.t.now None [] owns_nothing c.requires.steady,
   omega arith,
-  λ before u w loads f few between. none-past before u w c.args.lists c.args.giving (λ is. (c.requires.listed is).0) c.args.reach (λ q e. (between q e).0) _ c.args.t.now.last_handle (λ q e. (between q e).1) f,
+  λ before u w loads f few between.
+      regiven before u nobody (past_of u w c.args.giving c.args.t.now.last_handle) c.args.lists _ f (λ r e. let up = between r in grind (arith, nat_tests)) (λ r e. absurd (cc)),
   sheds-still c.args.t.now _ c.requires.steady,
   λ none. refl,
 )
@@ -36,5 +37,6 @@ loop-at-preserved g c =
 
 pub returns-clause-falls : goal.returns-clause-falls
 returns-clause-falls g c before u w loads f few between =
-    c.fall.ensures.falls before u _ (all-past before u w c.args.lists c.args.giving (λ is. (c.requires.listed is).0) c.args.reach (λ q e. (between q e).0) c.loop-at.t c.loop-at.left
-    (λ q in-reach below. c.in_default.ensures.none w q loads in-reach below) (c.loop-at.invariant.2 before u w loads f few between))
+    c.fall.ensures.falls before u _ (onto before u w c.args.lists c.args.giving (λ is. (c.requires.listed is).0) c.args.reach (λ q e. (between q e).0) c.loop-at.t c.loop-at.left
+    (passes_in (gives_row w c.args.giving) u.rows) (λ r e. e) (λ r e. grind (arith, nat_tests)) (λ r e below. c.in_default.ensures.none w r loads (between r e).0 below)
+    (c.loop-at.invariant.2 before u w loads f few between))

@@ -1,7 +1,7 @@
-use Rattle.pagable_tables.proofs.Words.{Falls, None, Owner, Some, [], ap, arith, core_of, false, inl, is_in, is_owned_in, is_valued, length, load_at, load_in, moved, nat_tests, not, numbers_of}
-use Rattle.pagable_tables.proofs.Words.{option_map, plain_of, refl, subst, sym, with_tables, without_load, ℕ, ◌&&◌, ◌∙◌, ◌≡◌}
 use Rattle.pagable_tables.proofs.{Alive.and-left, Calls.{MayHand, hand-over-whole, handed-mine, handed-own, handed-whole, may-hand, may-hold}, Fitting.{begun, unmixed}, Newer.{bare, closed-still}}
-use Rattle.pagable_tables.proofs.{Newer.{later-handed, load-closed, loads-anew, moved-stands, moved-times, no-load, owned-given, sheds-by}, Told.{newer-falls, not-a-value, owned-moved}, Words.Core}
+use Rattle.pagable_tables.proofs.{Newer.{later-handed, lazily-by, loads-anew, moved-stands, moved-times, no-load, owned-given, sheds-with, updated-by}, Told.{newer-falls, not-a-value, owned-moved}}
+use Rattle.pagable_tables.proofs.Words.{Core, Falls, None, Owner, Some, [], ap, arith, core_of, false, inl, is_in, is_owned_in, is_valued, length, load_at, load_in, moved, nat_tests, not, numbers_of}
+use Rattle.pagable_tables.proofs.Words.{option_map, plain_of, refl, subst, sym, with_tables, without_load, ℕ, ◌&&◌, ◌∙◌, ◌≡◌}
 use Rattle.pagable_tables.proofs.giving.load_take.Goals as goal
 
 pub unwrap-row-requires : goal.unwrap-row-requires
@@ -15,9 +15,8 @@ give_all-requires-clause-steady g c =
     let w = plain_of c.args.t.now in
     let hs = c.args.named.now in
     let can : MayHand w c.args.me c.args.load hs = may-hand c.requires.whole.core c.args.me c.args.load hs (sym (c.hand_over_fault.ensures (λ key. None) false 0) ∙ c.in_default.is) in
-    let own = handed-own w c.requires.whole.core.handles.ordered c.args.load hs can.named in
     moved-stands c.args.t.now.holdings c.hand_each.new.handles (is_in (numbers_of hs)) c.args.me c.requires.whole.steady (not-a-value w c.args.me (may-hold w c.args.me can.may))
-    (λ x among named. ap is_valued (own x among named)) c.hand_each.ensures
+    (λ x among named. ap is_valued (handed-own w c.requires.whole.core.handles.ordered c.args.load hs can.named x among named)) c.hand_each.ensures
 
 pub returns : goal.returns
 returns g c =
@@ -29,7 +28,7 @@ returns g c =
     let p = plain_of t in
     let can : MayHand p me l hs = may-hand c.requires.whole.core me l hs (sym (c.hand_over_fault.ensures (λ key. None) false 0) ∙ c.in_default.is) in
     let row : load_at t.loads l.0 ≡ Some c.unwrap-row.result = sym c.load_of.ensures ∙ c.unwrap-row.ensures in
-    sheds-by
+    sheds-with (lazily-by
     (λ stored closed failures e.
     let w = core_of t stored closed failures in
     let w' = core_of (record t { holdings = c.give_all.new.t; loads = c.close.new.rows }) stored closed failures in
@@ -47,7 +46,7 @@ returns g c =
         record {
           told = c.give_all.result;
           falls = loads-anew w u (with_tables u c.give_all.new.t) (λ q. is_owned_in w (Owner.Load l) q && not (s q)) c.give_all.result w'.loads
-              (load-closed (load_at t.loads) (load_at c.close.new.rows) l.0 c.close.ensures.gone c.close.ensures.others)
+              (updated-by (option_map load_in) (load_at t.loads) (load_at c.close.new.rows) l.0 None c.close.ensures.gone c.close.ensures.others)
               (subst (λ given. Falls w u given c.give_all.result (with_tables u c.give_all.new.t)) (λ i q. left q i) falls);
         },
       );
@@ -56,5 +55,5 @@ returns g c =
     c.give_all.ensures.steady (hand-over-whole me l hs c.requires.whole.core)
     (λ hands later. later-handed t later s me (λ m. no-load p me m can.may) _ refl l c.unwrap-row.result row (let own = can.own in grind (arith, nat_tests, row))
     (handed-mine p (Owner.Load l) [] hs can.named) (newer-falls hands.hands.1.falls)
-    (closed-still (load_at t.loads) (load_at c.close.new.rows) l.0 c.close.ensures.gone c.close.ensures.others) refl)
+    (closed-still (load_at t.loads) (load_at c.close.new.rows) l.0 c.close.ensures.gone c.close.ensures.others) refl))
     c.give_all.ensures.sheds

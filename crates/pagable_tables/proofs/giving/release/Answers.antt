@@ -1,5 +1,5 @@
-use Rattle.pagable_tables.proofs.Worlds.{owner-same, still}
-use Rattle.pagable_tables.proofs.{Fitting.begun-whole, Newer.{nothing-shed, sheds-as, sheds-so}, Told.lone-falling, Words.{Falls, any_mode, arith, inl, inr, only_handle, refl}, Worlds.failed}
+use Rattle.pagable_tables.proofs.{Fitting.begun-whole, Newer.{does-as, lazily-so, nothing-shed, sheds-with}, Told.lone-falling, Words.{Falls, any_mode, arith, inl, inr, only_handle, refl}}
+use Rattle.pagable_tables.proofs.Worlds.{failed, owner-same, still}
 use Rattle.pagable_tables.proofs.giving.release.Goals as goal
 
 pub returns-in_err-at : goal.returns-in_err-at
@@ -9,8 +9,7 @@ returns-in_err-at g c =
 pub returns : goal.returns
 returns g c =
     let row = c.in_ok-at.at.row in
-    sheds-as
-    (sheds-so {step = λ w w'. Falls w w (only_handle c.args.handle) c.give_back.result w'}
+    sheds-with (does-as (lazily-so {lists = c.args.lists} {step = λ w w'. Falls w w (only_handle c.args.handle) c.give_back.result w'}
     (λ stored closed failures e. rw c.in_ok-at.ensures.number at (c.give_back.ensures.falls _ _ (begun-whole c.args.t.now stored closed c.args.lists failures c.requires.whole e) (omega arith)))
-    c.give_back.ensures.steady (lone-falling c.requires.whole.core) refl refl c.give_back.ensures.sheds)
-    (λ stored closed failures fell. record { does = inr (row, record { live = c.in_ok-at.ensures.found; own = owner-same c.args.me row.owner c.in_ok-at.ensures.owner; as_asked = refl }, fell) })
+    c.give_back.ensures.steady (lone-falling c.requires.whole.core) refl refl)
+    (λ stored closed failures fell e. record { does = inr (row, record { live = c.in_ok-at.ensures.found; own = owner-same c.args.me row.owner c.in_ok-at.ensures.owner; as_asked = refl }, fell e) })) c.give_back.ensures.sheds

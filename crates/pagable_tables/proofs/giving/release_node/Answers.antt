@@ -1,11 +1,11 @@
-use Rattle.pagable_tables.proofs.{Alive.and-left, Fitting.begun-whole, Newer.{passes-given, sheds-so}, Told.lone-falling, Words.{Giving, InReach, arith, core_of, gives_row, nat_tests, plain_of}}
-use Rattle.pagable_tables.proofs.Words.{refl, subst, sym}
+use Rattle.pagable_tables.proofs.{Alive.and-left, Fitting.begun-whole, Newer.{lazily-so, passes-given, sheds-with}, Told.lone-falling, Words.{Giving, InReach, arith, core_of, gives_row, nat_tests}}
+use Rattle.pagable_tables.proofs.Words.{plain_of, refl, subst, sym}
 use Rattle.pagable_tables.proofs.giving.release_node.Goals as goal
 
 pub returns : goal.returns
 returns g c =
     let t = c.args.t.now in
-    sheds-so
+    sheds-with (lazily-so
     (λ stored closed failures e.
     let w = core_of t stored closed failures in
     record {
@@ -17,4 +17,4 @@ returns g c =
           ));
     })
     c.give_all.ensures.steady
-    (λ falls. lone-falling c.requires.whole.core falls.falls) refl refl c.give_all.ensures.sheds
+    (λ falls. lone-falling c.requires.whole.core falls.falls) refl refl) c.give_all.ensures.sheds

@@ -1,5 +1,5 @@
-use Rattle.pagable_tables.proofs.{Calls.schedule-goes, Fitting.{begun-whole, open-then, shut-then}, Newer.{nothing-shed, sheds-so}, Next.sheds-still, Told.{alike-goes, not-a-value}, Words.{Owns, ap}}
-use Rattle.pagable_tables.proofs.{Words.{arith, core_of, inl, inr, is_unpinned, is_valued, nat_tests, plain_of, refl, rules, ◌∙◌}, Worlds.{alike-listed, failed, owner-same, still}}
+use Rattle.pagable_tables.proofs.{Calls.schedule-goes, Fitting.{begun-whole, closed-is}, Newer.{lazily-so, nothing-shed, sheds-with}, Next.sheds-still, Told.{alike-goes, not-a-value}, Words.{Err, Error, Ok, Owns}}
+use Rattle.pagable_tables.proofs.{Words.{ScheduleCall, ap, arith, core_of, inl, inr, is_unpinned, is_valued, nat_tests, not, plain_of, refl, rules, ◌∙◌}, Worlds.{alike-listed, failed, owner-same, still}}
 use Rattle.pagable_tables.proofs.giving.schedule_for_paging.Goals as goal
 
 pub returns-in_err-at : goal.returns-in_err-at
@@ -10,14 +10,14 @@ pub returns-then-not-lists : goal.returns-then-not-lists
 returns-then-not-lists g c =
     let t = c.args.t.now in
     let row = c.in_ok-at.at.row in
-    sheds-so
+    sheds-with (lazily-so {lists = c.args.lists} {old = t} {new = record t { holdings = c.give_back.new.t }} {step = λ w w'. ScheduleCall w c.args.me c.args.handle (Ok tt) w'}
     (λ stored closed failures e.
     let w = core_of t stored closed failures in
     let falls = rw c.in_ok-at.ensures.number at (c.give_back.ensures.falls w w (begun-whole t stored closed c.args.lists failures c.requires.whole e) (omega arith)) in
     let own : Owns w c.args.me c.args.handle is_unpinned row =
     record { live = c.in_ok-at.ensures.found; own = owner-same c.args.me row.owner c.in_ok-at.ensures.owner; as_asked = search rules } in
-    record { moves = (row, own, inr (shut-then c.args.lists closed c.if-not-lists.true e, record { told = c.give_back.result; falls = falls })); refused = tt })
-    c.give_back.ensures.steady (schedule-goes c.args.me c.args.handle c.requires.whole.core c.requires.holder) refl refl
+    record { moves = (row, own, inr (closed-is c.args.lists closed e ∙ ap not c.if-not-lists.true, record { told = c.give_back.result; falls = falls })); refused = tt })
+    c.give_back.ensures.steady (schedule-goes c.args.me c.args.handle c.requires.whole.core c.requires.holder) refl refl)
     c.give_back.ensures.sheds
 
 pub returns : goal.returns
@@ -25,16 +25,18 @@ returns g c =
     let w = c.requires.whole.steady in
     let unvalued = ap is_valued (owner-same c.args.me c.in_ok-at.at.row.owner c.in_ok-at.ensures.owner) ∙ not-a-value (plain_of c.args.t.now) c.args.me c.requires.holder in
     let steady = c.hand_over.ensures.stands (record c.args.t.now.holdings { list = c.push.new.self }) unvalued refl (record { sound = w.sound; next = w.next; fits = w.fits }) in
-    sheds-so
+    let t = c.args.t.now in
+    let new = record t { holdings = record t.holdings { list = c.push.new.self; handles = c.hand_over.new.handles } } in
+    sheds-with (lazily-so {lists = c.args.lists} {old = t} {new = new} {step = λ w w'. ScheduleCall w c.args.me c.args.handle (Ok tt) w'}
     (λ stored closed failures e.
-    grind (arith, nat_tests, owner-same, open-then, alike-listed, c.in_ok-at.ensures.found, c.in_ok-at.ensures.owner, c.if-not-lists.false, c.hand_over.ensures.becomes.rows, c.in_ok-at.ensures.number))
-    steady (schedule-goes c.args.me c.args.handle c.requires.whole.core c.requires.holder) refl refl
+    grind (arith, nat_tests, owner-same, closed-is, alike-listed, c.in_ok-at.ensures.found, c.in_ok-at.ensures.owner, c.if-not-lists.false, c.hand_over.ensures.becomes.rows, c.in_ok-at.ensures.number))
+    steady (schedule-goes c.args.me c.args.handle c.requires.whole.core c.requires.holder) refl refl)
     (sheds-still c.args.t.now.holdings _ c.requires.whole.steady)
 
 pub returns-in_err-make_place : goal.returns-in_err-make_place
 returns-in_err-make_place g c =
     let w = c.requires.whole.steady in
-    rw (failed c.from_residual-in_err-make_place.result c.from_residual-in_err-make_place.ensures.1) (sheds-so
+    rw (failed c.from_residual-in_err-make_place.result c.from_residual-in_err-make_place.ensures.1) (sheds-with (lazily-so {lists = c.args.lists} {old = c.args.t.now} {new = record c.args.t.now { holdings = record c.args.t.now.holdings { list = c.make_place.new.list } }} {step = λ w w'. ScheduleCall w c.args.me c.args.handle (Err Error.OutOfMemory) w'}
     (λ stored closed failures e.
-    grind (arith, nat_tests, open-then, alike-listed, c.in_ok-at.ensures.found, c.in_ok-at.ensures.owner, c.if-not-lists.false, c.make_place.ensures.items, c.make_place.ensures.full, c.make_place.ensures.capacity))
-    (record { sound = w.sound; next = w.next; fits = w.fits }) (λ call. alike-goes c.requires.whole.core call.refused.stays) refl refl (sheds-still c.args.t.now.holdings _ w))
+    grind (arith, nat_tests, closed-is, alike-listed, c.in_ok-at.ensures.found, c.in_ok-at.ensures.owner, c.if-not-lists.false, c.make_place.ensures.items, c.make_place.ensures.full, c.make_place.ensures.capacity))
+    (record { sound = w.sound; next = w.next; fits = w.fits }) (λ call. alike-goes c.requires.whole.core call.refused.stays) refl refl) (sheds-still c.args.t.now.holdings _ w))

@@ -1,6 +1,6 @@
-use Rattle.pagable_tables.proofs.{Calls.keyed-whole, Fitting.{key-fits, keyed-on}, Kept.found-among, Newer.{nothing-shed, sheds-as, sheds-so}, Next.stays-first, Told.{falling, loose-unshared}}
-use Rattle.pagable_tables.proofs.{Told.unturned, Words.{Falls, GetsKey, Some, [], any_mode, arith, cases_eq, counts_at, if◌then◌else◌, inl, inr, keyed, nat_tests, nobody, plain_of, refl, sym}}
-use Rattle.pagable_tables.proofs.{Words.{with_key, ◌==◌, ◌∙◌, ◌∷◌, ◌≡◌}, Worlds.{failed, owner-same, still}}
+use Rattle.pagable_tables.proofs.{Calls.keyed-whole, Fitting.{key-fits, keyed-on}, Kept.found-among, Newer.{does-as, lazily-so, nothing-shed, sheds-with}, Next.stays-first, Told.falling}
+use Rattle.pagable_tables.proofs.{Told.{loose-unshared, unturned}, Words.{Falls, GetsKey, Some, [], any_mode, arith, cases_eq, counts_at, if◌then◌else◌, inl, inr, keyed, nat_tests, nobody}}
+use Rattle.pagable_tables.proofs.{Words.{plain_of, refl, sym, with_key, ◌==◌, ◌∙◌, ◌∷◌, ◌≡◌}, Worlds.{failed, owner-same, still}}
 use Rattle.pagable_tables.proofs.giving.set_data_key.Goals as goal
 
 pub returns-in_err-at : goal.returns-in_err-at
@@ -34,9 +34,8 @@ returns g c =
     let there = (found-among c.args.handle.0 (plain_of t).rows row c.in_ok-at.ensures.found).0 in
     let stands = unturned (with_key (plain_of t) row.node c.args.key) (keyed-whole c.requires.whole.core row there c.args.key (loose-unshared row.mode loose)) in
     let own = owner-same c.args.me row.owner c.in_ok-at.ensures.owner in
-    sheds-as
-    (sheds-so {step = λ w w'. Falls w (with_key w row.node c.args.key) nobody c.fall.result w'}
+    sheds-with (does-as (lazily-so {lists = c.args.lists} {step = λ w w'. Falls w (with_key w row.node c.args.key) nobody c.fall.result w'}
     (λ stored closed failures e. c.fall.ensures.falls _ _ nobody (keyed-on t stored closed c.args.lists failures c.requires.whole e row.node c.args.key _ refl cells))
-    c.fall.ensures.steady (λ fell. falling fell stands) refl refl
-    (stays-first (λ m. grind (arith, nat_tests, cases_eq m row.node.0, here, is, c.set_counts.ensures.others m)) c.fall.ensures.sheds))
-    (λ stored closed failures fell. record { does = inr (row, record { live = c.in_ok-at.ensures.found; own = own; as_asked = refl }, inr (loose, fell)) })
+    c.fall.ensures.steady (λ fell. falling fell stands) refl refl)
+    (λ stored closed failures fell e. record { does = inr (row, record { live = c.in_ok-at.ensures.found; own = own; as_asked = refl }, inr (loose, fell e)) }))
+    (stays-first (λ m. grind (arith, nat_tests, cases_eq m row.node.0, here, is, c.set_counts.ensures.others m)) c.fall.ensures.sheds)

@@ -1,5 +1,5 @@
 use Rattle.pagable_tables.proofs.Words.{Tables, [], ap, append-nil, arith, core_of, false, if◌then◌else◌, inl, inr, is_handle, is_loose, is_owner, is_pin, is_plain_pin, is_share, is_shared, is_valued}
-use Rattle.pagable_tables.proofs.{Alive.{all-kept, gives-sums, of_list, ones}, Fitting.{aside, begun-whole, listing-is, none-within, unowned}, Newer.{nothing-shed, sheds-as, sheds-so}}
+use Rattle.pagable_tables.proofs.{Alive.{all-kept, gives-sums, of_list, ones}, Fitting.{aside, begun-whole, listing-is, none-within, unowned}, Newer.{does-as, lazily-so, nothing-shed, sheds-with}}
 use Rattle.pagable_tables.proofs.{Next.{entered-on, stays-first}, Told.{falling, moded}, Words.{Begins, Blob, Bool, Falls, GivesUp, HandleRow, Holdings, IsFalling, Mode, None, Option, Owner, SoFar}}
 use Rattle.pagable_tables.proofs.{Words.{length, length-map, live, nat_tests, nobody, not, one, owns, owns_nothing, refl, sym, times, true, unpinned, with_mode, ℕ, ◌∙◌, ◌≡◌, ◌≢◌, ◌≤◌}, Worlds.failed}
 use Rattle.pagable_tables.{proofs.Worlds.{owner-same, still}, specs.Core.IsWhole}
@@ -27,7 +27,6 @@ lowered-on T stored closed lists failures whole opened x new g =
     entered-on f g (λ n. refl) (λ n. whole.steady.fits.pinned n) (omega arith) now.rows long nobody nobody begins (g.leaves.becomes.rows ∙ sym (append-nil _ ∙ all-kept now.rows)) refl
     (none-within nobody now.rows) (λ s final bare has closed. none-within s now.rows) (λ falls. let a = few falls in omega (arith, long))
 
--- the handle is no value's
 mine : (t : Holdings) (me : Owner) (x : HandleRow) → IsFalling t [] owns_nothing → is_valued me ≡ false → is_owner me x.owner ≡ true → IsFalling (record t { unlisted = None }) [] (owns x)
 mine t me x w plain own = unowned (record t { unlisted = None }) x [] (ap is_valued (owner-same me x.owner own) ∙ plain) (aside t None [] owns_nothing w)
 
@@ -50,9 +49,8 @@ returns-in-LoosePinned g c =
     let up = c.give_up.ensures [] (mine t.holdings c.args.me row c.requires.whole.steady c.requires.plain c.in_ok-at.ensures.owner) in
     let turns = moded c.requires.whole.core c.args.handle row Mode.LooseUnpinned c.in_ok-at.ensures.found (ap is_shared (sym c.in-LoosePinned.is)) (λ loose. refl) (λ is. refl) in
     let own = owner-same c.args.me row.owner c.in_ok-at.ensures.owner in
-    sheds-as
-    (sheds-so {step = λ w w'. Falls w (with_mode w c.args.handle Mode.LooseUnpinned) nobody c.fall.result w'}
+    sheds-with (does-as (lazily-so {lists = c.args.lists} {step = λ w w'. Falls w (with_mode w c.args.handle Mode.LooseUnpinned) nobody c.fall.result w'}
     (λ stored closed failures e.
     rw c.in_ok-at.ensures.number at (c.fall.ensures.falls _ _ nobody (lowered-on t stored closed c.args.lists failures c.requires.whole e row c.give_up.new.t up)))
-    c.fall.ensures.steady (λ fell. falling fell turns) refl refl (stays-first up.values c.fall.ensures.sheds))
-    (λ stored closed failures fell. record { does = inr (row, record { live = c.in_ok-at.ensures.found; own = own; as_asked = ap is_loose c.in-LoosePinned.is }, inr (c.in-LoosePinned.is, fell)) })
+    c.fall.ensures.steady (λ fell. falling fell turns) refl refl)
+    (λ stored closed failures fell e. record { does = inr (row, record { live = c.in_ok-at.ensures.found; own = own; as_asked = ap is_loose c.in-LoosePinned.is }, inr (c.in-LoosePinned.is, fell e)) })) (stays-first up.values c.fall.ensures.sheds)

@@ -1,13 +1,13 @@
-use Rattle.pagable_tables.proofs.{Calls.worker-end-whole, Fitting.begun-less, Newer.{in-reach, later-less, loads-anew, passes-given, sheds-by, worker-gone}, Told.newer-falls, Words.{Falls, Giving}}
-use Rattle.pagable_tables.proofs.Words.{InReach, Some, arith, cases_eq, core_of, gives_row, is_workers, left_load, load_at, nat_tests, plain_of, refl, subst, sym, with_tables, without_worker}
-use Rattle.pagable_tables.proofs.Words.{worker_at, ◌∙◌, ◌≡◌}
+use Rattle.pagable_tables.proofs.{Calls.worker-end-whole, Fitting.begun-less, Newer.{in-reach, later-less, lazily-by, loads-anew, passes-given, sheds-with, updated-by}, Told.newer-falls, Words.Falls}
+use Rattle.pagable_tables.proofs.Words.{Giving, InReach, None, Some, arith, cases_eq, core_of, gives_row, is_some, is_workers, left_load, load_at, nat_tests, plain_of, refl, subst, sym, with_tables}
+use Rattle.pagable_tables.proofs.Words.{without_worker, worker_at, ◌∙◌, ◌≡◌}
 use Rattle.pagable_tables.proofs.giving.worker_end.Goals as goal
 
 pub returns : goal.returns
 returns g c =
     let t = c.args.t.now in
     let v = c.args.worker.0 in
-    sheds-by
+    sheds-with (lazily-by
     (λ stored closed failures e.
     let w = core_of t stored closed failures in
     let u = without_worker w v in
@@ -17,8 +17,8 @@ returns g c =
     let falls = c.give_all.ensures.falls w u w (λ l. refl) (begun-less t u.loads u.workers stored closed c.args.lists failures c.requires.whole e) (omega arith)
     (λ q is. (subst (λ r. InReach r q) (sym c.reach_of-reach.ensures) (in-reach t c.requires.whole c.requires.later c.args.worker q is), (passes-given (gives_row w (Giving.Worker c.args.worker)) (plain_of t) q c.requires.whole.core.handles is).1)) in
     let loads = loads-anew w u (with_tables u h) (is_workers w v) r w'.loads (λ l. let left = c.close_loads.ensures l in grind (arith, nat_tests)) falls in
-    record { told = r; falls = subst (λ s. Falls w u (is_workers w v) r (record (with_tables u h) { loads = w'.loads; workers = s })) (λ i q. worker-gone (worker_at t.workers) (worker_at c.close.new.rows) v c.close.ensures.gone c.close.ensures.others q i) loads })
+    record { told = r; falls = subst (λ s. Falls w u (is_workers w v) r (record (with_tables u h) { loads = w'.loads; workers = s })) (λ i q. updated-by is_some (worker_at t.workers) (worker_at c.close.new.rows) v None c.close.ensures.gone c.close.ensures.others q i) loads })
     c.give_all.ensures.steady (worker-end-whole v c.requires.whole.core)
     (λ ends later. later-less later (newer-falls ends.falls) (λ l load is. let left : left_load v (load_at t.loads l) ≡ Some load = sym (c.close_loads.ensures l) ∙ is in grind (arith, nat_tests))
-    (grind (arith, nat_tests, cases_eq, c.close.ensures.gone, c.close.ensures.others)))
+    (grind (arith, nat_tests, cases_eq, c.close.ensures.gone, c.close.ensures.others))))
     c.give_all.ensures.sheds

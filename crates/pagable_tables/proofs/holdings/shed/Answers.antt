@@ -5,9 +5,7 @@ pub give_up-requires-clause-falling : goal.give_up-requires-clause-falling
 give_up-requires-clause-falling g c = ([], unowned c.args.t.now c.args.at.row [] c.requires.plain c.requires.steady)
 
 pub cascade-requires : goal.cascade-requires
-cascade-requires g c =
-    let e = c.give_up.ensures [] (unowned c.args.t.now c.args.at.row [] c.requires.plain c.requires.steady) in
-    record { falling = (e.more, e.falling, omega (arith, e.long)) }
+cascade-requires g c = let e = c.give_up.ensures [] (unowned c.args.t.now c.args.at.row [] c.requires.plain c.requires.steady) in record { falling = (e.more, e.falling, omega (arith, e.long)) }
 
 pub returns : goal.returns
 returns g c =

@@ -1,7 +1,7 @@
 use Rattle.pagable_tables.proofs.Worlds.{eager, failed, fitting, not-adopted, owner-of, refused-known}
-use Rattle.pagable_tables.proofs.{Alive.whole-so, Calls.known-suits, Fitting.{begun-whole, not-closed}, Newer.{begun-made, later-on, listing, loaded-append, not-named, swapped}, Next.owned}
-use Rattle.pagable_tables.proofs.{Next.{sheds-still, stays-first}, Told.{lone-falling, named-mine}, Words.{Alike, AllPairs, Falls, IsHandleBefore, Mode, None, Owner, Suits, Tables, ap, arith}}
-use Rattle.pagable_tables.proofs.{Words.{[], core_of, counts_at, false, has_value, is_named_by, is_some, length, mode_of, not, plain_of, refl, subst, sym, with_handle, ◌+◌, ◌∙◌}, Worlds.adopts-known}
+use Rattle.pagable_tables.proofs.{Alive.whole-so, Calls.known-suits, Fitting.{begun-whole, closed-is}, Newer.{begun-made, falls-made, later-on, listing, loaded-append, not-named}, Next.owned}
+use Rattle.pagable_tables.proofs.{Next.{sheds-still, stays-first}, Told.{lone-falling, named-mine}, Words.{Alike, Mode, None, Owner, Suits, ap, arith}}
+use Rattle.pagable_tables.proofs.{Words.{[], core_of, counts_at, false, has_value, is_some, length, mode_of, not, plain_of, refl, subst, sym, with_handle, ◌+◌, ◌∙◌}, Worlds.adopts-known}
 use Rattle.pagable_tables.proofs.loading.adopt_if_known.Goals as goal
 
 pub returns-in-Some-clause-refused : goal.returns-in-Some-clause-refused
@@ -9,8 +9,7 @@ returns-in-Some-clause-refused g c stored closed failures =
     not-adopted (core_of c.args.t.now stored closed failures) c.args.me c.args.load c.args.kind c.args.key c.args.node_type c.args.references.now c.in-Some.e (sym (c.adopt_fault.ensures stored closed failures) ∙ c.in-Some.is)
 
 pub make-requires-clause-suits : goal.make-requires-clause-suits
-make-requires-clause-suits g c =
-    subst (Suits (plain_of c.args.t.now) c.in-Some-usable_of.node) (sym c.mode_of.ensures)
+make-requires-clause-suits g c = subst (Suits (plain_of c.args.t.now) c.in-Some-usable_of.node) (sym c.mode_of.ensures)
     (known-suits c.requires.whole.core c.args.kind.0 c.args.key c.in-Some-usable_of.node.0 (sym (c.in-Some-usable_of.ensures (λ key. None) false 0)))
 
 pub make-requires-clause-holder : goal.make-requires-clause-holder
@@ -32,9 +31,8 @@ returns g c =
     let free = sym (c.adopt_fault.ensures (λ key. None) false 0) ∙ c.in_default.is in
     let fit = fitting p me l kind c.args.key c.args.node_type rs free in
     let valued = c.requires.valued node.0 (sym (c.in-Some-usable_of.ensures (λ key. None) false 0)) (eager p me l kind c.args.key c.args.node_type rs free) in
-    let rows = (made.does (λ key. None) (not c.args.lists) 0).made.1.rows in
-    let fell = c.give_named.ensures.falls (listing c.args.lists t1) (listing c.args.lists t1) (begun-whole t1 (λ key. None) (not c.args.lists) c.args.lists 0 made.whole (not-closed c.args.lists)) (omega arith)
-    (λ q named. ap (owned owner q) rows ∙ loaded-append l q p.rows _ (named-mine p owner [] rs fit q named)) in
+    let fell = c.give_named.ensures.falls (listing c.args.lists t1) (listing c.args.lists t1) (begun-whole t1 (λ key. None) (not c.args.lists) c.args.lists 0 made.whole (closed-is (not c.args.lists) c.args.lists refl)) (omega arith)
+    (λ q named. ap (owned owner q) (made.does (λ key. None) (not c.args.lists) 0).made.1.rows ∙ loaded-append l q p.rows _ (named-mine p owner [] rs fit q named)) in
     let went = lone-falling {w = listing c.args.lists t1} made.whole.core fell.falls in
     record {
       known = λ stored closed failures e.
@@ -46,10 +44,8 @@ returns g c =
           let some = c.give_named.ensures.falls u u (begun-made t t1 stored closed failures node (mode_of kind.0) owner made.whole a c.args.lists e) (let b = ap length a.rows in omega arith)
           (λ q named. loaded-append l q w.rows _ (named-mine w owner [] rs (fitting w me l kind c.args.key c.args.node_type rs good) q named)) in
           let kept = not-named p l rs c.requires.whole.core.handles fit (t.holdings.last_handle + 1) (omega arith) in
-          let falls = swapped w node (mode_of kind.0) owner (subst (AllPairs IsHandleBefore) a.rows made.whole.core.handles.ordered) refl some.falls kept in
-          let anew : Falls w u (is_named_by rs) some.told (core_of (record t1 { holdings = c.give_named.new.t }) stored closed failures) =
-          subst (λ (z : Tables). Falls w u (is_named_by rs) some.told (core_of (record z { holdings = c.give_named.new.t }) stored closed failures)) (sym c.in_ok-handle.ensures.same) falls in
-          adopts-known w me l kind c.args.key c.args.node_type rs good node c.in_ok-handle.handle (sym (c.in-Some-usable_of.ensures stored closed failures)) m.0 (record { told = some.told; falls = anew }));
+          let falls = falls-made t t1 stored closed failures node (mode_of kind.0) owner made.whole a c.in_ok-handle.ensures.same refl c.give_named.new.t some.falls kept in
+          adopts-known w me l kind c.args.key c.args.node_type rs good node c.in_ok-handle.handle (sym (c.in-Some-usable_of.ensures stored closed failures)) m.0 (record { told = some.told; falls = falls }));
       fresh = λ stored closed failures. tt;
       given = (node.0, sym (c.in-Some-usable_of.ensures (λ key. None) false 0));
       unknown = tt;
@@ -58,7 +54,7 @@ returns g c =
       refused = λ stored closed failures. tt;
       whole = whole-so c.give_named.ensures.steady went.whole;
       later = later-on (made.later c.requires.later) went.newer refl refl;
-      sheds = stays-first (λ n. c.in_ok-handle.ensures.values n (λ eq. ap (λ k. has_value (counts_at t.holdings.nodes k)) eq ∙ valued)) c.give_named.ensures.sheds;
+      sheds = stays-first (λ n. c.in_ok-handle.ensures.values n (λ eq pins. ap (λ k. has_value (counts_at t.holdings.nodes k)) eq ∙ valued)) c.give_named.ensures.sheds;
     }
 
 pub returns-in_err-handle-clause-refused : goal.returns-in_err-handle-clause-refused
@@ -70,4 +66,4 @@ pub returns-in_err-handle-clause-sheds : goal.returns-in_err-handle-clause-sheds
 returns-in_err-handle-clause-sheds g c =
     let valued = c.requires.valued c.in-Some-usable_of.node.0 (sym (c.in-Some-usable_of.ensures (λ key. None) false 0))
     (eager (plain_of c.args.t.now) c.args.me c.args.load c.args.kind c.args.key c.args.node_type c.args.references.now (sym (c.adopt_fault.ensures (λ key. None) false 0) ∙ c.in_default.is)) in
-    stays-first (λ n. c.in_err-handle.ensures.values n (λ eq. ap (λ k. has_value (counts_at c.args.t.now.holdings.nodes k)) eq ∙ valued)) (sheds-still c.make.new.t.holdings _ c.in_err-handle.ensures.does.whole.steady)
+    stays-first (λ n. c.in_err-handle.ensures.values n (λ eq pins. ap (λ k. has_value (counts_at c.args.t.now.holdings.nodes k)) eq ∙ valued)) (sheds-still c.make.new.t.holdings _ c.in_err-handle.ensures.does.whole.steady)

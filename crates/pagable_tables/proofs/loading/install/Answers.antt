@@ -1,9 +1,9 @@
 use Rattle.pagable_tables.proofs.{Alive.not-so, Calls.{installs-goes, may-hold}, Fitting.{fits-same, pins-le-held, rows-told, some-held, turned}, Installed.{ended, has-come, joined-fits, pins-here}}
-use Rattle.pagable_tables.proofs.{Installed.{ready-owner, so-then}, Newer.{bare, closed-still, later-so, lazily-by, not-named}, Told.{no-references, not-a-value}, Words.{ArcRef, Bool, Core, Error}}
-use Rattle.pagable_tables.proofs.Words.{Falls, FallsAnyhow, HandleRow, Holdings, IsFalling, List, LoadNumber, Mode, None, Owner, Result, Tables, [], and-true, ap, arith, cases_Bool, cell_in, changed}
-use Rattle.pagable_tables.proofs.Words.{core_of, counts_at, false, has_value, inl, inr, is_handle, is_here, is_named_by, is_owned_in, is_pin, live, load_at, load_in, moved, nat_tests, not, one}
-use Rattle.pagable_tables.proofs.Words.{option_map, owner_value, owns, owns_nothing, plain_of, references_fault, refl, refs_at, row_of, subst, sum_by, sym, true, with_pin, without_load, ℕ, ◌&&◌}
-use Rattle.{pagable_tables.{proofs.{Words.{◌++◌, ◌+◌, ◌<◌, ◌∙◌, ◌∷◌, ◌≡◌, ◌⊎◌}, Worlds.named-none}, specs.Falling.coming}, std.proofs.lemmas.List.map-id}
+use Rattle.pagable_tables.proofs.{Installed.{ready-owner, so-then}, Newer.{bare, closed-still, later-less, lazily-by, not-named, still-reaches}, Told.{none-named, not-a-value}, Words.{ArcRef, Bool}}
+use Rattle.pagable_tables.proofs.Words.{Core, Error, Falls, FallsAnyhow, HandleRow, Holdings, IsFalling, List, LoadNumber, Mode, None, Owner, Result, Tables, [], and-true, ap, arith, cases_Bool}
+use Rattle.pagable_tables.proofs.Words.{cell_in, changed, core_of, counts_at, false, has_value, inl, inr, is_handle, is_here, is_named_by, is_owned_in, is_pin, live, load_at, load_in, moved}
+use Rattle.pagable_tables.proofs.Words.{nat_tests, not, one, option_map, owner_value, owns, owns_nothing, plain_of, references_fault, refl, refs_at, row_of, subst, sum_by, sym, true, with_pin}
+use Rattle.{pagable_tables.{proofs.{Words.{without_load, ℕ, ◌&&◌, ◌++◌, ◌+◌, ◌<◌, ◌∙◌, ◌∷◌, ◌≡◌, ◌⊎◌}, Worlds.named-none}, specs.Falling.coming}, std.proofs.lemmas.List.map-id}
 use Rattle.pagable_tables.proofs.loading.install.Goals as goal
 
 -- the load gives up what it owns, and what comes doesn't fall
@@ -23,9 +23,7 @@ pin_here-requires g c =
 
 pub unreachable-requires : goal.unreachable-requires
 unreachable-requires g c =
-    let sound = c.requires.whole.steady.sound in
-    let left = (c.requires.ready (λ key. None) false 0).left in
-    let why = (c.in_default.ensures.does.does (λ key. None) false 0).refused.why in grind (arith, nat_tests, c.requires.place.place)
+    grind (arith, nat_tests, c.requires.place.place, c.requires.whole.steady.sound, (c.requires.ready (λ key. None) false 0).left, (c.in_default.ensures.does.does (λ key. None) false 0).refused.why)
 
 pub join-requires-clause-live : goal.join-requires-clause-live
 join-requires-clause-live g c =
@@ -67,12 +65,10 @@ give_all-requires-clause-steady g c =
           let joined = joined-fits p (Owner.Load l) n rs was.core.handles.ordered r.may.good refl none row.number.0 x unvalued spared _ _ _ _ fits pinned (j.here comes) j.others in
           let told = fits-same _ _ _ _ _ _ [] joined j.counts (λ m. refl) in
           let rows = j.handles.rows ∙ ap (λ b. moved (is_named_by (coming b rs)) (owner_value n) (live t1.holdings.handles.places.items)) comes ∙ ap (moved (is_named_by rs) (owner_value n)) a.rows in
-          let top = ap (λ (h : Holdings). h.top) j.same in
-          let last = ap (λ (h : Holdings). h.last_handle) j.same in
           record {
             sound = j.handles.sound;
-            next = j.handles.next (k.last_handle + 1) (grind (arith, whole.steady.next));
-            fits = rows-told (counts_at k.nodes) (refs_at k.nodes) (moved (is_named_by rs) (owner_value n) before) (live k.handles.places.items) k.top rows (grind (arith, told));
+            next = j.handles.next (k.last_handle + 1) (grind (arith, whole.steady.next, ap (λ (h : Holdings). h.last_handle) j.same));
+            fits = rows-told (counts_at k.nodes) (refs_at k.nodes) (moved (is_named_by rs) (owner_value n) before) (live k.handles.places.items) k.top rows (grind (arith, told, ap (λ (h : Holdings). h.top) j.same));
           })
     ]
 
@@ -88,7 +84,7 @@ returns-clause-does g c =
     let p = c.requires.ready (λ key. None) false 0 in
     let same = c.in-Ok.ensures.same in
     let j = c.join.ensures in
-    let good : references_fault (plain_of t) (Owner.Load l) [] (coming b rs) ≡ None = grind (arith, nat_tests, no-references) in
+    let good : references_fault (plain_of t) (Owner.Load l) [] (coming b rs) ≡ None = grind (arith, nat_tests, none-named) in
     let may = (c.requires.ready (λ key. None) (not c.args.lists) 0).may in
     lazily-by
     (λ stored closed failures e.
@@ -107,16 +103,14 @@ returns-clause-does g c =
     })
     c.give_all.ensures.steady
     (λ i. (installs-goes me l row.node row.number c.in-Ok.handle c.args.node_type rs c.requires.whole.core may i).whole)
-    (λ i later. later-so later (installs-goes me l row.node row.number c.in-Ok.handle c.args.node_type rs c.requires.whole.core may i).newer
+    (λ i later. later-less later (installs-goes me l row.node row.number c.in-Ok.handle c.args.node_type rs c.requires.whole.core may i).newer
     (λ m load is. closed-still (load_at t.loads) (load_at c.close.new.rows) l.0 c.close.ensures.gone
-    (λ q other. c.close.ensures.others q other ∙ ap (λ (u : Tables). load_at u.loads q) same) m load is) (ap (λ (u : Tables). u.workers) same))
+    (λ q other. c.close.ensures.others q other ∙ ap (λ (u : Tables). load_at u.loads q) same) m load is) (still-reaches (ap (λ (u : Tables). u.workers) same)))
 
 pub returns-clause-sheds : goal.returns-clause-sheds
-returns-clause-sheds g c =
-    let p = c.requires.ready (λ key. None) (not c.args.lists) 0 in
-    record {
-      left = λ kept. c.give_all.ensures.sheds.left (λ n falls. kept n
-          ∙ sym (ap has_value (c.join.ensures.counts n)
-          ∙ has-come c.args.t.now c.pin_here.new.t (λ key. None) (not c.args.lists) 0 c.args.ending.row c.args.me
-          (c.in-Ok.ensures.does.does (λ key. None) (not c.args.lists) 0).pinned.1 c.requires.whole c.in-Ok.ensures.does.whole p.owned.live n));
-    }
+returns-clause-sheds g c = record {
+  left = λ kept. c.give_all.ensures.sheds.left (λ n falls. kept n
+      ∙ sym (ap has_value (c.join.ensures.counts n)
+      ∙ has-come c.args.t.now c.pin_here.new.t (λ key. None) (not c.args.lists) 0 c.args.ending.row c.args.me
+      (c.in-Ok.ensures.does.does (λ key. None) (not c.args.lists) 0).pinned.1 c.requires.whole c.in-Ok.ensures.does.whole (c.requires.ready (λ key. None) (not c.args.lists) 0).owned.live n));
+}

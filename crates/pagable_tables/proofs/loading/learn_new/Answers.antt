@@ -1,6 +1,6 @@
-use Rattle.pagable_tables.proofs.{Alive.whole-so, Calls.adopted-whole, Fitting.not-closed, Told.settles, Words.{Alike, Blob, Bool, IndexMap, Last, NodeNumber, None, Option, Owner, Some, adopted, ap}}
-use Rattle.pagable_tables.proofs.Words.{core_of, false, has_key, inl, inr, is_shared, key_in, mode_of, next_node, not, option_map, subst, sym, true, with_handle, with_node, ℕ, ◌+◌, ◌/◌, ◌∙◌, ◌≡◌}
-use Rattle.pagable_tables.proofs.Worlds.{if-open, learned}
+use Rattle.pagable_tables.proofs.{Alive.whole-so, Calls.adopted-whole, Fitting.closed-is, Told.settles, Words.{Alike, Blob, Bool, IndexMap, Last, NodeNumber, None, Option, Owner, Some, adopted, ap}}
+use Rattle.pagable_tables.proofs.Words.{core_of, false, has_key, inl, inr, is_shared, key_in, mode_of, next_node, not, option_map, refl, subst, sym, true, with_handle, with_node, ℕ, ◌+◌, ◌/◌, ◌∙◌}
+use Rattle.pagable_tables.proofs.{Words.◌≡◌, Worlds.{if-open, learned}}
 use Rattle.pagable_tables.proofs.loading.learn_new.Goals as goal
 
 abbrev number : Option NodeNumber → Option ℕ
@@ -32,6 +32,6 @@ returns c =
     record {
       does = λ stored closed failures. let n = (born.does stored closed failures).next in (record { above = n.above; is_left = n.is_left }, new stored closed failures);
       whole = whole-so born.whole.steady (settles (adopted-whole (core_of t (λ key. None) (not c.args.lists) 0) r.whole.core c.args.load c.args.kind c.args.key (key_in c.args.own_key) rs r.holder r.fit
-          r.ready.node_left r.ready.handle_left unkeyed) (new (λ key. None) (not c.args.lists) 0 (not-closed c.args.lists)));
+          r.ready.node_left r.ready.handle_left unkeyed) (new (λ key. None) (not c.args.lists) 0 (closed-is (not c.args.lists) c.args.lists refl)));
       later = λ later. let l = born.later later in record { given = l.given; since = l.since; begun = l.begun; reach = l.reach; loads = l.loads };
     }

@@ -1,18 +1,16 @@
-use Rattle.pagable_tables.proofs.Words.{Alike, BeginCall, Core, Err, Error, HandleNumber, HandleRow, Mode, None, OptionalDataKey, Owner, Owns, Some, ap, arith, core_of, false, find_row, greatest}
-use Rattle.pagable_tables.proofs.Words.{if_there, inl, inr, is_here, is_loose, is_owner, load_at, nat_tests, of_cell, plain_of, refl, rules, sym, true, type_at, with_handle, with_load, ◌+◌, ◌<◌, ◌∙◌}
-use Rattle.pagable_tables.proofs.{Calls.begin-whole, Newer.{closed-still, does-by, later-opened, later-so, nothing-does}, Told.{newer-alike, newer-handle, newer-then, roomy-whole, settles}}
-use Rattle.{pagable_tables.proofs.{Words.◌≡◌, Worlds.{failed, handle-first, none-yet, owner-same, same-cache, still}}, pagable_world.specs.{LoadCalls.begin_fault, World.key_at}}
+use Rattle.pagable_tables.proofs.{Calls.begin-whole, Newer.{closed-still, does-by, later-less, later-opened, nothing-does, still-reaches}, Told.{newer-alike, newer-handle, newer-then, roomy-whole}}
+use Rattle.pagable_tables.proofs.{Told.settles, Words.{Alike, BeginCall, Core, Err, Error, HandleNumber, HandleRow, Mode, None, OptionalDataKey, Owner, Owns, Some, ap, arith, core_of, false}}
+use Rattle.pagable_tables.proofs.Words.{find_row, greatest, if_there, inl, inr, is_here, is_loose, is_owner, load_at, nat_tests, of_cell, plain_of, refl, rules, sym, true, type_at, with_handle}
+use Rattle.{pagable_tables.proofs.{Words.{with_load, ◌+◌, ◌<◌, ◌∙◌, ◌≡◌}, Worlds.{failed, handle-first, none-yet, owner-same, same-cache, still}}, pagable_world.specs.LoadCalls.begin_fault}
+use Rattle.pagable_world.specs.World.{key_at}
 use Rattle.pagable_tables.proofs.loading.load_begin.Goals as goal
 
 pub returns-in_err-at : goal.returns-in_err-at
-returns-in_err-at c =
-    let t = c.args.t.now in
-    rw (failed c.from_residual.result c.from_residual.ensures.1) (nothing-does c.requires.whole
+returns-in_err-at c = rw (failed c.from_residual.result c.from_residual.ensures.1) (nothing-does c.requires.whole
     (λ stored closed failures.
-    let w = core_of t stored closed failures in
+    let w = core_of c.args.t.now stored closed failures in
     record { begins = tt; refused = record { why = inl (handle-first w c.args.me c.args.handle is_loose _ _ (c.in_err-at.ensures.fault stored closed failures is_loose) (λ f is. grind (arith, nat_tests))); stays = still w } }))
 
--- memory is wanting
 unbegun : {w w' : Core} (me : Owner) (h : HandleNumber) (row : HandleRow) → find_row h.0 w.rows ≡ Some row → is_owner me row.owner ≡ true → is_loose row.mode ≡ true → is_here w row.node.0 ≡ false
     → w.last.load < greatest → w.last.handle < greatest → Alike w w' → BeginCall w me h (Err Error.OutOfMemory) w'
 unbegun {w} me h row found own loose here loads handles stays =
@@ -20,12 +18,11 @@ unbegun {w} me h row found own loose here loads handles stays =
     record { begins = tt; refused = record { why = inr (refl, before, ap (if_there (λ (r : HandleRow). is_here w r.node.0) false) found ∙ here); stays = stays } }
 
 pub returns-in_err-open : goal.returns-in_err-open
-returns-in_err-open c =
-    rw (failed c.from_residual-in_err-open.result c.from_residual-in_err-open.ensures.1) (does-by
+returns-in_err-open c = rw (failed c.from_residual-in_err-open.result c.from_residual-in_err-open.ensures.1) (does-by
     (λ stored closed failures. unbegun c.args.me c.args.handle c.in_ok-at.at.row c.in_ok-at.ensures.found c.in_ok-at.ensures.owner (search rules) (search rules) (omega arith) (omega arith)
     (grind (arith, nat_tests, same-cache, c.in_err-open.ensures.err)))
     c.requires.whole.steady (λ begins. settles (roomy-whole c.requires.whole.core) begins.refused.stays)
-    (λ begins later. later-so later (newer-alike begins.refused.stays) (λ l load is. sym (c.in_err-open.ensures.err l) ∙ is) refl))
+    (λ begins later. later-less later (newer-alike begins.refused.stays) (λ l load is. sym (c.in_err-open.ensures.err l) ∙ is) (still-reaches refl)))
 
 pub returns-in-Err : goal.returns-in-Err
 returns-in-Err c =
@@ -38,8 +35,8 @@ returns-in-Err c =
     unbegun c.args.me c.args.handle c.in_ok-at.at.row c.in_ok-at.ensures.found c.in_ok-at.ensures.owner (search rules) (search rules) (omega arith) left
     (grind (arith, nat_tests, none-yet, c.requires.whole.core.loads.numbered, c.in_ok-open.ensures.others, c.close.ensures.gone, c.close.ensures.others)))
     c.come.ensures.steady (λ begins. settles (roomy-whole c.requires.whole.core) begins.refused.stays)
-    (λ begins later. later-so later (newer-alike begins.refused.stays)
-    (closed-still (load_at t.loads) (load_at c.close.new.rows) (t.last_load + 1) c.close.ensures.gone (λ q other. c.close.ensures.others q other ∙ c.in_ok-open.ensures.others q other)) refl))
+    (λ begins later. later-less later (newer-alike begins.refused.stays)
+    (closed-still (load_at t.loads) (load_at c.close.new.rows) (t.last_load + 1) c.close.ensures.gone (λ q other. c.close.ensures.others q other ∙ c.in_ok-open.ensures.others q other)) (still-reaches refl)))
 
 pub returns : goal.returns
 returns c =

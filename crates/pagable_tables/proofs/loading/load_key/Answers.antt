@@ -1,5 +1,5 @@
-use Rattle.pagable_tables.proofs.{Calls.begin-key-whole, Newer.{does-by, later-opened, later-so}, Told.{alike-goes, newer-alike}, Words.{arith, inl, load_at, nat_tests, refl, sym, ◌+◌, ◌∙◌}}
-use Rattle.pagable_tables.proofs.Worlds.{failed, none-yet, same-cache}
+use Rattle.pagable_tables.proofs.{Calls.loaded-whole, Newer.{does-by, later-less, later-opened, still-reaches}, Told.{alike-goes, newer-alike, settles}, Words.{arith, inl, load_at, nat_tests, of_key}}
+use Rattle.pagable_tables.proofs.{Words.{refl, sym, ◌+◌, ◌∙◌}, Worlds.{failed, none-yet, same-cache}}
 use Rattle.pagable_tables.proofs.loading.load_key.Goals as goal
 
 pub returns : goal.returns
@@ -7,13 +7,12 @@ returns c =
     let t = c.args.t.now in
     let l = t.last_load + 1 in
     does-by (λ stored closed failures. grind (arith, nat_tests, same-cache, c.in_ok-open.ensures.here, c.in_ok-open.ensures.others)) c.requires.whole.steady
-    (begin-key-whole c.args.me c.args.key c.requires.whole.core c.requires.owner)
+    (λ begins. settles (loaded-whole c.args.key of_key c.args.me c.requires.whole.core c.requires.owner begins.begins.1.is_left (λ node t h is. absurd (cc))) begins.begins.2)
     (λ begins later. later-opened c.requires.whole.core later (record { last = omega arith; kept = λ o q gives own. inl own }) l _ (none-yet (load_at t.loads l) t.last_load (λ some. (c.requires.whole.core.loads.numbered l some).1))
     c.in_ok-open.ensures.here refl c.in_ok-open.ensures.others refl)
 
 pub returns-in_err-open : goal.returns-in_err-open
-returns-in_err-open c =
-    rw (failed c.from_residual.result c.from_residual.ensures.1)
+returns-in_err-open c = rw (failed c.from_residual.result c.from_residual.ensures.1)
     (does-by (λ stored closed failures. grind (arith, nat_tests, same-cache, c.in_err-open.ensures.err)) c.requires.whole.steady
     (λ begins. (alike-goes c.requires.whole.core begins.refused.stays).whole)
-    (λ begins later. later-so later (newer-alike begins.refused.stays) (λ l load is. sym (c.in_err-open.ensures.err l) ∙ is) refl))
+    (λ begins later. later-less later (newer-alike begins.refused.stays) (λ l load is. sym (c.in_err-open.ensures.err l) ∙ is) (still-reaches refl)))

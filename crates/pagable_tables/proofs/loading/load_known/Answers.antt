@@ -9,6 +9,4 @@ returns-in_err-_row-clause-does c =
     }))
 
 pub returns-clause-does : goal.returns-clause-does
-returns-clause-does c =
-    does-as c.cache_get.ensures.does
-    (λ stored closed failures call. let own = c.in_ok-_row.ensures.own stored closed failures in grind (arith, nat_tests, no-load-fault))
+returns-clause-does c = does-as c.cache_get.ensures.does (λ stored closed failures call. let own = c.in_ok-_row.ensures.own stored closed failures in grind (arith, nat_tests, no-load-fault))

@@ -1,6 +1,6 @@
-use Rattle.pagable_tables.proofs.{Calls.known-suits, Newer.{does-as, does-then, key-is, none-named, nothing-does}, Words.{Alike, Core, None, OptionalDataKey, Owner, Suits, [], adopted, ap, arith}}
-use Rattle.pagable_tables.proofs.{Words.{core_of, false, greatest, is_loose_kind, key_in, load_in, not, plain_of, subst, sym, ◌<◌, ◌∙◌}, Worlds.{adopted-past, failed, kind-late, late, lazy-known}}
-use Rattle.pagable_tables.proofs.Worlds.{lazy-new, lazy-not-loose, lazy-not-new, next-past, node-late, not-own}
+use Rattle.pagable_tables.proofs.{Calls.known-suits, Newer.{does-as, does-then, key-is, nothing-does}, Told.none-named, Words.{Alike, Core, None, OptionalDataKey, Owner, Suits, [], adopted, ap}}
+use Rattle.pagable_tables.proofs.{Words.{arith, core_of, false, greatest, is_loose_kind, key_in, load_in, not, plain_of, subst, sym, ◌<◌, ◌∙◌}, Worlds.{adopted-past, failed, kind-late, late}}
+use Rattle.pagable_tables.proofs.Worlds.{lazy-known, lazy-new, lazy-not-loose, lazy-not-new, next-past, node-late, not-own}
 use Rattle.pagable_tables.proofs.loading.load_lazy.Goals as goal
 
 pub returns-in_err-_row : goal.returns-in_err-_row
@@ -41,8 +41,7 @@ returns c =
     (adopted-past l c.args.kind c.args.key (OptionalDataKey.Some c.args.key) [] room two))
 
 pub returns-in_err-make_ready_to_learn : goal.returns-in_err-make_ready_to_learn
-returns-in_err-make_ready_to_learn c =
-    rw (failed c.from_residual-in_err-make_ready_to_learn.result c.from_residual-in_err-make_ready_to_learn.ensures.1) (does-as c.make_ready_to_learn.ensures.does
+returns-in_err-make_ready_to_learn c = rw (failed c.from_residual-in_err-make_ready_to_learn.result c.from_residual-in_err-make_ready_to_learn.ensures.1) (does-as c.make_ready_to_learn.ensures.does
     (λ stored closed failures room e. lazy-not-new (core_of c.args.t.now stored closed failures) c.args.me c.args.load (load_in c.in_ok-_row._row) c.args.kind c.args.key
     (c.in_ok-_row.ensures.own stored closed failures) (sym c.if-not-is_loose_kind.ensures) (sym (c.in_default.ensures stored closed failures))
     (c.in_err-make_ready_to_learn.ensures.refused stored closed failures)))

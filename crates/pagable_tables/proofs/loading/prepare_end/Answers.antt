@@ -3,7 +3,6 @@ use Rattle.pagable_tables.proofs.Words.{NodeNumber, None, Option, Owner, Places,
 use Rattle.pagable_tables.{proofs.{Words.{refl, root_in, sym, ℕ, ◌∙◌, ◌≡◌}, Worlds.{alike, both-none, no-load-fault, owner-same}}, specs.declared.tables.LoadRoot.LoadRoot}
 use Rattle.pagable_tables.proofs.loading.prepare_end.Goals as goal
 
--- a load that can end can where there are other places
 ready-placed : (w : Core) (places : Places) (rows : List HandleRow) (me : Owner) (l : LoadNumber) (node_type : ℕ) (refs : List ArcRef) (e : Ending) → rows ≡ w.rows → IsReady w me l node_type refs e
     → IsReady (record w { rows = rows; places = places }) me l node_type refs e
 ready-placed w places rows me l node_type refs e same r = grind (arith, nat_tests, references-placed)
@@ -42,7 +41,7 @@ returns-in-Ok-reserve-clause-ready c stored closed failures =
     ready-placed w w'.places w'.rows me l c.args.node_type c.args.references.now e c.reserve.ensures.widens.rows ready
 
 pub returns-in-Ok-reserve-clause-does : goal.returns-in-Ok-reserve-clause-does
-returns-in-Ok-reserve-clause-does c = widens-does c.args.t.now c.reserve.new.handles c.args.t.now.holdings.nodes c.requires c.reserve.ensures.widens (λ n. refl) (λ n. refl)
+returns-in-Ok-reserve-clause-does c = widens-does c.args.t.now c.reserve.new.handles c.args.t.now.holdings.nodes c.args.t.now.cache c.requires c.reserve.ensures.widens (λ n. refl) (λ n. refl) (λ kind key. refl)
 
 pub returns-in_default-reserve-clause-unended : goal.returns-in_default-reserve-clause-unended
 returns-in_default-reserve-clause-unended c stored closed failures =
@@ -52,7 +51,7 @@ returns-in_default-reserve-clause-unended c stored closed failures =
     grind (arith, nat_tests, no-load-fault, alike, c.reserve.ensures.widens.rows, c.reserve.ensures.widens.capacity)
 
 pub returns-in_default-reserve-clause-does : goal.returns-in_default-reserve-clause-does
-returns-in_default-reserve-clause-does c = widens-does c.args.t.now c.reserve.new.handles c.args.t.now.holdings.nodes c.requires c.reserve.ensures.widens (λ n. refl) (λ n. refl)
+returns-in_default-reserve-clause-does c = widens-does c.args.t.now c.reserve.new.handles c.args.t.now.holdings.nodes c.args.t.now.cache c.requires c.reserve.ensures.widens (λ n. refl) (λ n. refl) (λ kind key. refl)
 
 pub returns-in-Err-clause-unended : goal.returns-in-Err-clause-unended
 returns-in-Err-clause-unended c stored closed failures =

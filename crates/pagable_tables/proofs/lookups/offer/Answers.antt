@@ -1,7 +1,7 @@
-use Rattle.pagable_tables.proofs.{Alive.whole-so, Calls.{known-suits, learns-whole}, Fitting.{begun-whole, open-then}, Kept.found-among, Newer.{begun-made, found-again, later-on, swapped}}
-use Rattle.pagable_tables.proofs.{Newer.{values-made, values-still}, Next.{sheds-still, stays-first}, Told.{lone-falling, not-a-value, not-list, told-whole}, Words.{Alike, AllPairs, Falls}}
-use Rattle.pagable_tables.proofs.Words.{IsHandleBefore, NodeNumber, None, Owns, Some, Tables, ap, arith, core_of, false, fits_mode, inl, inr, length, mode_of, nat_tests, offer_fault, only_handle}
-use Rattle.pagable_tables.proofs.{Words.{option_map, plain_of, recall_fault, refl, subst, sym, true, with_cached, with_known, ℕ, ◌+◌, ◌∙◌, ◌≡◌}, Worlds.{failed, not-recalled, same-cache}}
+use Rattle.pagable_tables.proofs.{Alive.whole-so, Calls.{known-suits, learns-whole}, Fitting.{begun-whole, closed-is}, Kept.found-among, Newer.{begun-made, falls-made, found-again, later-on}}
+use Rattle.pagable_tables.proofs.{Next.{sheds-still, stays-first}, Told.{lone-falling, not-a-value, not-list, told-whole}, Words.{Alike, NodeNumber, None, Owns, Some, ap, arith, core_of}}
+use Rattle.pagable_tables.proofs.Words.{counts_at, false, fits_mode, has_value, inl, inr, is_pinning, length, mode_of, nat_tests, not, offer_fault, only_handle, option_map, plain_of, recall_fault}
+use Rattle.pagable_tables.proofs.{Words.{refl, sym, true, with_cached, with_known, ℕ, ◌+◌, ◌∙◌, ◌≡◌}, Worlds.{failed, not-recalled, same-cache}}
 use Rattle.pagable_tables.proofs.lookups.offer.Goals as goal
 
 pub make-requires-clause-suits : goal.make-requires-clause-suits
@@ -31,8 +31,7 @@ returns g c =
     let t1 = c.make.new.t in
     let node = c.in-Some.node in
     let made = c.in_ok-known.ensures.does in
-    let fell = c.give_back.ensures.falls (plain_of t1) (plain_of t1) (begun-whole t1 (λ key. None) false true 0 made.whole refl) (omega arith) in
-    let went = lone-falling {w = plain_of t1} made.whole.core fell in
+    let went = lone-falling {w = plain_of t1} made.whole.core (c.give_back.ensures.falls (plain_of t1) (plain_of t1) (begun-whole t1 (λ key. None) false true 0 made.whole refl) (omega arith)) in
     record {
       offered = λ stored closed failures e.
           (let w = core_of t stored false failures in
@@ -41,23 +40,18 @@ returns g c =
           let m = (made.does stored false failures).made in
           let alike : Alike u (core_of t1 stored false failures) = rw c.mode_of.ensures at m.1 in
           let begun = begun-made t t1 stored false failures node (mode_of c.args.kind.0) c.args.me made.whole alike true refl in
-          let some = rw c.in-Some-look.ensures.number at (c.give_back.ensures.falls u u begun (let a = ap length alike.rows in omega arith)) in
           let given = found-among c.args.handle.0 w.rows c.in_ok-row.row owns.live in
           let spared : only_handle c.args.handle (w.last.handle + 1) ≡ false =
           let a = (c.requires.whole.core.handles.numbered c.in_ok-row.row given.0).1 in let b = given.1 in grind (arith, nat_tests) in
-          let falls = swapped w node (mode_of c.args.kind.0) c.args.me (subst (AllPairs IsHandleBefore) alike.rows made.whole.core.handles.ordered)
-          (not-a-value (plain_of t) c.args.me c.requires.holder) some spared in
-          let anew : Falls w u (only_handle c.args.handle) c.give_back.result (core_of (record t1 { holdings = c.give_back.new.t }) stored false failures) =
-          subst (λ (z : Tables). Falls w u (only_handle c.args.handle) c.give_back.result (core_of (record z { holdings = c.give_back.new.t }) stored false failures))
-          (sym c.in_ok-known.ensures.same) falls in
+          let falls = falls-made t t1 stored false failures node (mode_of c.args.kind.0) c.args.me made.whole alike c.in_ok-known.ensures.same (not-a-value (plain_of t) c.args.me c.requires.holder)
+          c.give_back.new.t (rw c.in-Some-look.ensures.number at (c.give_back.ensures.falls u u begun (let a = ap length alike.rows in omega arith))) spared in
           let is = sym (c.in-Some.ensures stored false failures) in
-          rw (open-then c.args.lists closed c.if-not-lists.false e)
-          (record { answers = (c.in_ok-row.row, owns, c.in_ok-row.ensures.typed, inr (refl, (node.0, is, m.0, record { told = c.give_back.result; falls = anew }))); refused = tt }));
+          rw (closed-is c.args.lists closed e ∙ ap not c.if-not-lists.false)
+          (record { answers = (c.in_ok-row.row, owns, c.in_ok-row.ensures.typed, inr (refl, (node.0, is, m.0, record { told = c.give_back.result; falls = falls }))); refused = tt }));
       whole = whole-so c.give_back.ensures.steady went.whole;
       sheds = λ there.
-          (let alike : Alike (with_known (plain_of t) c.args.kind node.0 c.args.me) (plain_of t1) = rw c.mode_of.ensures at (made.does (λ key. None) false 0).made.1 in
-          stays-first (values-made t t1 (λ key. None) false 0 node (mode_of c.args.kind.0) c.args.me made.whole alike c.requires.whole (there node.0 (sym (c.in-Some.ensures (λ key. None) false 0))))
-          c.give_back.ensures.sheds);
+          stays-first (λ n. c.in_ok-known.ensures.values n (λ eq pins. ap (λ k. has_value (counts_at t.holdings.nodes k)) eq
+          ∙ there node.0 (sym (c.in-Some.ensures (λ key. None) false 0)) (ap is_pinning (sym c.mode_of.ensures) ∙ pins))) c.give_back.ensures.sheds;
       later = λ later. later-on (made.later later) went.newer refl refl;
     }
 
@@ -67,7 +61,7 @@ returns-in_default-clause-offered g c stored closed failures e =
     let owns : Owns w c.args.me c.args.handle (fits_mode c.args.kind.0) c.in_ok-row.row = grind (arith, nat_tests, c.in_ok-row.ensures.owns) in
     let alike : Alike (with_cached w c.args.kind c.args.key c.in_ok-row.row.node) (core_of (record c.args.t.now { cache = c.put.new.cache }) stored false failures) =
     grind (arith, nat_tests, same-cache, c.in_ok-put.ensures.here, c.in_ok-put.ensures.others) in
-    rw (open-then c.args.lists closed c.if-not-lists.false e)
+    rw (closed-is c.args.lists closed e ∙ ap not c.if-not-lists.false)
     (record { answers = (c.in_ok-row.row, owns, c.in_ok-row.ensures.typed, (refl, sym (c.in_default.ensures stored false failures), alike)); refused = tt })
 
 pub returns-in_default-clause-whole : goal.returns-in_default-clause-whole
@@ -88,11 +82,9 @@ returns-in_err-known-clause-offered g c stored closed failures e =
     let is = sym (c.in-Some.ensures stored false failures) in
     let call = not-recalled w c.args.me c.args.kind c.args.key c.in-Some.node c.mode_of.result _ is c.mode_of.ensures _ (c.in_err-known.ensures.does.does stored false failures) in
     let cause : offer_fault w c.args.me c.args.kind c.args.key c.args.handle ≡ recall_fault w c.args.kind c.args.key = grind (arith, nat_tests, c.in_ok-row.ensures.typed) in
-    rw (open-then c.args.lists closed c.if-not-lists.false e) (rw (failed c.from_residual-in_err-known.result c.from_residual-in_err-known.ensures.1)
+    rw (closed-is c.args.lists closed e ∙ ap not c.if-not-lists.false) (rw (failed c.from_residual-in_err-known.result c.from_residual-in_err-known.ensures.1)
     record { answers = tt; refused = record { why = elim call.refused.why [ inl a ↦ inl (cause ∙ a) | inr b ↦ inr (b.0, cause ∙ b.1, (refl, inr b.2.1)) ]; stays = call.refused.stays } })
 
 pub returns-in_err-known-clause-sheds : goal.returns-in_err-known-clause-sheds
-returns-in_err-known-clause-sheds g c there =
-    let does = c.in_err-known.ensures.does in
-    let same = (does.does (λ key. None) false 0).refused.stays in
-    stays-first (values-still c.args.t.now c.make.new.t c.requires.whole does.whole same.rows same.cells) (sheds-still c.make.new.t.holdings _ does.whole.steady)
+returns-in_err-known-clause-sheds g c there = stays-first (λ n. c.in_err-known.ensures.values n (λ eq pins. ap (λ k. has_value (counts_at c.args.t.now.holdings.nodes k)) eq
+    ∙ there c.in-Some.node.0 (sym (c.in-Some.ensures (λ key. None) false 0)) (ap is_pinning (sym c.mode_of.ensures) ∙ pins))) (sheds-still c.make.new.t.holdings _ c.in_err-known.ensures.does.whole.steady)

@@ -1,4 +1,4 @@
-use Rattle.pagable_tables.proofs.{Words.{ArcRef, Blob, Bool, Option, arith, core_of, get_or, sym, ℕ, ◌∙◌, ◌∷◌}, Worlds.{fault-none, fault-some, named-other, seen-more}}
+use Rattle.pagable_tables.proofs.{Words.{ArcRef, Blob, Bool, None, Option, Some, arith, core_of, get_or, sym, ℕ, ◌∙◌, ◌∷◌}, Worlds.{fault-at, named-other, seen-more}}
 use Rattle.pagable_tables.proofs.lookups.references_fault.Goals as goal
 
 abbrev blank : ArcRef
@@ -14,11 +14,11 @@ loop-i-preserved c =
       seen = (get_or rs l.i blank).handle.0 ∷ l.invariant.seen;
       same = seen-more l.invariant.seen rs l.i blank (omega arith) l.invariant.same;
       highest = λ q above. named-other rs l.i blank q (omega (arith, c.max-highest.ensures)) (omega arith) (l.invariant.highest q (omega (arith, c.max-highest.ensures)));
-      rest = λ stored closed failures. l.invariant.rest stored closed failures ∙ fault-none (core_of c.args.t.now stored closed failures) c.args.me l.invariant.seen rs l.i blank (omega arith) (none stored closed failures);
+      rest = λ stored closed failures. l.invariant.rest stored closed failures ∙ fault-at (core_of c.args.t.now stored closed failures) c.args.me l.invariant.seen rs l.i blank None (omega arith) (none stored closed failures);
     }
 
 pub returns-in-Some : goal.returns-in-Some
 returns-in-Some c stored closed failures =
     let l = c.loop-i in
     let fault = sym (c.fault_of.ensures stored closed failures l.invariant.seen (l.invariant.same _ ∙ sym c.is_named-is_seen.ensures)) ∙ c.in-Some.is in
-    sym (l.invariant.rest stored closed failures ∙ fault-some (core_of c.args.t.now stored closed failures) c.args.me l.invariant.seen c.args.references.now l.i _ c.in-Some.e (omega arith) fault)
+    sym (l.invariant.rest stored closed failures ∙ fault-at (core_of c.args.t.now stored closed failures) c.args.me l.invariant.seen c.args.references.now l.i _ (Some c.in-Some.e) (omega arith) fault)

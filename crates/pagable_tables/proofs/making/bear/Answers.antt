@@ -17,8 +17,7 @@ returns-clause-does c =
     let is : Counts = record { node_type = c.args.node_type; key = c.args.key; pins = one (is_pinning c.args.mode); holds = 1; is_falling = false; next = 0 } in
     let here : counts_at c.add.new.nodes n ≡ Some is = grind (arith, nat_tests, added.here, c.pins.ensures) in
     let free : at n ≡ None = let given = w.core.handles.nodes_numbered n in grind (arith, nat_tests) in
-    let named = ap (λ l. moved (is_named_by l) (owner_value n) (live t.handles.places.items)) c.deref.ensures.value in
-    let rows = c.in-Ok.ensures.rows ∙ ap (λ l. l ++ x ∷ []) (c.hand_over_all.ensures.rows ∙ named) in
+    let rows = c.in-Ok.ensures.rows ∙ ap (λ l. l ++ x ∷ []) (c.hand_over_all.ensures.rows ∙ ap (λ l. moved (is_named_by l) (owner_value n) (live t.handles.places.items)) c.deref.ensures.value) in
     let unvalued = not-a-value (plain_of u) me c.requires.holder in
     let fits = born-fits (plain_of u) me rs w.core.handles.ordered c.requires.fit unvalued at (counts_at c.add.new.nodes) (refs_at t.nodes) (refs_at c.add.new.nodes) t.top x _ w.steady.fits refl
     refl (elim c.requires.bare [ inl none ↦ inl none | inr so ↦ inr so.1 ]) (omega arith) free here added.others added.refs added.other_refs in

@@ -1,4 +1,5 @@
-use Rattle.pagable_tables.proofs.{Fitting.{come-fits, rows-told}, Words.{HandleRow, Some, ap, arith, cases_eq, counts_at, is_pinning, nat_tests, one, refl, rules, sym, ◌+◌, ◌∙◌, ◌≡◌}, Worlds.alike}
+use Rattle.pagable_tables.proofs.{Fitting.{come-fits, rows-told}, Words.{HandleRow, Some, ap, arith, cases_Bool, cases_eq, counts_at, is_pinning, nat_tests, one, refl, rules, sym, ◌+◌, ◌∙◌, ◌≡◌}}
+use Rattle.pagable_tables.proofs.Worlds.{alike}
 use Rattle.pagable_tables.proofs.making.come.Goals as goal
 
 pub returns : goal.returns
@@ -20,7 +21,7 @@ returns c =
         );
         refused = tt;
       };
-      values = λ n some falls. grind (arith, nat_tests, cases_eq n m, e.others n);
+      values = λ n some falls. grind (arith, nat_tests, cases_eq n m, cases_Bool (is_pinning c.args.mode), e.others n);
       steady = record {
         sound = c.push.ensures.sound;
         next = c.in_ok-push.ensures.next;

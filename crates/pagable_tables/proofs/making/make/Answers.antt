@@ -8,6 +8,5 @@ come-requires-clause-live c =
     some-held (counts_at c.args.t.now.holdings.nodes c.args.node.0) (omega arith)
 
 pub returns-clause-does : goal.returns-clause-does
-returns-clause-does c =
-    does-so (λ stored closed failures. c.come.ensures.made (core_of c.args.t.now stored closed failures)) c.come.ensures.steady
+returns-clause-does c = does-so (λ stored closed failures. c.come.ensures.made (core_of c.args.t.now stored closed failures)) c.come.ensures.steady
     (makes-goes c.args.node c.args.mode c.args.me c.come.result c.requires.whole.core c.requires.suits c.requires.holder) refl refl

@@ -1,12 +1,11 @@
-use Rattle.pagable_tables.proofs.{Newer.{away-born, does-then, none-named}, Words.arith, Worlds.{failed, weaker}}
+use Rattle.pagable_tables.proofs.{Newer.{away-born, does-then}, Told.none-named, Words.arith, Worlds.{failed, weaker}}
 use Rattle.pagable_tables.proofs.making.new_away.Goals as goal
 
 pub bear-requires-clause-fit : goal.bear-requires-clause-fit
 bear-requires-clause-fit c = none-named _ c.args.me _ c.new.ensures.items
 
 pub returns : goal.returns
-returns c =
-    does-then c.make_ready_to_learn.ensures.does c.bear.ensures.does
+returns c = does-then c.make_ready_to_learn.ensures.does c.bear.ensures.does
     (λ stored closed failures room born. away-born c.args.me c.args.node_type c.args.key c.get.result _ c.bear.result room c.in_ok-make_ready_to_learn.ensures.ready.node_left c.get.ensures.value (omega arith) c.new.ensures.items born)
 
 pub returns-in_err-make_ready_to_learn : goal.returns-in_err-make_ready_to_learn

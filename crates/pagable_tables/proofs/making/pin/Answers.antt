@@ -3,8 +3,7 @@ use Rattle.pagable_tables.proofs.{Words.{rules, spent, true, ◌∙◌, ◌≡�
 use Rattle.pagable_tables.proofs.making.pin.Goals as goal
 
 pub returns-in_err-at : goal.returns-in_err-at
-returns-in_err-at c =
-    rw (failed c.from_residual.result c.from_residual.ensures.1) (nothing-does c.requires.whole
+returns-in_err-at c = rw (failed c.from_residual.result c.from_residual.ensures.1) (nothing-does c.requires.whole
     (λ stored closed failures.
     let w = core_of c.args.t.now stored closed failures in
     let why = handle-first w c.args.me c.args.handle is_loose c.in_err-at.field-0.0 _ (c.in_err-at.ensures.fault stored closed failures is_loose) (λ f so. let a = spent-late w.last.handle _ f so in omega arith) in

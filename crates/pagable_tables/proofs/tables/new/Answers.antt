@@ -2,7 +2,6 @@ use Rattle.pagable_tables.proofs.Words.{worker_at, AreLater, ◌≡◌, ℕ, [],
 use Rattle.pagable_tables.{proofs.{Next.passes-none, Words.{IsFalling, known_at, load_at, option_map, owns_nothing}}, specs.Core.IsWhole}
 use Rattle.pagable_tables.proofs.tables.new.Goals as goal
 
--- tables of nothing are whole
 nothing-whole : (t : Tables) → t.holdings.handles.dead ≡ 0 → t.holdings.handles.places.items ≡ [] → ((n : ℕ) → get nat_eq t.holdings.nodes n ≡ None) → t.holdings.list.items ≡ []
     → ((kind key : ℕ) → known_at t.cache kind key ≡ None) → ((l : ℕ) → load_at t.loads l ≡ None) → ((v : ℕ) → worker_at t.workers v ≡ None)
     → (t.holdings.top ≡ 0) × (t.holdings.last_handle ≡ 0) × (t.last_node ≡ 0) × (t.last_load ≡ 0) → IsWhole t

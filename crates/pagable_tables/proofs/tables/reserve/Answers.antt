@@ -5,8 +5,7 @@ use Rattle.pagable_tables.proofs.tables.reserve.Goals as goal
 -- there is room, and all else is as it was
 grown : (t : Tables) (u : Holdings) → IsWhole t → Widens t.holdings.handles u.handles → u.list.items ≡ t.holdings.list.items → vec_capacity t.holdings.list ≤ vec_capacity u.list
     → Does t Alike (record t { holdings = record t.holdings { handles = u.handles; list = u.list } })
-grown t u w e items capacity =
-    does-so (λ stored closed failures. grind (arith, nat_tests, same-cache, e.rows, items, e.capacity, capacity))
+grown t u w e items capacity = does-so (λ stored closed failures. grind (arith, nat_tests, same-cache, e.rows, items, e.capacity, capacity))
     (record { sound = e.sound; next = e.next (t.holdings.last_handle + 1) w.steady.next; fits = rows-told _ _ _ _ t.holdings.top e.rows w.steady.fits })
     (alike-goes w.core) refl refl
 
