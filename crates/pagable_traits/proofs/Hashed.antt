@@ -181,10 +181,7 @@ alike-reordered : {X Y : Type 0} (P : X → Y → Type 0) {xs zs : List X} → R
 alike-reordered P no-items alike-none = ([], alike-none, no-items)
 alike-reordered P (same-front x xs zs k) (alike-more x2 y xs2 ys h t) = let r = alike-reordered P k t in (y ∷ r.0, alike-more x y zs r.0 h r.1, same-front y _ _ r.2)
 alike-reordered P (two-turned x z xs) (alike-more x2 y xs2 ys h (alike-more z2 w xs3 ws g t)) = (w ∷ y ∷ ws, alike-more z w _ _ g (alike-more x y xs ws h t), two-turned y w ws)
-alike-reordered P (and-then xs vs zs k l) h =
-    let r = alike-reordered P k h in
-    let s = alike-reordered P l r.1 in
-    (s.0, s.1, and-then _ _ _ r.2 s.2)
+alike-reordered P (and-then xs vs zs k l) h = let r = alike-reordered P k h in let s = alike-reordered P l r.1 in (s.0, s.1, and-then _ _ _ r.2 s.2)
 
 entries-reordered : {parts : ℕ → Shape} {left : ℕ} {s t : Shape} {ds es : List (Entry ArcRef)} {b : List ℕ} {k : List ArcRef} → Reordered ds es → Entries ArcRef kind_of_arc parts left s t ds b k → (c : List ℕ) × (j : List ArcRef) × Entries ArcRef kind_of_arc parts left s t es c j
 entries-reordered {b = b} {k = k} no-items f = (b, k, f)

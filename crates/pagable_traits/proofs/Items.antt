@@ -1,11 +1,11 @@
 -- Items one after another, as the loops write and read them, and without their count.
 -- Items that are put in one after another as they are read.
--- Items that a walk yields: what writing each, after their count, makes of the whole that holds them, and what its writer owes.
-use Rattle.{pagable_codec.{proofs.Writing.out_is, specs.declared.serializer.PagableSerializer.Ghosts as Serializers}, pagable_model.specs.Form.{Form, array-form}}
+-- Items that a walk yields: what writing each, after their count, makes of the whole that holds them.
+use Rattle.{pagable_codec.proofs.Writing.out_is, pagable_model.specs.Form.{Form, array-form}}
 use Rattle.{pagable_model.specs.{Form.run-form, Shape.{array, run}}, pagable_traits.proofs.{Parts.{err_along, ok_along, only-count, only-part}, Words.{ArcRef, Bor, Collected, Err, Error}}}
-use Rattle.pagable_traits.proofs.Words.{FormAt, Forms, FormsAt, Gave, Gets, GivesSome, Grows, IfErr, List, MeanAll, Meaning, Meanings, MeansList, MeansPair, Nesting, NoForm, NoFormOfSome, NoForms}
-use Rattle.pagable_traits.proofs.Words.{NoFormsOfSome, Ok, OnOk, Option, Out, PutInTurn, Refused, RefusedAll, RefusedAmong, RefusedCounted, Rest, Result, Shape, Some, SomeMeaning, WritesCounted}
-use Rattle.pagable_traits.proofs.Words.{WritesEach, WritesSome, WritesSomeAll, [], added, ap, append-nil, append_assoc, arith, counted, get_or, grows_trans, inl, items, items_have_meanings}
+use Rattle.pagable_traits.proofs.Words.{FormAt, Forms, FormsAt, Gave, Gets, GivesSome, IfErr, List, MeanAll, Meaning, Meanings, MeansList, MeansPair, Nesting, NoForm, NoFormOfSome, NoForms}
+use Rattle.pagable_traits.proofs.Words.{NoFormsOfSome, Ok, Option, Out, PutInTurn, Refused, RefusedAll, RefusedAmong, RefusedCounted, Rest, Result, Shape, Some, SomeMeaning}
+use Rattle.pagable_traits.proofs.Words.{WritesEach, WritesSome, WritesSomeAll, [], added, ap, append-nil, append_assoc, arith, get_or, grows_trans, inl, items, items_have_meanings}
 use Rattle.pagable_traits.proofs.Words.{kind_of_arc, length, length_form, list, list-form, long_or, longest, map, mean-more, mean-none, memory_or, memory_refuses, more-forms, moves_trans, no-forms}
 use Rattle.{pagable_traits.proofs.Words.{put_all, read, refl, seen, sequence, some, subst, suc, sym, take, then, zero, ℕ, ◌++◌, ◌+◌, ◌-◌, ◌<◌, ◌>>=◌, ◌∙◌, ◌∷◌, ◌≡◌, ◌≤◌, ◌⊎◌}, std.proofs.Common.drop}
 use Rattle.std.{proofs.{Math.Seq.split_at, lemmas.{Iterator.{Consumers.YieldsList-from_rest, YieldsList, YieldsList-from_slice, items_from_drains}, List.take_more}}, specs.Iterator.AlwaysYields}
@@ -22,9 +22,6 @@ mean-length mean-none = refl
 mean-length (mean-more x m xs ms h t) = ap (λ (n : ℕ). suc n) (mean-length t)
 
 -- ---- writing
-
-pub grows_some_all : (M : List (Meaning ArcRef) → Type 0) (n : Nesting) (s : Shape) (a b : Out) → WritesSomeAll M n s a b → Grows a b
-grows_some_all M n s a b w = record { bytes = w.wrote.bytes; refs = w.wrote.refs; grown = w.wrote.grown }
 
 pub writes_no_items : {T : Type 0} (M : T → Meaning ArcRef → Type 0) (n : Nesting) (s : Shape) (old : Out) → WritesSomeAll (MeanAll M []) n s old old
 writes_no_items M n s old = record { ms = []; is = mean-none; wrote = record { bytes = []; refs = []; form = no-forms _ s; grown = out_is _ _ _ _ (sym (append-nil old.bytes)) (sym (append-nil old.refs)) } }
@@ -49,9 +46,7 @@ writes-next M front x n s a b c v w = record {
 
 pub writes_item : {T : Type 0} (M : T → Meaning ArcRef → Type 0) (xs : List T) (i : ℕ) (x : T) (n : Nesting) (s : Shape) (a b c : Out) → i < length xs → x ≡ get_or xs i x
     → WritesSomeAll (MeanAll M (take i xs)) n s a b → WritesSome (M x) n s b c → WritesSomeAll (MeanAll M (take (i + 1) xs)) n s a c
-writes_item M xs i x n s a b c lt e v w =
-    let last : take (i + 1) xs ≡ take i xs ++ x ∷ [] = rw (take_more xs i x lt, ← e) refl in
-    rw last (writes-next M (take i xs) x n s a b c v w)
+writes_item M xs i x n s a b c lt e v w = let last : take (i + 1) xs ≡ take i xs ++ x ∷ [] = rw (take_more xs i x lt, ← e) refl in rw last (writes-next M (take i xs) x n s a b c v w)
 
 pub no-head : (n : Nesting) (s : Shape) (m : Meaning ArcRef) (ms : List (Meaning ArcRef)) → NoForm n s m → NoForms n s (m ∷ ms)
 no-head n s m ms h b k (more-forms l s' m' ms' c d j i f g) = h c j f
@@ -137,9 +132,7 @@ pub writes_run : {T : Type 0} (M : T → Meaning ArcRef → Type 0) (xs : List T
 writes_run M xs n s old new le v = writes-row M xs n (run s) s old new (λ ms b k same f. run-form _ s ms b k (rw same le) f) v
 
 run-parts : (n : Nesting) {s : Shape} {m : Meaning ArcRef} {b : List ℕ} {k : List ArcRef} (ms : List (Meaning ArcRef)) → FormAt n (run s) m b k → m ≡ sequence ms → (length ms ≤ longest) × FormsAt n s ms b k
-run-parts n {s} {m} {b} {k} ms (run-form l s' xs b' k' le f) e =
-    let P : List (Meaning ArcRef) → Type 0 = λ x. (length x ≤ longest) × FormsAt n s' x b' k' in
-    subst P (sequence-same xs ms e) (le, f)
+run-parts n {s} {m} {b} {k} ms (run-form l s' xs b' k' le f) e = let P : List (Meaning ArcRef) → Type 0 = λ x. (length x ≤ longest) × FormsAt n s' x b' k' in subst P (sequence-same xs ms e) (le, f)
 
 pub refused_run : {Z T : Type 0} (r : Result Z Error) (M : T → Meaning ArcRef → Type 0) (xs : List T) (n : Nesting) (s : Shape) → IfErr r (RefusedAll (MeanAll M xs) n s)
     → IfErr r (Refused (MeansList M xs) n (run s))
@@ -192,11 +185,6 @@ pub gives-seen : {X Y Z R : Type 0} (own : Error → Type 0) (P : X → Y → Ty
     → ((x : X) (y : Y) → P x y → Q x (view y)) → GivesSome own P last r part → GivesSome own Q last r (part >>= λ y. Ok (view y.0, y.1))
 gives-seen own P Q view last r part f g = grind arith
 
--- a whole whose items were counted
-pub reads_items : {X A : Type 0} (own : Error → Type 0) (P : X → List (Meaning ArcRef) → Type 0) (Q : X → Meaning ArcRef → Type 0) (view : List (Meaning ArcRef) → Meaning ArcRef) → ((x : X) (ms : List (Meaning ArcRef)) → P x ms → Q x (view ms)) → (r : Result X Error) (get : Gets A (Meaning ArcRef)) (rest last : Rest A)
-    → GivesSome own P last r (counted get rest) → GivesSome own Q last r (seen view (counted get) rest)
-reads_items own P Q view f r get rest last h = gives-seen own P Q view last r (counted get rest) f h
-
 -- there are as many as were asked for
 items-length : {A X : Type 0} (get : Gets A X) (n : ℕ) (rest after : Rest A) (xs : List X) → items get n rest ≡ Ok (xs, after) → length xs ≡ n
 unfolding items
@@ -241,10 +229,7 @@ cut-at : {W T X : Type 0} (next : W → Option T → W → Type 0) (view : T →
 cut-at next view s t u [] [] x road y step = absurd (road x u (rw y step))
 cut-at next view s t u (z ∷ zs) [] x road y step = let p = road.1 x u (rw y step) in (zs, rw p.0 refl)
 cut-at next view s t u [] (a ∷ xs) x road y step = absurd (road a y.0 y.1)
-cut-at {W} {T} {X} next view s t u (z ∷ zs) (a ∷ xs) x road y step =
-    let p = road.1 a y.0 y.1 in
-    let more = cut-at next view y.0 t u zs xs x p.1 y.2 step in
-    (more.0, rw (p.0, ← more.1) refl)
+cut-at {W} {T} {X} next view s t u (z ∷ zs) (a ∷ xs) x road y step = let p = road.1 a y.0 y.1 in let more = cut-at next view y.0 t u zs xs x p.1 y.2 step in (more.0, rw (p.0, ← more.1) refl)
 
 -- ---- items without their count
 
@@ -313,10 +298,7 @@ refuses-long {N = N} {ys = ys} wraps has count all e more = λ fault.
 
 pub refuses-items : {X : Type 0} {N : X → Meaning ArcRef → Type 0} {ys : List X} {Whole : Meaning ArcRef → Type 0} {n : Nesting} {whole item : Shape} → Wraps N ys Whole n whole item → (e : Error)
     → RefusedAll (MeanAll N ys) n item e → Refused Whole n whole e
-refuses-items wraps e h = λ fault.
-    let lacks = h fault in
-    let p = wraps.splits lacks.ms lacks.is in
-    record { m = p.0; is = p.1; no_form = λ b k f. let q = (p.2 b k f).1 in lacks.no_forms q.0 q.1 q.2 }
+refuses-items wraps e h = λ fault. let lacks = h fault in let p = wraps.splits lacks.ms lacks.is in record { m = p.0; is = p.1; no_form = λ b k f. let q = (p.2 b k f).1 in lacks.no_forms q.0 q.1 q.2 }
 
 pub refused_counted : {W T X Y : Type 0} (r : Result Y Error) {next : W → Option T → W → Type 0} {M : T → Meaning ArcRef → Type 0} {walk : W} {N : X → Meaning ArcRef → Type 0} {ys : List X} {Whole : Meaning ArcRef → Type 0} {n : Nesting} {whole item : Shape} (count : ℕ)
     → Shows next M walk N ys → Wraps N ys Whole n whole item → ((y : X) → SomeMeaning (N y)) → count ≡ length ys → IfErr r (RefusedCounted next M walk count n item) → IfErr r (Refused Whole n whole)
@@ -325,26 +307,5 @@ refused_counted r count shows wraps has all h = grind (arith, refuses-long wraps
 -- a list
 pub wraps_list : {X : Type 0} (N : X → Meaning ArcRef → Type 0) (ys : List X) (n : Nesting) (s : Shape) → Wraps N ys (MeansList N ys) n (list s) s
 wraps_list N ys n s = wraps-sequence N ys n (list s) s (λ ms b k f. list-parts n ms f refl) (λ ms b k each le f. list-form _ s ms b k le f)
-
--- ---- what the writers of values owe: the writer of the whole owes what its last call owes
-
-module _ {S E N H K V : Type 0} (s : Serializers S E N H K V) where
-  -- what a writer owes: where it succeeds, and of its refusals
-  abbrev pub Owes : {X : Type 0} → (ok : Type 0) (lacks causes : Error → Type 0) → S → S → Result X Error → Type 0
-  Owes ok lacks causes old new r = record { ok : OnOk r ok; refused : IfErr r lacks; only : IfErr r causes; err : Grows (s.out old) (s.out new); same_env : s.environment new ≡ s.environment old; same_levels : s.levels new ≡ s.levels old }
-
-  -- of the whole, by what its writer's last call owes
-  pub owed : {Y : Type 0} (r : Result Y Error) (P Q : Type 0) (lacks lacks' causes : Error → Type 0) {a b : S} → Owes P lacks causes a b r → OnOk r Q → IfErr r lacks' → Owes Q lacks' causes a b r
-  owed r P Q lacks lacks' causes told ok refused = record { ok = ok; refused = refused; only = told.only; err = told.err; same_env = told.same_env; same_levels = told.same_levels }
-
-  -- of the whole whose items a walk yields
-  pub owed-counted : {W T X Y : Type 0} {next : W → Option T → W → Type 0} {M : T → Meaning ArcRef → Type 0} {walk : W} {N : X → Meaning ArcRef → Type 0} {ys : List X}
-      {Whole : Meaning ArcRef → Type 0} {n : Nesting} {whole item : Shape} {a b : S} (causes : Error → Type 0) (r : Result Y Error) (count : ℕ)
-      → Shows next M walk N ys → Wraps N ys Whole n whole item → ((y : X) → SomeMeaning (N y)) → count ≡ length ys
-      → Owes (WritesCounted next M walk count n item (s.out a) (s.out b)) (RefusedCounted next M walk count n item) causes a b r
-      → Owes (WritesSome Whole n whole (s.out a) (s.out b)) (Refused Whole n whole) causes a b r
-  owed-counted {n = n} {item = item} {a = a} {b = b} causes r count shows wraps has all told =
-      owed r _ _ _ _ _ told (ok_along r told.ok (λ w. writes-counted wraps (s.out a) (added (s.out a) (length_form count) []) (s.out b) count all refl w.within (each-written shows n item _ _ w.each)))
-      (refused_counted r count shows wraps has all told.refused)
 
 pub ruleset writes = (ok_along, err_along, grows_trans, only-count, only-part)

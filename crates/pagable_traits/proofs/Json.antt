@@ -1,18 +1,18 @@
 -- What writing a JSON value adds: its case, and a form of its part; and which values have no form.
 -- What reading a JSON value gives: its case, and then its part.
-use Rattle.pagable_codec.specs.declared.{deserializer.PagableDeserializer.Ghosts as Deserializers, env.Env.Ghosts as Environments, serializer.PagableSerializer.Ghosts as Serializers}
+use Rattle.pagable_codec.specs.declared.{env.Env.Ghosts as Environments, serializer.PagableSerializer.Ghosts as Serializers}
 use Rattle.pagable_model.specs.Form.{json-array-form, json-flag-form, json-null-form, json-number-form, json-object-form, json-text-form}
 use Rattle.{pagable_model.specs.{Keyed.text_is_ordered, Lifted.{list_single, pair_single}, Numbers.{IsSigned, unsigned_form, varint}, Reading.{below, json_case}}, pagable_traits.proofs.Items.Wraps}
 use Rattle.pagable_traits.proofs.{Items.{gives-seen, refuses-items, refuses-long, wraps_list, writes-counted}, JsonSteps.{below as one_down, deeper, wrote-err}, Maps.{IsOrderOf, Written, key_like}}
 use Rattle.pagable_traits.proofs.{Maps.{reads-entries, sorted-map-put, viewed, wraps_sorted_map}, Parts.{err_along, ok_along, refuses_whole, writes_whole}, Words.{Answer, ArcRef, Bool, Context}}
-use Rattle.pagable_traits.proofs.Words.{Entry, Err, Error, FormAt, Gave, GivesSome, Global, Grows, IfErr, Is, IsStrictlySortedBy, List, MeanAll, Meaning, MeansList, MeansPair, MovesOn, Nesting}
-use Rattle.pagable_traits.proofs.Words.{NoForm, None, Ok, OnOk, Option, Out, Piece, Reads, Refused, Rest, Result, Shape, Some, SomeMeaning, String, Value, Vec, WritesSome, Wrote, [], added, all, ap}
+use Rattle.pagable_traits.proofs.Words.{Entry, Err, Error, FormAt, Gave, GivesSome, Global, Grows, IfErr, Is, IsStrictlySortedBy, List, MeanAll, Meaning, MeansList, MeansPair, Nesting}
+use Rattle.pagable_traits.proofs.Words.{NoForm, None, Ok, OnOk, Option, Out, Piece, Refused, Rest, Result, Shape, Some, SomeMeaning, String, Value, Vec, WritesSome, Wrote, [], added, all, ap}
 use Rattle.pagable_traits.proofs.Words.{arith, array_case, as_i64, bool_form, both, bytes, bytes_of, deepest, entry, false, flag, flag-form, grows_refl, grows_trans, handles_at, inl, inr, integer}
 use Rattle.pagable_traits.proofs.Words.{items, items_have_meanings, json, json_causes, keys_of, length, length_at, length_form, list, list-form, long_or, long_or_memory, longest, map, memory}
 use Rattle.pagable_traits.proofs.Words.{memory_refuses, moves_trans, none, number_view, object_case, of_data, of_entries, of_key, of_value, ordered, ordering_reverse, pair, pair_has_meaning, pos}
 use Rattle.pagable_traits.proofs.Words.{put_all, put_sorted, read, read_with, refl, refused_memory, rules, seen, sequence, signed, signed-form, sorted-map-form, sorted_map, string_bytes, string_cmp}
 use Rattle.pagable_traits.proofs.Words.{subst, suc, sym, text, text-form, text_form, text_order, then, to_z-of_z, true, unsigned_at, variant, view, w64, ℕ, ℤ, ◌++◌, ◌+◌, ◌-◌, ◌<◌, ◌^◌, ◌∙◌, ◌∷◌, ◌≡◌}
-use Rattle.{pagable_traits.{proofs.Words.◌≤◌, specs.{JsonData.{long_or_no_memory, part_at}, JsonSteps.{ObjectOf, front, part_of, value as form}}}, serde_json.proofs.Views.{view-Array, view-Object}}
+use Rattle.{pagable_traits.{proofs.Words.◌≤◌, specs.{JsonData.long_or_no_memory, JsonSteps.{ObjectOf, front, part_of, value as form}}}, serde_json.proofs.Views.{view-Array, view-Object}}
 use Rattle.serde_json.specs.{Data.{Data, Num, array, boolean, null, number, object, string}, Find.of_integer, View.{items_view, members_view}, declared.number.Number.Number}
 use Rattle.{serde_json.specs.declared.value.Value.the_lemmas, std.{proofs.{Common.BTreeMap, lemmas.Bool.{lt-ltb, ne_eqb}}, specs.{Prelude.{nat_lt, negsuc}, String.string_cmp_total}}}
 use Rattle.serde_json.specs.Data as kit
@@ -91,9 +91,7 @@ no-float n x e b k f = grind arith
 
 -- a number that they don't hold has no form
 no-number : (n : Nesting) (x : Num) → (as_i64 x ≡ (let o : Option ℤ = None in o)) → NoForm n json (of_data (number x))
-no-number n (kit.unsigned y) e b k f =
-    let same : nat_lt y (2 ^ 63) ≡ true = lt-ltb y (2 ^ 63) (number-within n (pos y) f refl) in
-    let some = rw same at e in absurd cc
+no-number n (kit.unsigned y) e b k f = let same : nat_lt y (2 ^ 63) ≡ true = lt-ltb y (2 ^ 63) (number-within n (pos y) f refl) in let some = rw same at e in absurd cc
 no-number n (kit.negative z) e b k f = absurd cc
 no-number n (kit.float x) e b k f = no-float n x e b k f
 
@@ -187,22 +185,13 @@ module _ {X : Type 0} (M : X → Meaning ArcRef → Type 0) (has : (x : X) → S
         let first = added old (case ∷ []) [] in
         let part = writes-counted (wraps (deeper n)) (added old (case ∷ []) []) mid new count counted (rw (case-byte case small) at f.1) f.0 w.1 in
         writes_whole n (deeper n) (λ m. variant case m) whole json (MeansList M ys) (Is of_data d) is (case ∷ []) old first new (up n w.0) refl part;
-    lacks = λ n e l. refuses n e lack (refuses-items (wraps (deeper n)) e l.1);
-    long = λ n e h. longer n e lack (wraps (deeper n)) h;
+    lacks = λ n e l. refuses_whole n (deeper n) (λ m. variant case m) whole json (MeansList M ys) (Is of_data d) is e (lack n) (refuses-items (wraps (deeper n)) e l.1);
+    long = λ n e h. let refuses = refuses_whole n (deeper n) (λ m. variant case m) whole json (MeansList M ys) (Is of_data d) is e (lack n) in grind (arith, refuses, refuses-long (wraps (deeper n)) has count counted, memory_refuses);
     deep = λ n e le. λ fault. let each = items_have_meanings M has ys in record { m = variant case (sequence each.0); is = is _ (record { ms = each.0; each = each.1; is = refl }); no_form = deep n _ le };
   }
-    where
-      refuses : (n : Nesting) (e : Error) → ((n : Nesting) (m : Meaning ArcRef) → NoForm (deeper n) whole m → NoForm n json (variant case m)) → Refused (MeansList M ys) (deeper n) whole e
-          → Refused (Is of_data d) n json e
-      refuses n e lack h = refuses_whole n (deeper n) (λ m. variant case m) whole json (MeansList M ys) (Is of_data d) is e (lack n) h
-
-      longer : (n : Nesting) (e : Error) → ((n : Nesting) (m : Meaning ArcRef) → NoForm (deeper n) whole m → NoForm n json (variant case m)) → Wraps M ys (MeansList M ys) (deeper n) whole item
-          → long_or_no_memory count e → Refused (Is of_data d) n json e
-      longer n e lack wraps h = grind (arith, refuses n e lack, refuses-long wraps has count counted, memory_refuses)
 
 pub arrays : (vs : List Value) (count : ℕ) → count ≡ length vs → HoldsBelow 4 count (all (MeanAll (Is of_value) vs) json) (array (items_view vs))
-arrays vs count counted =
-    holds-below (Is of_value) value-has vs 4 count (list json) json (array (items_view vs)) (items-are vs) refl counted (λ n. wraps_list (Is of_value) vs n json)
+arrays vs count counted = holds-below (Is of_value) value-has vs 4 count (list json) json (array (items_view vs)) (items-are vs) refl counted (λ n. wraps_list (Is of_value) vs n json)
     (λ n lt m b k f. array-up n lt f) no-array no-deep-array
 
 pub objects : (es : List (String Global × Value)) (count : ℕ) → count ≡ length es → IsStrictlySortedBy string_cmp (keys_of es)
@@ -220,8 +209,7 @@ module _ (n : Nesting) (old mid new : Out) where
 
   pub number_written : (first : Out) (a : Num) (i : ℤ) → as_i64 a ≡ Some i → first ≡ added old (unsigned_form w64 2) [] → mid ≡ added first (bool_form false) []
       → WritesSome (Is integer i) n (signed w64) mid new → WritesSome (Is of_data (number a)) n json old new
-  number_written first a i some e f w =
-      writes_whole n n (λ m. variant 2 m) (signed w64) json (Is integer i) (Is of_data (number a)) (λ m is. rw is (sym (whole_number a i some)))
+  number_written first a i some e f w = writes_whole n n (λ m. variant 2 m) (signed w64) json (Is integer i) (Is of_data (number a)) (λ m is. rw is (sym (whole_number a i some)))
       (2 ∷ 0 ∷ []) old mid new (λ m b k f. number-up n f) ((then) old first mid _ _ _ _ (rw (case-byte 2 refl) at e) f) w
 
   pub text_written : (t : String Global) → mid ≡ added old (unsigned_form w64 3) [] → WritesSome (Is of_key t) n text mid new → WritesSome (Is of_data (string (string_bytes t))) n json old new
@@ -280,24 +268,24 @@ module _ (c : Context Answer ArcRef) (rest : Rest Answer) where
 
 module _ (levels : ℕ) (parts : ℕ → Shape) (rest : Rest Answer) where
   module _ (count : ℕ) (mid : Rest Answer) (counted : bytes_of length_at (λ n. n) rest ≡ Ok (count, mid)) where
-    pub array-deep : deepest ≤ levels → part_at levels parts array_case rest ≡ Err Error.TooDeep
+    pub array-deep : deepest ≤ levels → part_of array_case (handles_at levels parts) rest ≡ Err Error.TooDeep
     unfolding below
     array-deep le = let left : deepest - levels ≡ 0 = omega arith in rw (left, counted) refl
 
-    pub object-deep : deepest ≤ levels → part_at levels parts object_case rest ≡ Err Error.TooDeep
+    pub object-deep : deepest ≤ levels → part_of object_case (handles_at levels parts) rest ≡ Err Error.TooDeep
     unfolding below
     object-deep le = let left : deepest - levels ≡ 0 = omega arith in rw (left, counted) refl
 
-    pub array-seen : levels < deepest → part_at levels parts array_case rest ≡ seen (λ ms. variant 4 (sequence ms)) (items (read (handles_at (levels + 1) parts) json) count) mid
+    pub array-seen : levels < deepest → part_of array_case (handles_at levels parts) rest ≡ seen (λ ms. variant 4 (sequence ms)) (items (read (handles_at (levels + 1) parts) json) count) mid
     unfolding read below
     array-seen lt = let left : deepest - levels ≡ suc (deepest - (levels + 1)) = omega arith in rw (left, counted) refl
 
     -- an object is a map one level further down
-    object-seen : levels < deepest → part_at levels parts object_case rest ≡ viewed (λ m. variant 5 m) (read (handles_at (levels + 1) parts) (sorted_map text_order text json) rest)
+    object-seen : levels < deepest → part_of object_case (handles_at levels parts) rest ≡ viewed (λ m. variant 5 m) (read (handles_at (levels + 1) parts) (sorted_map text_order text json) rest)
     unfolding read read_with below
     object-seen lt = let left : deepest - levels ≡ suc (deepest - (levels + 1)) = omega arith in rw (left, counted) (grind arith)
 
-    pub object-gives : (r : Result Value Error) (after : Rest Answer) → levels < deepest → GivesSome memory ObjectOf after r (items (read (handles_at (levels + 1) parts) (both text json)) count mid) → GivesSome memory (Is of_value) after r (part_at levels parts object_case rest)
+    pub object-gives : (r : Result Value Error) (after : Rest Answer) → levels < deepest → GivesSome memory ObjectOf after r (items (read (handles_at (levels + 1) parts) (both text json)) count mid) → GivesSome memory (Is of_value) after r (part_of object_case (handles_at levels parts) rest)
     unfolding read read_with
     object-gives r after lt g =
         let P : Result (Meaning ArcRef × Rest Answer) Error → Type 0 = λ o. GivesSome memory (Is of_value) after r o in
@@ -307,10 +295,6 @@ module _ (levels : ℕ) (parts : ℕ → Shape) (rest : Rest Answer) where
         means : (v : Value) (es : List (Entry ArcRef)) → ObjectOf v (map entry es) → Is of_value v (variant 5 (of_entries (put_all (put_sorted text_order) [] es)))
         means v es o = members-are o.members.entries _ (sorted-map-put (Is of_key) (Is of_value) string_cmp text_order keys-in-order o.members.entries es o.each) ∙ ap of_data (sym (seen-object v o.members o.is))
 
-module _ {D E R N H K V : Type 0} (env : Environments E N H K V) (d : Deserializers D E R N H K V) where
-  -- members one level further down, after their count
-  pub object-read : {a b c : D} {count : ℕ} {r : Result Value Error} → bytes_of length_at (λ n. n) (d.rest a) ≡ Ok (count, d.rest b) → MovesOn (d.standing a) (d.standing b) → d.environment b ≡ d.environment a → d.levels b ≡ d.levels a → d.levels b < deepest
-      → Reads env d memory ObjectOf (λ x. items (read (record x { levels = x.levels + 1 }) (both text json)) count) b c r → Reads env d memory (Is of_value) (part_of object_case) a c r
-  object-read {a} {b} {c} {count} {r} told moves same_env same_levels lt q = grind (arith, object-gives)
+pub ruleset read_parts = (array-deep, array-seen, object-deep, object-gives, moves_trans)
 
 pub ruleset read_cases = (moves_trans, null-read, no-case, is-flag, is-text, is-whole, to_z-of_z)

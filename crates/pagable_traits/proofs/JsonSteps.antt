@@ -1,8 +1,9 @@
 -- One step after another: what each of two functions that write or read owes, both owe.
 use Rattle.pagable_traits.proofs.Words.{◌≡◌, ℕ, ◌<◌, ◌≤◌, ◌+◌, ◌-◌, [], ◌∷◌, ◌++◌, List, arith, refl, ◌∙◌, Result, Ok, Err, inl, inr, err_from_is_err_and, OnOk, IfErr, ◌⊎◌, IsErrAnd, Error, ArcRef}
 use Rattle.pagable_traits.proofs.Words.{memory, memory_or, subst, read, GivesSome, Meaning, Context, Gets, Rest, deepest, items, Shape, Answer, MovesOn, Out, Nesting, nesting, WritesSome, Refused, Grows, grows_refl}
-use Rattle.pagable_traits.proofs.{Words.{grows_trans, moves_trans, Piece, Wrote, Reads, nested_in, context_in}, Items.{with_front, starts, goes_on, ends, is_done}, Maps.viewed}
-use Rattle.pagable_traits.specs.JsonSteps.{value}
+use Rattle.pagable_traits.proofs.{Words.{grows_trans, moves_trans, Piece, Wrote, Reads, nested_in, context_in}, Maps.viewed}
+use Rattle.pagable_traits.proofs.Items.{Shows, Wraps, each-written, ends, goes_on, is_done, refused_counted, starts, with_front, writes-counted}
+use Rattle.pagable_traits.{proofs.{Parts.{err_along, ok_along}, Words.{Option, SomeMeaning, added, length, length_form}}, specs.{JsonSteps.value, Walks.counted as walked}}
 use Rattle.pagable_codec.specs.{declared.env.Env.Ghosts as Environments, declared.serializer.PagableSerializer.Ghosts as Serializers, declared.deserializer.PagableDeserializer.Ghosts as Deserializers}
 
 -- one level further down, where a level is left
@@ -13,10 +14,27 @@ abbrev pub below : Piece → Piece
 below p = record { wrote = λ n old new. (n.levels < deepest) × p.wrote (deeper n) old new; lacks = λ n e. (n.levels < deepest) × p.lacks (deeper n) e }
 
 module _ {S E N H K V : Type 0} (env : Environments E N H K V) (s : Serializers S E N H K V) where
-  -- a value, as the functions write it that have these clauses
-  pub as-form : {X : Type 0} {old new : S} (M : Meaning ArcRef → Type 0) (shape : Shape) (causes : Error → Type 0) (r : Result X Error) → OnOk r (WritesSome M (nested_in env s old) shape (s.out old) (s.out new)) → IfErr r (Refused M (nested_in env s old) shape) → IfErr r causes → Grows (s.out old) (s.out new)
-      → s.environment new ≡ s.environment old → s.levels new ≡ s.levels old → Wrote env s (value M shape) causes old new r
-  as-form M shape causes r ok refused only err same_env same_levels = record { ok = ok; refused = refused; only = only; err = err; same_env = same_env; same_levels = same_levels }
+  -- the clauses of PagableSerialize
+  abbrev pub Owes : {X : Type 0} → (Meaning ArcRef → Type 0) → Shape → (Error → Type 0) → S → S → Result X Error → Type 0
+  Owes M shape causes old new r = record {
+    ok : OnOk r (WritesSome M (nested_in env s old) shape (s.out old) (s.out new));
+    refused : IfErr r (Refused M (nested_in env s old) shape);
+    only : IfErr r causes;
+    err : Grows (s.out old) (s.out new);
+    same_env : s.environment new ≡ s.environment old;
+    same_levels : s.levels new ≡ s.levels old;
+  }
+
+  pub clauses : {X : Type 0} {M : Meaning ArcRef → Type 0} {shape : Shape} {causes : Error → Type 0} {old new : S} {r : Result X Error}
+      → Wrote env s (value M shape) causes old new r → Owes M shape causes old new r
+  clauses p = record { ok = p.ok; refused = p.refused; only = p.only; err = p.err; same_env = p.same_env; same_levels = p.same_levels }
+
+  -- a value, as the functions write it that have these clauses, by its shape in an environment that is the same
+  pub as-form : {X : Type 0} {old new : S} (M : Meaning ArcRef → Type 0) (shape : E → Shape) (causes : Error → Type 0) (r : Result X Error) {e : E} → s.environment old ≡ e
+      → Owes M (shape (s.environment old)) causes old new r → Wrote env s (value M (shape e)) causes old new r
+  as-form {old = old} {new = new} M shape causes r same told =
+      let P : E → Type 0 = λ e. Wrote env s (value M (shape e)) causes old new r in
+      subst P same (record { ok = told.ok; refused = told.refused; only = told.only; err = told.err; same_env = told.same_env; same_levels = told.same_levels })
 
   -- the second after the first
   pub wrote-then : {X Y : Type 0} {P Q W : Piece} {first second causes : Error → Type 0} {a b c : S} {x : X} (r : Result Y Error) → Wrote env s P first a b (Ok x) → Wrote env s Q second b c r
@@ -33,6 +51,20 @@ module _ {S E N H K V : Type 0} (env : Environments E N H K V) (s : Serializers 
 
   pub wrote-is : {X Z : Type 0} {P W : Piece} {first causes : Error → Type 0} {a b : S} {x : X} {z : Z} → Wrote env s P first a b (Ok x) → ((n : Nesting) (old new : Out) → P.wrote n old new → W.wrote n old new) → Wrote env s W causes a b (Ok z)
   wrote-is p same = record { ok = same _ _ _ p.ok; refused = tt; only = tt; err = p.err; same_env = p.same_env; same_levels = p.same_levels }
+
+  -- another piece that is written, and refused, where this one is
+  pub wrote-as : {Y : Type 0} {P Q : Piece} {causes : Error → Type 0} {a b : S} (r : Result Y Error) → Wrote env s P causes a b r
+      → ((n : Nesting) (old new : Out) → P.wrote n old new → Q.wrote n old new) → ((n : Nesting) (e : Error) → P.lacks n e → Q.lacks n e) → Wrote env s Q causes a b r
+  wrote-as r p same lacks = record { ok = ok_along r p.ok (same _ _ _); refused = err_along r p.refused (lacks _); only = p.only; err = p.err; same_env = p.same_env; same_levels = p.same_levels }
+
+  -- a whole whose items a walk yields, after their count
+  pub wrote-counted : {W T X Y : Type 0} {next : W → Option T → W → Type 0} {M : T → Meaning ArcRef → Type 0} {walk : W} {N : X → Meaning ArcRef → Type 0} {ys : List X}
+      {Whole : Meaning ArcRef → Type 0} {whole item : Shape} {causes : Error → Type 0} {a b : S} (r : Result Y Error) (count : ℕ)
+      → ((y : X) → SomeMeaning (N y)) → count ≡ length ys → Wrote env s (walked next M walk count item) causes a b r → Shows next M walk N ys
+      → ((n : Nesting) → Wraps N ys Whole n whole item) → Wrote env s (value Whole whole) causes a b r
+  wrote-counted {item = item} r count has all told shows wraps =
+      wrote-as r told (λ n old new w. writes-counted (wraps n) old (added old (length_form count) []) new count all refl w.within (each-written shows n item _ new w.each))
+      (λ n e h. let f : Result (Unit {0}) Error = Err e in refused_counted f count shows (wraps n) has all h)
 
   -- the second was refused
   pub wrote-then-err : {X Y Z : Type 0} {P Q W : Piece} {first second causes : Error → Type 0} {a b c : S} {x : X} {e : Error} (r : Result Y Error) → IsErrAnd r (λ f. f ≡ e) → Wrote env s P first a b (Ok x) → Wrote env s Q second b c (let p : Result Z Error = Err e in p)
@@ -81,16 +113,6 @@ module _ {D E R N H K V : Type 0} (env : Environments E N H K V) (d : Deserializ
   as-read own M r {b} {c} shape same told =
       let P : E → Type 0 = λ e. GivesSome own M (d.rest c) r (read (context_in env d b) (shape e) (d.rest b)) in
       record { gives = subst P same told.gives; moves = told.moves; same_env = told.same_env; same_levels = told.same_levels }
-
-  -- a part was read, and what follows it
-  pub read-then : {Z W : Type 0} {causes : Error → Type 0} {L : Z → W → Type 0} {next whole : Context Answer ArcRef → Gets Answer W} {a b c : D} {r : Result Z Error} → MovesOn (d.standing a) (d.standing b) → d.environment b ≡ d.environment a → d.levels b ≡ d.levels a → Reads env d causes L next b c r
-      → whole (context_in env d a) (d.rest a) ≡ next (context_in env d a) (d.rest b) → Reads env d causes L whole a c r
-  read-then moves same_env same_levels q same = record { gives = rw same (rw (same_levels, same_env) at q.gives); moves = moves_trans _ _ _ moves q.moves; same_env = q.same_env ∙ same_env; same_levels = q.same_levels ∙ same_levels }
-
-  -- a level was entered, a part was read, and the level was left
-  pub read-below : {Z W : Type 0} {causes : Error → Type 0} {L : Z → W → Type 0} {get : Context Answer ArcRef → Gets Answer W} {a b c z : D} {r : Result Z Error} → (d.levels b ≡ d.levels a + 1) × (d.levels a < deepest) → d.standing b ≡ d.standing a → d.rest b ≡ d.rest a → d.environment b ≡ d.environment a → Reads env d causes L get b c r
-      → d.levels z ≡ d.levels c - 1 → d.standing z ≡ d.standing c → d.rest z ≡ d.rest c → d.environment z ≡ d.environment c → Reads env d causes L (λ x. get (record x { levels = x.levels + 1 })) a z r
-  read-below down standing_in rest_in env_in p up standing_out rest_out env_out = grind arith
 
   -- no level was left
   pub read-deep : {Z W : Type 0} {causes : Error → Type 0} {a b c : D} {e : Error} (r : Result Z Error) {L : Z → W → Type 0} {whole : Context Answer ArcRef → Gets Answer W} → IsErrAnd r (λ f. f ≡ e) → MovesOn (d.standing a) (d.standing b) → d.environment b ≡ d.environment a → d.levels b ≡ d.levels a

@@ -2,7 +2,7 @@
 -- Sets: what putting in, writing and reading their items gives.
 use Rattle.pagable_model.specs.Form.{no-entries, placed-map-form}
 use Rattle.pagable_model.specs.{Form.{placed-set-form, sorted-set-form}, Keys.{Ascends, put_placed, put_placed_item, put_sorted_item}, Reading.two, Shape.{placed_map, placed_set, sorted_set}}
-use Rattle.pagable_traits.proofs.{Items.{Wraps, put-in-turn, reads_items, refuses-among, split-same, wraps-sequence, writes-next, writes_no_items}, Words.{AllAfter, AllByRecursion}}
+use Rattle.pagable_traits.proofs.{Items.{Wraps, gives-seen, put-in-turn, refuses-among, split-same, wraps-sequence, writes-next, writes_no_items}, Words.{AllAfter, AllByRecursion}}
 use Rattle.pagable_traits.proofs.Words.{Apart, ArcRef, Bool, Collected, Context, Differ, Entries, Entry, Error, FormAt, Forms, FormsAt, Gets, GivesSome, IsDistinct, IsStrictlySortedBy, KeyOrder}
 use Rattle.pagable_traits.proofs.Words.{List, MeanAll, Meaning, MeansList, MeansPair, Nesting, Ok, Ordering, Out, Refused, RefusedAll, Rest, Result, Shape, SomeMeaning, WritesSome, WritesSomeAll, []}
 use Rattle.pagable_traits.proofs.Words.{ap, append-nil, append_assoc, arith, both, both-form, counted, deepest, entry, false, insert_entry, items, keys_of, kind_of_arc, length, length-map, longest}
@@ -61,10 +61,7 @@ forms-of-entries (more-entries d s t x y es b1 b2 c j1 j2 l f g rest) =
 
 -- these pairs mean these entries
 pub entries-mean : {K V : Type 0} (M : K → Meaning ArcRef → Type 0) (N : V → Meaning ArcRef → Type 0) {xs : List (K × V)} (es : List (Entry ArcRef)) → MeanAll (MeansPair M N) xs (map entry es) → EntriesMean M N xs es
-entries-mean {K} {V} M N {xs} es h =
-    let p = entries-of-pairs M N h in
-    let P : List (Entry ArcRef) → Type 0 = λ zs. EntriesMean M N xs zs in
-    subst P (sym (same-entries es p.0 p.1)) p.2
+entries-mean {K} {V} M N {xs} es h = let p = entries-of-pairs M N h in let P : List (Entry ArcRef) → Type 0 = λ zs. EntriesMean M N xs zs in subst P (sym (same-entries es p.0 p.1)) p.2
 
 -- pairs that were written are entries that were written
 pub record EntriesWritten {K V : Type 0} (M : K → Meaning ArcRef → Type 0) (N : V → Meaning ArcRef → Type 0) (n : Nesting) (s t : Shape) (xs : List (K × V)) (ms : List (Meaning ArcRef)) (b : List ℕ) (k : List ArcRef) : Type 0 where
@@ -129,14 +126,10 @@ written-more {T} M n s all left rest x a b c v e w = record {
 }
 
 pub written-all : {T : Type 0} (M : T → Meaning ArcRef → Type 0) (n : Nesting) (s : Shape) (all left : List T) (a b : Out) → Written M n s all left a b → left ≡ [] → WritesSomeAll (MeanAll M all) n s a b
-written-all {T} M n s all left a b v e =
-    let same : all ≡ v.front = v.is ∙ ap (λ (ys : List T). v.front ++ ys) e ∙ append-nil v.front in
-    rw same v.wrote
+written-all {T} M n s all left a b v e = let same : all ≡ v.front = v.is ∙ ap (λ (ys : List T). v.front ++ ys) e ∙ append-nil v.front in rw same v.wrote
 
 pub written-refused : {T : Type 0} (M : T → Meaning ArcRef → Type 0) (has : (x : T) → SomeMeaning (M x)) (n : Nesting) (s : Shape) (all left rest : List T) (x : T) (a b : Out) (e : Error) → Written M n s all left a b → left ≡ x ∷ rest → Refused (M x) n s e → RefusedAll (MeanAll M all) n s e
-written-refused {T} M has n s all left rest x a b e v f h =
-    let same : all ≡ v.front ++ x ∷ rest = v.is ∙ ap (λ (ys : List T). v.front ++ ys) f in
-    rw same (refuses-among M has v.front x rest n s e h)
+written-refused {T} M has n s all left rest x a b e v f h = let same : all ≡ v.front ++ x ∷ rest = v.is ∙ ap (λ (ys : List T). v.front ++ ys) f in rw same (refuses-among M has v.front x rest n s e h)
 
 -- ---- putting in
 
@@ -189,9 +182,7 @@ module _ {K X Y O : Type 0} {M : K → Meaning ArcRef → Type 0} {f : K → K �
   pub apart-alike : (Whole : List K → Type 0) → ((k : K) (ks : List K) → Whole (k ∷ ks) → AllByRecursion (λ q. f k q ≡ o) ks × Whole ks) → {xs : List X} {ys : List Y} → Alike P xs ys → Whole (keys xs) → Apart (λ a b. g (name a) (name b) ≡ flip o) ys
   unfolding Apart
   apart-alike Whole parts alike-none h = tt
-  apart-alike Whole parts (alike-more x y xs ys p t) h =
-      let s = parts (key x) (keys xs) (rw (splits x xs) at h) in
-      (after-alike x y p t s.0, apart-alike Whole parts t s.1)
+  apart-alike Whole parts (alike-more x y xs ys p t) h = let s = parts (key x) (keys xs) (rw (splits x xs) at h) in (after-alike x y p t s.0, apart-alike Whole parts t s.1)
 
 -- ---- sorted maps
 
@@ -287,8 +278,8 @@ pub reads_sorted_set : {X K A : Type 0} (own : Error → Type 0) (M : K → Mean
     → GivesSome own (λ x. Collected M (λ ys y zs. zs ≡ insert_key cmp ys y) (held x)) last r (counted (read context s) rest) → GivesSome own (λ x. MeansList M (held x)) last r (read context (sorted_set order s) rest)
 unfolding read read_with
 reads_sorted_set own M cmp order is r held context s rest last h =
-    reads_items own (λ x. Collected M (λ ys y zs. zs ≡ insert_key cmp ys y) (held x)) (λ x. MeansList M (held x)) (λ ms. sequence (put_all (put_sorted_item order) [] ms))
-    (λ x ms p. set-put M (insert_key cmp) (put_sorted_item order) (λ y m h ys ns all. put-item M cmp order is y m h all) (held x) ms p) r (read context s) rest last h
+    gives-seen own (λ x. Collected M (λ ys y zs. zs ≡ insert_key cmp ys y) (held x)) (λ x. MeansList M (held x)) (λ ms. sequence (put_all (put_sorted_item order) [] ms)) last r (counted (read context s) rest)
+    (λ x ms p. set-put M (insert_key cmp) (put_sorted_item order) (λ y m h ys ns all. put-item M cmp order is y m h all) (held x) ms p) h
 
 -- ---- sets in order of arrival
 
@@ -305,4 +296,5 @@ pub reads_placed_set : {X K A : Type 0} (own : Error → Type 0) (M : K → Mean
     → GivesSome own (λ x. Collected M (λ ys y zs. zs ≡ placed.insert_key eq ys y) (held x)) last r (counted (read context s) rest) → GivesSome own (λ x. MeansList M (held x)) last r (read context (placed_set s) rest)
 unfolding read read_with
 reads_placed_set own M eq is r held context s rest last h =
-    reads_items own (λ x. Collected M (λ ys y zs. zs ≡ placed.insert_key eq ys y) (held x)) (λ x. MeansList M (held x)) (λ ms. sequence (put_all put_placed_item [] ms)) (λ x ms p. set-put M (placed.insert_key eq) put_placed_item (λ y m h ys ns all. place-item M eq is y m h all) (held x) ms p) r (read context s) rest last h
+    gives-seen own (λ x. Collected M (λ ys y zs. zs ≡ placed.insert_key eq ys y) (held x)) (λ x. MeansList M (held x)) (λ ms. sequence (put_all put_placed_item [] ms)) last r (counted (read context s) rest)
+    (λ x ms p. set-put M (placed.insert_key eq) put_placed_item (λ y m h ys ns all. place-item M eq is y m h all) (held x) ms p) h

@@ -129,29 +129,24 @@ module _ {T : Type 0} (M : T → Meaning ArcRef → Type 0) (y : Option T) (x : 
       rw here (writes_whole n n present s (optional s) (M x) (MeansOption M (Some x)) (λ m is. means-some x m is) (bool_form true) old mid new (λ m b k f. some-form _ s m b k f) e w)
 
   pub refused_present : {Z : Type 0} (r : Result Z Error) → IfErr r (Refused (M x) n s) → IfErr r (Refused (MeansOption M y) n (optional s))
-  refused_present r h =
-      rw here (err_along r h (λ e k. refuses_whole n n present s (optional s) (M x) (MeansOption M (Some x)) (λ m is. means-some x m is) e (no-some n s) k))
+  refused_present r h = rw here (err_along r h (λ e k. refuses_whole n n present s (optional s) (M x) (MeansOption M (Some x)) (λ m is. means-some x m is) e (no-some n s) k))
 
 module _ {T X : Type 0} (M : T → Meaning ArcRef → Type 0) (N : X → Meaning ArcRef → Type 0) (y : Result T X) (n : Nesting) (s t : Shape) where
   pub writes_success : (x : T) (flag : Bool) (old mid new : Out) → y ≡ Ok x → flag ≡ true → mid ≡ added old (bool_form flag) [] → WritesSome (M x) n s mid new
       → WritesSome (MeansResult M N y) n (outcome s t) old new
-  writes_success x flag old mid new here is e w =
-      rw here
+  writes_success x flag old mid new here is e w = rw here
       (writes_whole n n success s (outcome s t) (M x) (MeansResult M N (Ok x)) (λ m is. means-ok x m is) (bool_form true) old mid new (λ m b k f. ok-form _ s t m b k f) (rw is at e) w)
 
   pub writes_failure : (x : X) (flag : Bool) (old mid new : Out) → y ≡ Err x → flag ≡ false → mid ≡ added old (bool_form flag) [] → WritesSome (N x) n t mid new
       → WritesSome (MeansResult M N y) n (outcome s t) old new
-  writes_failure x flag old mid new here is e w =
-      rw here
+  writes_failure x flag old mid new here is e w = rw here
       (writes_whole n n failure t (outcome s t) (N x) (MeansResult M N (Err x)) (λ m is. means-err x m is) (bool_form false) old mid new (λ m b k f. err-form _ s t m b k f) (rw is at e) w)
 
   pub refused_success : {Z : Type 0} (r : Result Z Error) (x : T) → y ≡ Ok x → IfErr r (Refused (M x) n s) → IfErr r (Refused (MeansResult M N y) n (outcome s t))
-  refused_success r x here h =
-      rw here (err_along r h (λ e k. refuses_whole n n success s (outcome s t) (M x) (MeansResult M N (Ok x)) (λ m is. means-ok x m is) e (no-success n s t) k))
+  refused_success r x here h = rw here (err_along r h (λ e k. refuses_whole n n success s (outcome s t) (M x) (MeansResult M N (Ok x)) (λ m is. means-ok x m is) e (no-success n s t) k))
 
   pub refused_failure : {Z : Type 0} (r : Result Z Error) (x : X) → y ≡ Err x → IfErr r (Refused (N x) n t) → IfErr r (Refused (MeansResult M N y) n (outcome s t))
-  refused_failure r x here h =
-      rw here (err_along r h (λ e k. refuses_whole n n failure t (outcome s t) (N x) (MeansResult M N (Err x)) (λ m is. means-err x m is) e (no-failure n s t) k))
+  refused_failure r x here h = rw here (err_along r h (λ e k. refuses_whole n n failure t (outcome s t) (N x) (MeansResult M N (Err x)) (λ m is. means-err x m is) e (no-failure n s t) k))
 
 -- ---- tuples
 

@@ -121,9 +121,7 @@ is-last : {X : Type 0} (f : X → List ℕ × Shape) (xs : List X) (tag : List �
     → (is_registered (map f xs) tag ≡ true) × (body_of (map f xs) tag ≡ (f x).1)
 is-last f [] tag x place e equal last = absurd cc
 is-last f (y ∷ ys) tag x zero e equal last = let none = not-registered f ys tag (λ j z stands. last (suc j) z (omega arith) stands) in grind (arith, none)
-is-last f (y ∷ ys) tag x (suc place) e equal last =
-    let p = is-last f ys tag x place e equal (λ j z less stands. last (suc j) z (omega (arith, less)) stands) in
-    (rw p.0 refl, rw p.0 p.1)
+is-last f (y ∷ ys) tag x (suc place) e equal last = let p = is-last f ys tag x place e equal (λ j z less stands. last (suc j) z (omega (arith, less)) stands) in (rw p.0 refl, rw p.0 p.1)
 
 -- ---- reading
 
@@ -156,13 +154,12 @@ module _ {D E R N H K V T F : Type 0} (env : Environments E N H K V) (d : Deseri
   -- no reader is registered
   pub unknown_read : {a b : D} {tag : List ℕ} (readers known : List (List ℕ × F)) (named : List ℕ) → Tells d (bytes_of text_at (λ t. t) (d.rest a) ≡ Ok (tag, d.rest b)) a b → named ≡ tag
       → known ≡ readers → NoneFor named known → TellsTagged readers a b (Err Error.UnknownTag)
-  unknown_read {a} {b} {tag} readers known named told same all none =
-      record {
-        gives = λ written. inl (read-unknown _ written grammar (d.environment a) readers tag _ _ told.gives (rw (same, all) at none));
-        moves = told.moves;
-        same_env = told.same_env;
-        same_levels = told.same_levels;
-      }
+  unknown_read {a} {b} {tag} readers known named told same all none = record {
+    gives = λ written. inl (read-unknown _ written grammar (d.environment a) readers tag _ _ told.gives (rw (same, all) at none));
+    moves = told.moves;
+    same_env = told.same_env;
+    same_levels = told.same_levels;
+  }
 
   -- what the reader of a body tells, after the tag
   abbrev pub TellsBody : (gives of_tag : Type 0) → D → D → Type 0

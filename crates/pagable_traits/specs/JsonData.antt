@@ -1,7 +1,7 @@
--- What the JSON values of `serde_json` are in the words of the definitions, and how their parts are read.
-use Rattle.std.specs.{Prelude.{String, pos, ℕ, ◌-◌, ◌<◌, ◌≡◌, ◌⊎◌}, String.string_bytes, declared.alloc.Global.Global}
-use Rattle.pagable_model.specs.{Basic.longest, Gives.memory, Json.{Json, of_json}, Meaning.Meaning, Reading.{Gets, JsonCase, below, deepest, json_part}, Shape.Shape}
-use Rattle.{pagable_model.specs.{Standing.{Answer, answer_at}, declared.{error.Error.Error, numbers.ArcRef.ArcRef}}, serde_json.specs.{Data.{Data, Num}, View.view, declared.value.Value.Value}}
+-- What the JSON values of `serde_json` are in the words of the definitions.
+use Rattle.std.specs.{Prelude.{String, pos, ℕ, ◌<◌, ◌≡◌, ◌⊎◌}, String.string_bytes, declared.alloc.Global.Global}
+use Rattle.pagable_model.specs.{Basic.longest, Gives.memory, Json.{Json, of_json}, Meaning.Meaning, declared.{error.Error.Error, numbers.ArcRef.ArcRef}}
+use Rattle.serde_json.specs.{Data.{Data, Num}, View.view, declared.value.Value.Value}
 use Rattle.serde_json.specs.Data as kit
 use Rattle.pagable_model.specs.declared.error.Error.TheVariants as errors
 use Rattle.pagable_model.specs.Json as own
@@ -40,10 +40,6 @@ of_value v = of_data (view v)
 
 abbrev pub of_key : String Global → Meaning ArcRef
 of_key k = meanings.text (string_bytes k)
-
--- the part of a JSON value after its case, where so many levels were entered
-abbrev pub part_at : ℕ → (ℕ → Shape) → JsonCase → Gets Answer (Meaning ArcRef)
-part_at levels parts case = json_part (below answer_at parts (deepest - levels)) case
 
 -- TooLong only where the length is above the greatest, and else want of memory, which the case may meet before the length
 abbrev pub long_or_no_memory : ℕ → Error → Type 0

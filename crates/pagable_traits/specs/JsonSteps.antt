@@ -1,9 +1,10 @@
 -- What functions that write and read values owe: the clauses that the traits of values have, in one record.
-use Rattle.std.specs.{BTreeMap.{BTreeMap, insert_entry}, Int.w64, Prelude.{IfErr, List, OnOk, Result, String, [], ℕ, ◌≡◌, ◌≤◌}, String.string_cmp, declared.alloc.Global.Global}
+use Rattle.std.specs.{BTreeMap.{BTreeMap, insert_entry}, Int.w64, Prelude.{IfErr, List, OnOk, Result, String, [], ℕ, ◌-◌, ◌≡◌, ◌≤◌}, String.string_cmp, declared.alloc.Global.Global}
 use Rattle.pagable_codec.specs.declared.{deserializer.PagableDeserializer.Ghosts as Deserializers, env.Env.Ghosts as Environments, serializer.PagableSerializer.Ghosts as Serializers}
-use Rattle.pagable_model.specs.{Basic.{length_form, longest}, Collected.Collected, Lifted.MeansPair, Meaning.Meaning, Numbers.unsigned_form, Reading.{Context, Gets, JsonCase}}
-use Rattle.pagable_model.specs.{Shape.Shape, Standing.{Answer, GivesSome, Is, MovesOn, handles_at}, Writing.{Grows, Nesting, Out, Refused, RefusedAll, WritesSome, WritesSomeAll, added, nesting}}
-use Rattle.{pagable_model.specs.declared.{error.Error.Error, numbers.ArcRef.ArcRef}, pagable_traits.specs.JsonData.{of_key, of_value, part_at}, serde_json.specs.declared.value.Value.Value}
+use Rattle.pagable_model.specs.{Basic.{length_form, longest}, Collected.Collected, Lifted.MeansPair, Meaning.Meaning, Numbers.unsigned_form, Reading.{Context, Gets, JsonCase}, Shape.Shape}
+use Rattle.pagable_model.specs.{Reading.{below, deepest, json_part}, Standing.{Answer, GivesSome, Is, MovesOn, answer_at, handles_at}}
+use Rattle.pagable_model.specs.{Writing.{Grows, Nesting, Out, Refused, RefusedAll, WritesSome, WritesSomeAll, added, nesting}, declared.{error.Error.Error, numbers.ArcRef.ArcRef}}
+use Rattle.{pagable_traits.specs.JsonData.{of_key, of_value}, serde_json.specs.declared.value.Value.Value}
 use Rattle.serde_json.specs.declared.value.Value as values
 
 -- what is added in a nesting, and what a refusal says there
@@ -50,7 +51,7 @@ module _ {D E R N H K V : Type 0} (env : Environments E N H K V) (d : Deserializ
 
 -- a JSON value after its case
 abbrev pub part_of : JsonCase → Context Answer ArcRef → Gets Answer (Meaning ArcRef)
-part_of case c = part_at c.levels c.parts case
+part_of case c = json_part (below answer_at c.parts (deepest - c.levels)) case
 
 -- an object whose members these mean, one after another: a later value of a repeated key stands
 pub record ObjectOf (v : Value) (ms : List (Meaning ArcRef)) : Type 0 where

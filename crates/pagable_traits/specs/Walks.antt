@@ -1,7 +1,7 @@
 -- What writing each item that a walk yields owes, where next says what the walk gives from one state to the other.
-use Rattle.std.specs.{Prelude.ℕ, Prelude.◌≤◌, Prelude.List, Prelude.[], Prelude.Option, Prelude.Some, Prelude.◌⊎◌, Iterator.YieldsThen, Iterator.Drains}
-use Rattle.pagable_model.specs.Writing.{Out, Nesting, WritesSomeAll, Refused, added}
-use Rattle.pagable_model.specs.{declared.error.Error.Error, declared.numbers.ArcRef.ArcRef, Basic.length_form, Basic.longest, Lengths.long_or_memory, Lifted.MeanAll, Meaning.Meaning, Shape.Shape}
+use Rattle.std.specs.{Iterator.{Drains, YieldsThen}, Prelude.{List, Option, Some, [], ℕ, ◌≤◌, ◌⊎◌}}
+use Rattle.pagable_model.specs.{Basic.{length_form, longest}, Lengths.long_or_memory, Lifted.MeanAll, Meaning.Meaning, Shape.Shape, Writing.{Nesting, Out, Refused, WritesSomeAll, added}}
+use Rattle.{pagable_model.specs.declared.{error.Error.Error, numbers.ArcRef.ArcRef}, pagable_traits.specs.JsonSteps.Piece}
 
 -- these items were yielded, and then no more, and each was written
 pub record WritesEach {W T : Type 0} (next : W → Option T → W → Type 0) (M : T → Meaning ArcRef → Type 0) (walk : W) (n : Nesting) (s : Shape) (old new : Out) : Type 0 where
@@ -25,3 +25,10 @@ pub record RefusedAmong {W T : Type 0} (next : W → Option T → W → Type 0) 
 -- the count is refused, or an item
 abbrev pub RefusedCounted : {W T : Type 0} → (W → Option T → W → Type 0) → (T → Meaning ArcRef → Type 0) → W → ℕ → Nesting → Shape → Error → Type 0
 RefusedCounted next M walk count n s e = long_or_memory count e ⊎ RefusedAmong next M walk n s e
+
+-- the forms of the items that a walk yields, and the same after their count
+abbrev pub each : {W T : Type 0} → (W → Option T → W → Type 0) → (T → Meaning ArcRef → Type 0) → W → Shape → Piece
+each next M walk s = record { wrote = λ n. WritesEach next M walk n s; lacks = λ n. RefusedAmong next M walk n s }
+
+abbrev pub counted : {W T : Type 0} → (W → Option T → W → Type 0) → (T → Meaning ArcRef → Type 0) → W → ℕ → Shape → Piece
+counted next M walk count s = record { wrote = λ n. WritesCounted next M walk count n s; lacks = λ n. RefusedCounted next M walk count n s }

@@ -3,7 +3,7 @@
 ghost use Rattle.std.specs.Prelude.{◌≡◌};
 ghost use Rattle.pagable_traits.specs.Meanings.{seen_by};
 
-use crate::laws::Canonical;
+use crate::one_form::Canonical;
 use crate::traits::{Carried, OneMeaning, PagableDeserialize};
 use pagable_codec::{Env, PagableDeserializer};
 use pagable_flavors::Error;

@@ -1,10 +1,10 @@
 //! References that hold their shared value.
 
 ghost use Rattle.std.specs.{Arc.arc_value, Prelude.{IfErr, IfOk, Some, nat_eq, option_and_then, ◌≡◌, ◌≢◌}};
-ghost use Rattle.pagable_model.specs.{Reading.read, Shape.reference as reference_shape, Standing.{GivesSome, Is, MovesOn}};
-ghost use Rattle.{pagable_model.specs.Standing.handles_at, pagable_traits.specs.{Meanings.exactly, References.{holding, holding_kind, holding_means, reads_unlent, reference_has_one_form, unlent}}};
+ghost use Rattle.pagable_model.specs.{Reading.read, Shape.reference as reference_shape, Standing.Is};
+ghost use Rattle.pagable_traits.specs.{JsonSteps.Reads, Meanings.exactly, References.{holding, holding_kind, holding_means, reads_unlent, reference_has_one_form, unlent}};
 
-use crate::plain::read_reference;
+use crate::plain::{read_reference, write_reference};
 use crate::{Canonical, Carried, OneMeaning, PagableDeserialize, PagableSerialize};
 use pagable_codec::{
     ArcRef, Env, HandleNumber, Kind, NodeNumber, OfNode, PagableDeserializer, PagableSerializer,
@@ -155,13 +155,11 @@ impl<E: Env, T: OfNode<E>, const PINS: bool> Canonical<E> for HoldingArc<T, PINS
 }
 
 impl<E: Env, T: OfNode<E>, const PINS: bool> PagableSerialize<E> for HoldingArc<T, PINS> {
-    #[tactic(auto, using(pagable_codec::proofs::Writing::parts, pagable_codec::proofs::Writing::references))]
     fn pagable_serialize<S: PagableSerializer<E>>(&self, serializer: &mut S) -> Result<(), Error> {
-        serializer.serialize_arc(self.reference::<E>())
+        write_reference(self.reference::<E>(), serializer)
     }
 }
 
-// Why a value isn't lent.
 fn unlent_refusal() -> Error
     ensures { unlent result }
 {
@@ -179,11 +177,8 @@ impl<'de, E: Env, T: OfNode<E> + Drop, const PINS: bool> PagableDeserialize<'de,
         deserializer: &mut D,
     ) -> Result<Self, Error>
         ensures lent { IfOk result (λ a. option_and_then T.held (D.lends deserializer.new (holding T.TYPE PINS a)) ≡ Some (arc_value a.value)) }
-        ensures gives { GivesSome unlent (Is (holding_means T.TYPE PINS)) (D.rest deserializer.new) result
-            (read (handles_at (D.levels deserializer.old) (E.parts (D.environment deserializer.old))) (reference_shape (holding_kind T.TYPE PINS)) (D.rest deserializer.old)) }
-        ensures moves { MovesOn (D.standing deserializer.old) (D.standing deserializer.new) }
-        ensures same_env { D.environment deserializer.new ≡ D.environment deserializer.old }
-        ensures same_levels { D.levels deserializer.new ≡ D.levels deserializer.old }
+        ensures reads { Reads E.Env D.PagableDeserializer unlent (Is (holding_means T.TYPE PINS)) (λ c. read c (reference_shape (holding_kind T.TYPE PINS)))
+            deserializer.old deserializer.new result }
     {
         let reference = read_reference(holding_kind_of::<E, T>(PINS), deserializer)?;
         match deserializer.shared::<T>(alloc, reference)? {

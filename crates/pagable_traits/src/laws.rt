@@ -1,13 +1,11 @@
-//! The types whose content addresses are keys: a value has one meaning, and a meaning one form. And what the carried types
-//! mean and in what order they stand as keys, where their impls don't say it in plain words.
+//! What the carried types mean and in what order they stand as keys, where their impls don't say it in plain words.
 //! Callers can cite each law: it is a function that does nothing, whose contract holds for every environment and every
 //! value. A type's shape, what it means and why it is refused stand at its impls (`shape`, `means`, `write_causes`,
 //! `read_causes`).
 
-ghost use Rattle.std.specs.{Prelude.{◌≡◌, ◌↔◌, ◌⊎◌, ◌/◌, ◌%◌, ◌∷◌, [], ℕ, List, Some, Ok, IsPermutation, refl}, List.slice_get, HashMap.IsUnique, Duration.as_nanos, declared.time.Duration.Duration as Span};
+ghost use Rattle.std.specs.{Prelude.{◌≡◌, ◌↔◌, ◌⊎◌, ◌/◌, ◌%◌, ◌∷◌, [], ℕ, List, Some, Ok, IsPermutation}, List.slice_get, HashMap.IsUnique, Duration.as_nanos, declared.time.Duration.Duration as Span};
 ghost use Rattle.pagable_model.specs.{Gives.{never, memory, memory_or, long_or}, Keys.{optional_order, outcome_order, pair_order, list_order}, Meaning.{Meaning, lifted}, Hashed.MeansHashMap};
 ghost use Rattle.pagable_model.specs.{Carried.of_duration, Reading.registered, Shape.static_value, Standing.SomeMeaning, Statics.{meanings_of, unregistered}, Tagged.MeansTagged};
-ghost use Rattle.pagable_model.specs.OneForm.{HasOneFormThroughout, basic_has_one_form, over_has_one_form, run_has_one_form, two_has_one_form};
 ghost use Rattle.pagable_model.specs.{declared.error.Error.Error as Refusal, declared.numbers.ArcRef.ArcRef as Reference};
 ghost use Rattle.pagable_model.specs.Meaning as meanings;
 ghost use Rattle.pagable_model.specs.Shape as shapes;
@@ -20,9 +18,7 @@ use crate::impls::texts::PathText;
 use crate::keys::{PagableKey, PagableOrdKey};
 use crate::saved_regex::SavedRegex;
 use crate::static_value::{HasStaticValueRegistry, StaticValue};
-use crate::traits::{
-    Carried, OneMeaning, PagableBoxDeserialize, PagableDeserialize, PagableSerialize,
-};
+use crate::traits::{Carried, PagableBoxDeserialize, PagableDeserialize, PagableSerialize};
 use crate::typetag::PagableTagged;
 use indexmap::{IndexMap, IndexSet};
 use pagable_codec::env::Env;
@@ -34,140 +30,6 @@ use std::hash::Hash;
 use std::sync::OnceLock;
 use std::sync::atomic::AtomicI64;
 use std::time::Duration;
-
-/// A type of which each value has one meaning, and each meaning at most one form, in all parts of a value that lie in
-/// one blob. So equal values are written alike, and have one key. A type with a hash map in it is none, since its
-/// entries may come in any order.
-pub trait Canonical<E: Env>: OneMeaning<E> {
-    ghost one_form: { (e : E) → HasOneFormThroughout (E.parts e) (Self.shape e) };
-}
-
-impl<E: Env> Canonical<E> for () {
-    ghost one_form = { λ e. basic_has_one_form tt };
-}
-
-impl<E: Env> Canonical<E> for bool {
-    ghost one_form = { λ e. basic_has_one_form tt };
-}
-
-impl<E: Env> Canonical<E> for char {
-    ghost one_form = { λ e. basic_has_one_form tt };
-}
-
-impl<E: Env> Canonical<E> for u8 {
-    ghost one_form = { λ e. basic_has_one_form tt };
-}
-
-impl<E: Env> Canonical<E> for u16 {
-    ghost one_form = { λ e. basic_has_one_form tt };
-}
-
-impl<E: Env> Canonical<E> for u32 {
-    ghost one_form = { λ e. basic_has_one_form tt };
-}
-
-impl<E: Env> Canonical<E> for u64 {
-    ghost one_form = { λ e. basic_has_one_form tt };
-}
-
-impl<E: Env> Canonical<E> for u128 {
-    ghost one_form = { λ e. basic_has_one_form tt };
-}
-
-impl<E: Env> Canonical<E> for i8 {
-    ghost one_form = { λ e. basic_has_one_form tt };
-}
-
-impl<E: Env> Canonical<E> for i16 {
-    ghost one_form = { λ e. basic_has_one_form tt };
-}
-
-impl<E: Env> Canonical<E> for i32 {
-    ghost one_form = { λ e. basic_has_one_form tt };
-}
-
-impl<E: Env> Canonical<E> for i64 {
-    ghost one_form = { λ e. basic_has_one_form tt };
-}
-
-impl<E: Env> Canonical<E> for i128 {
-    ghost one_form = { λ e. basic_has_one_form tt };
-}
-
-impl<E: Env> Canonical<E> for String {
-    ghost one_form = { λ e. basic_has_one_form tt };
-}
-
-impl<E: Env, T: Canonical<E>> Canonical<E> for Option<T> {
-    ghost one_form = { λ e. over_has_one_form refl (T.one_form e) };
-}
-
-impl<E: Env, A: Canonical<E>, B: Canonical<E>> Canonical<E> for (A, B) {
-    ghost one_form = { λ e. two_has_one_form (refl, refl) (A.one_form e) (B.one_form e) };
-}
-
-impl<E: Env, T: Canonical<E>> Canonical<E> for Vec<T> {
-    ghost one_form = { λ e. over_has_one_form refl (T.one_form e) };
-}
-
-impl<E: Env, T: Canonical<E>, const N: usize> Canonical<E> for SmallVec<T, N> {
-    ghost one_form = { λ e. over_has_one_form refl (T.one_form e) };
-}
-
-impl<'a, E: Env, T: Canonical<E>> Canonical<E> for &'a [T] {
-    ghost one_form = { λ e. run_has_one_form (T.one_form e) };
-}
-
-impl<E: Env, K: PagableOrdKey<E> + Canonical<E>, V: Canonical<E>> Canonical<E> for BTreeMap<K, V> {
-    ghost one_form = { λ e. two_has_one_form (refl, refl) (K.one_form e) (V.one_form e) };
-}
-
-impl<E: Env, K: PagableKey<E> + Hash + Canonical<E>, V: Canonical<E>> Canonical<E>
-    for IndexMap<K, V> {
-    ghost one_form = { λ e. two_has_one_form (refl, refl) (K.one_form e) (V.one_form e) };
-}
-
-impl<E: Env, T: PagableOrdKey<E> + Canonical<E>> Canonical<E> for BTreeSet<T> {
-    ghost one_form = { λ e. over_has_one_form refl (T.one_form e) };
-}
-
-impl<E: Env, T: PagableKey<E> + Hash + Canonical<E>> Canonical<E> for IndexSet<T> {
-    ghost one_form = { λ e. over_has_one_form refl (T.one_form e) };
-}
-
-impl<E: Env> Canonical<E> for Duration {
-    ghost one_form = { λ e. basic_has_one_form tt };
-}
-
-impl<E: Env, T: Canonical<E>, X: Canonical<E>> Canonical<E> for Result<T, X> {
-    ghost one_form = { λ e. two_has_one_form (refl, refl) (T.one_form e) (X.one_form e) };
-}
-
-impl<E: Env, T: Canonical<E>, const N: usize> Canonical<E> for [T; N] {
-    ghost one_form = { λ e. over_has_one_form refl (T.one_form e) };
-}
-
-impl<E: Env> Canonical<E> for Value {
-    ghost one_form = { λ e. basic_has_one_form tt };
-}
-
-impl<E: Env, T: Canonical<E>> Canonical<E> for BoxedSlice<T> {
-    ghost one_form = { λ e. over_has_one_form refl (T.one_form e) };
-}
-
-impl<E: Env> Canonical<E> for BoxedStr {
-    ghost one_form = { λ e. basic_has_one_form tt };
-}
-
-impl<E: Env> Canonical<E> for PathText {
-    ghost one_form = { λ e. basic_has_one_form tt };
-}
-
-impl<E: Env, H: Canonical<E>, T: Canonical<E>> Canonical<E> for Thin<H, T> {
-    ghost one_form = { λ e. two_has_one_form (refl, refl) (H.one_form e) (over_has_one_form refl (T.one_form e)) };
-}
-
-// ---- laws
 
 /// A value that is read into a box is refused as it is, or by want of memory.
 pub fn box_is_read<E: Env, T: PagableDeserialize<'static, E> + Drop>()
@@ -228,7 +90,6 @@ pub fn lists_are_ordered<E: Env, K: PagableOrdKey<E>, V: PagableOrdKey<E>, const
 /// Every type that is read is read throughout where those that it is made of are: then its forms are read again, whatever follows
 /// them, in all parts of a value that lie in one blob (`forms_are_read_again` of `pagable`). `O` stands for a type that is carried as `T`,
 /// as boxes, loans and tuples are.
-#[tactic(auto, using(crate::specs::ReadBack::basic_is_read))]
 pub fn carried_types_are_read<
     E: Env,
     T: Carried<E>,

@@ -9,6 +9,7 @@ pub mod impls;
 pub mod keys;
 pub mod laws;
 pub mod loose;
+pub mod one_form;
 pub mod plain;
 pub mod refers;
 pub mod saved_regex;
@@ -22,8 +23,8 @@ pub use impls::holders::Thin;
 pub use impls::lists::serialize_slice;
 pub use impls::texts::{PathText, serialize_str};
 pub use keys::{PagableKey, PagableOrdKey};
-pub use laws::Canonical;
 pub use loose::PagableArc;
+pub use one_form::Canonical;
 pub use pagable_codec::{
     ArcRef, Env, HandleNumber, Identity, KeyHash, Kind, LoadNumber, NodeNumber, NodeSet, OfNode,
     PagableCursor, PagableDeserializer, PagableSerializer, Reader, SessionContext, SessionMap,

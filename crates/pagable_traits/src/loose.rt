@@ -3,6 +3,7 @@
 ghost use Rattle.std.specs.Prelude.{IfNone, IfSome, nat_eq, ◌≡◌, ◌≢◌};
 ghost use Rattle.{pagable_model.specs.Shape.reference as reference_shape, pagable_traits.specs.{Meanings.exactly, References.{loose, loose_kind, loose_means, reference_has_one_form}}};
 
+use crate::plain::write_reference;
 use crate::{Canonical, Carried, OneMeaning, PagableDeserialize, PagableSerialize};
 use pagable_codec::{
     ArcRef, Env, HandleNumber, Kind, NodeNumber, OfNode, PagableDeserializer, PagableSerializer,
@@ -81,9 +82,8 @@ impl<E: Env, T: OfNode<E>> Canonical<E> for PagableArc<T> {
 }
 
 impl<E: Env, T: OfNode<E>> PagableSerialize<E> for PagableArc<T> {
-    #[tactic(auto, using(pagable_codec::proofs::Writing::parts, pagable_codec::proofs::Writing::references))]
     fn pagable_serialize<S: PagableSerializer<E>>(&self, serializer: &mut S) -> Result<(), Error> {
-        serializer.serialize_arc(self.reference::<E>())
+        write_reference(self.reference::<E>(), serializer)
     }
 }
 

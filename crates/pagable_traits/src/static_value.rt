@@ -2,10 +2,10 @@
 //! reference to what is static, as `&'static str`: nothing is proved yet of a `&'static T` with a type parameter `T`.
 
 ghost use Rattle.std.specs.List.Sorted.{IsPermutation};
-ghost use Rattle.std.specs.{List.{Sorted.{IsSorted, IsStable}, slice_get}, Prelude.{Err, IfErr, IfNone, IfOk, IfSome, IsTrue, List, OnOk, Option, Some, length, map, vec_len, ⊤, ◌<◌, ◌↔◌, ◌≡◌, ◌≤◌}};
+ghost use Rattle.std.specs.{List.{Sorted.{IsSorted, IsStable}, slice_get}, Prelude.{Err, IfErr, IfNone, IfOk, IfSome, IsTrue, List, Option, Some, length, map, vec_len, ⊤, ◌<◌, ◌↔◌, ◌≡◌, ◌≤◌}};
 ghost use Rattle.pagable_model.specs.{Basic.longest, Canonical.HasNoReference};
-ghost use Rattle.pagable_model.specs.{Gives.{Gives, memory_or, never}, Lengths.long_or_memory, Meaning.{Meaning, lifted}, Reading.{read, registered}, Shape.static_value, Standing.GivesSome};
-ghost use Rattle.pagable_model.specs.{Standing.{Is, MovesOn, handles_at}, Statics.{HasEqual, NoEqualBelow, StandsAt, meanings_of, unregistered}, Writing.{Grows, Refused, WritesSome, nesting}};
+ghost use Rattle.pagable_model.specs.{Gives.{Gives, memory_or, never}, Lengths.long_or_memory, Meaning.{Meaning, lifted}, Reading.{read, registered}, Shape.static_value};
+ghost use Rattle.{pagable_model.specs.{Standing.Is, Statics.{HasEqual, NoEqualBelow, StandsAt, meanings_of, unregistered}}, pagable_traits.specs.JsonSteps.{Reads, Wrote, value as form}};
 ghost use Rattle.pagable_traits.specs.{Meanings.exactly, OwnCauses.writes_memory_or, StaticValues.{static_is_same, static_refers_to_nothing, writes_unregistered}};
 
 use crate::keys::PagableKey;
@@ -121,7 +121,6 @@ impl<T> Model for StaticValueRegistry<T> {
     ghost invariant = { λ r. vec_len r.values ≤ longest };
 }
 
-/// The values of the entries, in their order.
 fn values_of<T: Copy>(alloc: Global, entries: &[StaticValueEntry<T>]) -> Result<Vec<T>, AllocError>
     ensures { IfOk result (λ v. v.items ≡ map (λ e. e.value) entries.now) }
 {
@@ -261,12 +260,8 @@ impl<E: Env, T: HasStaticValueRegistry<E>> PagableSerialize<E> for StaticValue<T
     /// refused by want of memory alone.
     #[tactic(auto, using(pagable_codec::proofs::Writing::parts, crate::proofs::Registered::writes_static))]
     fn pagable_serialize<S: PagableSerializer<E>>(&self, serializer: &mut S) -> Result<(), Error>
-        ensures ok { OnOk result (WritesSome (Is (λ v. lifted (T.plain v.0.value)) self.now) (nesting (S.levels serializer.old) (E.parts (S.environment serializer.old))) (static_value (meanings_of T.plain (T.known (S.environment serializer.old)))) (S.out serializer.old) (S.out serializer.new)) }
-        ensures refused { IfErr result (Refused (Is (λ v. lifted (T.plain v.0.value)) self.now) (nesting (S.levels serializer.old) (E.parts (S.environment serializer.old))) (static_value (meanings_of T.plain (T.known (S.environment serializer.old))))) }
-        ensures only { IfErr result (memory_or unregistered) }
-        ensures err { Grows (S.out serializer.old) (S.out serializer.new) }
-        ensures same_env { S.environment serializer.new ≡ S.environment serializer.old }
-        ensures same_levels { S.levels serializer.new ≡ S.levels serializer.old }
+        ensures wrote { Wrote E.Env S.PagableSerializer (form (Is (λ v. lifted (T.plain v.0.value)) self.now) (static_value (meanings_of T.plain (T.known (S.environment serializer.old)))))
+            (memory_or unregistered) serializer.old serializer.new result }
         ensures unregistered { IfErr result (λ e. e ≡ Error.Unregistered → ¬ StandsAt T.plain (T.known (S.environment serializer.old)) self.now.0.value self.now.0.index) }
         ensures missing { ¬ StandsAt T.plain (T.known (S.environment serializer.old)) self.now.0.value self.now.0.index → result ≡ Err Error.Unregistered }
     {
@@ -285,11 +280,8 @@ impl<'de, E: Env, T: HasStaticValueRegistry<E>> PagableDeserialize<'de, E> for S
         alloc: Global,
         deserializer: &mut D,
     ) -> Result<Self, Error>
-        ensures gives { GivesSome never (Is (λ v. lifted (T.plain v.0.value))) (D.rest deserializer.new) result
-            (read (handles_at (D.levels deserializer.old) (E.parts (D.environment deserializer.old))) (static_value (meanings_of T.plain (T.known (D.environment deserializer.old)))) (D.rest deserializer.old)) }
-        ensures moves { MovesOn (D.standing deserializer.old) (D.standing deserializer.new) }
-        ensures same_env { D.environment deserializer.new ≡ D.environment deserializer.old }
-        ensures same_levels { D.levels deserializer.new ≡ D.levels deserializer.old }
+        ensures reads { Reads E.Env D.PagableDeserializer never (Is (λ v. lifted (T.plain v.0.value))) (λ c. read c (static_value (meanings_of T.plain (T.known (D.environment deserializer.old)))))
+            deserializer.old deserializer.new result }
         ensures stands { IfOk result (λ v. StandsAt T.plain (T.known (D.environment deserializer.old)) v.0.value v.0.index) }
     {
         let index = <u32 as PagableDeserialize<E>>::pagable_deserialize(alloc, deserializer)?;

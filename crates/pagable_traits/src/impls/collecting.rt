@@ -2,8 +2,8 @@
 //! as they are written.
 
 ghost use Rattle.std.specs.{Iterator.IsFinite, Prelude.{◌≡◌, ℕ, List, [], length, min, OnOk, IfOk, IfErr}};
-ghost use Rattle.pagable_model.specs.{Collected.Collected, Gives.{memory, memory_or, long_or}, Reading.{items, counted, read}, Standing.MovesOn, Writing.{nesting, Grows}};
-ghost use Rattle.pagable_traits.specs.{JsonSteps.Reads, Walks.{WritesEach, WritesCounted, RefusedAmong, RefusedCounted}};
+ghost use Rattle.pagable_model.specs.{Collected.Collected, Gives.{memory, memory_or, long_or}, Reading.{items, counted, read}, Standing.MovesOn};
+ghost use Rattle.pagable_traits.specs.{JsonSteps.{Reads, Wrote}, Walks.{counted as walked, each}};
 
 use crate::traits::{PagableDeserialize, PagableSerialize};
 use pagable_codec::parts::{places_for, read_count, write_count};
@@ -97,12 +97,7 @@ pub fn write_each<
 >(walk: W, serializer: &mut S) -> Result<(), Error>
     requires can { W.can_next walk }
     requires ends { IsFinite (W.remaining walk) }
-    ensures ok { OnOk result (WritesEach W.next_gives T.means.of walk (nesting (S.levels serializer.old) (E.parts (S.environment serializer.old))) (T.shape (S.environment serializer.old)) (S.out serializer.old) (S.out serializer.new)) }
-    ensures refused { IfErr result (RefusedAmong W.next_gives T.means.of walk (nesting (S.levels serializer.old) (E.parts (S.environment serializer.old))) (T.shape (S.environment serializer.old))) }
-    ensures only { IfErr result T.write_causes.are }
-    ensures err { Grows (S.out serializer.old) (S.out serializer.new) }
-    ensures same_env { S.environment serializer.new ≡ S.environment serializer.old }
-    ensures same_levels { S.levels serializer.new ≡ S.levels serializer.old }
+    ensures { Wrote E.Env S.PagableSerializer (each W.next_gives T.means.of walk (T.shape (S.environment serializer.old))) T.write_causes.are serializer.old serializer.new result }
 {
     for item in walk {
         item.pagable_serialize(serializer)?;
@@ -121,12 +116,8 @@ pub fn write_counted<
 >(count: usize, walk: W, serializer: &mut S) -> Result<(), Error>
     requires can { W.can_next walk }
     requires ends { IsFinite (W.remaining walk) }
-    ensures ok { OnOk result (WritesCounted W.next_gives T.means.of walk count (nesting (S.levels serializer.old) (E.parts (S.environment serializer.old))) (T.shape (S.environment serializer.old)) (S.out serializer.old) (S.out serializer.new)) }
-    ensures refused { IfErr result (RefusedCounted W.next_gives T.means.of walk count (nesting (S.levels serializer.old) (E.parts (S.environment serializer.old))) (T.shape (S.environment serializer.old))) }
-    ensures only { IfErr result (long_or (memory_or T.write_causes.are)) }
-    ensures err { Grows (S.out serializer.old) (S.out serializer.new) }
-    ensures same_env { S.environment serializer.new ≡ S.environment serializer.old }
-    ensures same_levels { S.levels serializer.new ≡ S.levels serializer.old }
+    ensures { Wrote E.Env S.PagableSerializer (walked W.next_gives T.means.of walk count (T.shape (S.environment serializer.old))) (long_or (memory_or T.write_causes.are))
+        serializer.old serializer.new result }
 {
     write_count(count, serializer)?;
     write_each(walk, serializer)

@@ -307,7 +307,7 @@ impl<
 
     #[tactic(auto, using(crate::proofs::Parts::alike))]
     fn pagable_serialize<S: PagableSerializer<E>>(&self, serializer: &mut S) -> Result<(), Error> {
-        write_entry(&self.0, &(&self.1, &(&self.2, &self.3)), serializer)
+        write_entry(&self.0, &(&self.1, &self.2, &self.3), serializer)
     }
 }
 
@@ -323,11 +323,7 @@ impl<
 
     #[tactic(auto, using(crate::proofs::Parts::alike))]
     fn pagable_serialize<S: PagableSerializer<E>>(&self, serializer: &mut S) -> Result<(), Error> {
-        write_entry(
-            &self.0,
-            &(&self.1, &(&self.2, &(&self.3, &self.4))),
-            serializer,
-        )
+        write_entry(&self.0, &(&self.1, &self.2, &self.3, &self.4), serializer)
     }
 }
 

@@ -35,7 +35,6 @@ impl<'de, E: Env> PagableDeserialize<'de, E> for Value {
     }
 }
 
-// Reads the number of a case.
 #[tactic(auto, using(pagable_codec::proofs::Reading::part_read))]
 fn read_case<E: Env, D: PagableDeserializer<E>>(deserializer: &mut D) -> Result<usize, Error>
     ensures gives { Gives never (λ n. (n, D.rest deserializer.new)) result (bytes_of (unsigned_at w64) (λ n. n) (D.rest deserializer.old)) }
@@ -82,7 +81,7 @@ pub fn read_value<E: Env, D: PagableDeserializer<E>>(
 
 // Reads an array after its case.
 #[cycle(reading_json)]
-#[tactic(auto, unfolding(pagable_model::specs::Reading::read, pagable_model::specs::Reading::read_with), using(crate::proofs::Parts::reads))]
+#[tactic(auto, using(crate::proofs::Json::read_parts))]
 fn array_part<E: Env, D: PagableDeserializer<E>>(
     alloc: Global,
     deserializer: &mut D,
@@ -117,7 +116,7 @@ fn read_items<E: Env, D: PagableDeserializer<E>>(
 
 // Reads an object after its case.
 #[cycle(reading_json)]
-#[tactic(auto, unfolding(pagable_model::specs::Reading::read, pagable_model::specs::Reading::read_with), using(crate::proofs::Parts::reads))]
+#[tactic(auto, using(crate::proofs::Json::read_parts))]
 fn object_part<E: Env, D: PagableDeserializer<E>>(
     alloc: Global,
     deserializer: &mut D,
@@ -150,7 +149,6 @@ fn read_members<E: Env, D: PagableDeserializer<E>>(
     Ok(Value::Object(members))
 }
 
-// Reads a key and its value.
 #[cycle(reading_json)]
 #[tactic(auto, unfolding(pagable_model::specs::Reading::read, pagable_model::specs::Reading::read_with), using(crate::proofs::Parts::reads))]
 fn read_member<E: Env, D: PagableDeserializer<E>>(

@@ -20,7 +20,6 @@ impl<E: Env> PagableSerialize<E> for Value {
     }
 }
 
-// Writes the number of a case.
 #[tactic(auto, using(pagable_codec::proofs::Writing::parts, pagable_codec::proofs::Writing::steps, crate::proofs::Parts::err_along))]
 fn write_case<E: Env, S: PagableSerializer<E>>(case: usize, serializer: &mut S) -> Result<(), Error>
     ensures { Wrote E.Env S.PagableSerializer (bytes (unsigned_form w64 case)) memory serializer.old serializer.new result }
@@ -41,7 +40,6 @@ fn write_front<E: Env, S: PagableSerializer<E>>(
     parts::write_count(count, serializer)
 }
 
-// Writes a flag.
 #[tactic(auto, using(crate::proofs::Json::leaves))]
 fn write_flag<E: Env, S: PagableSerializer<E>>(flag: bool, serializer: &mut S) -> Result<(), Error>
     ensures { Wrote E.Env S.PagableSerializer (form (Is of_data (boolean flag)) json) json_causes serializer.old serializer.new result }
@@ -98,7 +96,6 @@ pub fn write_value<E: Env, S: PagableSerializer<E>>(
     }
 }
 
-// Writes an array.
 #[cycle(writing_json)]
 fn write_array<E: Env, S: PagableSerializer<E>>(
     items: &Vec<Value>,
@@ -113,7 +110,6 @@ fn write_array<E: Env, S: PagableSerializer<E>>(
     done
 }
 
-// Writes the items of an array one after another.
 #[cycle(writing_json)]
 fn write_items<E: Env, S: PagableSerializer<E>>(
     items: &Vec<Value>,
@@ -127,7 +123,6 @@ fn write_items<E: Env, S: PagableSerializer<E>>(
     Ok(())
 }
 
-// Writes an object.
 #[cycle(writing_json)]
 fn write_object<E: Env, S: PagableSerializer<E>>(
     members: &BTreeMap<String, Value>,
@@ -156,7 +151,6 @@ fn write_members<E: Env, S: PagableSerializer<E>>(
     Ok(())
 }
 
-// Writes a key and its value.
 #[cycle(writing_json)]
 fn write_member<E: Env, S: PagableSerializer<E>>(
     key: &String,

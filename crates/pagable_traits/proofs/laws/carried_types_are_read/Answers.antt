@@ -1,6 +1,13 @@
 use Rattle.std.specs.Prelude.{refl}
-use Rattle.pagable_traits.specs.ReadBack.{hash_map_is_read, over_is_read, two_is_read}
+use Rattle.pagable_traits.specs.ReadBack.{basic_is_read, hash_map_is_read, over_is_read, two_is_read}
 use Rattle.pagable_traits.proofs.laws.carried_types_are_read.Goals as goal
+
+pub returns-clause-numbers : goal.returns-clause-numbers
+returns-clause-numbers g c e =
+    (basic_is_read tt, (basic_is_read tt, (basic_is_read tt, (basic_is_read tt, (basic_is_read tt, (basic_is_read tt, (basic_is_read tt, (basic_is_read tt, (basic_is_read tt, (basic_is_read tt, (basic_is_read tt, tt)))))))))))
+
+pub returns-clause-basic : goal.returns-clause-basic
+returns-clause-basic g c e = (basic_is_read tt, (basic_is_read tt, (basic_is_read tt, (basic_is_read tt, (basic_is_read tt, (basic_is_read tt, (basic_is_read tt, (basic_is_read tt, tt))))))))
 
 pub returns-clause-over : goal.returns-clause-over
 returns-clause-over g c e t = (over_is_read refl t, (over_is_read refl t, (over_is_read refl t, (over_is_read refl t, (over_is_read refl t, (over_is_read refl t, tt))))))

@@ -1,6 +1,6 @@
 use Rattle.{pagable_codec.proofs.Reading.moves_refl, pagable_traits.proofs.Items.{collected_more, collected_none, mean_last}}
-use Rattle.pagable_traits.proofs.{Json.{array-deep, array-seen, is-array, object-deep, object-read}, JsonSteps.{all-read, either-memory, none-so-far, one-more, read-below, read-deep}}
-use Rattle.pagable_traits.proofs.{JsonSteps.{read-then, refused-so-far, seen-same}, Words.{Is, MeansPair, insert_entry, mean-none, of_key, of_value, refl, rules, sequence, string_cmp, variant, ◌≡◌}}
+use Rattle.pagable_traits.proofs.{Json.{array-deep, is-array, object-deep}, JsonSteps.{all-read, either-memory, none-so-far, one-more, read-deep, refused-so-far, seen-same}}
+use Rattle.pagable_traits.proofs.Words.{Is, MeansPair, insert_entry, mean-none, of_key, of_value, refl, rules, sequence, string_cmp, variant, ◌≡◌}
 use Rattle.serde_json.specs.declared.value.Value as values
 use Rattle.pagable_traits.proofs.impls.json_reading.+reading_json.Goals as goal
 
@@ -10,27 +10,11 @@ array_part-returns-in_err-enter g t c =
     let down = c.in_err-enter.ensures in
     read-deep g.E.Env g.D.PagableDeserializer c.from_residual-in_err-enter.result c.from_residual-in_err-enter.ensures.1 told.moves told.same_env told.same_levels down.err down.same_standing down.same_env (array-deep _ _ _ _ _ told.gives)
 
-pub array_part-returns : goal.array_part-returns
-array_part-returns g t c =
-    let told = c.in_ok-count.ensures in
-    let down = c.in_ok-enter.ensures in
-    let up = c.leave.ensures in
-    read-then g.E.Env g.D.PagableDeserializer told.moves told.same_env told.same_levels (read-below g.E.Env g.D.PagableDeserializer down.ok down.same_standing down.same_rest down.same_env c.read_items-read.ensures up.up up.same_standing up.same_rest up.same_env)
-    (array-seen _ _ _ _ _ told.gives (rw told.same_levels at down.ok.1))
-
 pub object_part-returns-in_err-enter : goal.object_part-returns-in_err-enter
 object_part-returns-in_err-enter g t c =
     let told = c.in_ok-count.ensures in
     let down = c.in_err-enter.ensures in
     read-deep g.E.Env g.D.PagableDeserializer c.from_residual-in_err-enter.result c.from_residual-in_err-enter.ensures.1 told.moves told.same_env told.same_levels down.err down.same_standing down.same_env (object-deep _ _ _ _ _ told.gives)
-
-pub object_part-returns : goal.object_part-returns
-object_part-returns g t c =
-    let told = c.in_ok-count.ensures in
-    let down = c.in_ok-enter.ensures in
-    let up = c.leave.ensures in
-    object-read g.E.Env g.D.PagableDeserializer told.gives told.moves told.same_env told.same_levels down.ok.1
-    (read-below g.E.Env g.D.PagableDeserializer down.ok down.same_standing down.same_rest down.same_env c.read_members-read.ensures up.up up.same_standing up.same_rest up.same_env)
 
 pub read_items-loop-index-init : goal.read_items-loop-index-init
 read_items-loop-index-init g t c =
@@ -38,8 +22,7 @@ read_items-loop-index-init g t c =
     none-so-far g.E.Env g.D.PagableDeserializer _ _ (rw c.in_ok-values.ensures.items mean-none) placed.same_rest placed.moves placed.same_env placed.same_levels
 
 pub read_items-loop-index-preserved : goal.read_items-loop-index-preserved
-read_items-loop-index-preserved g t c =
-    one-more g.E.Env g.D.PagableDeserializer _ _ _ c.loop-index-test.true c.loop-index.invariant c.in_ok-value.ensures
+read_items-loop-index-preserved g t c = one-more g.E.Env g.D.PagableDeserializer _ _ _ c.loop-index-test.true c.loop-index.invariant c.in_ok-value.ensures
     (λ ms m each is. rw c.in_ok-push.ensures.items (mean_last (Is of_value) c.loop-index.values.items ms c.in_ok-value.value m each is))
 
 pub read_items-returns-in_err-value : goal.read_items-returns-in_err-value
@@ -54,8 +37,7 @@ read_members-loop-index-init g t c =
     none-so-far g.E.Env g.D.PagableDeserializer _ _ (collected_none (MeansPair (Is of_key) (Is of_value)) (λ es e fs. fs ≡ insert_entry string_cmp es e.0 e.1) _ (search rules)) refl (moves_refl _) refl refl
 
 pub read_members-loop-index-preserved : goal.read_members-loop-index-preserved
-read_members-loop-index-preserved g t c =
-    one-more g.E.Env g.D.PagableDeserializer _ _ _ c.loop-index-test.true c.loop-index.invariant c.in_ok-member.ensures
+read_members-loop-index-preserved g t c = one-more g.E.Env g.D.PagableDeserializer _ _ _ c.loop-index-test.true c.loop-index.invariant c.in_ok-member.ensures
     (λ ms m each is. collected_more (MeansPair (Is of_key) (Is of_value)) (λ es e fs. fs ≡ insert_entry string_cmp es e.0 e.1) _ _ ms c.in_ok-member.member m each is c.in_ok-insert.ensures.entries)
 
 pub read_members-returns-in_err-member : goal.read_members-returns-in_err-member

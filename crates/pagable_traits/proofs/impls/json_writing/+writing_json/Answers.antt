@@ -29,13 +29,11 @@ pub write_items-loop-item-init : goal.write_items-loop-item-init
 write_items-loop-item-init g t c = wrote-nothing g.E.Env g.S.PagableSerializer (writes_no_items _ _ _ _)
 
 pub write_items-loop-item-preserved : goal.write_items-loop-item-preserved
-write_items-loop-item-preserved g t c =
-    wrote-more g.E.Env g.S.PagableSerializer c.loop-item.invariant c.in_ok-write_value.ensures
+write_items-loop-item-preserved g t c = wrote-more g.E.Env g.S.PagableSerializer c.loop-item.invariant c.in_ok-write_value.ensures
     (λ n old mid new v w. writes_item (Is of_value) c.deref-item-items.result.now c.loop-item.item-index _ n json old mid new c.loop-item-test.true c.item-item.is v w)
 
 pub write_items-returns-in_err-write_value : goal.write_items-returns-in_err-write_value
-write_items-returns-in_err-write_value g t c =
-    wrote-then-err g.E.Env g.S.PagableSerializer c.from_residual.result c.from_residual.ensures.1 c.loop-item.invariant c.in_err-write_value.ensures
+write_items-returns-in_err-write_value g t c = wrote-then-err g.E.Env g.S.PagableSerializer c.from_residual.result c.from_residual.ensures.1 c.loop-item.invariant c.in_err-write_value.ensures
     (λ n old mid v l h. rw c.deref-item-items.ensures.value at (refuses_item (Is of_value) value-has c.deref-item-items.result.now c.loop-item.item-index _ n json _ c.loop-item-test.true c.item-item.is l)) (λ h. h)
 
 pub write_object-returns-in_err-write_front : goal.write_object-returns-in_err-write_front
@@ -63,13 +61,11 @@ pub write_members-loop-key-smaller : goal.write_members-loop-key-smaller
 write_members-loop-key-smaller g t c = written-fewer _ _ _ c.in-Some.ensures.steps
 
 pub write_members-loop-key-preserved : goal.write_members-loop-key-preserved
-write_members-loop-key-preserved g t c =
-    wrote-more g.E.Env g.S.PagableSerializer c.loop-key.invariant c.in_ok-write_member.ensures
+write_members-loop-key-preserved g t c = wrote-more g.E.Env g.S.PagableSerializer c.loop-key.invariant c.in_ok-write_member.ensures
     (λ n old mid new v w. written-more (MeansPair (Is of_key) (Is of_value)) n (both text json) _ _ _ _ old mid new v c.in-Some.ensures.steps w)
 
 pub write_members-returns-in_err-write_member : goal.write_members-returns-in_err-write_member
-write_members-returns-in_err-write_member g t c =
-    wrote-then-err g.E.Env g.S.PagableSerializer c.from_residual.result c.from_residual.ensures.1 c.loop-key.invariant c.in_err-write_member.ensures
+write_members-returns-in_err-write_member g t c = wrote-then-err g.E.Env g.S.PagableSerializer c.from_residual.result c.from_residual.ensures.1 c.loop-key.invariant c.in_err-write_member.ensures
     (λ n old mid v l h. written-refused (MeansPair (Is of_key) (Is of_value)) member-has n (both text json) _ _ _ _ old mid _ v c.in-Some.ensures.steps l) (λ h. h)
 
 pub write_members-returns : goal.write_members-returns
@@ -77,15 +73,15 @@ write_members-returns g t c = wrote-is g.E.Env g.S.PagableSerializer c.loop-key.
 
 pub write_member-returns-in_err-pagable_serialize : goal.write_member-returns-in_err-pagable_serialize
 write_member-returns-in_err-pagable_serialize g t c =
-    let w = c.in_err-pagable_serialize.ensures in
     let r : Result (Unit {0}) Error = Err c.in_err-pagable_serialize.field-0.0 in
-    wrote-err g.E.Env g.S.PagableSerializer c.from_residual.result c.from_residual.ensures.1 (as-form g.E.Env g.S.PagableSerializer (Is of_key c.args.key.now) text (long_or memory) r w.ok w.refused w.only w.err w.same_env w.same_levels)
+    wrote-err g.E.Env g.S.PagableSerializer c.from_residual.result c.from_residual.ensures.1
+    (as-form g.E.Env g.S.PagableSerializer (Is of_key c.args.key.now) (λ e. text) (long_or memory) r refl c.in_err-pagable_serialize.ensures)
     (λ n l h. first_refused {X = Unit {0}} (Err _) (Is of_key) (exactly of_value) c.args.key.now c.args.value.now n text json l) (λ h. json-text _ h)
 
 pub write_member-returns : goal.write_member-returns
 write_member-returns g t c =
-    let w = c.in_ok-pagable_serialize.ensures in
     let r : Result (Unit {0}) Error = Ok tt in
-    wrote-then g.E.Env g.S.PagableSerializer c.write_value.result (as-form g.E.Env g.S.PagableSerializer (Is of_key c.args.key.now) text (long_or memory) r w.ok w.refused w.only w.err w.same_env w.same_levels) c.write_value.ensures
+    wrote-then g.E.Env g.S.PagableSerializer c.write_value.result
+    (as-form g.E.Env g.S.PagableSerializer (Is of_key c.args.key.now) (λ e. text) (long_or memory) r refl c.in_ok-pagable_serialize.ensures) c.write_value.ensures
     (λ n old mid new v u. writes_pair (Is of_key) (Is of_value) (c.args.key.now, c.args.value.now) n text json old mid new v u)
     (λ n e l h. refused_second {X = Unit {0}} (Err e) (Is of_key) (Is of_value) (λ k. (of_key k, refl)) (c.args.key.now, c.args.value.now) n text json l) (λ e h. h)
