@@ -25,10 +25,6 @@ from xs place = elim (slice_get_cases xs place).1 [
   | inr (past, none) ↦ rw none (at_drop_all kinds_of xs place past)
 ]
 
--- some kind is left
-some-left : (ks back : List ℕ) (k : ℕ) → 1 ≡ suc (length (ks ++ k ∷ back)) → ⊥
-some-left ks back k is = omega (arith, is, length-append ks (k ∷ back))
-
 -- ---- two readings side by side: of what was got, after which one of the kind k comes, and of a row, which begins alike and after which one of this kind is asked for
 
 -- what both give isn't asked
@@ -55,7 +51,7 @@ module _ (xs got : List ArcRef) (kind k : ℕ) (back : List ℕ) where
       → Sided (answer_of p n >>= λ x. let r : Result (Meaning ArcRef × Rest Answer) Error = Ok (meanings.reference x, i) in r)
       (answer_of o n >>= λ x. let r : Result (Meaning ArcRef × Rest Answer) Error = Ok (meanings.reference x, j) in r)
   at_one None None n ps os i j is more = both-refused (Error.Storage n) (Error.Storage n) (λ at. cc)
-  at_one (Some g) None n ps os i j is more = absurd (some-left ps back k (ap length is))
+  at_one (Some g) None n ps os i j is more = absurd (let e : 1 ≡ suc (length (ps ++ k ∷ back)) = ap length is in omega (arith, e, length-append ps (k ∷ back)))
   at_one None (Some x) n ps os i j is more = elim (cases_Bool (x.kind.0 == n)) [
     | inl e ↦ let same : x.kind.0 ≡ n = eqb-true _ _ e in first-refused (Error.Storage n) _ (λ f at. cc)
     | inr e ↦ rw e (both-refused (Error.Storage n) Error.WrongKind (λ at. cc))
@@ -69,8 +65,7 @@ module _ (xs got : List ArcRef) (kind k : ℕ) (back : List ℕ) where
       → Sided (reference_at answer_at n (answers_from got place keys) i) (reference_at answer_at n (answers_from xs place keys) j)
   unfolding answers_from
   at_key n place [] i j bytes is = both-faulty Error.NoMoreKeys tt
-  at_key n place (key ∷ keys) i j bytes is =
-      at_one (slice_get got place) (slice_get xs place) n (kinds_of (drop (place + 1) got)) (kinds_of (drop (place + 1) xs)) _ _
+  at_key n place (key ∷ keys) i j bytes is = at_one (slice_get got place) (slice_get xs place) n (kinds_of (drop (place + 1) got)) (kinds_of (drop (place + 1) xs)) _ _
       (ap (λ zs. zs ++ kind ∷ []) (sym (from xs place)) ∙ is ∙ ap (λ zs. zs ++ k ∷ back) (from got place))
       (λ rest. record { bytes = bytes; refs = record { place = place + 1; keys = keys; own_is = refl; row_is = refl; left = rest } })
 
@@ -112,8 +107,7 @@ row_found types f fs frames row xs noted last kind key there is split same next 
 
 -- what stands in the row behind what was got
 next_in_row : (row got : List ArcRef) (r : ArcRef) (ahead : List ℕ) → kinds_of row ≡ kinds_of got ++ ahead → slice_get row (length got) ≡ Some r → (more : List ℕ) × (ahead ≡ r.kind.0 ∷ more)
-next_in_row [] [] r ahead is at = absurd (cc)
-next_in_row [] (g ∷ got) r ahead is at = absurd (cc)
+next_in_row [] got r ahead is at = absurd (cc)
 next_in_row (x ∷ row) [] r ahead is at = let e : x ≡ r = cc in (kinds_of row, sym is ∙ ap (λ (z : ArcRef). z.kind.0 ∷ kinds_of row) e)
 next_in_row (x ∷ row) (g ∷ got) r ahead is at = next_in_row row got r ahead (cc) at
 
@@ -155,8 +149,7 @@ weight_some (suc k) = let w = weight_some k in omega (arith, w)
 abbrev NeedsOne : Need → Kind → ℕ → Type 0
 NeedsOne need kind key = (need ≡ needs_nested kind key) ⊎ (need ≡ needs_lazy kind key)
 
-wants : (types : Types) (old : List Frame) (f : Frame) (fs : List Frame) (kind : Kind) (key : ℕ) → old ≡ f ∷ fs → NeedsOne (need_of types old) kind key
-    → length f.got < length f.blob.keys
+wants : (types : Types) (old : List Frame) (f : Frame) (fs : List Frame) (kind : Kind) (key : ℕ) → old ≡ f ∷ fs → NeedsOne (need_of types old) kind key → length f.got < length f.blob.keys
 wants types old f fs kind key is need = grind (arith, nat_tests, slice_get_within, stopped_at)
 
 -- ---- what each step leaves

@@ -23,13 +23,13 @@ same_answers got place [] = refl
 same_answers got place (key ∷ keys) = ap (λ (rest : List Answer). (λ kind. answer_of (slice_get got place) kind) ∷ rest) (same_answers got (place + 1) keys)
 
 -- reading at the front of the blob, with these answers, is reading with these references
-pub reads_with : {X E : Type 0} (own : Error → Type 0) (means : X → Meaning ArcRef → Type 0) (nodes : E → ℕ → Option Shape) (parts : E → ℕ → Shape) (t : ℕ) (env other : E) (levels : ℕ) (got found : List ArcRef) (bytes keys : List ℕ) (blob : Blob) (st : Standing) (after : Rest Answer) (result : Result X Error)
-    → st ≡ at_front (answer_at found) bytes keys → levels ≡ 0 → other ≡ env → found ≡ got → bytes ≡ blob.bytes → keys ≡ blob.keys
+pub reads_with : {X E : Type 0} (own : Error → Type 0) (means : X → Meaning ArcRef → Type 0) (nodes : E → ℕ → Option Shape) (parts : E → ℕ → Shape) (t : ℕ) (env other : E) (levels : ℕ) (got : List ArcRef) (bytes keys : List ℕ) (blob : Blob) (st : Standing) (after : Rest Answer) (result : Result X Error)
+    → st ≡ at_front (answer_at got) bytes keys → levels ≡ 0 → other ≡ env → bytes ≡ blob.bytes → keys ≡ blob.keys
     → GivesSome own means after result (read_typed (handles_at levels (parts other)) (nodes other t) (rest_at st))
     → GivesSome own means after result (read_with (record { nodes = nodes env; parts = parts env }) t blob got)
-reads_with own means nodes parts t env other levels got found bytes keys blob st after result s l e g b k h =
+reads_with own means nodes parts t env other levels got bytes keys blob st after result s l e b k h =
     let P : List Answer → Type 0 = λ refs. GivesSome own means after result (read_typed (handles_at 0 (parts env)) (nodes env t) (let x : Rest Answer = record { bytes = blob.bytes; refs = refs } in x)) in
-    let there : P (context.answers_from (answer_at got) 0 blob.keys) = rw (s, l, e, g, b, k) at h in
+    let there : P (context.answers_from (answer_at got) 0 blob.keys) = rw (s, l, e, b, k) at h in
     subst P (same_answers got 0 blob.keys) there
 
 -- ---- the blobs of a load
@@ -177,11 +177,10 @@ module _ {N : Type 0} (E : Type 0) (v : Values N) (me : Owner) (own : Own) where
 
     pub adopt_refused : (e : Error × N) (frames : List Frame) (s t : PagerState N E)
         → Brings v (λ w'. AdoptsValue s.core me own.load top.kind top.key x (v.node_type x) (v.references x) (Err e) w') (λ n y. (y ≡ x) × IsNewNode s.core n) s t → Tries v me own s (Err e.0) frames t
-    adopt_refused e frames s t c =
-        fails (λ o. record {
-          meets = inr (inr (inr (inr (inl (record { x = x; reads_node = own_node; adopted = record { adopts = tt; refused = (refl, c.step.adopted.refused.1) } })))));
-          moves = brought c.moves;
-        })
+    adopt_refused e frames s t c = fails (λ o. record {
+      meets = inr (inr (inr (inr (inl (record { x = x; reads_node = own_node; adopted = record { adopts = tt; refused = (refl, c.step.adopted.refused.1) } })))));
+      moves = brought c.moves;
+    })
 
   module _ (x : N) (root : ReadsRoot v reading x) (cell : own.for_cell ≡ true) where
     for_cell : (w : Core) → IsLoadOf w me own → LoadIs w reading IsOfCell
@@ -217,8 +216,7 @@ module _ {N : Type 0} (E : Type 0) (v : Values N) (me : Owner) (own : Own) where
 
   pub gives_up : (e : Error) (l : LoadNumber) (frames none : List Frame) → l ≡ own.load → none ≡ [] → (s mid t : PagerState N E) → Tries v me own s (Err e) frames mid → Drops v me l mid t
       → Tries v me own s (Ok (Some (LoadAnswer.Refused e))) none t
-  gives_up e l frames none at is s mid t tried dropped =
-      goes (λ o.
+  gives_up e l frames none at is s mid t tried dropped = goes (λ o.
       let d = subst (λ n. Drops v me n mid t) at dropped in
       let m = tried.meets o in
       let open_load : OwnsLoad mid.core me own.load o.load = record { stands_open = stays_open s.core mid.core e m.meets ∙ o.owned.stands_open; own = o.owned.own } in

@@ -1,6 +1,6 @@
 -- What those who answer from a list of got references stand for, and what a load lends to them.
 use Rattle.std.specs.{Option.option_map, Prelude.{Bool, Err, IfNone, IfSome, IsSome, List, None, Ok, Option, Result, Some, false, if◌then◌else◌, option_and_then, slice_get, true, ℕ, ◌==◌, ◌≡◌, ◌⊎◌}}
-use Rattle.{pagable_world.specs.{Loads.answer_of, Pager.{PagerState, ValueCall}, Refusals.live_fault, World.row_at}, pagable_model.specs.declared.{error.Error.Error, numbers.ArcRef.ArcRef}}
+use Rattle.{pagable_world.specs.{Loads.answer_of, Pager.{PagerState, ValueCall}, Plain.if_there, Refusals.live_fault, World.row_at}, pagable_model.specs.declared.{error.Error.Error, numbers.ArcRef.ArcRef}}
 use Rattle.pagable_model.specs.{Deep.is_eager, Refusals.may_refuse_reference}
 
 abbrev pub answer_at : List ArcRef → ℕ → ℕ → ℕ → Result ArcRef Error
@@ -10,13 +10,9 @@ answer_at got place key kind = answer_of (slice_get got place) kind
 abbrev pub lent_at : {A N : Type 0} → (A → N) → List (Option A) → ℕ → Option N
 lent_at see lent place = option_map see (option_and_then (λ o. o) (slice_get lent place))
 
-abbrev pub is_handle_of : ArcRef → Option ArcRef → Bool
-is_handle_of r None = false
-is_handle_of r (Some found) = found.handle.0 == r.handle.0
-
 -- the value at this place, if the reference stands there
 abbrev pub lent_by : {A N : Type 0} → (A → N) → List ArcRef → List (Option A) → ℕ → ArcRef → Option N
-lent_by see got lent place r = if is_handle_of r (slice_get got place) then lent_at see lent place else None
+lent_by see got lent place r = if if_there (λ (found : ArcRef). found.handle.0 == r.handle.0) false (slice_get got place) then lent_at see lent place else None
 
 -- The value that its handle pins, if it is read together with it; none where the handle pins none, or is gone.
 pub record Lends {N E : Type 0} (s : PagerState N E) (r : ArcRef) (found : Option N) : Type 0 where

@@ -1,5 +1,5 @@
 -- What an access tells: for whom it acts and in which environment; and of its pager's state, where that is told, what each call does to it.
-use Rattle.std.specs.Prelude.{Err, IfOk, List, None, Ok, Option, Result, Some, ℕ, ◌≡◌}
+use Rattle.std.specs.Prelude.{Err, IfOk, IfSome, List, Ok, Option, Result, Some, ℕ, ◌≡◌}
 use Rattle.{either.specs.declared.Either.Either, pagable_codec.specs.declared.{env.Env.Ghosts as Environments, hash.KeyHash.Ghosts as Hashes, nodes.NodeSet.Ghosts as Nodes}}
 use Rattle.pagable_model.specs.{Blob.Blob, declared.{error.Error.Error, numbers.{ArcRef.ArcRef, HandleNumber.HandleNumber, Kind.Kind, LoadNumber.LoadNumber, WorkerNumber.WorkerNumber}}}
 use Rattle.pagable_world.specs.{Access.Told, LoadCalls.{AdoptCall, AskCall, Given, LazyCall, from_cache, from_store}, Pager.{Moves, PagerState, WellFormed}, World.{Core, Values, row_at, seen_as}}
@@ -29,24 +29,19 @@ as_caller a = record a { me = Owner.Caller }
 
 -- the values of an environment
 abbrev pub values_at : {N E H K V : Type 0} → Nodes N E N H K V → Environments E N H K V → Hashes H → E → Values N
-values_at n e h environment =
-    record {
-      node_type = n.type_of;
-      references = n.refs_of;
-      means = n.means;
-      read_causes = n.read_causes;
-      write_causes = n.write_causes;
-      types = record { nodes = n.shape_of environment; parts = e.parts environment };
-      hash = h.digest;
-    }
+values_at n e h environment = record {
+  node_type = n.type_of;
+  references = n.refs_of;
+  means = n.means;
+  read_causes = n.read_causes;
+  write_causes = n.write_causes;
+  types = record { nodes = n.shape_of environment; parts = e.parts environment };
+  hash = h.digest;
+}
 
 -- P holds of the state, if it is told
-abbrev pub holds_of : {S : Type 0} → Option S → (S → Type 0) → Type 0
-holds_of None P = Unit {0}
-holds_of (Some s) P = P s
-
 pub record Tells {S : Type 0} (s : Option S) (P : S → Type 0) : Type 0 where
-  pub holds : holds_of s P
+  pub holds : IfSome s P
 
 -- A call that may bring a value: what it does to the plain world, and which value may come where.
 pub record Brings {N E : Type 0} (v : Values N) (does : Core → Type 0) (comes : ℕ → N → Type 0) (s s' : PagerState N E) : Type 0 where

@@ -34,8 +34,7 @@ pub record StartsEntry {N E : Type 0} (v : Values N) (s : PagerState N E) (place
   pub starts : WorkerStarts v (with_entry_taken s.core place h n) s n.0 t
 
 abbrev pub EntryFault : Core → ℕ → Error → Type 0
-EntryFault w place e =
-    ((e ≡ Error.NoSuchHandle) × (length w.list ≤ place))
+EntryFault w place e = ((e ≡ Error.NoSuchHandle) × (length w.list ≤ place))
     ⊎ ((e ≡ Error.WrongKind) × ((h : HandleNumber) × (row : HandleRow) × (type : ℕ) × IsEntry w place h row type × HasNoKinds type))
     ⊎ (e ≡ Error.OutOfMemory)
 

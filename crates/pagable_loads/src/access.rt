@@ -4,8 +4,8 @@
 ghost use Rattle.std.specs.{Arc.arc_value, Prelude.{IfErr, IfNone, IfOk, IfSome, length, Option, ◌≡◌, ◌≤◌}};
 ghost use Rattle.{pagable_core.specs.Data.blob_of, pagable_loads.specs.{Starting.{Shares, StartsPin}, Telling.{Acting, Acts, ActsThen, AdoptsValue, as_caller, as_worker, AsksFor, Brings}}};
 ghost use Rattle.{pagable_loads.specs.{Telling.{TakesLazily, Tells, values_at}, Working.{fault_in, RefusesEntry, StartsEntry, TakesReference}}, pagable_model.specs.Blob.key_of};
-ghost use Rattle.{pagable_model.specs.declared.numbers.HandleNumber.HandleNumber as Handle, pagable_world.specs.{Access.{Called, EntryHas, WorkerStarts}, Calls.{CloneCall, PinCall, ReleaseCall}}};
-ghost use Rattle.pagable_world.specs.{Calls.{ScheduleCall, SetKeyCall, StoreCall, TakeCall, UnpinCall}, Cascade.FallsAnyhow, declared.calls.Want.Want, LoadCalls.{AskCall, BeginCall, BeginKeyCall}};
+ghost use Rattle.{pagable_model.specs.declared.numbers.HandleNumber.HandleNumber as Handle, pagable_world.specs.{Access.{Called, EntryHas, WorkerStarts}, Calls.ReleaseCall}};
+ghost use Rattle.pagable_world.specs.{Calls.{ScheduleCall, SetKeyCall, StoreCall, TakeCall, UnpinCall}, Cascade.FallsAnyhow, declared.calls.Want.Want, LoadCalls.{AskCall, BeginKeyCall}};
 ghost use Rattle.pagable_world.specs.{LoadCalls.{DropCall, EndCall, from_store, HandOverCall}, Pager.{IsCellOf, IsNewNode, PagerState}, Workers.{claim_fault, is_workers_at, WorkerEnds}, World.Alike};
 ghost use Rattle.pagable_world.specs.World.{seen_as};
 
@@ -16,7 +16,7 @@ use pagable_model::{
     ArcRef, DataKey, Error, HandleNumber, Kind, LoadNumber, NodeNumber, OptionalDataKey,
     WorkerNumber,
 };
-use pagable_world::{Beginning, Pinning};
+use pagable_world::Beginning;
 use std::alloc::Global;
 use std::sync::Arc;
 
@@ -45,14 +45,6 @@ where
     fn env(&self) -> &E
         ensures { result.now ≡ (acting self.now).environment };
 
-    /// A handle's second, of the same mode. Refused with NoSuchHandle, NumbersSpent and OutOfMemory.
-    fn clone(&mut self, handle: HandleNumber) -> Result<HandleNumber, Error>
-        ensures { Acts told acting self.old self.new (λ a s t. Called (values_at E.Node.NodeSet E.Env E.Hash.KeyHash a.environment) (λ w'. CloneCall s.core a.me handle result w') s t) };
-
-    /// Pins a loose handle, and answers a new Pinned one; or the key under which the value has to be loaded first. Refused with NoSuchHandle, NotYours, WrongMode, NumbersSpent and OutOfMemory.
-    fn pin(&mut self, handle: HandleNumber) -> Result<Pinning, Error>
-        ensures { Acts told acting self.old self.new (λ a s t. Called (values_at E.Node.NodeSet E.Env E.Hash.KeyHash a.environment) (λ w'. PinCall s.core a.me handle result w') s t) };
-
     /// A pin of a loose handle, where its value is in memory, and else a load of its cell. Refused with NoSuchHandle, NotYours, WrongMode, NumbersSpent and OutOfMemory.
     fn begin_pin(&mut self, handle: HandleNumber) -> Result<PinStart, Error>
         ensures { Acts told acting self.old self.new (λ a s t. Called (values_at E.Node.NodeSet E.Env E.Hash.KeyHash a.environment) (λ w'. StartsPin s.core a.me handle result w') s t) };
@@ -79,10 +71,6 @@ where
     /// A handle is given up. Refused with NoSuchHandle and NotYours, and nothing changes; NumbersSpent and OutOfMemory as of `unpin`.
     fn release(&mut self, handle: HandleNumber) -> Result<(), Error>
         ensures { Acts told acting self.old self.new (λ a s t. Called (values_at E.Node.NodeSet E.Env E.Hash.KeyHash a.environment) (λ w'. ReleaseCall s.core a.me handle result w') s t) };
-
-    /// A load of a loose handle's cell begins, or isn't needed. Refused with NoSuchHandle, NotYours, WrongMode, NumbersSpent and OutOfMemory.
-    fn load_begin(&mut self, handle: HandleNumber) -> Result<Beginning, Error>
-        ensures { Acts told acting self.old self.new (λ a s t. Called (values_at E.Node.NodeSet E.Env E.Hash.KeyHash a.environment) (λ w'. BeginCall s.core a.me handle result w') s t) };
 
     /// A load of a key begins. Refused with NumbersSpent and OutOfMemory.
     fn load_key(&mut self, key: DataKey) -> Result<LoadNumber, Error>

@@ -27,31 +27,6 @@ pub struct GotReferences<'g, E: Env> {
     noted: Option<Vec<ArcRef>>,
 }
 
-impl<'g, E: Env> GotReferences<'g, E> {
-    /// These references with these values, in this environment and session; and what was noted so far, if it notes.
-    pub fn new(
-        env: &'g E,
-        session: &'g SessionContext<E::CtxKey, E::CtxValue>,
-        got: &'g [ArcRef],
-        lent: &'g [Option<Arc<E::Node>>],
-        noted: Option<Vec<ArcRef>>,
-    ) -> GotReferences<'g, E>
-        ensures env { result.env.now ≡ env.now }
-        ensures got { result.got.now ≡ got.now }
-        ensures lent { result.lent.now ≡ lent.now }
-        ensures noted { result.noted ≡ noted }
-    {
-        GotReferences {
-            env,
-            session,
-            got,
-            lent,
-            last: 0,
-            noted,
-        }
-    }
-}
-
 impl<'g, E: Env> References<E> for GotReferences<'g, E> {
     ghost use Rattle.std.specs.{Arc.arc_value, Option.is_some, Prelude.slice_get};
     ghost use Rattle.pagable_world.specs.Loads.{answer_of};
@@ -142,10 +117,18 @@ where
     ensures reads { noted ≡ None → ReadsWith (values_at E.Node.NodeSet E.Env E.Hash.KeyHash env.now) node_type (blob_of blob.now) got.now result.0 }
 {
     let session = SessionContext::new(alloc);
+    let references = GotReferences {
+        env,
+        session: &session,
+        got,
+        lent,
+        last: 0,
+        noted,
+    };
     let mut deserializer = PagableDeserializerImpl::new(
         blob.bytes.as_slice(),
         blob.arcs.as_slice(),
-        GotReferences::new(env, &session, got, lent, noted),
+        references,
     );
     let read = E::Node::read(node_type, alloc, &mut deserializer);
     (read, deserializer.finish().noted)
@@ -192,21 +175,6 @@ pub(crate) fn keep_if(row: &mut Vec<ArcRef>, kind: Kind, reference: ArcRef)
 }
 
 impl Reading {
-    // Whether it is worth to look for a row: the innermost blob begins, or has got a reference that is read later, and several are left.
-    fn is_row_likely(&self) -> bool {
-        let Some(top) = &self.top else {
-            return false;
-        };
-        let got = top.got.as_slice();
-        if top.blob.as_ref().arcs.len().saturating_sub(got.len()) < 4 {
-            return false;
-        }
-        match got.last() {
-            Some(reference) => !is_read_at_once(reference.kind),
-            None => true,
-        }
-    }
-
     // Finds the row that is ahead of the innermost blob, with these values of what it has got.
     fn foresee<E: Env>(&self, env: &E, alloc: Global, lent: &[Option<Arc<E::Node>>]) -> Vec<ArcRef>
     where
@@ -253,13 +221,16 @@ impl Reading {
         requires { IsAhead (values_at E.Node.NodeSet E.Env E.Hash.KeyHash (A.acting access.now).environment).types (frames_of self.now.top self.now.below.items) row.old.items }
         ensures { IsAhead (values_at E.Node.NodeSet E.Env E.Hash.KeyHash (A.acting access.now).environment).types (frames_of self.now.top self.now.below.items) row.new.items }
     {
-        if !row.is_empty() || !self.is_row_likely() {
-            return;
-        }
         let Some(top) = &self.top else {
             return;
         };
-        if let Ok(lent) = lend::<E, A>(access, alloc, top.got.as_slice()) {
+        let got = top.got.as_slice();
+        let left = top.blob.as_ref().arcs.len().saturating_sub(got.len());
+        // One is likely where the innermost blob begins, or has got a reference that is read later, and several are left.
+        if !row.is_empty() || left < 4 || got.last().map_or(false, |r| is_read_at_once(r.kind)) {
+            return;
+        }
+        if let Ok(lent) = lend::<E, A>(access, alloc, got) {
             *row = self.foresee(access.env(), alloc, lent.as_slice());
         }
     }

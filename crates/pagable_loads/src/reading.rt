@@ -204,12 +204,11 @@ impl Reading {
     }
 
     /// The blob is the innermost, and has got one more reference.
-    pub(crate) fn put_got(&mut self, top: Frame, reference: ArcRef)
+    pub(crate) fn put_got(&mut self, mut top: Frame, reference: ArcRef)
         requires { vec_len top.got < vec_capacity top.got }
         ensures gets { frames_of self.new.top self.new.below.items ≡ record (frame_of top) { got = top.got.items ++ reference ∷ [] } ∷ onto [] self.old.below.items }
         ensures same { IsSameLoad self.old self.new self.old.steps }
     {
-        let mut top = top;
         top.got.push(reference).unwrap();
         self.top = Some(top);
     }

@@ -11,7 +11,7 @@ use crate::reading::{Need, Reading, all_handles};
 use either::Either;
 use pagable_codec::{Env, NodeSet};
 use pagable_model::{ArcRef, DataKey, Error, HandleNumber, Kind};
-use pagable_world::{Beginning, LoadAnswer};
+use pagable_world::LoadAnswer;
 use std::alloc::Global;
 use std::sync::Arc;
 

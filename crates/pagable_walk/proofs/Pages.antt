@@ -28,13 +28,12 @@ module _ {N E : Type 0} (v : Values N) where
     pub item-walked : {X : Type 0} {g : Ghosts X} (me : Owner) (n : ℕ) (task : Task X g) (below : List Todo) (shelf' : Shelf) (answer : WorkerAnswer) → me ≡ owner_worker n → IsPlain task
         → todo_of task ∷ below ≡ first_todo (of_item item) → (s mid t : PagerState N E) → WorkerStarts v s.core s n mid → RunsTo v me n shelf task below shelf' answer mid t
         → PagesItem v shelf item shelf' answer s t
-    item-walked me n task below shelf' answer mine is_plain first s mid t starts runs =
-        record {
-          over = λ whole all.
-              let fits : Fits v me n task mid = record { me_is = mine; whole = starts.begins.whole; task_fits = plain-fits n mid.core task is_plain } in
-              let walked = subst (λ todo. Walked v n todo mid shelf answer t shelf') first (runs.runs fits) in
-              record { run = item-is-walked n walked.steps answer mid _ starts walked.run; all_have_results = item-answered (plain v) n item walked.run all };
-        }
+    item-walked me n task below shelf' answer mine is_plain first s mid t starts runs = record {
+      over = λ whole all.
+          let fits : Fits v me n task mid = record { me_is = mine; whole = starts.begins.whole; task_fits = plain-fits n mid.core task is_plain } in
+          let walked = subst (λ todo. Walked v n todo mid shelf answer t shelf') first (runs.runs fits) in
+          record { run = item-is-walked n walked.steps answer mid _ starts walked.run; all_have_results = item-answered (plain v) n item walked.run all };
+    }
 
   -- ---- an entry
 
@@ -110,9 +109,7 @@ module _ {N E : Type 0} (v : Values N) where
   pub at-failed : (place : ℕ) (why : PageOutError) (s t : PagerState N E) → (h : HandleNumber) × EntryHas s.core place h OptionalDataKey.None
       → PagesEntry v place (answer_of (Err why)) s t → PagesAt v place (Err why) s t
   at-failed place (PageOutError.Failed e) s t (h, has) pages_it = record {
-    done = λ whole within.
-        let p = pages_it.pages whole within in
-        record { whole = p.whole; long = p.long; goes = tt; stops = λ i next. fails i place h e s t next has p.run };
+    done = λ whole within. let p = pages_it.pages whole within in record { whole = p.whole; long = p.long; goes = tt; stops = λ i next. fails i place h e s t next has p.run };
   }
   at-failed place PageOutError.AlreadyFailed s t (h, has) pages_it = record { done = λ whole within. let p = pages_it.pages whole within in absurd (p.unfailed refl) }
 

@@ -1,11 +1,11 @@
 -- A path that leads to what is done next goes on so, and each step leaves less to do.
 use Rattle.{pagable_laws.proofs.Trees.same_some, pagable_model.specs.declared.numbers.{ArcRef.ArcRef, HandleNumber.HandleNumber}, pagable_walk.specs.{Slots.ids_of, Tasks.{IfGoes, LeadsOn, due, far}}}
-use Rattle.pagable_walk.specs.{Tasks.{Awaits, AwaitsLow, Gives, IsWay, TakesNext, back_of, place_of, raised, todo_of, todos, waiting_todo, waits_as}, declared.results.SlotResult.SlotResult}
-use Rattle.{pagable_walk.specs.declared.{results.Trees.Ghosts, tasks.{Node.Node, Task.Task, Turn.Turn, Waiting.Waiting}}, pagable_world.specs.{Kinds.identity_of, Plain.{above, is_eager}}}
+use Rattle.pagable_walk.specs.{Tasks.{Awaits, AwaitsLow, Gives, IsWay, TakesNext, back_of, raised, todo_of, todos, waiting_todo, waits_as}, declared.results.SlotResult.SlotResult}
+use Rattle.{pagable_walk.specs.declared.{results.Trees.Ghosts, tasks.{Node.Node, Task.Task, Turn.Turn, Waiting.Waiting}}, pagable_world.specs.{Kinds.identity_of, Plain.{above, if_there, is_eager}}}
 use Rattle.{pagable_world.specs.{Plain.longest_path, Workers.{give, give_known, next_start, place_below, settle}, World.{Open, Todo, Written, to_finish, to_item, to_start}}, std.proofs.Common.Bool}
 use Rattle.std.proofs.Common.{List, None, Option, Some, [], ap, arith, drop, get_or, if◌then◌else◌, length, map, refl, reverse, slice_get, subst, suc, sym, take, zero, ℕ, ◌*◌, ◌++◌, ◌+◌, ◌<◌, ◌^◌}
 use Rattle.std.proofs.{Common.{◌∙◌, ◌∷◌, ◌≡◌, ◌≤◌}, Math.Nat.mul-le-mul_right, lemmas.{Bool.Decides.nat_tests, Grind.common_steps, List.{at_drop_all, at_drop_more, length-append, length-map}}}
-use Rattle.std.{proofs.lemmas.{List.{length-reverse, map-append, reverse-append, take_more}, Option.{get_or_from_slice_get, none-some, slice_get_within}}, specs.Prelude.max}
+use Rattle.std.{proofs.lemmas.{List.{length-reverse, map-append, nil_from_length, reverse-append, take_more}, Option.{get_or_from_slice_get, none-some, slice_get_within}}, specs.Prelude.max}
 
 -- what is left of references after so many, in both cases
 left-by : (Q : List ArcRef → Type 0) (n : ℕ) (refs : List ArcRef) → n ≤ length refs → (n ≡ length refs → Q []) → ((r : ArcRef) (rest : List ArcRef) → slice_get refs n ≡ Some r → Q (r ∷ rest))
@@ -79,9 +79,7 @@ module _ {E : Type 0} {g : Ghosts E} where
   todos-length ws = length-map (reverse ws) waiting_todo ∙ length-reverse ws
 
   pub todos-none : (ws : List (Waiting E g)) → length ws ≡ 0 → todos ws ≡ []
-  unfolding todos
-  todos-none [] none = refl
-  todos-none (w ∷ ws) none = absurd (omega arith)
+  todos-none ws none = nil_from_length (todos ws) (todos-length ws ∙ none)
 
   -- where something waits no entry goes back
   pub back-none : (ws : List (Waiting E g)) (entry : Option HandleNumber) → 0 < length ws → back_of entry (todos ws) ≡ None
@@ -119,7 +117,7 @@ module _ (node : Option Node) (written : Written) (keys : List ℕ) (below : Lis
   pub settled-all : length written.references ≤ n → waits_as node written keys ∷ below ≡ settle (waits_as node written keys ∷ below)
   settled-all all = grind (arith, nat_tests, common_steps, at_drop_all)
 
-  pub settled-next : (r : ArcRef) (p : ℕ) → n < length written.references → r ≡ get_or written.references n r → p ≡ place_below (place_of node) r.kind.0
+  pub settled-next : (r : ArcRef) (p : ℕ) → n < length written.references → r ≡ get_or written.references n r → p ≡ place_below (if_there (λ (n : Node). n.place) 0 node) r.kind.0
       → to_start r p ∷ waits_as node written keys ∷ below ≡ settle (waits_as node written keys ∷ below)
   settled-next r p more is at = grind (arith, nat_tests, common_steps, at_drop_more)
 

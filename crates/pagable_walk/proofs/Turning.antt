@@ -73,9 +73,7 @@ pub ruleset claiming = (nat_tests, common_steps, claims-there, refuses, claim-fi
 
 module _ {N E : Type 0} (v : Values N) (s : PagerState N E) (r : ArcRef) (pin : HandleNumber) where
   shared-some : (x : N) → ValueCall s pin (Ok (Some x)) → IsPinned v s r pin → (s.values r.node.0 ≡ Some x) × (v.node_type x ≡ type_of r.kind.0)
-  shared-some x call p =
-      let held : s.values r.node.0 ≡ Some x = grind (arith, nat_tests, common_steps) in
-      (held, p.kind.typed (v.node_type x) (p.whole.typed r.node.0 x held))
+  shared-some x call p = let held : s.values r.node.0 ≡ Some x = grind (arith, nat_tests, common_steps) in (held, p.kind.typed (v.node_type x) (p.whole.typed r.node.0 x held))
 
   module _ {X : Type 0} (see : X → N) where
     pub forms-other : (y : X) (e : Error) (t : ℕ) → t ≡ v.node_type (see y) → (t ≡ type_of r.kind.0 → ⊥) → Shares see s pin (Ok (Some y)) → Forms v s r pin (Err e)
@@ -338,15 +336,10 @@ pub ruleset turning = (nat_tests, acts_all, publishes)
 
 -- ---- a turn with the worker's end is its step, and steps of a worker's walk are joined to a run
 
--- what the end after a turn does
-record Closed {X : Type 0} {g : Ghosts X} {N E : Type 0} (v : Values N) (n : ℕ) (turn : Turn X g) (s t : PagerState N E) : Type 0 where
-  pub ends : Ends (answer_in turn) n s.core t.core
-  pub moves : Moves (λ n x. ⊥) s t
-  pub whole : WellFormed v s → WellFormed v t
-  pub fits : LeavesFit n s.core turn → LeavesFit n t.core turn
-
 module _ {X : Type 0} {g : Ghosts X} {N E : Type 0} (v : Values N) (n : ℕ) where
-  closed : (turn : Turn X g) (s t : PagerState N E) → Closes v n turn s t → Closed v n turn s t
+  -- what the end after a turn does
+  closed : (turn : Turn X g) (s t : PagerState N E) → Closes v n turn s t
+      → Ends (answer_in turn) n s.core t.core × Moves (λ k x. ⊥) s t × (WellFormed v s → WellFormed v t) × (LeavesFit n s.core turn → LeavesFit n t.core turn)
   closed turn s t close = grind (arith, nat_tests, common_steps, alike)
 
   pub steps-to : (me : Owner) (shelf shelf' : Shelf) (task : Task X g) (below after : List Todo) (moved : Moved X g) (s mid t : PagerState N E)
@@ -362,13 +355,13 @@ module _ {X : Type 0} {g : Ghosts X} {N E : Type 0} (v : Values N) (n : ℕ) whe
             does = turned.does;
             goes_on = refl;
             shelf_is = same-shelf shelf';
-            ends = subst (λ a. Ends a n mid.core t.core) (sym turned.answers) end.ends;
-            moves = moves_then turned.moves end.moves;
+            ends = subst (λ a. Ends a n mid.core t.core) (sym turned.answers) end.0;
+            moves = moves_then turned.moves end.1;
             writes = turned.writes;
-            whole = end.whole turned.whole;
+            whole = end.2 turned.whole;
           };
           answers = turned.answers;
-          fits = end.fits turned.fits;
+          fits = end.3 turned.fits;
         };
     counts = turns.counts;
   }

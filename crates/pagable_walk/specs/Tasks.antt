@@ -22,10 +22,6 @@ abbrev pub waits_as : Option Node → Written → List ℕ → Todo
 waits_as None written keys = to_item written keys
 waits_as (Some n) written keys = to_finish (record { reference = n.reference; place = n.place; through = n.through; written = written; keys = keys; height = n.height })
 
-abbrev pub place_of : Option Node → ℕ
-place_of None = 0
-place_of (Some n) = n.place
-
 -- with the height by a reference of this kind too
 abbrev pub raised : ℕ → ℕ → Option Node → Option Node
 raised kind height None = None

@@ -1,5 +1,5 @@
 -- A worker's turn over the pager's plain state and its table: what it needs to hold, what it does, and what it leaves to be done.
-use Rattle.std.specs.{Prelude.{ℕ, ◌≡◌, ◌≤◌, ◌+◌, ◌⊎◌, true, List, [], ◌∷◌, Option, Some, None, Result, Ok, Err, IfOk, IfErr}, Arc.arc_value, declared.{alloc.Global.Global, sync.Arc.Arc}}
+use Rattle.std.specs.{Prelude.{ℕ, ◌≡◌, ◌≤◌, ◌+◌, ◌⊎◌, true, List, [], ◌∷◌, MatchOption, Option, Some, None, Result, Ok, Err, IfOk, IfErr}, Arc.arc_value, declared.{alloc.Global.Global, sync.Arc.Arc}}
 use Rattle.{pagable_model.specs.{Blob.key_of, Refusals.is_writing_fault, declared.{error.Error.Error, numbers.{ArcRef.ArcRef, HandleNumber.HandleNumber}}}, pagable_world.specs.Access.Called}
 use Rattle.pagable_world.specs.World.{Core, Shelf, Todo, to_start, to_pin, to_set, was_failed, of_cell, Alike, HasForm, Open, Written, Values, Seen, seen_as, row_at, type_at}
 use Rattle.pagable_world.specs.{Workers.{Site, WalkDoes, WorkerEnds, give_known, failing, failing_by, answer_after, is_counted}, Access.{WalkStep, WorkerRun}, Calls.{ScheduleCall, StoreCall}}
@@ -196,12 +196,8 @@ module _ {X : Type 0} {g : Ghosts X} where
   IsStored None key turn = turn ≡ Turn.Answers (WorkerAnswer.Key key)
   IsStored (Some n) key turn = (task : Task X g) × (turn ≡ Turn.Goes task) × (todo_of task ≡ to_set n.reference n.through key n.height) × IsPlain task
 
-abbrev pub Back : Owner → Option HandleNumber → Core → Core → Type 0
-Back me None w w' = Alike w w'
-Back me (Some h) w w' = (r : Result (Unit {0}) Error) × ScheduleCall w me h r w'
-
 -- an entry goes back to the list, if one is to
 pub record GoesBack {N E : Type 0} (v : Values N) (me : Owner) (back : Option HandleNumber) (s t : PagerState N E) : Type 0 where
-  pub goes : Back me back s.core t.core
+  pub goes : MatchOption back (Alike s.core t.core) (λ h. (r : Result (Unit {0}) Error) × ScheduleCall s.core me h r t.core)
   pub moves : Moves (λ n x. ⊥) s t
   pub whole : WellFormed v s → WellFormed v t

@@ -45,18 +45,6 @@ pub enum Standing<E: Trees> {
 }
 
 impl<E: Trees> ArcSerSlot<E> {
-    /// A slot that was just claimed.
-    pub fn new(worker: WorkerNumber) -> ArcSerSlot<E>
-        ensures slot { slot_of result ≡ claimed_by worker.0 }
-        ensures own { (i : Named) → IsNamed i result }
-    {
-        ArcSerSlot {
-            worker,
-            written: None,
-            outcome: Outcome::Open,
-        }
-    }
-
     /// Publishes a result, where there is none yet. It takes no memory.
     pub fn set_success(&mut self, found: SlotResult<E>)
         ensures slot { slot_of self.new ≡ with_outcome (published found.key found.height) (slot_of self.old) }
@@ -190,7 +178,11 @@ impl<E: Trees> SlotTable<E> {
         ensures err { OnErr result (SameShelf (shelf_of self.old) (shelf_of self.new)) }
         ensures only { IfErr result (λ e. e ≡ Error.OutOfMemory) }
     {
-        let slot = ArcSerSlot::new(worker);
+        let slot = ArcSerSlot {
+            worker,
+            written: None,
+            outcome: Outcome::Open,
+        };
         self.slots.insert((identity.kind.0, identity.node.0), slot)?;
         Ok(())
     }

@@ -1,9 +1,9 @@
 //! A worker's path: what was written and waits for the next of its references. And what a worker does first.
 
 ghost use Rattle.std.specs.{Arc.arc_value, Prelude.{IfErr, IfOk, OnErr, [], length, vec_capacity, vec_len, ◌*◌, ◌++◌, ◌+◌, ◌<◌, ◌∷◌, ◌≡◌, ◌≤◌}};
-ghost use Rattle.pagable_walk.specs.{Slots.{keys_of, written_of}, Tasks.{AwaitsLow, Gives, IsPlain, IsWay, TakesNext, back_of, due, fails, fault_of, place_of, raised, todo_of, todos, waits_as}};
+ghost use Rattle.pagable_walk.specs.{Slots.{keys_of, written_of}, Tasks.{AwaitsLow, Gives, IsPlain, IsWay, TakesNext, back_of, due, fails, fault_of, raised, todo_of, todos, waits_as}};
 ghost use Rattle.{pagable_walk.specs.Tasks.waiting_todo, pagable_world.specs.{Kinds.identity_of, Plain.longest_path, World.{of_entry, of_item, was_refused}}};
-ghost use Rattle.pagable_world.specs.Workers.{first_todo, give_known, place_below, settle};
+ghost use Rattle.pagable_world.specs.Workers.{first_todo, place_below, settle};
 
 use crate::tasks::{Done, Node, Task, Waiting};
 use crate::{PageOutError, Trees};
@@ -20,15 +20,6 @@ pub fn place_below(place: u64, kind: Kind) -> u64
     if kind.0 % 3 == 1 { 0 } else { place + 1 }
 }
 
-fn place_of(node: &Option<Node>) -> u64
-    ensures { result ≡ place_of node.now }
-{
-    match node {
-        Some(node) => node.place,
-        None => 0,
-    }
-}
-
 /// What waits goes on: its next reference is started, for which it waits on a path that has room; or it is finished.
 #[tactic(auto, using(crate::proofs::Stacks::settling))]
 pub fn settle<E: Trees>(path: &mut Vec<Waiting<E>>, waiting: Waiting<E>) -> Task<E>
@@ -42,7 +33,7 @@ pub fn settle<E: Trees>(path: &mut Vec<Waiting<E>>, waiting: Waiting<E>) -> Task
         return Task::Finish(waiting);
     }
     let next = waiting.written.arcs[done];
-    let place = place_below(place_of(&waiting.node), next.kind);
+    let place = place_below(waiting.node.map_or(0, |node| node.place), next.kind);
     path.push_reserved(waiting);
     Task::Start(next, place)
 }
@@ -89,20 +80,6 @@ pub fn give<E: Trees>(path: &mut Vec<Waiting<E>>, done: Done<E>) -> Result<Task<
         return Err(done);
     };
     Ok(settle(path, with_result(waiting, done)))
-}
-
-/// A result that was known already goes to what waits for it; where nothing does, the handle of the listed cell is released.
-#[tactic(auto, using(crate::proofs::Stacks::paths))]
-pub fn give_known<E: Trees>(path: &mut Vec<Waiting<E>>, done: Done<E>) -> Task<E>
-    requires { AwaitsLow (todos path.old.items) done.reference done.found.height }
-    ensures todo { todo_of result ∷ todos path.new.items ≡ give_known done.reference done.found.key done.found.height (todos path.old.items) }
-    ensures plain { IsPlain result }
-    ensures less { due (todo_of result ∷ todos path.new.items) ≤ 3 + 6 * length (todos path.old.items) }
-{
-    match give(path, done) {
-        Ok(task) => task,
-        Err(done) => Task::Release(done),
-    }
 }
 
 /// The walk fails: all that waits goes. Where nothing waits, this entry goes back to the list.

@@ -8,7 +8,7 @@ ghost use Rattle.pagable_walk.specs.{Tasks.{Awaits, AwaitsLow, fault_of, IsWay, 
 ghost use Rattle.{pagable_walk.specs.Turns.{GoesBack, IsForm, IsStored, just_open, named_by, Stores, WriteRefused}, pagable_world.specs.{Kinds.identity_of, Plain.longest_path, Workers.claim_fault}};
 ghost use Rattle.pagable_world.specs.{Workers.{Claims, is_counted_claim}, World.{answer_of_fault, Core, seen_as, Shelf, to_finish, to_load, to_pin, to_release, to_set, to_start, to_write, Todo}};
 
-use crate::stack::{fail, give, give_known, refuse, settle};
+use crate::stack::{fail, give, refuse, settle};
 use crate::tasks::{Done, Moved, Node, Task, Turn, Waiting, named};
 use crate::{Found, PageOutError, SlotResult, SlotTable, Trees};
 use pagable_codec::{Env, NodeSet, SessionContext};
@@ -75,7 +75,11 @@ pub fn after_claim<E: Trees>(
 {
     match claim {
         Ok(Found::Claimed) => Task::Pin(reference, place),
-        Ok(Found::Known(found)) => give_known(path, Done { reference, found }),
+        // Where nothing waits for a result that was known already, the handle of the listed cell is released.
+        Ok(Found::Known(found)) => match give(path, Done { reference, found }) {
+            Ok(task) => task,
+            Err(done) => Task::Release(done),
+        },
         Ok(Found::Waiting) => Task::Start(reference, place),
         Ok(Found::AlreadyFailed) => fail(path, PageOutError::AlreadyFailed, Some(reference.handle)),
         Err(e) => refuse(path, &e, Some(reference.handle)),
@@ -224,9 +228,7 @@ where
     ensures shared { IfOk result (λ p. arc_value p.1 ≡ arc_value p.2) }
     ensures step { Tells (A.told access.now) (λ s. Forms (values_at E.Node.NodeSet E.Env E.Hash.KeyHash (A.acting access.now).environment) s reference pin (seen_as (λ p. written_of (arc_value p.2)) result)) }
 {
-    if path.reserve(1).is_err() {
-        return Err(Error::OutOfMemory);
-    }
+    path.reserve(1)?;
     let once = form(access, alloc, reference, pin)?;
     let children = Vec::with_capacity(alloc, once.arcs.len())?;
     let Ok(written) = Arc::new(alloc, once) else {

@@ -29,6 +29,5 @@ pub returns-in-Release-clause-acts : goal.returns-in-Release-clause-acts
 returns-in-Release-clause-acts g c = rw c.in-Release.is (c.release.ensures.acts (shelf_of c.args.table.now))
 
 pub returns-in-Fail-clause-acts : goal.returns-in-Fail-clause-acts
-returns-in-Fail-clause-acts g c =
-    rw (c.in-Fail.is, c.answer.ensures) (acts_map c.give_back.ensures
+returns-in-Fail-clause-acts g c = rw (c.in-Fail.is, c.answer.ensures) (acts_map c.give_back.ensures
     (ends-failed _ _ c.args.worker.0 (shelf_of c.args.table.now) (shelf_of c.fail.new.self) c.in-Fail.why c.in-Fail.back (todos c.args.path.now.items) c.fail.ensures))

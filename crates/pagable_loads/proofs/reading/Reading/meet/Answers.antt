@@ -5,13 +5,10 @@ use Rattle.pagable_loads.proofs.reading.Reading.meet.Goals as goal
 -- ---- the root's blob
 
 pub returns-in-Ok-clause-acts : goal.returns-in-Ok-clause-acts
-returns-in-Ok-clause-acts g c =
-    acts_map c.in-Ok.ensures (root_comes _ _ _ c.args.self.now (rw c.in-Root.is at c.requires.need).is (blob_of (arc_value c.in-Ok.blob)) _ c.put_root.ensures.root)
+returns-in-Ok-clause-acts g c = acts_map c.in-Ok.ensures (root_comes _ _ _ c.args.self.now (rw c.in-Root.is at c.requires.need).is (blob_of (arc_value c.in-Ok.blob)) _ c.put_root.ensures.root)
 
 pub returns-in-Err-clause-acts : goal.returns-in-Err-clause-acts
-returns-in-Err-clause-acts g c =
-    let own = c.args.self.now in
-    acts_map c.in-Err.ensures (λ s t k. fails _ _ _ own (λ o. met _ _ _ own k (inr (inl ((rw c.in-Root.is at c.requires.need).is, k.step)))))
+returns-in-Err-clause-acts g c = let own = c.args.self.now in acts_map c.in-Err.ensures (λ s t k. fails _ _ _ own (λ o. met _ _ _ own k (inr (inl ((rw c.in-Root.is at c.requires.need).is, k.step)))))
 
 pub returns-in-Ok-clause-leads : goal.returns-in-Ok-clause-leads
 returns-in-Ok-clause-leads g c =

@@ -12,6 +12,4 @@ returns-in_err-taken-clause-acts g c =
     rw (p.1, p.2) (acts_map c.in_err-taken.ensures (λ s t k. fails _ _ _ own (λ o. met _ _ _ own k (inr (inr (inr (inl (c.args.kind, c.args.key, c.requires.need, k.step.taken))))))))
 
 pub returns-clause-leads : goal.returns-clause-leads
-returns-clause-leads g c =
-    got_leads _ (frame_of c.in_ok-top.top) _ c.in_ok-taken.taken c.args.kind c.args.key (inr c.requires.need)
-    c.in_ok-top.ensures.ok.frames c.put_got.ensures.gets
+returns-clause-leads g c = got_leads _ (frame_of c.in_ok-top.top) _ c.in_ok-taken.taken c.args.kind c.args.key (inr c.requires.need) c.in_ok-top.ensures.ok.frames c.put_got.ensures.gets

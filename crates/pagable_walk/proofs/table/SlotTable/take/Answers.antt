@@ -3,20 +3,18 @@ use Rattle.pagable_walk.proofs.Waits.{either-way, less-open, own-is, slot-is, ta
 use Rattle.pagable_walk.proofs.table.SlotTable.take.Goals as goal
 
 pub returns-clause-ok : goal.returns-clause-ok
-returns-clause-ok g c =
-    record { slots = slot-is c.args.self.now.slots c.insert.new.self c.args.identity c.new-slot.result c.in_ok-insert.ensures.updates.0 _ c.new-slot.ensures.slot; waits = λ v. refl }
+returns-clause-ok g c = record { slots = slot-is c.args.self.now.slots c.insert.new.self c.args.identity _ c.in_ok-insert.ensures.updates.0 _ refl; waits = λ v. refl }
 
 pub invariant_of-self : goal.invariant_of-self
 invariant_of-self g c =
     let old = c.args.self.now in
     let new = c.insert.new.self in
     let i = c.args.identity in
-    let slot = c.new-slot.result in
     elim (either-way c.insert.result c.insert.ensures.updates c.insert.ensures.err) [
       | inl updates ↦
-          let is = slot-is old.slots new i slot updates.0 _ c.new-slot.ensures.slot in
+          let is = slot-is old.slots new i _ updates.0 _ refl in
           record {
-            own = own-is old.slots new i slot updates.0 old.own (λ j e. c.new-slot.ensures.own j);
+            own = own-is old.slots new i _ updates.0 old.own (λ j e r is. absurd (cc));
             ends = taken (shelf_of old) (shelf_in new old.waits) c.args.worker.0 i (record { slots = is; waits = λ v. refl }) c.requires.works old.ends;
           }
       | inr same ↦ record {
