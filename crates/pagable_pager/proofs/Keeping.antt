@@ -1,18 +1,24 @@
 -- What leaves the pager in step: values that go with their nodes, calls by which no value comes or goes, what is asked of the storage, and what comes with a value.
-use Rattle.pagable_steps.proofs.{Calls.{born, closed, end_refused, installed_away, installed_there}, Owning.{IsRight, IsShut, Leaves, Rests, Spares, asked as spares-asked, known-here, not-load}}
-use Rattle.pagable_tables.proofs.Worlds.{adopts-new as made-new, born-past, early-past, fault-by, next-past, refused-memory, refused-new, room-alike, room-fault, still, told-later}
-use Rattle.pagable_tables.specs.{Core.{AreLater, Bears, Does, DoesShed, IsWhole, OnlyRoom, core_of, plain_of}, Falling.{AreKept, Sheds, cell_in, counts_at, has_value, key_in, pins_in}}
-use Rattle.pagable_tables.specs.{Ready.{AsksKnown, IsReady, IsVain, ShedsBeside, early_fault, has_come}, declared.{loading.Ending.Ending, tables.{Counts.Counts, Tables.Tables}}}
-use Rattle.pagable_world.specs.{Calls.{Asked, BirthCall, FetchCall, IsNext, StoreCall, birth_fault}, Kinds.{has_key, held, is_owner, is_pinning, mode_of, pins}, LoadCalls.{AdoptCall, Adopts, AskCall}}
-use Rattle.pagable_world.specs.{LoadCalls.{DropCall, EndCall, EndRefused, Installs, MayEnd, adopt_fault, adopted, first_key, from_cache}, Pager.{IsCellOf, IsNewNode, MayOwnLoad, Moves, WellFormed}}
-use Rattle.pagable_world.specs.{Plain.{Blob, Error, if_there, updated}, Refusals.{OwnsLoad, Refused, load_fault, references_fault}, World.{Alike, Core, Last, OpenLoad, Values, greatest, is_here}}
-use Rattle.std.proofs.{Common.{arith, false, if◌then◌else◌, inl, inr, nat_eq, not, refl, rules, subst, sym, true, ℕ, ◌&&◌, ◌+◌, ◌<◌, ◌==◌, ◌∙◌, ◌≡◌, ◌≤◌}, lemmas.Bool.{cases_Bool, cases_eq}}
-use Rattle.std.{proofs.lemmas.Bool.Decides.nat_tests, specs.{Arc.arc_value, HashMap.get, Option.option_map, Prelude.{IfErr, IfNone, IfOk, IfSome, OnErr, OnOk, is_some, nat_lt, ◌⊎◌}}}
-use Rattle.{pagable_laws.proofs.{Goes.NotValues, SparingSteps.entered-of, Taking.row-held, Trees.same_some}, pagable_model.specs.Stored.{Adds, RefusesFetch, RefusesStore}}
-use Rattle.{pagable_model.specs.declared.numbers.{ArcRef.ArcRef, HandleNumber.HandleNumber, Kind.Kind, LoadNumber.LoadNumber, NodeNumber.NodeNumber}, pagable_pager.specs.View.{CallsLess, IsPager}}
-use Rattle.{pagable_pager.specs.View.{OnlyLess, PagerView, PutsIn, Telling, ValuesByNode, core_in, is_at_work, state_in, value_in, with_value}, pagable_steps.proofs.Calls.{adopted_known, adopts-new}}
-use Rattle.{pagable_steps.proofs.Owning.{recalls, spared, spares-same, stayed, unmoved}, pagable_tables.proofs.{Alive.not-so, Installed.{installs-wider, may-wider, so-then}, Worlds.adopted-past}}
-use Rattle.{pagable_world.specs.{World.{seen_as, usable}, declared.{calls.Want.Want, handles.Owner.Owner, rows.Mode.Mode}}, std.proofs.Common.{Bool, Err, List, None, Ok, Option, Result, Some, [], ap}}
+use Rattle.pagable_laws.proofs.{Goes.{NotValues, among-found, find-both, found-number, good, low-whole, new-handle, stands-fell}, ReadingSteps.cached-rows, SparingSteps.{entered-of, named-among}}
+use Rattle.{pagable_laws.proofs.Taking.{row-held, row-pins}, pagable_loads.{proofs.Stepped.begun_is, specs.declared.access.PinStart.PinStart}, std.specs.Option.option_map}
+use Rattle.{pagable_loads.specs.Telling.IsMade, pagable_model.specs.{Stored.{Adds, RefusesFetch, RefusesStore}, declared.{data_key.OptionalDataKey.OptionalDataKey, numbers.WorkerNumber.WorkerNumber}}}
+use Rattle.pagable_world.specs.LoadCalls.{AdoptCall, Adopts, AskCall, BeginCall, DropCall, EndCall, EndRefused, GetsKnown, Installs, LazyCall, MayEnd, adopt_fault, adopted, first_key, from_cache}
+use Rattle.{pagable_loads.specs.Starting.StartsPin, pagable_model.specs.declared.numbers.{ArcRef.ArcRef, HandleNumber.HandleNumber, Kind.Kind, LoadNumber.LoadNumber, NodeNumber.NodeNumber}}
+use Rattle.pagable_steps.proofs.Owning.{IsRight, IsShut, Leaves, Rests, Spares, adopted_known, adopts-new, asked as spares-asked, born, closed, installed_away, installed_there, known-here}
+use Rattle.{pagable_steps.proofs.Owning.{load_closed, not-load, pinned-here, recalls, rests-then, spared, spares-same, starts-listed, stayed, unmoved}, pagable_tables.proofs.Worlds.adopted-past}
+use Rattle.pagable_tables.proofs.Worlds.{adopts-new as made-new, born-past, early-past, fault-by, next-past, no-load-fault, refused-memory, refused-new, room-alike, room-fault, still, told-later}
+use Rattle.pagable_tables.specs.{Core.{AreLater, Bears, BeginsWorker, Does, DoesShed, IsWhole}, Ready.{AsksKnown, IsReady, IsVain, ShedsBeside, early_fault, has_come}, declared.tables.Counts.Counts}
+use Rattle.pagable_tables.{proofs.Installed.{installs-wider, may-wider, so-then}, specs.{Core.{OnlyRoom, TakesWorker, core_of, plain_of}, declared.{loading.Ending.Ending, tables.Tables.Tables}}}
+use Rattle.{pagable_laws.proofs.{Following.cell-of, Trees.same_some}, pagable_tables.specs.Falling.{AreKept, Sheds, cell_in, counts_at, has_value, key_in, known_at, load_at, pins_in, worker_at}}
+use Rattle.pagable_world.specs.{Access.{Called, Told}, Kinds.{HasKinds, find_row, has_key, is_handle, is_loose, is_owner, is_pinning, loose_kind, mode_of, pins}, declared.answers.Beginning.Beginning}
+use Rattle.pagable_pager.specs.View.{Calls, FewerValues, IsPager, OnlyLess, PagerView, PutsIn, SameValues, TakesEntry, Telling, ValuesByNode, core_in, is_at_work, state_in, value_in, with_value}
+use Rattle.pagable_world.specs.{Pager.{HandlesAreWhole, IsCellOf, IsNew, IsNewNode, MayOwnLoad, Moves, PagerState, ValueCall, WellFormed}, Plain.{Blob, Error, if_there, or_else, type_of, updated}}
+use Rattle.pagable_world.specs.{Refusals.{Refused, load_fault, references_fault}, World.{Alike, Core, Last, OpenLoad, Reading, Values, greatest, is_here, row_at, seen_as, usable}}
+use Rattle.pagable_world.specs.{Calls.{Asked, BirthCall, CloseCall, FetchCall, IsNext, Looks, StoreCall, birth_fault, is_named_by, next_node, row_of, with_handle, with_node}, declared.calls.Want.Want}
+use Rattle.{pagable_world.specs.{Events.{IsEntry, reading_of_load}, Workers.RowIs, declared.{handles.{HandleRow.HandleRow, Owner.Owner}, rows.Mode.Mode}}, std.proofs.Common.{Bool, Err, List, None}}
+use Rattle.std.proofs.Common.{Ok, Option, Result, Some, [], ap, arith, false, if◌then◌else◌, inl, inr, nat_eq, not, refl, rules, subst, sym, true, ℕ, ◌&&◌, ◌++◌, ◌+◌, ◌<◌, ◌==◌, ◌∙◌, ◌∷◌, ◌≡◌, ◌≤◌}
+use Rattle.std.{proofs.lemmas.{Bool.{Decides.nat_tests, cases_Bool, cases_eq, false_from_ne_true}, Option.slice_get_within}, specs.{Arc.arc_value, HashMap.get, Prelude.{IfErr, IfNone, IfOk, IfSome}}}
+use Rattle.std.specs.Prelude.{IsSome, OnErr, OnOk, is_some, nat_lt, ◌⊎◌}
 use Rattle.pagable_world.specs.Pager as pager
 
 -- the plain world is whole, whatever is stored, if nothing is listed or known once the storage is closed
@@ -39,7 +45,6 @@ in-step {tells = tells} q whole later state = search (whole-over)
 has-key : (k : ℕ) → has_key (key_in k) ≡ nat_lt 0 k
 has-key k = grind (arith, nat_tests)
 
--- whether a node has its value in memory, by its counts
 pub here-told : (o : Option Counts) (w : Core) (n : ℕ) → w.cells n ≡ cell_in o → pins n w.rows ≡ pins_in o → (is_some (w.cells n) && is_here w n) ≡ has_value o
 here-told o w n cell pinned = grind (arith, nat_tests, has-key)
 
@@ -49,7 +54,6 @@ some-map f o = grind (arith, nat_tests)
 pub left-map : {X Y : Type 0} (f : X → Y) (b : Bool) (old new : Option X) → ((new ≡ old) ⊎ (new ≡ None)) → is_some new ≡ b → option_map f new ≡ (if b then option_map f old else None)
 left-map f b old new which some = grind (arith, nat_tests)
 
--- fewer values are there, and no other
 pub less-moves : {N S E : Type 0} (tells : Telling S) {comes : ℕ → N → Type 0} (p q : PagerView N S E) → OnlyLess p q → Moves comes (state_in tells p) (state_in tells q)
 less-moves tells p q less = record { each = λ n x has. inl (less.values n x has); environment = less.environment }
 
@@ -68,6 +72,14 @@ module _ {N S E : Type 0} {tells : Telling S} {says : E → Values N} {p : Pager
   pub kept-in : AreKept (counts_at p.tables.holdings.nodes) (get nat_eq p.values)
   kept-in n falls = sym (some-map arc_value (get nat_eq p.values n)) ∙ is.state.valued n ∙ here-in n
 
+  module _ {step : Core → Core → Type 0} (t : Tables) (call : Does p.tables step t) where
+    pub made-by : (step (core_in tells p) (core_in tells (record p { tables = t })) → IsRight (state_in tells (record p { tables = t }))
+        → WellFormed (says p.environment) (state_in tells (record p { tables = t }))) → IsPager tells says (record p { tables = t })
+    made-by state = in-step (record p { tables = t }) call.whole (call.later is.later) (state (call.does (tells.stored p.storage) (tells.closed p.storage) (tells.failed p.storage)))
+
+    pub called : (step (core_in tells p) (core_in tells (record p { tables = t })) → Rests (core_in tells p) (core_in tells (record p { tables = t }))) → IsPager tells says (record p { tables = t })
+    called rests = made-by (λ made. spared is.state (rests made) (λ n. refl))
+
   -- values went with their nodes
   module _ (t : Tables) (values : ValuesByNode N) where
     abbrev gone : PagerView N S E
@@ -76,15 +88,12 @@ module _ {N S E : Type 0} {tells : Telling S} {says : E → Values N} {p : Pager
     abbrev Goes : Type 0
     Goes = Sheds (counts_at p.tables.holdings.nodes) (get nat_eq p.values) (counts_at t.holdings.nodes) (get nat_eq values)
 
-    -- what is left
     pub swept : IsWhole t → Goes → (n : ℕ) → value_in values n ≡ (if is_some ((plain_of t).cells n) && is_here (plain_of t) n then value_in p.values n else None)
     swept whole sheds n = grind (arith, nat_tests, here-told, kept-in, left-map, nat_eq)
 
-    -- it leaves the pager in step
     pub shed : IsWhole t → AreLater t → Goes → (Leaves (value_in p.values) (state_in tells gone) → WellFormed (says p.environment) (state_in tells gone)) → IsPager tells says gone
     shed whole later sheds state = in-step gone whole later (λ right. state (record { swept = swept whole sheds; right = right }))
 
-    -- no value came
     pub less : Goes → (n : ℕ) (x : N) → value_in values n ≡ Some x → value_in p.values n ≡ Some x
     less sheds n x some = grind (arith, nat_tests, kept-in)
 
@@ -99,10 +108,27 @@ module _ {N S E : Type 0} {tells : Telling S} {says : E → Values N} {p : Pager
       pub shed-by : (Leaves (value_in p.values) (state_in tells gone) → step (core_in tells p) (core_in tells gone) → WellFormed (says p.environment) (state_in tells gone)) → IsPager tells says gone
       shed-by state = shed call.whole (call.later is.later) call.sheds (λ left. state left does)
 
-      pub less-called : CallsLess tells p step gone
+      pub less-called : Calls OnlyLess tells p step gone
       less-called = record { step = does; only = only-less call.sheds }
 
--- the caller is no value
+    module _ (whole : IsWhole t) (later : AreLater t) (sheds : Goes) where
+      same-so : Alike (core_in tells p) (core_in tells gone) → IsPager tells says gone
+      same-so a = shed whole later sheds (stayed is.state (unmoved a is.state.whole.shut))
+
+      pub found-so : (me : Owner) (l : LoadNumber) (kind : Kind) (key u : ℕ) (rs : List ArcRef) (r : Result (Option HandleNumber) Error)
+          → IfOk r (λ found. IfSome found (λ k. Adopts (core_in tells p) me l kind key u rs k (core_in tells gone)))
+          → IfOk r (λ found. IfSome found (λ k. (n : ℕ) × (usable (core_in tells p) kind.0 key ≡ Some n))) → IfOk r (λ found. IfNone found (t ≡ p.tables))
+          → IfErr r (λ e. Refused (adopt_fault (core_in tells p) me l kind key u rs) (load_fault (core_in tells p) me l) (Unit {0}) (core_in tells p) e (core_in tells gone)) → IsPager tells says gone
+      found-so me l kind key u rs (Ok (Some k)) known given same refused = shed whole later sheds (λ left. adopted_known is.state left known given.1)
+      found-so me l kind key u rs (Ok None) known given same refused =
+          same-so (subst (λ (x : Tables). Alike (core_in tells p) (core_in tells (record p { tables = x; values = values }))) (sym same) (still (core_in tells p)))
+      found-so me l kind key u rs (Err e) known given same refused = same-so refused.stays
+
+      pub refused-so : (me : Owner) (l : LoadNumber) (x : N) (u : ℕ) (refs : List ArcRef) (e : Error) (back : Option N) → EndRefused (core_in tells p) me l x u refs e back (core_in tells gone)
+          → IsPager tells says gone
+      refused-so me l x u refs e (Some y) refused = same-so refused.1.stays
+      refused-so me l x u refs e None refused = shed whole later sheds (λ left. load_closed is.state left l refused.closes)
+
 pub caller-free : NotValues Owner.Caller
 caller-free n is = absurd (cc)
 
@@ -117,16 +143,6 @@ module _ {N S E : Type 0} {tells : Telling S} {says : E → Values N} {p q : Pag
 
   pub owner-loads : (m : LoadNumber) → is_owner (Owner.Load m) me ≡ false
   owner-loads m = grind (arith, nat_tests, owner-may)
-
-module _ {N S E : Type 0} {tells : Telling S} {says : E → Values N} {p : PagerView N S E} (is : IsPager tells says p) where
-  -- a call of the tables
-  module _ {step : Core → Core → Type 0} (t : Tables) (call : Does p.tables step t) where
-    pub made-by : (step (core_in tells p) (core_in tells (record p { tables = t })) → IsRight (state_in tells (record p { tables = t }))
-        → WellFormed (says p.environment) (state_in tells (record p { tables = t }))) → IsPager tells says (record p { tables = t })
-    made-by state = in-step (record p { tables = t }) call.whole (call.later is.later) (state (call.does (tells.stored p.storage) (tells.closed p.storage) (tells.failed p.storage)))
-
-    pub called : (step (core_in tells p) (core_in tells (record p { tables = t })) → Rests (core_in tells p) (core_in tells (record p { tables = t }))) → IsPager tells says (record p { tables = t })
-    called rests = made-by (λ made. spared is.state (rests made) (λ n. refl))
 
 -- what a load asks for
 pub known-found : {w w' : Core} {me : Owner} {l : LoadNumber} {kind : Kind} {key : ℕ} {k : HandleNumber} (found : Option HandleNumber) → found ≡ Some k → AsksKnown w me l kind key (Ok found) w'
@@ -163,7 +179,6 @@ module _ {N S E : Type 0} {tells : Telling S} {says : E → Values N} {p : Pager
     pub stored-so : IsPager tells says stored-in
     stored-so = told-in (let c = store-call in grind (arith, nat_tests, spares-asked, spares-same))
 
--- the blob, as it is seen
 pub fetch-call : {X : Type 0} (see : X → Blob) (w w' : Core) (key : ℕ) (r : Result X Error) → Asked w w' → IfOk r (λ x. w.stored key ≡ Some (see x)) → IfErr r (RefusesFetch key (w.stored key) w.failures w'.failures) → FetchCall w key (seen_as see r) w'
 fetch-call see w w' key r asks found only = grind (arith, nat_tests)
 
@@ -185,13 +200,7 @@ module _ {N S E : Type 0} {tells : Telling S} {says : E → Values N} {p : Pager
     pub only-room : OnlyRoom (core_in tells p) (core_in tells roomy)
     only-room = room.does (tells.stored p.storage) (tells.closed p.storage) (tells.failed p.storage)
 
-    -- memory is wanting
-    pub no-memory : (x y : N) → y ≡ x → (node_type : ℕ) (references : List ArcRef) (mode : Mode) → BirthCall (core_in tells p) Owner.Caller x node_type references mode (Err (Error.OutOfMemory, y))
-        (core_in tells roomy)
-    no-memory x y same node_type references mode = record { made = tt; refused = (same, record { why = inr (refl, refl, tt); stays = room-alike only-room }) }
-
     module _ (same : (n : ℕ) → value_in mid n ≡ value_in p.values n) where
-      -- only room was made
       pub roomier : IsPager tells says roomy
       roomier = in-step roomy room.whole (room.later is.later) (spared is.state (unmoved (room-alike only-room) is.state.whole.shut) same)
 
@@ -230,31 +239,10 @@ module _ {N S E : Type 0} {tells : Telling S} {says : E → Values N} {p : Pager
           born-told = (birth, moved-in born-last)
 
           pub born-so : is_pinning mode ≡ true → IsPager tells says after
-          born-so pinning =
-              in-step after bears.whole (bears.later (room.later is.later))
+          born-so pinning = in-step after bears.whole (bears.later (room.later is.later))
               (born {v = says p.environment} {s = state_in tells p} {s' = state_in tells after} is.state caller-free pinning birth (told born-last))
 
 -- ---- what a load has read becomes a node
-
-module _ {N S E : Type 0} {tells : Telling S} {says : E → Values N} {p : PagerView N S E} (is : IsPager tells says p) (t : Tables) (values : ValuesByNode N)
-    (whole : IsWhole t) (later : AreLater t) (sheds : Sheds (counts_at p.tables.holdings.nodes) (get nat_eq p.values) (counts_at t.holdings.nodes) (get nat_eq values)) where
-  abbrev rest : PagerView N S E
-  rest = record p { tables = t; values = values }
-
-  -- a refusal, or nothing, leaves the pager in step
-  pub same-so : Alike (core_in tells p) (core_in tells rest) → IsPager tells says rest
-  same-so a = shed is t values whole later sheds (stayed is.state (unmoved a is.state.whole.shut))
-
-  pub found-so : (me : Owner) (l : LoadNumber) (kind : Kind) (key u : ℕ) (rs : List ArcRef) (r : Result (Option HandleNumber) Error)
-      → IfOk r (λ found. IfSome found (λ k. Adopts (core_in tells p) me l kind key u rs k (core_in tells rest)))
-      → IfOk r (λ found. IfSome found (λ k. (n : ℕ) × (usable (core_in tells p) kind.0 key ≡ Some n)))
-      → IfOk r (λ found. IfNone found (t ≡ p.tables))
-      → IfErr r (λ e. Refused (adopt_fault (core_in tells p) me l kind key u rs) (load_fault (core_in tells p) me l) (Unit {0}) (core_in tells p) e (core_in tells rest)) → IsPager tells says rest
-  found-so me l kind key u rs (Ok (Some k)) known given same refused =
-      shed is t values whole later sheds (λ left. adopted_known is.state left known given.1)
-  found-so me l kind key u rs (Ok None) known given same refused =
-      same-so (subst (λ (x : Tables). Alike (core_in tells p) (core_in tells (record p { tables = x; values = values }))) (sym same) (still (core_in tells p)))
-  found-so me l kind key u rs (Err e) known given same refused = same-so refused.stays
 
 -- what a load has read becomes a new node
 module _ {N S E : Type 0} {tells : Telling S} {says : E → Values N} {p q : PagerView N S E} (is : IsPager tells says p) (viewed : p ≡ q) (me : Owner) (l : LoadNumber) (kind : Kind) (key : ℕ) (x : N)
@@ -266,7 +254,6 @@ module _ {N S E : Type 0} {tells : Telling S} {says : E → Values N} {p q : Pag
   unknown-in : usable (plain_of p.tables) kind.0 key ≡ None
   unknown-in = subst (λ (v : PagerView N S E). usable (plain_of v.tables) kind.0 key ≡ None) (sym viewed) unknown
 
-  -- or it is refused, and comes back
   not-adopted : {w' : Core} {y : N} {e : Error} → y ≡ x → Refused (adopt_fault (core_in tells p) me l kind key ((says p.environment).node_type x) rs) (load_fault (core_in tells p) me l) (Unit {0}) (core_in tells p) e w'
       → AdoptCall (core_in tells p) me l kind key x ((says p.environment).node_type x) ((says p.environment).references x) (Err (e, y)) w'
   not-adopted {w'} {e = e} back r = grind (arith, nat_tests, told-later)
@@ -275,13 +262,13 @@ module _ {N S E : Type 0} {tells : Telling S} {says : E → Values N} {p q : Pag
       → AdoptCall (core_in tells p) me l kind key x ((says p.environment).node_type x) ((says p.environment).references x) (Err (e, x)) w'
   new-refused r = not-adopted refl (refused-new (core_in tells p) me l kind key ((says p.environment).node_type x) rs (fresh-in _ _ _) unknown-in r)
 
+  pub new-asked : {t1 : Tables} → Does p.tables OnlyRoom t1 → early_fault (plain_of t1) me l kind ((says p.environment).node_type x) rs ≡ None
+  new-asked room = early-past me l kind ((says p.environment).node_type x) rs (room.does (λ key. None) false 0) ∙ fresh-in (λ key. None) false 0
+
+  pub new-unknown : {t1 : Tables} → Does p.tables OnlyRoom t1 → usable (plain_of t1) kind.0 key ≡ None
+  new-unknown room = ap (λ (u : Core). usable u kind.0 key) (room.does (λ key. None) false 0).same ∙ unknown-in
+
   module _ {t1 : Tables} (mid : ValuesByNode N) (room : Does p.tables OnlyRoom t1) where
-    pub new-asked : early_fault (plain_of t1) me l kind ((says p.environment).node_type x) rs ≡ None
-    new-asked = early-past me l kind ((says p.environment).node_type x) rs (room.does (λ key. None) false 0) ∙ fresh-in (λ key. None) false 0
-
-    pub new-unknown : usable (plain_of t1) kind.0 key ≡ None
-    new-unknown = ap (λ (u : Core). usable u kind.0 key) (room.does (λ key. None) false 0).same ∙ unknown-in
-
     pub new-memory : {y : N} → y ≡ x → AdoptCall (core_in tells p) me l kind key x ((says p.environment).node_type x) ((says p.environment).references x) (Err (Error.OutOfMemory, y)) (core_in tells (record p { tables = t1; values = mid }))
     new-memory back = not-adopted back (refused-memory (core_in tells p) me l kind key ((says p.environment).node_type x) rs (fresh-in _ _ _) (only-room is mid room))
 
@@ -295,8 +282,7 @@ module _ {N S E : Type 0} {tells : Telling S} {says : E → Values N} {p q : Pag
       leaves = adopted-past l kind key (first_key kind.0 key) rs (only-room is mid room) ((does.does (tells.stored p.storage) (tells.closed p.storage) (tells.failed p.storage)).1 (ap not opens))
 
       adopts : Adopts (core_in tells p) me l kind key ((says p.environment).node_type x) ((says p.environment).references x) k (core_in tells learned)
-      adopts =
-          subst (λ z. Adopts (core_in tells p) me l kind key ((says p.environment).node_type x) z k (core_in tells learned)) listed
+      adopts = subst (λ z. Adopts (core_in tells p) me l kind key ((says p.environment).node_type x) z k (core_in tells learned)) listed
           (made-new (core_in tells p) me l kind key ((says p.environment).node_type x) rs (fresh-in _ _ _) unknown-in k (subst (λ (u : Core). u.last.node < greatest) (only-room is mid room).same left)
           (next-past (only-room is mid room) (does.does (tells.stored p.storage) (tells.closed p.storage) (tells.failed p.storage)).0) leaves)
 
@@ -308,8 +294,7 @@ module _ {N S E : Type 0} {tells : Telling S} {says : E → Values N} {p q : Pag
       new-told = (record { adopts = adopts; refused = tt }, moved-in is mid room same t2 values x shared kept last)
 
       pub new-so : IsPager tells says learned
-      new-so =
-          in-step learned does.whole (does.later (room.later is.later))
+      new-so = in-step learned does.whole (does.later (room.later is.later))
           (adopts-new {v = says p.environment} {s = state_in tells p} {s' = state_in tells learned} is.state adopts unknown-in (told is mid room same t2 values x shared kept last))
 
 -- ---- a value comes to a load's cell, and others go with their nodes
@@ -322,7 +307,6 @@ module _ {N : Type 0} (t t' : Tables) (old mid new : ValuesByNode N) (node : Nod
   pub puts : ShedsBeside node (counts_at t.holdings.nodes) (get nat_eq mid) (counts_at t'.holdings.nodes) (get nat_eq new) → PutsIn true node.0 x t old t' new
   puts sheds = grind (arith, nat_tests, come, left-map, nat_eq, put-there)
 
--- the value is dropped, as its node has one
 pub drops : {N : Type 0} (t t' : Tables) (old new : ValuesByNode N) (node : NodeNumber) (x : N) → has_value (counts_at t.holdings.nodes node.0) ≡ true
     → ShedsBeside node (counts_at t.holdings.nodes) (get nat_eq old) (counts_at t'.holdings.nodes) (get nat_eq new) → PutsIn false node.0 x t old t' new
 drops t t' old new node x there sheds = grind (arith, nat_tests, left-map, nat_eq, some-map)
@@ -334,11 +318,9 @@ beside-there t me l node_type refs r whole ready here =
     let n = r.row.node.0 in
     let p = plain_of t in
     let some = row-held p r.row.number r.row ready.owned.live in
-    let yes : nat_lt 0 (held n p.rows) ≡ true = grind (arith, nat_tests) in
     let is = so-then (is_here p n) (sym ready.away ∙ here) in
-    sym (here-told (counts_at t.holdings.nodes n) p n refl (sym (whole.steady.fits.pinned n))) ∙ ap (λ b. b && is_here p n) (whole.core.handles.live n ∙ yes) ∙ is
+    sym (here-told (counts_at t.holdings.nodes n) p n refl (sym (whole.steady.fits.pinned n))) ∙ ap (λ b. b && is_here p n) (cell-of whole.core.handles n some) ∙ is
 
--- type and references as they are told
 pub ready-told : {w : Core} {me : Owner} {l : LoadNumber} {t t' : ℕ} {refs refs' : List ArcRef} {r : Ending} → t ≡ t' → refs ≡ refs' → IsReady w me l t refs r → IsReady w me l t' refs' r
 ready-told {w} {me} {l} {t} {t'} {refs} {refs'} {r} typed named is = subst (λ k. IsReady w me l k refs' r) typed (subst (λ k. IsReady w me l t k r) named is)
 
@@ -378,40 +360,31 @@ module _ {N S E : Type 0} {tells : Telling S} {says : E → Values N} {p : Pager
   swept-so : (b : Bool) → r.is_away ≡ b → (n : ℕ) → value_in values n ≡ (if is_some (w'.cells n) && is_here w' n then with_value b r.row.node.0 x (value_in p.values) n else None)
   swept-so b e n = search (rules, here-told, kept, puts)
 
-  same-here : is_here (core_in tells (record p { tables = t1 })) r.row.node.0 ≡ is_here w r.row.node.0
-  same-here = ap (λ v. is_here v r.row.node.0) wider.same
-
-  away : r.is_away ≡ true → is_here w r.row.node.0 ≡ false
-  away e = sym same-here ∙ not-so (is_here (core_in tells (record p { tables = t1 })) r.row.node.0) (sym ready.away ∙ e)
+  away : (b : Bool) → r.is_away ≡ b → is_here w r.row.node.0 ≡ not b
+  away b e = let same = ap (λ v. is_here v r.row.node.0) wider.same in let told = ready.away in grind (arith, nat_tests)
 
   pub ended-so : IsPager tells says p'
   ended-so = in-step p' done.whole (done.later (room.later is.later)) (λ right. elim (cases_Bool r.is_away) [
-    | inl e ↦ installed_away is.state may was (away e) (record { swept = swept-so true e; right = right })
-    | inr e ↦ installed_there is.state may was (sym same-here ∙ so-then (is_here (core_in tells (record p { tables = t1 })) r.row.node.0) (sym ready.away ∙ e))
-        (record { swept = swept-so false e; right = right })
+    | inl e ↦ installed_away is.state may was (away true e) (record { swept = swept-so true e; right = right })
+    | inr e ↦ installed_there is.state may was (away false e) (record { swept = swept-so false e; right = right })
   ])
 
-  cell-of : (n : ℕ) → r.row.node.0 ≡ n → IsCellOf w l n
-  cell-of n m = record { load = may.load; node = r.row.node; t = (says p.environment).node_type x; h = r.row.number; open_load = may.owned.stands_open; root = may.of_node; is = m }
-
-  had-none : r.is_away ≡ true → value_in p.values r.row.node.0 ≡ None
-  had-none e = let a = is.state.valued r.row.node.0 in let b = away e in grind (arith, nat_tests)
-
   comes : (n : ℕ) (y : N) → value_in values n ≡ Some y → (value_in p.values n ≡ Some y) ⊎ ((value_in p.values n ≡ None) × ((y ≡ x) × IsCellOf w l n))
-  comes n y some = let s = swept-so r.is_away refl n in grind (arith, nat_tests, cases_eq, cell-of, had-none)
+  comes n y some =
+      let cell : r.row.node.0 ≡ n → IsCellOf w l n = λ m.
+      record { load = may.load; node = r.row.node; t = (says p.environment).node_type x; h = r.row.number; open_load = may.owned.stands_open; root = may.of_node; is = m } in
+      let none : r.is_away ≡ true → value_in p.values r.row.node.0 ≡ None = λ e. (let a = is.state.valued r.row.node.0 in let b = away true e in grind (arith, nat_tests)) in
+      let s = swept-so r.is_away refl n in
+      grind (arith, nat_tests, cases_eq)
 
   pub ended-told : EndCall w me l x ((says p.environment).node_type x) ((says p.environment).references x) (Ok k) w' × Moves (λ n y. (y ≡ x) × IsCellOf w l n) (state_in tells p) (state_in tells p')
   ended-told = (record { installs = (r.row.node, r.row.number, may, was); refused = tt }, record { each = comes; environment = refl })
 
-pub owner-owns : {w : Core} {me : Owner} {l : LoadNumber} {load : OpenLoad} → OwnsLoad w me l load → load_fault w me l ≡ None
-owner-owns {me = me} o = let a : is_owner me me ≡ true = grind (arith, nat_tests) in grind (arith, nat_tests)
-
 -- a load whose end is in vain is closed
 pub vain : {N : Type 0} {w v w' : Core} {me : Owner} {l : LoadNumber} {t : ℕ} {refs : List ArcRef} {e : Error} (x : N) (r : Result (Unit {0}) Error) → IsVain w me l t refs e × (v ≡ w) → DropCall v me l r w'
     → EndRefused w me l x t refs e None w'
-vain {w = w} {v} {w'} {me} {l} x r (is, same) drop = grind (arith, nat_tests, owner-owns)
+vain {w = w} {v} {w'} {me} {l} x r (is, same) drop = grind (arith, nat_tests, no-load-fault)
 
--- memory is wanting for the value
 pub no-room : {N S E : Type 0} {tells : Telling S} {says : E → Values N} {p : PagerView N S E} → IsPager tells says p → {t : Tables} (values : ValuesByNode N)
     → Does p.tables OnlyRoom t → {me : Owner} {l : LoadNumber} {x y : N} {u node_type : ℕ} {qs refs : List ArcRef} {r : Ending} → y ≡ x → IsReady (core_in tells (record p { tables = t })) me l u qs r
     → EndCall (core_in tells p) me l x node_type refs (Err (Error.OutOfMemory, Some y)) (core_in tells (record p { tables = t; values = values }))
@@ -420,17 +393,130 @@ no-room is values room back ready =
     let why = ap (if_there (λ (load : OpenLoad). None) (Some Error.NoSuchHandle)) (may-wider wider ready.may).owned.stands_open in
     record { installs = tt; refused = (back, record { why = inr (refl, why, tt); stays = room-alike wider }) }
 
--- the load doesn't end with the value
-module _ {N S E : Type 0} {tells : Telling S} {says : E → Values N} {p : PagerView N S E} (is : IsPager tells says p) (t1 t2 : Tables) (values : ValuesByNode N)
-    (nodes : t1.holdings.nodes ≡ p.tables.holdings.nodes) (sheds : Sheds (counts_at t1.holdings.nodes) (get nat_eq p.values) (counts_at t2.holdings.nodes) (get nat_eq values)) where
-  gone-from : Sheds (counts_at p.tables.holdings.nodes) (get nat_eq p.values) (counts_at t2.holdings.nodes) (get nat_eq values)
-  gone-from = subst (λ ns. Sheds (counts_at ns) (get nat_eq p.values) (counts_at t2.holdings.nodes) (get nat_eq values)) nodes sheds
+-- ---- what a lent pager's calls tell as those of an access; and what a worker does, for an entry of the list or without one
 
-  pub refused-so : (me : Owner) (l : LoadNumber) (x : N) (t : ℕ) (refs : List ArcRef) (e : Error) (back : Option N) → IsWhole t2 → AreLater t2
-      → EndRefused (core_in tells p) me l x t refs e back (core_in tells (record p { tables = t2; values = values })) → IsPager tells says (record p { tables = t2; values = values })
-  refused-so me l x t refs e back whole2 later2 refused =
-      let call : EndCall (core_in tells p) me l x t refs (Err (e, back)) (core_in tells (record p { tables = t2; values = values })) = record { installs = tt; refused = refused } in
-      shed is t2 values whole2 later2 gone-from (λ left. end_refused is.state left e back call)
+-- what a call does to a pager of which no value comes
+module _ {N S E : Type 0} (tells : Telling S) (v : E → Values N) (p q : PagerView N S E) where
+  pub called_fewer : (D : Core → Type 0) → D (core_in tells q) → FewerValues p q → WellFormed (v q.environment) (state_in tells q) → Called (v p.environment) D (state_in tells p) (state_in tells q)
+  called_fewer D step only whole = grind (arith, nat_tests)
 
-  pub refused-moves : (comes : ℕ → N → Type 0) → Moves comes (state_in tells p) (state_in tells (record p { tables = t2; values = values }))
-  refused-moves comes = record { each = λ n y some. inl (less is t2 values gone-from n y some); environment = refl }
+  pub told_fewer : (D : Core → Core → Type 0) → D (core_in tells p) (core_in tells q) → FewerValues p q → WellFormed (v q.environment) (state_in tells q)
+      → Told (Some (state_in tells p)) (Some (state_in tells q)) (λ s t. Called (v p.environment) (λ w'. D s.core w') s t)
+  told_fewer D step only whole = record { holds = called_fewer (D (core_in tells p)) step only whole }
+
+  pub all_there : SameValues p q → FewerValues p q
+  all_there only = record { values = λ n x has. subst (λ (values : ValuesByNode N). value_in values n ≡ Some x) only.values has; environment = only.environment }
+
+pub told_less : {N S E : Type 0} {tells : Telling S} (v : E → Values N) {p q : PagerView N S E} {makes : Core → Core → Type 0} → Calls OnlyLess tells p makes q → WellFormed (v q.environment)
+    (state_in tells q) → Told (Some (state_in tells p)) (Some (state_in tells q)) (λ s t. Called (v p.environment) (λ w'. makes s.core w') s t)
+told_less {tells = tells} v {p} {q} {makes} call whole = told_fewer tells v p q makes call.step (record { values = call.only.values; environment = call.only.environment }) whole
+
+pub stored_key : {digest : Blob → ℕ} {w w' : Core} {blob : Blob} (r : Result ℕ Error) → StoreCall digest w blob r w' → IfOk r (λ key. key ≡ digest blob)
+stored_key r c = grind (arith, nat_tests)
+
+-- ---- the handle that a load gets is live
+
+pub made_so : {w : Core} {kind : Kind} {h : HandleNumber} {n : NodeNumber} → Looks w h (λ m row. m ≡ row.node) (Ok n) → IsMade w kind (record { kind = kind; node = n; handle = h })
+made_so {w} {kind} {h} {n} l = grind (arith, nat_tests, found-number)
+
+last_live : (w w' : Core) (k : HandleNumber) (rows : List HandleRow) (row : HandleRow) → IsNext k w → row.number.0 ≡ w.last.handle + 1 → w'.rows ≡ rows ++ row ∷ [] → IsSome (row_at w' k)
+unfolding find_row
+last_live w w' k rows row next number same =
+    let is : is_handle k.0 row ≡ true = (let above = next.above in grind (arith, nat_tests)) in
+    let last : find_row k.0 (row ∷ []) ≡ Some row = rw is refl in
+    ap is_some (ap (λ rs. find_row k.0 rs) same ∙ find-both k.0 rows (row ∷ []) ∙ ap (or_else (find_row k.0 rows)) last) ∙ (grind (arith, nat_tests))
+
+-- of a new node
+born_live : (w w' : Core) (l : LoadNumber) (kind : Kind) (key : ℕ) (own : OptionalDataKey) (references : List ArcRef) (k : HandleNumber) → IsNext k w
+    → Alike (adopted w l kind key own references) w' → IsSome (row_at w' k)
+born_live w w' l kind key own references k next a =
+    let born = with_node w (type_of kind.0) own references in
+    let row = row_of (w.last.handle + 1) (next_node w) (mode_of kind.0) (Owner.Load l) in
+    last_live w w' k born.rows row next refl (a.rows ∙ (cached-rows (with_handle born (next_node w) (mode_of kind.0) (Owner.Load l)) kind key (next_node w)).0)
+
+pub known_live : {w w' : Core} {l : LoadNumber} {kind : Kind} {key : ℕ} {k : HandleNumber} → GetsKnown w l kind key k w' → IsSome (row_at w' k)
+known_live {w} {w'} {l} {kind} {k = k} c = last_live w w' k w.rows (row_of (w.last.handle + 1) (record { 0 = c.n }) (mode_of kind.0) (Owner.Load l)) c.next refl c.leaves.rows
+
+pub lazy_live : {w w' : Core} {me : Owner} {l : LoadNumber} {kind : Kind} {key : ℕ} {k : HandleNumber} → LazyCall w me l kind key (Ok k) w' → IsSome (row_at w' k)
+lazy_live {w} {w'} {l = l} {kind} {key} {k} c = elim c.makes.3 [
+  | inl known ↦ known_live known
+  | inr (none, left, next, a) ↦ born_live w w' l kind key (OptionalDataKey.Some key) [] k next a
+]
+
+pub adopted_live : {w w' : Core} → HandlesAreWhole w → {me : Owner} {l : LoadNumber} {kind : Kind} {key t : ℕ} {references : List ArcRef} {k : HandleNumber} → Adopts w me l kind key t references k w'
+    → IsSome (row_at w' k)
+adopted_live {w} {w'} whole {l = l} {kind} {key} {references = references} {k} c = elim c.makes [
+  | inl (n, known, f) ↦
+      let s = stands-fell {w = with_handle w (record { 0 = n }) (mode_of kind.0) (Owner.Load l)} f.falls (not-load l) unnamed
+      (new-handle w (record { 0 = n }) (mode_of kind.0) (Owner.Load l) (low-whole whole)) in
+      ap is_some (ap (λ q. find_row q w'.rows) c.next.above ∙ s.live)
+  | inr (none, left, a) ↦ born_live w w' l kind key (first_key kind.0 key) references k c.next a
+]
+  where
+    unnamed : is_named_by references (w.last.handle + 1) ≡ false
+    unnamed = false_from_ne_true (is_named_by references (w.last.handle + 1)) (λ is.
+        let (g, among, same) = named-among references (w.last.handle + 1) is in
+        let a = good w (Owner.Load l) [] references c.good g among in
+        let n = found-number g.handle.0 w.rows a.row a.live in
+        let le = (whole.numbered a.row (among-found g.handle.0 w.rows a.row a.live)).1 in
+        omega (arith, n, le, same))
+
+pub load_starts : {w w' : Core} {me : Owner} {h : HandleNumber} {l : LoadNumber} {key : ℕ} → BeginCall w me h (Ok (Beginning.Load l key)) w' → (t : ℕ)
+    → Some t ≡ option_map (λ (r : Reading). r.node_type) (reading_of_load l (w'.loads l.0)) → StartsPin w me h (Ok (PinStart.Load l key t)) w'
+load_starts c t is = grind (arith, nat_tests, begun_is, pinned-here, row-pins, same_some)
+
+pub ruleset lending = (nat_tests, all_there, called_fewer, stored_key, known_live, adopted_live)
+
+module _ {w w' : Core} (whole : pager.IsWhole w) where
+  pub begins : (r : Result WorkerNumber Error) → BeginsWorker w r w' → Rests w w'
+  begins x0 b = grind (arith, nat_tests, rests-then, spares-same, unmoved)
+
+  pub takes : (place : ℕ) (r : Result WorkerNumber Error) → TakesWorker w place r w' → Rests w w'
+  takes place (Ok v) b = let (h, listed, next, leaves) = b.taken in starts-listed whole place h v listed leaves
+  takes place (Err e) b = unmoved b.refused.1 whole.shut
+
+-- the entry that was looked at is the one that the worker takes
+pub entry-starts : {w w' : Core} {place type : ℕ} {row : HandleRow} {n : WorkerNumber} {kind : Kind} → IsEntry w place row.number row type → (kind.0 ≡ loose_kind type) × HasKinds type
+    → TakesWorker w place (Ok n) w'
+    → TakesEntry w place n (record { kind = kind; node = row.node; handle = row.number }) w'
+entry-starts {w} {w'} {place} {type} {row} {n} e x0 t = grind (arith, nat_tests, same_some)
+
+-- the handle of a reference that was claimed is loose
+pub row_sorted : {w : Core} {h : HandleNumber} → Looks w h (λ b row. b ≡ is_loose row.mode) (Ok true) → RowIs w h true
+row_sorted l = record { row = l.found.0; live = l.found.1; sort = sym l.found.2 }
+
+pub ruleset handling = (nat_tests, same_some, slice_get_within, made_so, load_starts, entry-starts, row_sorted)
+
+-- ---- what a handle lends, and what is seen of a pager of nothing
+
+module _ {N E : Type 0} {v : Values N} {s : PagerState N E} (is : WellFormed v s) (h : HandleNumber) where
+  pub lends-none : Looks s.core h (λ node row. node ≡ (if is_pinning row.mode then Some row.node else None)) (Ok None) → ValueCall s h (Ok None)
+  lends-none l = grind (arith, nat_tests)
+
+  pub lends-fault : (e : Error) → Looks s.core h (λ node row. node ≡ (if is_pinning row.mode then Some row.node else None)) (Err e) → ValueCall s h (Err e)
+  lends-fault e l = grind (arith, nat_tests)
+
+  pub lends : {X Y : Type 0} (n : NodeNumber) (r : Option X) (see : Y → N) (g : X → Y) → s.values n.0 ≡ option_map see (option_map g r)
+      → Looks s.core h (λ node row. node ≡ (if is_pinning row.mode then Some row.node else None)) (Ok (Some n)) → ValueCall s h (Ok (option_map (λ x. see (g x)) r))
+  lends n x0 see g value l = grind (arith, nat_tests, pinned-here, row-held, row-pins)
+
+module _ {N S E : Type 0} (tells : Telling S) (p : PagerView N S E) (rows : p.tables.holdings.handles.places.items ≡ []) (nodes : (n : ℕ) → counts_at p.tables.holdings.nodes n ≡ None)
+    (list : p.tables.holdings.list.items ≡ []) (cache : (kind key : ℕ) → known_at p.tables.cache kind key ≡ None) (none : (n : ℕ) → get nat_eq p.values n ≡ None) where
+  pub is-new : ((l : ℕ) → load_at p.tables.loads l ≡ None) → ((v : ℕ) → worker_at p.tables.workers v ≡ None) → (p.tables.last_node ≡ 0) × (p.tables.holdings.last_handle ≡ 0) × (p.tables.last_load ≡ 0) × (p.tables.last_worker ≡ 0) → IsNew (state_in tells p)
+  is-new loads workers last = grind (arith, nat_tests)
+
+-- what the storage tells is that it is empty and closed
+module _ {N S E : Type 0} {tells : Telling S} {says : E → Values N} {p : PagerView N S E} (is : IsPager tells says p) (s : S) (t : Tables) (values : ValuesByNode N)
+    (empty : (key : ℕ) → tells.stored s key ≡ None) (shut : tells.closed s ≡ true) (call : CloseCall (core_in tells p) (Ok tt) (core_of t (λ key. None) true (tells.failed s))) (whole : IsWhole t)
+    (sheds : Sheds (counts_at p.tables.holdings.nodes) (get nat_eq p.values) (counts_at t.holdings.nodes) (get nat_eq values)) where
+  abbrev new : PagerView N S E
+  new = record p { tables = t; values = values; storage = s }
+
+  shut-call : CloseCall (core_in tells p) (Ok tt) (core_in tells new)
+  shut-call = grind (arith, nat_tests, closed)
+
+  pub shut-told : Calls FewerValues tells p (λ w w'. CloseCall w (Ok tt) w') new
+  shut-told = record { step = shut-call; only = record { values = less is t values sheds; environment = refl } }
+
+  pub shut-pager : AreLater t → IsPager tells says new
+  shut-pager later = in-step new whole later (λ right. closed is.state (record { swept = swept is t values whole sheds; right = right }) shut-call)

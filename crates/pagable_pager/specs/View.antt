@@ -1,10 +1,10 @@
 -- What contracts see of a pager and its open loads, and the plain state that it tells.
 use Rattle.std.specs.declared.{hash.{BuildHasherDefault.BuildHasherDefault, FoldHasher.FoldHasher}, sync.Arc.Arc}
 use Rattle.std.specs.{Arc.arc_value, Global.Global, HashMap.{HashMap, get}, Option.option_map, Prelude.{Bool, None, Option, Some, false, if◌then◌else◌, is_some, nat_eq, true, ℕ, ◌+◌, ◌≡◌}}
-use Rattle.pagable_world.specs.{Events.with_worker, Kinds.{HasKinds, loose_kind}, LoadCalls.{Given, from_cache, from_store}, Pager.{PagerState, WellFormed}, Plain.{Blob, updated}, Refusals.OwnsLoad}
-use Rattle.pagable_world.specs.{World.{Alike, Core, OpenLoad, Root, Values, of_cell, of_key}, declared.handles.{HandleRow.HandleRow, Owner.Owner}}
 use Rattle.{either.specs.declared.Either.Either, pagable_model.specs.declared.numbers.{ArcRef.ArcRef, HandleNumber.HandleNumber, LoadNumber.LoadNumber, WorkerNumber.WorkerNumber}}
-use Rattle.{pagable_tables.specs.{Core.{AreLater, core_of}, Falling.{counts_at, has_value, pins_in}, declared.tables.Tables.Tables}, pagable_world.specs.Events.{IsEntry, with_entry_taken}}
+use Rattle.{pagable_tables.specs.{Core.{AreLater, core_of}, Falling.{counts_at, has_value, pins_in}, declared.tables.Tables.Tables}, pagable_world.specs.Kinds.{HasKinds, loose_kind}}
+use Rattle.pagable_world.specs.{Events.{IsEntry, with_entry_taken, with_worker}, LoadCalls.{Given, from_cache, from_store}, Pager.{PagerState, WellFormed}, Plain.{Blob, updated}, Refusals.OwnsLoad}
+use Rattle.pagable_world.specs.{World.{Alike, Core, OpenLoad, Root, Values, of_cell, of_key}, declared.handles.{HandleRow.HandleRow, Owner.Owner}}
 use Rattle.pagable_tables.specs.Core as tables
 
 abbrev pub ValuesByNode : Type 0 → Type 0
@@ -92,15 +92,10 @@ is_at_work w Owner.Caller = true
 is_at_work w (Owner.Worker v) = w.workers v.0
 is_at_work w _ = false
 
--- a call's step in the plain world, by which values, storage and environment stay
-pub record Calls {N S E : Type 0} (tells : Telling S) (old : PagerView N S E) (makes : Core → Core → Type 0) (new : PagerView N S E) : Type 0 where
+-- a call's step in the plain world, and what else it may change
+pub record Calls {N S E : Type 0} (Only : PagerView N S E → PagerView N S E → Type 0) (tells : Telling S) (old : PagerView N S E) (makes : Core → Core → Type 0) (new : PagerView N S E) : Type 0 where
   pub step : makes (core_in tells old) (core_in tells new)
-  pub only : OnlyTables old new
-
--- the same, where values may go
-pub record CallsLess {N S E : Type 0} (tells : Telling S) (old : PagerView N S E) (makes : Core → Core → Type 0) (new : PagerView N S E) : Type 0 where
-  pub step : makes (core_in tells old) (core_in tells new)
-  pub only : OnlyLess old new
+  pub only : Only old new
 
 -- ---- what an open load reads
 

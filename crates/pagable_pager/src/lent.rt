@@ -1,8 +1,8 @@
 //! A pager that is lent, as an access, and as that of a page-out worker; and the cache of one.
-#![tactic(auto, using(crate::proofs::Lending::lending))]
+#![tactic(auto, using(crate::proofs::Keeping::lending))]
 
 ghost use Rattle.std.specs.Prelude.{IfOk, true, ◌≡◌};
-ghost use Rattle.{pagable_loads.specs.Telling.values_at, pagable_pager.specs.View.{Calls, CallsLess, core_in, is_at_work, state_in, telling}};
+ghost use Rattle.{pagable_loads.specs.Telling.values_at, pagable_pager.specs.View.{Calls, OnlyLess, OnlyTables, core_in, is_at_work, state_in, telling}};
 ghost use Rattle.pagable_world.specs.{Calls.{ClearCall, OfferCall, RecallCall}, Pager.WellFormed, World.seen_as};
 
 use crate::pager::Pager;
@@ -15,7 +15,7 @@ use pagable_model::{
     WorkerNumber,
 };
 use pagable_world::handles::Owner;
-use pagable_world::{Beginning, Pinning, Want};
+use pagable_world::{Beginning, Want};
 use std::alloc::Global;
 use std::sync::Arc;
 
@@ -87,14 +87,6 @@ where
         self.pager.env()
     }
 
-    fn clone(&mut self, handle: HandleNumber) -> Result<HandleNumber, Error> {
-        settled(self.pager.clone_by(self.me, handle), self.pager)
-    }
-
-    fn pin(&mut self, handle: HandleNumber) -> Result<Pinning, Error> {
-        settled(self.pager.pin_by(self.me, handle), self.pager)
-    }
-
     fn begin_pin(&mut self, handle: HandleNumber) -> Result<PinStart, Error> {
         settled(self.pager.begin_pin_by(self.me, handle), self.pager)
     }
@@ -119,10 +111,6 @@ where
         settled(self.pager.release_by(self.me, handle), self.pager)
     }
 
-    fn load_begin(&mut self, handle: HandleNumber) -> Result<Beginning, Error> {
-        settled(self.pager.load_begin_by(self.me, handle), self.pager)
-    }
-
     fn load_key(&mut self, key: DataKey) -> Result<LoadNumber, Error> {
         match settled(self.pager.load_key_by(self.me, key), self.pager)? {
             Beginning::Load(load, _) => Ok(load),
@@ -145,7 +133,6 @@ where
         kind: Kind,
         key: DataKey,
     ) -> Result<Either<ArcRef, Arc<PagableData>>, Error> {
-        self.pager.is_whole();
         let want = Want::Nested(kind, key);
         let found = self.pager.load_fetch_by(self.me, alloc, load, want);
         self.pager.is_whole();
@@ -162,7 +149,6 @@ where
         kind: Kind,
         key: DataKey,
     ) -> Result<ArcRef, Error> {
-        self.pager.is_whole();
         let taken = self.pager.load_lazy_by(self.me, alloc, load, kind, key);
         self.pager.is_whole();
         Ok(self.pager.reference(kind, taken?))
@@ -292,7 +278,7 @@ where
     /// A new handle of the node that is known, as `cache_get` answers it. Refused with NumbersSpent and OutOfMemory.
     pub fn get(&mut self, kind: Kind, key: DataKey) -> Result<Option<HandleNumber>, Error>
         ensures lent { self.new.pager.ghost_name ≡ self.old.pager.ghost_name }
-        ensures calls { Calls (telling S.stored S.is_closed S.failed) self.old.pager.now (λ w w'. RecallCall w Owner.Caller kind key result w') self.new.pager.now }
+        ensures calls { Calls OnlyTables (telling S.stored S.is_closed S.failed) self.old.pager.now (λ w w'. RecallCall w Owner.Caller kind key result w') self.new.pager.now }
     {
         self.pager.cache_get(kind, key)
     }
@@ -301,7 +287,7 @@ where
     pub fn get_or_create_cell(&mut self, kind: Kind, key: DataKey) -> Result<ArcCell, Error>
         ensures lent { self.new.pager.ghost_name ≡ self.old.pager.ghost_name }
         ensures place { IfOk result (λ cell. (cell.kind ≡ kind) × (cell.key ≡ key)) }
-        ensures calls { Calls (telling S.stored S.is_closed S.failed) self.old.pager.now (λ w w'. RecallCall w Owner.Caller kind key (seen_as (λ cell. cell.handle) result) w') self.new.pager.now }
+        ensures calls { Calls OnlyTables (telling S.stored S.is_closed S.failed) self.old.pager.now (λ w w'. RecallCall w Owner.Caller kind key (seen_as (λ cell. cell.handle) result) w') self.new.pager.now }
     {
         let handle = self.pager.cache_get(kind, key)?;
         Ok(ArcCell { kind, key, handle })
@@ -315,7 +301,7 @@ where
         handle: HandleNumber,
     ) -> Result<Option<HandleNumber>, Error>
         ensures lent { self.new.pager.ghost_name ≡ self.old.pager.ghost_name }
-        ensures calls { CallsLess (telling S.stored S.is_closed S.failed) self.old.pager.now (λ w w'. OfferCall w Owner.Caller kind key handle result w') self.new.pager.now }
+        ensures calls { Calls OnlyLess (telling S.stored S.is_closed S.failed) self.old.pager.now (λ w w'. OfferCall w Owner.Caller kind key handle result w') self.new.pager.now }
     {
         self.pager.on_arc_deserialized(kind, key, handle)
     }
@@ -323,7 +309,7 @@ where
     /// The cache forgets all that it knows. It isn't refused.
     pub fn clear(&mut self) -> Result<(), Error>
         ensures lent { self.new.pager.ghost_name ≡ self.old.pager.ghost_name }
-        ensures calls { Calls (telling S.stored S.is_closed S.failed) self.old.pager.now (λ w w'. ClearCall w result w') self.new.pager.now }
+        ensures calls { Calls OnlyTables (telling S.stored S.is_closed S.failed) self.old.pager.now (λ w w'. ClearCall w result w') self.new.pager.now }
     {
         self.pager.cache_clear()
     }

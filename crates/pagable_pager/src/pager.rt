@@ -132,24 +132,21 @@ where
 
     /// The blob under a key. Refused with NoData, OutOfMemory and Storage, as the storage refuses it.
     pub fn fetch(&mut self, alloc: Global, key: DataKey) -> Result<Arc<PagableData>, Error>
-        ensures step { FetchCall (core_in (telling S.stored S.is_closed S.failed) self.old) key (seen_as (λ d. blob_of (arc_value d)) result) (core_in (telling S.stored S.is_closed S.failed) self.new) }
-        ensures only { OnlyStorage self.old self.new }
+        ensures { Calls OnlyStorage (telling S.stored S.is_closed S.failed) self.old (λ w w'. FetchCall w key (seen_as (λ d. blob_of (arc_value d)) result) w') self.new }
     {
         self.storage.fetch_data_blocking(alloc, key)
     }
 
     /// Stores a blob, and answers its key. Refused with OutOfMemory, Storage, KeyTaken and Closed, as the storage refuses it.
     pub fn store(&mut self, alloc: Global, blob: PagableData) -> Result<DataKey, Error>
-        ensures step { StoreCall (key_of E.Hash.digest) (core_in (telling S.stored S.is_closed S.failed) self.old) (blob_of blob) result (core_in (telling S.stored S.is_closed S.failed) self.new) }
-        ensures only { OnlyStorage self.old self.new }
+        ensures { Calls OnlyStorage (telling S.stored S.is_closed S.failed) self.old (λ w w'. StoreCall (key_of E.Hash.digest) w (blob_of blob) result w') self.new }
     {
         self.storage.store_data(alloc, blob)
     }
 
     /// Has the storage write what it has held back. Refused with OutOfMemory and Storage.
     pub fn flush(&mut self) -> Result<(), Error>
-        ensures step { FlushCall (core_in (telling S.stored S.is_closed S.failed) self.old) result (core_in (telling S.stored S.is_closed S.failed) self.new) }
-        ensures only { OnlyStorage self.old self.new }
+        ensures { Calls OnlyStorage (telling S.stored S.is_closed S.failed) self.old (λ w w'. FlushCall w result w') self.new }
     {
         self.storage.flush()
     }
@@ -157,8 +154,7 @@ where
     /// Closes the storage, which lets all blobs go. The list gives up all entries, with all that goes with them, and the cache forgets all that it knows; from then
     /// on nothing is listed or known. It isn't refused, and takes no memory.
     pub fn close(&mut self) -> Result<(), Error>
-        ensures step { CloseCall (core_in (telling S.stored S.is_closed S.failed) self.old) result (core_in (telling S.stored S.is_closed S.failed) self.new) }
-        ensures only { FewerValues self.old self.new }
+        ensures { Calls FewerValues (telling S.stored S.is_closed S.failed) self.old (λ w w'. CloseCall w result w') self.new }
     {
         self.storage.close();
         giving::close(&mut self.tables, &mut self.values);
@@ -167,14 +163,14 @@ where
 
     /// A load of a key, without a cell. Refused with NumbersSpent and OutOfMemory.
     pub fn load_key(&mut self, key: DataKey) -> Result<Beginning, Error>
-        ensures { Calls (telling S.stored S.is_closed S.failed) self.old (λ w w'. BeginKeyCall w Owner.Caller key result w') self.new }
+        ensures { Calls OnlyTables (telling S.stored S.is_closed S.failed) self.old (λ w w'. BeginKeyCall w Owner.Caller key result w') self.new }
     {
         self.load_key_by(Owner::Caller, key)
     }
 
     pub(crate) fn load_key_by(&mut self, me: Owner, key: DataKey) -> Result<Beginning, Error>
         requires { is_at_work (core_in (telling S.stored S.is_closed S.failed) self.old) me ≡ true }
-        ensures { Calls (telling S.stored S.is_closed S.failed) self.old (λ w w'. BeginKeyCall w me key result w') self.new }
+        ensures { Calls OnlyTables (telling S.stored S.is_closed S.failed) self.old (λ w w'. BeginKeyCall w me key result w') self.new }
     {
         loading::load_key(&mut self.tables, me, key)
     }
@@ -182,7 +178,7 @@ where
     /// A load of a loose handle's cell, with an unpinned clone of the handle; or InMemory, where the value needn't be read. Refused with NoSuchHandle, NotYours,
     /// WrongMode where the handle isn't loose, NumbersSpent and OutOfMemory.
     pub fn load_begin(&mut self, handle: HandleNumber) -> Result<Beginning, Error>
-        ensures { Calls (telling S.stored S.is_closed S.failed) self.old (λ w w'. BeginCall w Owner.Caller handle result w') self.new }
+        ensures { Calls OnlyTables (telling S.stored S.is_closed S.failed) self.old (λ w w'. BeginCall w Owner.Caller handle result w') self.new }
     {
         self.load_begin_by(Owner::Caller, handle)
     }
@@ -193,7 +189,7 @@ where
         handle: HandleNumber,
     ) -> Result<Beginning, Error>
         requires { is_at_work (core_in (telling S.stored S.is_closed S.failed) self.old) me ≡ true }
-        ensures { Calls (telling S.stored S.is_closed S.failed) self.old (λ w w'. BeginCall w me handle result w') self.new }
+        ensures { Calls OnlyTables (telling S.stored S.is_closed S.failed) self.old (λ w w'. BeginCall w me handle result w') self.new }
     {
         loading::load_begin(&mut self.tables, me, handle)
     }
@@ -259,7 +255,7 @@ where
         kind: Kind,
         key: DataKey,
     ) -> Result<HandleNumber, Error>
-        ensures { Calls (telling S.stored S.is_closed S.failed) self.old (λ w w'. LazyCall w Owner.Caller load kind key result w') self.new }
+        ensures { Calls OnlyTables (telling S.stored S.is_closed S.failed) self.old (λ w w'. LazyCall w Owner.Caller load kind key result w') self.new }
     {
         self.load_lazy_by(Owner::Caller, alloc, load, kind, key)
     }
@@ -272,7 +268,7 @@ where
         kind: Kind,
         key: DataKey,
     ) -> Result<HandleNumber, Error>
-        ensures { Calls (telling S.stored S.is_closed S.failed) self.old (λ w w'. LazyCall w me load kind key result w') self.new }
+        ensures { Calls OnlyTables (telling S.stored S.is_closed S.failed) self.old (λ w w'. LazyCall w me load kind key result w') self.new }
     {
         let lists = !self.storage.has_closed();
         loading::load_lazy(&mut self.tables, me, load, kind, key, lists, alloc)

@@ -1,7 +1,7 @@
 //! Nodes that come, what loads have read becomes nodes, and loads of cells that end with a value.
 
 ghost use Rattle.std.specs.{Arc.arc_value, HashMap.{get, spare}, Prelude.{Bool, IfErr, IfNone, IfOk, IfSome, List, None, OnErr, OnOk, Option, Some, nat_eq, not, true, ℕ, ◌<◌, ◌≡◌}};
-ghost use Rattle.{pagable_model.specs.declared.numbers.{ArcRef.ArcRef, Kind.Kind}, pagable_pager.specs.View.{Calls, OnlyLess, PutsIn, core_in, state_in, telling, value_in}};
+ghost use Rattle.{pagable_model.specs.declared.numbers.{ArcRef.ArcRef, Kind.Kind}, pagable_pager.specs.View.{Calls, OnlyLess, OnlyTables, PutsIn, core_in, state_in, telling, value_in}};
 ghost use Rattle.pagable_tables.specs.{Core.{AreLater, Does, IsWhole, core_of, plain_of}, Falling.{Sheds, counts_at}, Ready.{HasPlace, IsReady, Unends, early_fault}};
 ghost use Rattle.pagable_world.specs.{Calls.{AwayBirthCall, BirthCall}, Kinds.is_pinning, LoadCalls.{AdoptCall, Adopts, EndCall, EndRefused, Installs, adopt_fault}, Pager.{IsCellOf, IsNewNode}};
 ghost use Rattle.pagable_world.specs.{Pager.Moves, Plain.{Blob, Error, updated}, Refusals.{Refused, closed_fault, earlier, load_fault}, World.{Core, usable}};
@@ -189,7 +189,7 @@ where
         node_type: u32,
         key: DataKey,
     ) -> Result<HandleNumber, Error>
-        ensures { Calls (telling S.stored S.is_closed S.failed) self.old (λ w w'. AwayBirthCall w Owner.Caller node_type key result w') self.new }
+        ensures { Calls OnlyTables (telling S.stored S.is_closed S.failed) self.old (λ w w'. AwayBirthCall w Owner.Caller node_type key result w') self.new }
     {
         making::new_away(&mut self.tables, alloc, Owner::Caller, node_type, key)
     }

@@ -1,9 +1,9 @@
 //! Handles that come to live nodes and go, what is asked of them, pins that begin, the list of cells that wait for page-out, the cache and room; and what page-out workers ask.
-#![tactic(auto, using(crate::proofs::Lending::handling))]
+#![tactic(auto, using(crate::proofs::Keeping::handling))]
 
 ghost use Rattle.std.specs.{Option.option_map, Prelude.{IfErr, IfNone, IfOk, IfSome, IsSome, length, true, ◌<◌, ◌≡◌, ◌≤◌}};
 ghost use Rattle.{pagable_loads.specs.{Starting.{StartsPin, is_unpinned_at}, Telling.IsMade, Working.{EntryFault, TakesReference}}, pagable_tables.specs.Core.{BeginsWorker, TakesWorker}};
-ghost use Rattle.pagable_pager.specs.View.{Calls, CallsLess, OnlyTables, TakesEntry, core_in, is_at_work, telling};
+ghost use Rattle.pagable_pager.specs.View.{Calls, OnlyLess, OnlyTables, TakesEntry, core_in, is_at_work, telling};
 ghost use Rattle.pagable_world.specs.Calls.{AwayCall, ClearCall, CloneCall, CountCall, KeyCall, Looks, LoosenCall, NodeCall, OfferCall, PinCall, RecallCall, ReleaseCall, ReserveCall};
 ghost use Rattle.pagable_world.specs.{Calls.{ScheduleCall, SetKeyCall, TakeCall, TypeCall, UnpinCall, room_of}, Cascade.FallsAnyhow, Events.{IsEntry, reading_of_load}, Kinds.{HasKinds, HasNoKinds}};
 ghost use Rattle.pagable_world.specs.{Kinds.{is_loose, loose_kind}, LoadCalls.{DropCall, HandOverCall}, Workers.{WorkerEnds, claim_fault, is_workers_at}, World.{Alike, Reading, key_at, row_at}};
@@ -38,7 +38,7 @@ where
 {
     /// One more handle of the node of a live handle, of the same mode, which is the caller's: a clone of a pinning handle pins. Refused with NoSuchHandle, NumbersSpent and OutOfMemory.
     pub fn clone(&mut self, handle: HandleNumber) -> Result<HandleNumber, Error>
-        ensures { Calls (telling S.stored S.is_closed S.failed) self.old (λ w w'. CloneCall w Owner.Caller handle result w') self.new }
+        ensures { Calls OnlyTables (telling S.stored S.is_closed S.failed) self.old (λ w w'. CloneCall w Owner.Caller handle result w') self.new }
     {
         self.clone_by(Owner::Caller, handle)
     }
@@ -49,14 +49,14 @@ where
         handle: HandleNumber,
     ) -> Result<HandleNumber, Error>
         requires { is_at_work (core_in (telling S.stored S.is_closed S.failed) self.old) me ≡ true }
-        ensures { Calls (telling S.stored S.is_closed S.failed) self.old (λ w w'. CloneCall w me handle result w') self.new }
+        ensures { Calls OnlyTables (telling S.stored S.is_closed S.failed) self.old (λ w w'. CloneCall w me handle result w') self.new }
     {
         making::clone(&mut self.tables, me, handle)
     }
 
     /// A Pinned handle becomes a loose pinned one, and keeps its number. It takes no memory. Refused with NoSuchHandle, NotYours, and WrongMode where the handle isn't Pinned.
     pub fn into_pagable(&mut self, handle: HandleNumber) -> Result<HandleNumber, Error>
-        ensures { Calls (telling S.stored S.is_closed S.failed) self.old (λ w w'. LoosenCall w Owner.Caller handle result w') self.new }
+        ensures { Calls OnlyTables (telling S.stored S.is_closed S.failed) self.old (λ w w'. LoosenCall w Owner.Caller handle result w') self.new }
     {
         making::into_pagable(&mut self.tables, Owner::Caller, handle)
     }
@@ -64,14 +64,14 @@ where
     /// A loose handle becomes pinned, and a new Pinned handle is answered; or the key under which the value has to be loaded first, where it isn't in memory,
     /// and then nothing changes. Refused with NoSuchHandle, NotYours, WrongMode where the handle isn't loose, NumbersSpent and OutOfMemory.
     pub fn pin(&mut self, handle: HandleNumber) -> Result<Pinning, Error>
-        ensures { Calls (telling S.stored S.is_closed S.failed) self.old (λ w w'. PinCall w Owner.Caller handle result w') self.new }
+        ensures { Calls OnlyTables (telling S.stored S.is_closed S.failed) self.old (λ w w'. PinCall w Owner.Caller handle result w') self.new }
     {
         self.pin_by(Owner::Caller, handle)
     }
 
     pub(crate) fn pin_by(&mut self, me: Owner, handle: HandleNumber) -> Result<Pinning, Error>
         requires { is_at_work (core_in (telling S.stored S.is_closed S.failed) self.old) me ≡ true }
-        ensures { Calls (telling S.stored S.is_closed S.failed) self.old (λ w w'. PinCall w me handle result w') self.new }
+        ensures { Calls OnlyTables (telling S.stored S.is_closed S.failed) self.old (λ w w'. PinCall w me handle result w') self.new }
     {
         making::pin(&mut self.tables, me, handle)
     }
@@ -143,7 +143,7 @@ where
 
     /// A pin of a loose handle as `pin` makes it, where its value is in memory, and else a load of its cell as `load_begin` opens it, refused as these.
     pub fn begin_pin(&mut self, handle: HandleNumber) -> Result<PinStart, Error>
-        ensures { Calls (telling S.stored S.is_closed S.failed) self.old (λ w w'. StartsPin w Owner.Caller handle result w') self.new }
+        ensures { Calls OnlyTables (telling S.stored S.is_closed S.failed) self.old (λ w w'. StartsPin w Owner.Caller handle result w') self.new }
     {
         self.begin_pin_by(Owner::Caller, handle)
     }
@@ -154,7 +154,7 @@ where
         handle: HandleNumber,
     ) -> Result<PinStart, Error>
         requires { is_at_work (core_in (telling S.stored S.is_closed S.failed) self.old) me ≡ true }
-        ensures { Calls (telling S.stored S.is_closed S.failed) self.old (λ w w'. StartsPin w me handle result w') self.new }
+        ensures { Calls OnlyTables (telling S.stored S.is_closed S.failed) self.old (λ w w'. StartsPin w me handle result w') self.new }
     {
         let was_unpinned = self.is_unpinned(handle);
         if let Ok(true) = self.is_paged_out(handle) {
@@ -174,14 +174,14 @@ where
 
     /// The entry at this place of the list moves to the caller, as a loose unpinned handle. None past the end.
     pub fn take_pending(&mut self, place: usize) -> Option<HandleNumber>
-        ensures { Calls (telling S.stored S.is_closed S.failed) self.old (λ w w'. TakeCall w Owner.Caller place result w') self.new }
+        ensures { Calls OnlyTables (telling S.stored S.is_closed S.failed) self.old (λ w w'. TakeCall w Owner.Caller place result w') self.new }
     {
         self.take_pending_by(Owner::Caller, place)
     }
 
     pub(crate) fn take_pending_by(&mut self, me: Owner, place: usize) -> Option<HandleNumber>
         requires { is_at_work (core_in (telling S.stored S.is_closed S.failed) self.old) me ≡ true }
-        ensures { Calls (telling S.stored S.is_closed S.failed) self.old (λ w w'. TakeCall w me place result w') self.new }
+        ensures { Calls OnlyTables (telling S.stored S.is_closed S.failed) self.old (λ w w'. TakeCall w me place result w') self.new }
     {
         giving::take_pending(&mut self.tables, me, place)
     }
@@ -189,7 +189,7 @@ where
     /// A loose unpinned handle moves to the list's end. Once the storage is closed it is given up as `release` does. Refused with NoSuchHandle, NotYours, WrongMode
     /// where the handle isn't unpinned, and OutOfMemory.
     pub fn schedule_for_paging(&mut self, handle: HandleNumber) -> Result<(), Error>
-        ensures { CallsLess (telling S.stored S.is_closed S.failed) self.old (λ w w'. ScheduleCall w Owner.Caller handle result w') self.new }
+        ensures { Calls OnlyLess (telling S.stored S.is_closed S.failed) self.old (λ w w'. ScheduleCall w Owner.Caller handle result w') self.new }
     {
         self.schedule_for_paging_by(Owner::Caller, handle)
     }
@@ -200,7 +200,7 @@ where
         handle: HandleNumber,
     ) -> Result<(), Error>
         requires { is_at_work (core_in (telling S.stored S.is_closed S.failed) self.old) me ≡ true }
-        ensures { CallsLess (telling S.stored S.is_closed S.failed) self.old (λ w w'. ScheduleCall w me handle result w') self.new }
+        ensures { Calls OnlyLess (telling S.stored S.is_closed S.failed) self.old (λ w w'. ScheduleCall w me handle result w') self.new }
     {
         let lists = !self.storage.has_closed();
         giving::schedule_for_paging(&mut self.tables, &mut self.values, me, handle, lists)
@@ -209,7 +209,7 @@ where
     /// A new handle, in the kind's mode, of the node that the cache knows under a kind and a key; or None, where it knows none that is alive and, for a kind of
     /// Pinned handles, has its value in memory. Refused with NumbersSpent and OutOfMemory.
     pub fn cache_get(&mut self, kind: Kind, key: DataKey) -> Result<Option<HandleNumber>, Error>
-        ensures { Calls (telling S.stored S.is_closed S.failed) self.old (λ w w'. RecallCall w Owner.Caller kind key result w') self.new }
+        ensures { Calls OnlyTables (telling S.stored S.is_closed S.failed) self.old (λ w w'. RecallCall w Owner.Caller kind key result w') self.new }
     {
         lookups::cache_get(&mut self.tables, Owner::Caller, kind, key)
     }
@@ -222,7 +222,7 @@ where
         key: DataKey,
         handle: HandleNumber,
     ) -> Result<Option<HandleNumber>, Error>
-        ensures { CallsLess (telling S.stored S.is_closed S.failed) self.old (λ w w'. OfferCall w Owner.Caller kind key handle result w') self.new }
+        ensures { Calls OnlyLess (telling S.stored S.is_closed S.failed) self.old (λ w w'. OfferCall w Owner.Caller kind key handle result w') self.new }
     {
         let lists = !self.storage.has_closed();
         let (tables, values) = (&mut self.tables, &mut self.values);
@@ -245,14 +245,14 @@ where
 
     /// Makes `room` at least as much, and changes nothing else. Refused with OutOfMemory.
     pub fn reserve(&mut self, more: usize) -> Result<(), Error>
-        ensures { Calls (telling S.stored S.is_closed S.failed) self.old (λ w w'. ReserveCall w more result w') self.new }
+        ensures { Calls OnlyTables (telling S.stored S.is_closed S.failed) self.old (λ w w'. ReserveCall w more result w') self.new }
     {
         tables::reserve(&mut self.tables, more)
     }
 
     /// The cache forgets all that it knows. It isn't refused.
     pub fn cache_clear(&mut self) -> Result<(), Error>
-        ensures { Calls (telling S.stored S.is_closed S.failed) self.old (λ w w'. ClearCall w result w') self.new }
+        ensures { Calls OnlyTables (telling S.stored S.is_closed S.failed) self.old (λ w w'. ClearCall w result w') self.new }
     {
         tables::cache_clear(&mut self.tables)
     }
@@ -260,14 +260,14 @@ where
     /// A loose handle lets its pin go, and stays; one that is unpinned already does nothing. With its last pin a cell loses its value where it has a key, and is listed for page-out where it has none.
     /// Refused with NoSuchHandle, NotYours and WrongMode, and nothing changes; NumbersSpent and OutOfMemory say that a cell couldn't be listed: the pin is let go all the same.
     pub fn unpin(&mut self, handle: HandleNumber) -> Result<(), Error>
-        ensures { CallsLess (telling S.stored S.is_closed S.failed) self.old (λ w w'. UnpinCall w Owner.Caller handle result w') self.new }
+        ensures { Calls OnlyLess (telling S.stored S.is_closed S.failed) self.old (λ w w'. UnpinCall w Owner.Caller handle result w') self.new }
     {
         self.unpin_by(Owner::Caller, handle)
     }
 
     pub(crate) fn unpin_by(&mut self, me: Owner, handle: HandleNumber) -> Result<(), Error>
         requires { is_at_work (core_in (telling S.stored S.is_closed S.failed) self.old) me ≡ true }
-        ensures { CallsLess (telling S.stored S.is_closed S.failed) self.old (λ w w'. UnpinCall w me handle result w') self.new }
+        ensures { Calls OnlyLess (telling S.stored S.is_closed S.failed) self.old (λ w w'. UnpinCall w me handle result w') self.new }
     {
         let lists = !self.storage.has_closed();
         giving::unpin(&mut self.tables, &mut self.values, me, handle, lists)
@@ -276,14 +276,14 @@ where
     /// A handle is given up; a pinning one lets its pin go as `unpin` does. A node without handles is gone, and its value with all handles that it owns, and so on.
     /// Refused with NoSuchHandle and NotYours, and nothing changes; NumbersSpent and OutOfMemory as of `unpin`.
     pub fn release(&mut self, handle: HandleNumber) -> Result<(), Error>
-        ensures { CallsLess (telling S.stored S.is_closed S.failed) self.old (λ w w'. ReleaseCall w Owner.Caller handle result w') self.new }
+        ensures { Calls OnlyLess (telling S.stored S.is_closed S.failed) self.old (λ w w'. ReleaseCall w Owner.Caller handle result w') self.new }
     {
         self.release_by(Owner::Caller, handle)
     }
 
     pub(crate) fn release_by(&mut self, me: Owner, handle: HandleNumber) -> Result<(), Error>
         requires { is_at_work (core_in (telling S.stored S.is_closed S.failed) self.old) me ≡ true }
-        ensures { CallsLess (telling S.stored S.is_closed S.failed) self.old (λ w w'. ReleaseCall w me handle result w') self.new }
+        ensures { Calls OnlyLess (telling S.stored S.is_closed S.failed) self.old (λ w w'. ReleaseCall w me handle result w') self.new }
     {
         let lists = !self.storage.has_closed();
         giving::release(&mut self.tables, &mut self.values, me, handle, lists)
@@ -292,7 +292,7 @@ where
     /// The cell of a loose handle gets a key, which replaces an older one, and its value goes where nothing pins it. Through a handle of another mode nothing
     /// changes. Asks that the key reads as the value. Refused with NoSuchHandle and NotYours, and nothing changes; NumbersSpent and OutOfMemory as of `unpin`.
     pub fn set_data_key(&mut self, handle: HandleNumber, key: DataKey) -> Result<(), Error>
-        ensures { CallsLess (telling S.stored S.is_closed S.failed) self.old (λ w w'. SetKeyCall w Owner.Caller handle key result w') self.new }
+        ensures { Calls OnlyLess (telling S.stored S.is_closed S.failed) self.old (λ w w'. SetKeyCall w Owner.Caller handle key result w') self.new }
     {
         self.set_data_key_by(Owner::Caller, handle, key)
     }
@@ -304,7 +304,7 @@ where
         key: DataKey,
     ) -> Result<(), Error>
         requires { is_at_work (core_in (telling S.stored S.is_closed S.failed) self.old) me ≡ true }
-        ensures { CallsLess (telling S.stored S.is_closed S.failed) self.old (λ w w'. SetKeyCall w me handle key result w') self.new }
+        ensures { Calls OnlyLess (telling S.stored S.is_closed S.failed) self.old (λ w w'. SetKeyCall w me handle key result w') self.new }
     {
         let lists = !self.storage.has_closed();
         giving::set_data_key(&mut self.tables, &mut self.values, me, handle, key, lists)
@@ -313,13 +313,13 @@ where
     /// A load is given up, with all that it owns and all that goes with that. Refused with NoSuchHandle and NotYours, and nothing changes; NumbersSpent and
     /// OutOfMemory say that a cell couldn't be listed: the load is given up all the same.
     pub fn load_drop(&mut self, load: LoadNumber) -> Result<(), Error>
-        ensures { CallsLess (telling S.stored S.is_closed S.failed) self.old (λ w w'. DropCall w Owner.Caller load result w') self.new }
+        ensures { Calls OnlyLess (telling S.stored S.is_closed S.failed) self.old (λ w w'. DropCall w Owner.Caller load result w') self.new }
     {
         self.load_drop_by(Owner::Caller, load)
     }
 
     pub(crate) fn load_drop_by(&mut self, me: Owner, load: LoadNumber) -> Result<(), Error>
-        ensures { CallsLess (telling S.stored S.is_closed S.failed) self.old (λ w w'. DropCall w me load result w') self.new }
+        ensures { Calls OnlyLess (telling S.stored S.is_closed S.failed) self.old (λ w w'. DropCall w me load result w') self.new }
     {
         let lists = !self.storage.has_closed();
         giving::load_drop(&mut self.tables, &mut self.values, me, load, lists)
@@ -328,7 +328,7 @@ where
     /// A load of a key hands the named handles over to the caller, gives up the rest and is closed. Refused with NoSuchHandle, NotYours where another began the load
     /// or owns a named handle, or one is named twice, and WrongMode where it is a load of a cell; then nothing changes.
     pub fn load_take(&mut self, load: LoadNumber, named: &[HandleNumber]) -> Result<(), Error>
-        ensures { CallsLess (telling S.stored S.is_closed S.failed) self.old (λ w w'. HandOverCall w Owner.Caller load named.now result w') self.new }
+        ensures { Calls OnlyLess (telling S.stored S.is_closed S.failed) self.old (λ w w'. HandOverCall w Owner.Caller load named.now result w') self.new }
     {
         self.load_take_by(Owner::Caller, load, named)
     }
@@ -340,7 +340,7 @@ where
         named: &[HandleNumber],
     ) -> Result<(), Error>
         requires { is_at_work (core_in (telling S.stored S.is_closed S.failed) self.old) me ≡ true }
-        ensures { CallsLess (telling S.stored S.is_closed S.failed) self.old (λ w w'. HandOverCall w me load named.now result w') self.new }
+        ensures { Calls OnlyLess (telling S.stored S.is_closed S.failed) self.old (λ w w'. HandOverCall w me load named.now result w') self.new }
     {
         let lists = !self.storage.has_closed();
         giving::load_take(&mut self.tables, &mut self.values, me, load, named, lists)
@@ -372,7 +372,7 @@ where
 
     /// One worker more is at work. Refused with OutOfMemory.
     pub(crate) fn worker_begin(&mut self) -> Result<WorkerNumber, Error>
-        ensures { Calls (telling S.stored S.is_closed S.failed) self.old (λ w w'. BeginsWorker w result w') self.new }
+        ensures { Calls OnlyTables (telling S.stored S.is_closed S.failed) self.old (λ w w'. BeginsWorker w result w') self.new }
     {
         giving::worker_begin(&mut self.tables)
     }
@@ -380,7 +380,7 @@ where
     /// The same, for the entry at this place of the list, which moves to the worker. Refused with OutOfMemory.
     pub(crate) fn worker_take(&mut self, place: usize) -> Result<WorkerNumber, Error>
         requires { place < length (core_in (telling S.stored S.is_closed S.failed) self.old).list }
-        ensures { Calls (telling S.stored S.is_closed S.failed) self.old (λ w w'. TakesWorker w place result w') self.new }
+        ensures { Calls OnlyTables (telling S.stored S.is_closed S.failed) self.old (λ w w'. TakesWorker w place result w') self.new }
     {
         giving::worker_take(&mut self.tables, place)
     }
@@ -405,7 +405,7 @@ where
 
     /// A worker gives up all handles that it has at a node, with all that goes with them.
     pub(crate) fn release_node(&mut self, worker: WorkerNumber, node: NodeNumber)
-        ensures { CallsLess (telling S.stored S.is_closed S.failed) self.old (λ w w'. FallsAnyhow w w (is_workers_at w worker.0 node.0) w') self.new }
+        ensures { Calls OnlyLess (telling S.stored S.is_closed S.failed) self.old (λ w w'. FallsAnyhow w w (is_workers_at w worker.0 node.0) w') self.new }
     {
         let lists = !self.storage.has_closed();
         giving::release_node(&mut self.tables, &mut self.values, worker, node, lists);
@@ -413,7 +413,7 @@ where
 
     /// A worker ends: its loads are closed, and it gives up whatever it and they still have, with all that goes with it.
     pub(crate) fn worker_end(&mut self, worker: WorkerNumber)
-        ensures { CallsLess (telling S.stored S.is_closed S.failed) self.old (λ w w'. WorkerEnds w worker.0 w') self.new }
+        ensures { Calls OnlyLess (telling S.stored S.is_closed S.failed) self.old (λ w w'. WorkerEnds w worker.0 w') self.new }
     {
         let lists = !self.storage.has_closed();
         giving::worker_end(&mut self.tables, &mut self.values, worker, lists);

@@ -1,5 +1,5 @@
-use Rattle.{pagable_loads.specs.Telling.values_at, pagable_pager.proofs.Lending.told_less, std.proofs.Common.rules}
+use Rattle.{pagable_loads.specs.Telling.values_at, pagable_pager.proofs.Keeping.told_less, std.proofs.Common.rules}
 use Rattle.pagable_pager.proofs.lent.LentAccess.load_take.Goals as goal
 
 pub returns : goal.returns
-returns g c = rw c.settled.ensures.same (record { step = told_less (λ e. values_at g.E.Node.NodeSet g.E.Env g.E.Hash.KeyHash e) c.load_take_by.ensures c.settled.ensures.whole; acting = search rules })
+returns g c = rw c.settled.ensures.same (record { step = told_less (values_at g.E.Node.NodeSet g.E.Env g.E.Hash.KeyHash) c.load_take_by.ensures c.settled.ensures.whole; acting = search rules })

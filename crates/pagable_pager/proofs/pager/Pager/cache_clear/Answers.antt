@@ -2,8 +2,7 @@ use Rattle.{pagable_pager.proofs.Keeping.called, pagable_steps.proofs.Owning.{re
 use Rattle.pagable_pager.proofs.pager.Pager.cache_clear.Goals as goal
 
 pub invariant_of-self : goal.invariant_of-self
-invariant_of-self g c =
-    called c.self.invariant c.cache_clear.new.t c.cache_clear.ensures
+invariant_of-self g c = called c.self.invariant c.cache_clear.new.t c.cache_clear.ensures
     (λ r. rests-then (spares-same refl (λ n. refl) refl) r.leaves (λ e. ((c.self.invariant.state.whole.shut e).0, λ kind key. refl)))
 
 pub returns : goal.returns

@@ -1,4 +1,4 @@
-use Rattle.pagable_pager.proofs.Lending.{shut-pager, shut-told}
+use Rattle.pagable_pager.proofs.Keeping.{shut-pager, shut-told}
 use Rattle.pagable_pager.proofs.pager.Pager.close.Goals as goal
 
 pub invariant_of-self : goal.invariant_of-self
@@ -11,5 +11,4 @@ pub returns : goal.returns
 returns g c =
     let e = c.close-2.ensures in
     let s = c.close.ensures in
-    let told = shut-told c.self.invariant c.close.new.self c.close-2.new.t c.close-2.new.values s.empty s.closed (e.closed _ _ _ _ s.later) e.whole e.sheds in
-    rw (← c.self.view_is) (record { step = told.0; only = told.1 })
+    rw (← c.self.view_is) (shut-told c.self.invariant c.close.new.self c.close-2.new.t c.close-2.new.values s.empty s.closed (e.closed _ _ _ _ s.later) e.whole e.sheds)

@@ -1,11 +1,11 @@
-use Rattle.{pagable_core.specs.Data.blob_of, pagable_pager.proofs.Keeping.{asked, asked-so, fetch-call}, std.specs.Arc.arc_value}
+use Rattle.{pagable_core.specs.Data.blob_of, pagable_pager.proofs.Keeping.{asked, asked-so, fetch-call}, std.{proofs.Common.refl, specs.Arc.arc_value}}
 use Rattle.pagable_pager.proofs.pager.Pager.fetch.Goals as goal
 
 pub invariant_of-self : goal.invariant_of-self
 invariant_of-self g c = let e = c.fetch_data_blocking.ensures in asked-so c.self.invariant c.fetch_data_blocking.new.self e.open e.later e.same
 
-pub returns-clause-step : goal.returns-clause-step
-returns-clause-step g c =
+pub returns : goal.returns
+returns g c =
     let e = c.fetch_data_blocking.ensures in
-    rw (← c.self.view_is) (fetch-call (λ d. blob_of (arc_value d)) _ _ c.args.key c.fetch_data_blocking.result (asked c.self.invariant c.fetch_data_blocking.new.self e.open e.later e.same) e.ok
-    e.only)
+    let asks = asked c.self.invariant c.fetch_data_blocking.new.self e.open e.later e.same in
+    rw (← c.self.view_is) (record { step = fetch-call (λ d. blob_of (arc_value d)) _ _ c.args.key c.fetch_data_blocking.result asks e.ok e.only; only = record { tables = refl; values = refl; environment = refl } })

@@ -1,4 +1,4 @@
-use Rattle.{std.proofs.Common.refl, pagable_pager.{proofs.Lending.is-new, specs.View.telling}}
+use Rattle.{std.proofs.Common.refl, pagable_pager.{proofs.Keeping.is-new, specs.View.telling}}
 use Rattle.pagable_pager.proofs.pager.Pager.new.Goals as goal
 
 pub returns-clause-empty : goal.returns-clause-empty

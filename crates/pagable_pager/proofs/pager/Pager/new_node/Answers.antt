@@ -1,4 +1,4 @@
-use Rattle.{std.proofs.Common.refl, pagable_pager.proofs.Keeping.{born-so, born-told, no-memory, roomier}}
+use Rattle.{std.proofs.Common.{inr, refl}, pagable_pager.proofs.Keeping.{born-so, born-told, only-room, roomier}, pagable_tables.proofs.Worlds.room-alike}
 use Rattle.pagable_pager.proofs.pager.Pager.new_node.Goals as goal
 
 pub invariant_of-self : goal.invariant_of-self
@@ -9,17 +9,17 @@ invariant_of-self-in-Err-share_with_room g c = roomier c.self.invariant c.share_
 
 pub returns-in-Err-share_with_room-clause-step : goal.returns-in-Err-share_with_room-clause-step
 returns-in-Err-share_with_room-clause-step g c =
-    rw (← c.self.view_is) (no-memory c.self.invariant c.share_with_room.new.values c.prepare.ensures.does _ _ c.in-Err-share_with_room.ensures.back _ _ _)
+    let stays = room-alike (only-room c.self.invariant c.share_with_room.new.values c.prepare.ensures.does) in
+    rw (← c.self.view_is) (record { made = tt; refused = (c.in-Err-share_with_room.ensures.back, record { why = inr (refl, refl, tt); stays = stays }) })
 
 pub invariant_of-self-2 : goal.invariant_of-self-2
-invariant_of-self-2 g c =
-    born-so c.self.invariant c.share_with_room.new.values c.prepare.ensures.does c.share_with_room.ensures.same c.bear-handle.new.t c.keep.new.values c.args.node
-    c.in-Ok-share_with_room.ensures.shared c.keep.ensures c.bear-handle.ensures.does c.in_default.ensures.ready.node_left c.in_default.ensures.fit c.deref.ensures.value
-    c.node_type-node_type.ensures.value c.in-Ok.ensures.ok c.requires
+invariant_of-self-2 g c = born-so c.self.invariant c.share_with_room.new.values c.prepare.ensures.does c.share_with_room.ensures.same c.bear-handle.new.t c.keep.new.values c.args.node
+    c.in-Ok-share_with_room.ensures.shared c.keep.ensures c.bear-handle.ensures.does
+    c.in_default.ensures.ready.node_left c.in_default.ensures.fit c.deref.ensures.value c.node_type-node_type.ensures.value c.in-Ok.ensures.ok c.requires
 
 pub returns : goal.returns
 returns g c =
     let born = born-told c.self.invariant c.share_with_room.new.values c.prepare.ensures.does c.share_with_room.ensures.same c.bear-handle.new.t c.keep.new.values c.args.node
-    c.in-Ok-share_with_room.ensures.shared c.keep.ensures c.bear-handle.ensures.does c.in_default.ensures.ready.node_left c.in_default.ensures.fit c.deref.ensures.value
-    c.node_type-node_type.ensures.value c.in-Ok.ensures.ok in
+    c.in-Ok-share_with_room.ensures.shared c.keep.ensures
+    c.bear-handle.ensures.does c.in_default.ensures.ready.node_left c.in_default.ensures.fit c.deref.ensures.value c.node_type-node_type.ensures.value c.in-Ok.ensures.ok in
     rw (← c.self.view_is) (record { step = born.0; moves = born.1 })

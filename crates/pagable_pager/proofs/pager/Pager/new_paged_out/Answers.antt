@@ -1,4 +1,4 @@
-use Rattle.{pagable_pager.proofs.Keeping.{caller-free, made-by}, pagable_steps.proofs.Calls.born-away, std.proofs.Common.refl}
+use Rattle.{pagable_pager.proofs.Keeping.{caller-free, made-by}, pagable_steps.proofs.Owning.born-away, std.proofs.Common.refl}
 use Rattle.pagable_pager.proofs.pager.Pager.new_paged_out.Goals as goal
 
 pub invariant_of-self : goal.invariant_of-self

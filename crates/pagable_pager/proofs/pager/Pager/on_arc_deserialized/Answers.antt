@@ -1,4 +1,4 @@
-use Rattle.{pagable_pager.proofs.Keeping.{caller-free, known-valued, only-less, shed}, pagable_steps.proofs.Calls.offered, std.proofs.Common.{ap, not}}
+use Rattle.{pagable_pager.proofs.Keeping.{caller-free, known-valued, only-less, shed}, pagable_steps.proofs.Owning.offered, std.proofs.Common.{ap, not}}
 use Rattle.pagable_pager.proofs.pager.Pager.on_arc_deserialized.Goals as goal
 
 pub invariant_of-self : goal.invariant_of-self

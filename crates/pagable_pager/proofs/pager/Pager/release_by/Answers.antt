@@ -1,4 +1,4 @@
-use Rattle.{pagable_pager.proofs.Keeping.{less-called, owner-free, shed-by}, pagable_steps.proofs.Calls.released}
+use Rattle.{pagable_pager.proofs.Keeping.{less-called, owner-free, shed-by}, pagable_steps.proofs.Owning.released}
 use Rattle.pagable_pager.proofs.pager.Pager.release_by.Goals as goal
 
 pub invariant_of-self : goal.invariant_of-self

@@ -1,4 +1,4 @@
-use Rattle.{pagable_pager.proofs.Keeping.{less-called, owner-free, shed-by}, pagable_steps.proofs.Calls.key_set}
+use Rattle.{pagable_pager.proofs.Keeping.{less-called, owner-free, shed-by}, pagable_steps.proofs.Owning.key_set}
 use Rattle.pagable_pager.proofs.pager.Pager.set_data_key_by.Goals as goal
 
 pub invariant_of-self : goal.invariant_of-self

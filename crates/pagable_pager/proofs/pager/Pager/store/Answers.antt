@@ -1,4 +1,4 @@
-use Rattle.{pagable_core.specs.Data.blob_of, pagable_model.specs.Blob.key_of, pagable_pager.proofs.Keeping.{store-call, stored-so}}
+use Rattle.{pagable_core.specs.Data.blob_of, pagable_model.specs.Blob.key_of, pagable_pager.proofs.Keeping.{store-call, stored-so}, std.proofs.Common.refl}
 use Rattle.pagable_pager.proofs.pager.Pager.store.Goals as goal
 
 pub invariant_of-self : goal.invariant_of-self
@@ -6,8 +6,9 @@ invariant_of-self g c =
     let e = c.store_data.ensures in
     stored-so c.self.invariant c.store_data.new.self e.open e.later (key_of g.E.Hash.KeyHash.digest) (blob_of c.args.blob) c.store_data.result e.key e.adds e.was_open e.only e.err
 
-pub returns-clause-step : goal.returns-clause-step
-returns-clause-step g c =
+pub returns : goal.returns
+returns g c =
     let e = c.store_data.ensures in
-    rw (← c.self.view_is) (store-call c.self.invariant c.store_data.new.self e.open e.later (key_of g.E.Hash.KeyHash.digest) (blob_of c.args.blob) c.store_data.result e.key e.adds e.was_open
-    e.only e.err)
+    let digest = key_of g.E.Hash.KeyHash.digest in
+    let stores = store-call c.self.invariant c.store_data.new.self e.open e.later digest (blob_of c.args.blob) c.store_data.result e.key e.adds e.was_open e.only e.err in
+    rw (← c.self.view_is) (record { step = stores; only = record { tables = refl; values = refl; environment = refl } })

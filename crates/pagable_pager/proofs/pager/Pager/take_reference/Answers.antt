@@ -1,4 +1,4 @@
-use Rattle.{pagable_pager.proofs.Lending.row_sorted, pagable_tables.proofs.Worlds.failed, std.proofs.Common.inr}
+use Rattle.{pagable_pager.proofs.Keeping.row_sorted, pagable_tables.proofs.Worlds.failed, std.proofs.Common.inr}
 use Rattle.pagable_pager.proofs.pager.Pager.take_reference.Goals as goal
 
 pub returns-in_err-pinned-in-Ok-true-clause-step : goal.returns-in_err-pinned-in-Ok-true-clause-step

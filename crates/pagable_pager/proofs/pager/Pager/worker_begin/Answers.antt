@@ -1,4 +1,4 @@
-use Rattle.pagable_pager.proofs.{Keeping.called, Lending.begins}
+use Rattle.pagable_pager.proofs.Keeping.{begins, called}
 use Rattle.pagable_pager.proofs.pager.Pager.worker_begin.Goals as goal
 
 pub invariant_of-self : goal.invariant_of-self

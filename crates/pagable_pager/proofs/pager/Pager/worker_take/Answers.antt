@@ -1,4 +1,4 @@
-use Rattle.pagable_pager.proofs.{Keeping.called, Lending.takes}
+use Rattle.pagable_pager.proofs.Keeping.{called, takes}
 use Rattle.pagable_pager.proofs.pager.Pager.worker_take.Goals as goal
 
 pub invariant_of-self : goal.invariant_of-self
