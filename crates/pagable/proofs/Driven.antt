@@ -1,21 +1,21 @@
 -- Each event of the machine, by what the pager and what is kept of loads, tables and workers say of it.
-use Rattle.{pagable_laws.proofs.{Effects.{IsMine, owned-mine}, ReadingSteps.{caller-free, reading-feels}, Trees.{same-number, same_some}}, pagable.proofs.Keeping.{are-these, as-before, at-one}}
-use Rattle.pagable.proofs.Keeping.{kept-on, kept-one, same-work, still-kept, leaves-so, like, makes, makes-with, not-same, one-serves, updated-at, Leaves, Passes, event-passes, drives, by-call}
-use Rattle.pagable.{proofs.Keeping.{key-starts, nothing-done, refused}, specs.{Driving.{Answer, Drives, Given, IsInStep, holding, kept_at, over, ByNumber}, Keeping.{Holding, IsKept}}}
-use Rattle.pagable.specs.{Keeping.{IsServing, IsTaken, KeepsOne, Kept, Makes, ReadsFor, machine_of, readings_in, rest_after, Forgets, IsPrepared, KeptStep}, Serving.{Serves, plain_call, plain_reply}}
-use Rattle.pagable.specs.{Paged.{value-is-read, reading-is-refused, node-comes-back}, Walking.{IsBegun, IsWalkKept, shelf_at, has_task, walking_of, IsIn}, declared.held.{Held.Held, Walk.Walk}}
-use Rattle.{pagable_walk.{proofs.Turning.plain-fits, specs.{Slots.written_of, Table.shelf_of, Turns.plain, declared.{results.Trees.Ghosts, table.SlotTable.SlotTable}}}, std.specs.Option.option_map}
-use Rattle.std.{proofs.Common.{rules, ◌≡◌, ℕ, true, List, [], Option, Some, None}, specs.{Prelude.{Result, is_none, is_some, slice_get}, declared.{alloc.Global.Global, sync.Arc.Arc, vec.Vec.Vec}}}
-use Rattle.std.proofs.{Common.{Ok, inl, inr, refl, sym, ap, subst, ◌∙◌, arith, ◌≢◌, zero, suc, ◌+◌, ◌∷◌, ◌++◌, ◌==◌, if◌then◌else◌, length, Err, false, ◌<◌}, lemmas.Bool.Decides.nat_tests}
-use Rattle.{std.proofs.lemmas.{Grind.common_steps, List.length-append}, pagable_core.specs.declared.{context.writing.SerializedData.SerializedData, storage.data.PagableData.PagableData}}
-use Rattle.pagable_loads.specs.{Frames.{IsLoadOf, is_cell, reading_of}, Working.{StartsEntry, RefusesEntry}, declared.reading.Reading.Reading as Own}
-use Rattle.pagable_world.specs.{Access.{ReadingStep, WorkerStarts}, Events.{reading_after, reading_at, reading_of_root, step_fault, Happens, IsTable, Starts, no_shelf, with_worker, Does, entry_task}}
-use Rattle.pagable_world.specs.{Events.with_entry_taken, Kinds.{is_owner, identity_of}, LoadCalls.{DropCall, LoadCloses}, Loads.gone_on, Order.step_of, Pager.{FitsRoot, Moves, PagerState, WellFormed}}
-use Rattle.pagable_world.specs.{Pager.{world_of, CallBrings}, Plain.{or_else, updated, Blob, if_there}, Refusals.OwnsLoad, Workers.fresh, World.{Frame, OpenLoad, Reading, Root}}
-use Rattle.pagable_world.specs.{World.{of_cell, of_key, Seen, one_more, Alike, Core, SameShelf, Values, Written, Walking, of_entry, of_item}, declared.{answers.Beginning.Beginning, calls.Call.Call}}
-use Rattle.pagable_world.specs.declared.{calls.Reply.Reply, events.{Event.Event, EventReply.EventReply, LoadAnswer.LoadAnswer, LoadReply.LoadReply, TableNumber.TableNumber}, handles.Owner.Owner}
-use Rattle.pagable_pager.{specs.View.{type_of_root, OnlyLess, PagerView, ReadsAs, Telling, core_in, state_in, OnlyTables, value_in}, proofs.Keeping.{owner-owns, less-moves}}
-use Rattle.{pagable_model.specs.declared.{error.Error.Error, numbers.{ArcRef.ArcRef, HandleNumber.HandleNumber, LoadNumber.LoadNumber, WorkerNumber.WorkerNumber}}, pagable_tables.proofs.Worlds.still}
+use Rattle.pagable.specs.{Walking.{IsWalkKept, IsIn, shelf_at, has_task, walking_of, IsBegun}, declared.held.{Held.Held, Walk.Walk}, Paged.{value-is-read, node-comes-back, reading-is-refused}}
+use Rattle.pagable.specs.{Driving.{Drives, Given, kept_at, IsInStep, holding, Answer, over, ByNumber}, Serving.{Serves, plainly, plain_reply}, Keeping.{Forgets, machine_of, IsPrepared, Kept}}
+use Rattle.pagable.{specs.Keeping.{ReadsFor, rest_after, IsServing, Stepped, IsTaken, Holding, Makes, KeepsOne, readings_in, IsKept}, proofs.Keeping.{call-leaves, at-one, nothing-done, drives}}
+use Rattle.pagable.proofs.Keeping.{event-passes, kept-one, makes-with, one-serves, like, still-kept, are-these, kept-on, as-before, makes, not-same, same-work, leaves-so, updated-at, by-call, refused}
+use Rattle.{pagable.proofs.Keeping.Leaves, pagable_world.specs.{LoadCalls.{LoadCloses, DropCall}, declared.{calls.{Call.Call, Reply.Reply}, handles.Owner.Owner, events.EventReply.EventReply}}}
+use Rattle.pagable_world.specs.{declared.{events.{LoadReply.LoadReply, TableNumber.TableNumber, Event.Event, LoadAnswer.LoadAnswer}, answers.Beginning.Beginning}, World.{Reading, one_more, Alike}}
+use Rattle.pagable_world.specs.{World.{OpenLoad, of_cell, Written, of_item, of_key, Frame, of_entry, Seen, Last, Walking, Core, Root, Values, SameShelf}, Plain.{if_there, updated, or_else}}
+use Rattle.pagable_world.specs.{Access.{WorkerStarts, ReadingStep}, Pager.{Moves, CallBrings, PagerState, world_of, FitsRoot, WellFormed}, Events.{reading_at, Happens, entry_task, reading_after}}
+use Rattle.pagable_world.specs.{Events.{Starts, with_entry_taken, step_fault, IsTable, reading_of_root, with_worker, no_shelf, Does}, Kinds.{identity_of, is_owner}, Workers.fresh, Refusals.OwnsLoad}
+use Rattle.{pagable_world.specs.Order.step_of, std.specs.{declared.{vec.Vec.Vec, sync.Arc.Arc, alloc.Global.Global}, Prelude.{is_none, is_some, Result, slice_get}, Option.option_map}}
+use Rattle.std.proofs.Common.{Ok, ◌+◌, ◌++◌, Some, ℕ, subst, zero, Option, ◌≢◌, ◌∙◌, refl, ◌==◌, ◌≡◌, arith, rules, [], if◌then◌else◌, false, true, inr, ap, length, ◌∷◌, suc, Err, ◌<◌, None, List}
+use Rattle.{std.proofs.{Common.{sym, inl}, lemmas.{Bool.Decides.nat_tests, List.length-append, Grind.common_steps}}, pagable_pager.{proofs.Keeping.less-moves, specs.View.Telling}}
+use Rattle.{pagable_pager.specs.View.{type_of_root, OnlyTables, state_in, core_in, PagerView, OnlyLess, ReadsAs, value_in}, pagable_walk.{proofs.Turning.plain-fits, specs.Slots.written_of}}
+use Rattle.{pagable_walk.specs.{declared.{results.Trees.Ghosts, table.SlotTable.SlotTable}, Table.shelf_of}, pagable_loads.specs.Frames.{IsLoadOf, reading_of, is_cell}}
+use Rattle.{pagable_loads.specs.{declared.reading.Reading.Reading as Own, Working.{RefusesEntry, StartsEntry}}, pagable_laws.proofs.{ReadingSteps.{caller-free, reading-feels}, Trees.same_some}}
+use Rattle.{pagable_laws.proofs.{Trees.same-number, Effects.{owned-mine, IsMine}}, pagable_core.specs.declared.{context.writing.SerializedData.SerializedData, storage.data.PagableData.PagableData}}
+use Rattle.{pagable_tables.proofs.Worlds.{no-load-fault, still}, pagable_model.specs.declared.{error.Error.Error, numbers.{WorkerNumber.WorkerNumber, LoadNumber.LoadNumber, HandleNumber.HandleNumber, ArcRef.ArcRef}}}
 use Rattle.pagable_world.specs.World as world
 
 module _ {X : Type 0} {g : Ghosts X} {N E : Type 0} (s : PagerState N E) (h : Holding g) (l : LoadNumber) (load : OpenLoad) (o : OwnsLoad s.core Owner.Caller l load) where
@@ -60,7 +60,7 @@ module _ {X : Type 0} {g : Ghosts X} {N B W E : Type 0} (m : Seen N B W) (s s' :
         moves = record {
           reading = reading;
           frames = frames;
-          may = owner-owns o;
+          may = no-load-fault _ _ _ _ o;
           at = at;
           does = step.does;
           counts = counts;
@@ -110,19 +110,16 @@ module _ {X : Type 0} {g : Ghosts X} {N B W E : Type 0} (m : Seen N B W) (s s' :
       → (Starts (world_of (machine_of s h)) t task core n (world_of (machine_of s' with_walk))
       → Happens m (world_of (machine_of s h)) event (EventReply.WorkerMade (Ok n)) (world_of (machine_of s' with_walk)))
       → Moves (λ q x. ⊥) s s' → Makes m s h event (EventReply.WorkerMade (Ok n)) s' with_walk
-  worker-made core a event none happens moves =
-      makes-with m s s' {h' = with_walk} formed event (EventReply.WorkerMade (Ok n)) (happens (starts-so core a))
+  worker-made core a event none happens moves = makes-with m s s' {h' = with_walk} formed event (EventReply.WorkerMade (Ok n)) (happens (starts-so core a))
       (record { each = λ q x is. elim (moves.each q x is) [ inl there ↦ inl there | inr came ↦ absurd came.1 ]; environment = moves.environment }) tt
-      (one-serves {h' = with_walk} serving was.whole.handles n.0 k keeps (omega arith) (kept-on serving.readings on (λ l own is. inl is)) (λ q other. passes q) at-work new-walk)
-    where
-      passes : (v : ℕ) → Passes v s.core s'.core
-      passes v = event-passes m v (world_of (machine_of s h)) (world_of (machine_of s' with_walk)) was.whole event (EventReply.WorkerMade (Ok n)) (none v) (happens (starts-so core a))
-          (λ l load is own. on.others l load is (was.whole.loads.numbered l (ap is_some is)).1 (ap (is_owner Owner.Caller) own))
+      (one-serves {h' = with_walk} serving was.whole.handles n.0 k keeps (omega arith) (kept-on serving.readings on (λ l own is. inl is))
+      (λ q other. event-passes m q (world_of (machine_of s h)) (world_of (machine_of s' with_walk)) was.whole event (EventReply.WorkerMade (Ok n)) (none q) (happens (starts-so core a))
+      (λ l load is own. on.others l load is (was.whole.loads.numbered l (ap is_some is)).1 (ap (is_owner Owner.Caller) own))) at-work new-walk)
 
 -- a call by which values come, one by which they only go, and one by which they stay
 module _ {N S E : Type 0} {v : Values N} {tells : Telling S} {old new : PagerView N S E} {call : Call N PagableData} {r : Reply N (Arc PagableData Global)}
-    (does : Does (plain v) (core_in tells old) Owner.Caller (plain_call call) (plain_reply r) (core_in tells new)) where
-  pub serves : Moves (CallBrings (core_in tells old) (plain_call call)) (state_in tells old) (state_in tells new) → Serves v tells old call r new
+    (does : Does (plainly v) (core_in tells old) Owner.Caller call (plain_reply r) (core_in tells new)) where
+  pub serves : Moves (CallBrings (core_in tells old) call) (state_in tells old) (state_in tells new) → Serves v tells old call r new
   serves moves = record { step = record { does = does }; moves = moves }
 
   pub serves-less : OnlyLess old new → Serves v tells old call r new
@@ -145,8 +142,8 @@ no-task serving n found is none = grind (arith, nat_tests, answered)
 
 module _ {X : Type 0} {g : Ghosts X} {N S E : Type 0} (v : E → Values N) (tells : Telling S) (old new : PagerView N S E) (held : Held X g) (serving : IsInStep tells (over old held))
     (was : WellFormed (v old.environment) (state_in tells old)) where
-  abbrev m : Seen N Blob Written
-  m = plain (v old.environment)
+  abbrev m : Seen N PagableData Written
+  m = plainly (v old.environment)
 
   abbrev s : PagerState N E
   s = state_in tells old
@@ -181,53 +178,71 @@ module _ {X : Type 0} {g : Ghosts X} {N S E : Type 0} (v : E → Values N) (tell
         → Forgets s'.core (kept_at kept) (kept_at kept') → Takes (Event.Call call) (EventReply.CallReply reply) new anew
     call-drives call reply serves formed f =
         let w = whole-still serves.moves formed in
-        drives (by-call m s s' h (kept_at kept') serving was w _ _ serves.step f (Event.Call (plain_call call)) (EventReply.CallReply (plain_reply reply)) (λ q. refl)
+        drives (by-call m s s' h (kept_at kept') serving was w _ _ serves.step f (Event.Call call) (EventReply.CallReply (plain_reply reply)) (λ q. refl)
         (λ readings. record { step = serves.step; readings = readings; work = same-work m s s' h (kept_at kept') serving was w }) serves.moves tt)
 
     -- a load of a key has begun
     pub key-drives : (key t : ℕ) (l : LoadNumber) (k : ℕ) (own : Own) → Serves (v old.environment) tells old (Call.LoadKey key) (Reply.Begun (Ok (Beginning.Load l k))) new
         → WellFormed (v new.environment) s' → reading_of own ≡ fresh l t → own.key ≡ key → own.for_cell ≡ false → KeepsOne (kept_at kept) l.0 (Some own) (kept_at kept')
         → Takes (Event.LoadKey key t) (EventReply.Started (Ok (Beginning.Load l k))) new anew
-    key-drives key t l k own serves formed reads key_is sort keeps =
-        record { makes = key-starts m s s' h (kept_at kept') serving was (whole-still serves.moves formed) key t l k own serves.step serves.moves reads key_is sort keeps }
+    key-drives key t l k own serves formed is key_is sort keeps =
+        let w = whole-still serves.moves formed in
+        let step = serves.step.does in
+        let on = call-leaves s.core s'.core m (Call.LoadKey key) (Reply.Begun (Ok (Beginning.Load l k))) step in
+        let next = step.begins.1.above in
+        let a = step.begins.2 in
+        let last : s'.core.last.load ≡ s.core.last.load + 1 = ap (λ (x : Last). x.load) a.last in
+        let load : OpenLoad = record { owner = Owner.Caller; key = key; root = of_key } in
+        let there : s'.core.loads l.0 ≡ Some load = ap s'.core.loads next ∙ a.loads (s.core.last.load + 1) ∙ updated-at (s.core.last.load + 1) (Some load) s.core.loads in
+        let reads : ReadsFor load own = record { owned = refl; key = sym key_is; sort = sym sort; typed = tt } in
+        let new_one : IsKept s'.core l.0 own =
+        record {
+          number = ap (λ (r : Reading). r.load.0) is;
+          given = omega (arith, next, last);
+          reads = λ other open_load. subst (λ x. ReadsFor x own) (same_some _ _ (sym there ∙ open_load)) reads;
+        } in
+        drives (makes m s s' {h' = holding anew} serving was w (omega arith) (λ q. refl) on (Event.LoadKey key t) (EventReply.Started (Ok (Beginning.Load l k))) (λ q. refl)
+        (record {
+          step = step;
+          begun = are-these s'.core (kept_at kept') (updated l.0 (Some (fresh l t)) (readings_in h.readings s.core))
+              (λ q open_load is_open. at-one reading_of l.0 (Some own) (Some (fresh l t)) (readings_in h.readings s.core) keeps (ap Some is) q (as-before serving.readings on q open_load is_open));
+          refused = tt;
+          work = same-work m s s' h (kept_at kept') serving was w;
+        }) serves.moves tt
+        (kept-one serving.readings on l.0 (Some own) keeps (λ other same. subst (λ x. IsKept s'.core l.0 x) (same_some _ _ same) new_one)))
 
     -- or none begins, and the pager is as it was
     pub key-none-drives : (key t : ℕ) (e : Error) → Serves (v old.environment) tells old (Call.LoadKey key) (Reply.Begun (Err e)) new → WellFormed (v new.environment) s'
         → ((q : ℕ) → kept_at kept' q ≡ kept_at kept q) → Takes (Event.LoadKey key t) (EventReply.Started (Err e)) new anew
-    key-none-drives key t e serves formed as_was =
-        drives (refused m serving was (record { step = serves.step.does.refused.stays; moves = serves.moves; whole = whole-still serves.moves formed })
+    key-none-drives key t e serves formed as_was = drives (refused m serving was (record { step = serves.step.does.refused.stays; moves = serves.moves; whole = whole-still serves.moves formed })
         as_was refl (λ q. refl) (Event.LoadKey key t) (EventReply.Started (Err e)) (λ q. refl)
         (λ stays. record { step = serves.step.does; begun = tt; refused = stays.readings; work = stays.work }) tt)
 
     pub step-refused : (l : LoadNumber) (e : Error) → ((q : ℕ) → kept_at kept' q ≡ kept_at kept q) → step_fault (world_of (machine_of s h)) l ≡ Some e
         → Takes (Event.LoadStep l) (EventReply.LoadMoved (Err e)) old anew
-    step-refused l e as_was why =
-        drives (refused m serving was (nothing-done s was) as_was refl (λ q. refl) (Event.LoadStep l)
+    step-refused l e as_was why = drives (refused m serving was (nothing-done s was) as_was refl (λ q. refl) (Event.LoadStep l)
         (EventReply.LoadMoved (Err e)) (λ q. refl) (λ stays. record { moves = tt; refused = (why, stays) }) tt)
 
     module _ (l : LoadNumber) (key : ℕ) (t : Option ℕ) (reads : ReadsAs s.core l key t) where
       pub step-drives : (kept1 : ByNumber Own) (mid : Kept) (reply : LoadReply N) → IsPrepared (kept_at kept) l key t (kept_at kept1)
-          → KeepsOne mid l.0 (rest_after reply.ended (mid l.0)) (kept_at kept')
-          → KeptStep (v old.environment) (kept_at kept1) l.0 reply mid s s' → Takes (Event.LoadStep l) (EventReply.LoadMoved (Ok reply)) new anew
-      step-drives kept1 mid reply ready ends step =
-          let keeps : KeepsOne (kept_at kept) l.0 (rest_after reply.ended (Some step.new)) (kept_at kept') =
-          record { here = ends.here ∙ ap (rest_after reply.ended) step.keeps.here; others = λ q other. ends.others q other ∙ step.keeps.others q other ∙ ready.others q other } in
-          let r = reads-taken s serving l reads.load key t step.own reads.owned reads.key_is reads.type_is (ready.taken step.own step.was) in
-          let of : IsLoadOf s.core Owner.Caller step.own =
+          → KeepsOne mid l.0 (rest_after reply.ended (mid l.0)) (kept_at kept') → (own own' : Own) → kept_at kept1 l.0 ≡ Some own → Stepped (v old.environment) Owner.Caller own reply own' s s'
+          → KeepsOne (kept_at kept1) l.0 (Some own') mid → Takes (Event.LoadStep l) (EventReply.LoadMoved (Ok reply)) new anew
+      step-drives kept1 mid reply ready ends own own' there step keeps1 =
+          let keeps : KeepsOne (kept_at kept) l.0 (rest_after reply.ended (Some own')) (kept_at kept') =
+          record { here = ends.here ∙ ap (rest_after reply.ended) keeps1.here; others = λ q other. ends.others q other ∙ keeps1.others q other ∙ ready.others q other } in
+          let r = reads-taken s serving l reads.load key t own reads.owned reads.key_is reads.type_is (ready.taken own there) in
+          let of : IsLoadOf s.core Owner.Caller own =
           record { load = reads.load; owned = subst (λ n. OwnsLoad s.core Owner.Caller n reads.load) (sym r.0) reads.owned; key = r.1.key; sort = r.1.sort } in
-          drives (steps m s s' h (kept_at kept') serving was l reads.load (reading_of step.own) (rest_after reply.ended (Some step.new)) reply (reading_of step.new).frames reads.owned r.2
-          (step.stepped.does of) step.stepped.counts (owned-mine of.owned) keeps (goes-on reply.ended) (λ now is.
+          drives (steps m s s' h (kept_at kept') serving was l reads.load (reading_of own) (rest_after reply.ended (Some own')) reply (reading_of own').frames reads.owned r.2
+          (step.does of) step.counts (owned-mine of.owned) keeps (goes-on reply.ended) (λ now is.
           let e = only reply.ended now is in
-          (ap (λ (x : Own). x.load) (sym e) ∙ step.stepped.same.load ∙ r.0, subst (λ x. ReadsFor reads.load x) e (let own = r.1 in let same = step.stepped.same in grind (arith, nat_tests)))))
+          (ap (λ (x : Own). x.load) (sym e) ∙ step.same.load ∙ r.0, subst (λ x. ReadsFor reads.load x) e (let mine = r.1 in let same = step.same in grind (arith, nat_tests)))))
         where
-          goes : reading_of step.new ≡ gone_on (reading_of step.own) (reading_of step.new).frames
-          goes = rw (step.stepped.same.load, step.stepped.same.node_type, step.stepped.same.steps) refl
-
-          goes-on : (ended : Option (LoadAnswer N)) → option_map reading_of (rest_after ended (Some step.new)) ≡ reading_after ended (reading_of step.own) (reading_of step.new).frames
-          goes-on None = ap Some goes
+          goes-on : (ended : Option (LoadAnswer N)) → option_map reading_of (rest_after ended (Some own')) ≡ reading_after ended (reading_of own) (reading_of own').frames
+          goes-on None = ap Some (rw (step.same.load, step.same.node_type, step.same.steps) refl)
           goes-on (Some answer) = refl
 
-          only : (ended : Option (LoadAnswer N)) (now : Own) → rest_after ended (Some step.new) ≡ Some now → step.new ≡ now
+          only : (ended : Option (LoadAnswer N)) (now : Own) → rest_after ended (Some own') ≡ Some now → own' ≡ now
           only None now is = same_some _ _ is
           only (Some answer) now is = absurd (cc)
 
@@ -238,7 +253,7 @@ module _ {X : Type 0} {g : Ghosts X} {N S E : Type 0} (v : E → Values N) (tell
           let (unkept, (type, typed)) = ready.full none in
           let moves : Moves (λ n x. ⊥) s s' = less-moves tells old new only in
           let closes : LoadCloses s.core l told s'.core =
-          elim drop.does [ inl r ↦ absurd (let f : None ≡ Some r.e = sym (owner-owns reads.owned) ∙ r.why in cc) | inr (other, owned, c) ↦ c ] in
+          elim drop.does [ inl r ↦ absurd (let f : None ≡ Some r.e = sym (no-load-fault _ _ _ _ reads.owned) ∙ r.why in cc) | inr (other, owned, c) ↦ c ] in
           drives (steps m s s' h (kept_at kept') serving was l reads.load (fresh l type) None (record { ended = Some (LoadAnswer.Refused Error.OutOfMemory); steps = 1 }) [] reads.owned
           (at-found s h l reads.load reads.owned None unkept ∙ (of_root reads.load.root type (reads.type_is ∙ typed)).2 l)
           (record {
@@ -277,8 +292,7 @@ module _ {X : Type 0} {g : Ghosts X} {N S E : Type 0} (v : E → Values N) (tell
 
     pub entry-refused : (e : Error) (i : ℕ) → IsIn t.0 held.tables.items → i < length s.core.list → RefusesEntry (v old.environment) s i e s'
         → ((q : ℕ) → kept_at walks' q ≡ kept_at held.walks q) → Takes (Event.WorkerListed t i) (EventReply.WorkerMade (Err e)) new left
-    entry-refused e i there within r same_walks =
-        drives (refused m serving was r.stays (λ l. refl) refl same_walks (Event.WorkerListed t i) (EventReply.WorkerMade (Err e)) (λ q. refl)
+    entry-refused e i there within r same_walks = drives (refused m serving was r.stays (λ l. refl) refl same_walks (Event.WorkerListed t i) (EventReply.WorkerMade (Err e)) (λ q. refl)
         (λ stays. record {
           starts = tt;
           refused = (
@@ -301,8 +315,7 @@ module _ {X : Type 0} {g : Ghosts X} {N S E : Type 0} (v : E → Values N) (tell
 
       pub item-started : (item : SerializedData) → WorkerStarts (v old.environment) s.core s n.0 s' → IsBegun t (of_item (written_of item)) k
           → Takes (Event.WorkerItem t item) (EventReply.WorkerMade (Ok n)) new left
-      item-started item starts begun =
-          drives (worker-made m s s' h serving was starts.begins.whole
+      item-started item starts begun = drives (worker-made m s s' h serving was starts.begins.whole
           (like {u = with_worker s.core} starts.begins.step (λ l. refl) refl) t (of_item (written_of item)) n k table starts.next begun keeps s.core starts.begins.step
           (Event.WorkerItem t (written_of item)) (λ q. refl) (λ begins. record { starts = begins; refused = tt }) starts.begins.moves)
 

@@ -1,17 +1,16 @@
 -- What a machine keeps of loads and workers stays in step with its pager, whatever event happens: by what each call, each step and each begin and end leaves, and what it leaves to others' workers.
-use Rattle.{pagable_loads.specs.{Frames.reading_of, declared.reading.Reading.Reading as Own}, pagable_model.specs.declared.numbers.{ArcRef.ArcRef, HandleNumber.HandleNumber, LoadNumber.LoadNumber}}
-use Rattle.std.proofs.Common.{rules, ◌≡◌, ℕ, ◌+◌, ◌<◌, ◌≤◌, Bool, true, false, Option, None, Some, inl, inr, refl, ◌⊎◌, arith, [], sym, ap, ◌∙◌, ◌==◌, ◌≢◌, length, Ok, if◌then◌else◌, subst}
-use Rattle.std.{proofs.lemmas.{Bool.{false_from_ne_true, Decides.nat_tests}, Grind.common_steps}, specs.{Option.option_map, Prelude.{Result, is_some}}}
-use Rattle.pagable.specs.{Driving.{Given, Answer, Drives, Over, holding}, Keeping.{AllKept, Forgets, Holding, IsKept, IsServing, KeepsOne, Kept, Makes, ReadsFor, machine_of, readings_in, work_of}}
-use Rattle.{pagable.specs.{Serving.{plain_event, plain_answer}, Walking.{IsWalkKept, walking_of}, declared.held.Walk.Walk}, pagable_world.specs.{Access.Called, Calls.{shut, CloseCall, is_listed}}}
-use Rattle.pagable_world.specs.{Cascade.fallen, Events.{Does, Ends, Happens, CallStep, Stays, WorkStays, ReadingsAre}, Kinds.{is_owner, owner_worker}, Order.step_of}
-use Rattle.pagable_world.specs.Pager.{IsWhole, OwnersAreThere, HandlesAreWhole, EventBrings, IsMachineWhole, IsReadingWhole, IsWalkingWhole, Moves, PagerState, ReplyWrites, WellFormed, world_of}
-use Rattle.pagable_world.specs.{Plain.{SameAt, updated, one, times, if_there}, Workers.fresh, World.{Alike, Core, OpenLoad, Seen, Cell, World, Last, Reading, Walking, of_key, Values}}
-use Rattle.pagable_world.specs.declared.{answers.Beginning.Beginning, calls.{Call.Call, Reply.Reply}, events.{Event.Event, EventReply.EventReply, WorkerAnswer.WorkerAnswer}, handles.Owner.Owner}
-use Rattle.pagable_walk.specs.{Turns.{HoldsPin, IsLoading, IsOfKind, TaskFits, plain}, declared.{results.Trees.Ghosts, tasks.Task.Task}}
-use Rattle.{pagable_pager.specs.View.{Telling, state_in}, pagable_tables.proofs.Worlds.still, pagable_laws.specs.TreeSteps.{Change, StandsAt, nothing_felt}}
-use Rattle.pagable_laws.proofs.{Called.calls-go, Effects.{Effect, Free, Spares, listed-free, then-fell, worker-apart}, Goes.{Goes, RowsGo, fell-anyhow, quiet-goes, stands-whole}}
-use Rattle.pagable_laws.proofs.{ReadingSteps.{caller-free, event-goes}, SparingSteps.event-spares, Trees.{counted, one-true, same-number, same_some, self-number}}
+use Rattle.pagable.specs.{Driving.{Answer, Drives, Given, Over, holding}, Keeping.{AllKept, Forgets, Holding, IsKept, IsServing, KeepsOne, Kept, Makes, machine_of, readings_in, work_of}}
+use Rattle.{pagable.specs.{Serving.{plain_answer, plain_event, plainly}, Walking.{IsWalkKept, walking_of}, declared.held.Walk.Walk}, pagable_laws.proofs.{Called.calls-go, Effects.{Effect, Spares}}}
+use Rattle.pagable_laws.proofs.{Effects.{listed-free, then-fell, worker-apart}, Goes.{Goes, RowsGo, fell-anyhow, quiet-goes, stands-whole}, ReadingSteps.{caller-free, event-goes}}
+use Rattle.pagable_laws.{proofs.{SparingSteps.event-spares, Trees.{counted, one-true, same-number, same_some, self-number}}, specs.TreeSteps.{Change, nothing_felt}}
+use Rattle.{pagable_loads.specs.{Frames.reading_of, declared.reading.Reading.Reading as Own}, pagable_model.specs.declared.numbers.{ArcRef.ArcRef, HandleNumber.HandleNumber}}
+use Rattle.{pagable_pager.specs.View.{Telling, state_in}, pagable_tables.proofs.Worlds.still, pagable_walk.specs.{Turns.{IsOfKind, TaskFits}, declared.{results.Trees.Ghosts, tasks.Task.Task}}}
+use Rattle.pagable_world.specs.{Access.Called, Calls.{CloseCall, is_listed, shut}, Cascade.fallen, Events.{CallStep, Does, Ends, Happens, ReadingsAre, Stays, WorkStays}, Kinds.is_owner}
+use Rattle.pagable_world.specs.{Kinds.owner_worker, Order.step_of, Pager.{EventBrings, HandlesAreWhole, IsMachineWhole, IsReadingWhole, IsWalkingWhole, IsWhole, Moves, OwnersAreThere, PagerState}}
+use Rattle.pagable_world.specs.{Pager.{ReplyWrites, WellFormed, world_of}, Plain.{SameAt, if_there, one, times, updated}, World.{Alike, Cell, Core, OpenLoad, Reading, Seen, Values, Walking, World}}
+use Rattle.{pagable_world.specs.declared.{calls.{Call.Call, Reply.Reply}, events.{Event.Event, EventReply.EventReply, WorkerAnswer.WorkerAnswer}, handles.Owner.Owner}, std.proofs.Common.{Bool, None}}
+use Rattle.std.proofs.Common.{Option, Some, [], ap, arith, false, if◌then◌else◌, inl, inr, length, refl, rules, subst, sym, true, ℕ, ◌<◌, ◌==◌, ◌∙◌, ◌≡◌, ◌≢◌, ◌≤◌, ◌⊎◌}
+use Rattle.std.{proofs.lemmas.{Bool.{Decides.nat_tests, false_from_ne_true}, Grind.common_steps}, specs.{Option.option_map, Prelude.{Result, is_some}}}
 
 -- of loads and workers, as far as the machine sees them
 pub record Leaves (me : Owner) (works : ℕ → Bool) (w w' : Core) : Type 0 where
@@ -62,32 +61,27 @@ LoadsStay v w w' = (l : ℕ) (load : OpenLoad) → w.loads l ≡ Some load → l
 
 -- by what a step is as far as trees feel it
 by-goes : {c : Change} (v : ℕ) (w w' : Core) → Goes c w w' → Spares (owner_worker v) w w' → LoadsStay v w w' → Passes v w w'
-by-goes {c} v w w' g spares loads =
-    record {
-      spares = spares;
-      loads = loads;
-      nodes = g.nodes;
-      handles = g.handles;
-      rows = g.rows;
-      cells = λ n cell is few. elim (g.cells n cell is) [ inl k ↦ (k.was, k.live, k.typed) | inr (next, born) ↦ absurd (omega (arith, few, next)) ];
-    }
-
--- what the list owns isn't a worker's
-list-free : (v : ℕ) (w : Core) → OwnersAreThere w → Free (owner_worker v) w (is_listed w)
-list-free v w there = record {
-  each = λ q row own s. false_from_ne_true (is_listed w q) (λ is.
-      let some : 0 < times (λ (h : HandleNumber). h.0 == q) w.list = grind (arith, nat_tests, is) in
-      let found = counted (λ (h : HandleNumber). one (h.0 == q)) w.list some in
-      let other = (listed-free (owner_worker v) refl there found.1.0 found.0 found.1.1).each q row own s in
-      let here : (q == found.0.0) ≡ true = ap (λ n. q == n) (same-number _ _ (one-true _ found.2)) ∙ self-number q in
-      cc);
+by-goes {c} v w w' g spares loads = record {
+  spares = spares;
+  loads = loads;
+  nodes = g.nodes;
+  handles = g.handles;
+  rows = g.rows;
+  cells = λ n cell is few. elim (g.cells n cell is) [ inl k ↦ (k.was, k.live, k.typed) | inr (next, born) ↦ absurd (omega (arith, few, next)) ];
 }
 
--- the storage is closed
+-- the storage is closed, and what the list owns isn't a worker's
 close-passes : (v : ℕ) (w w' : Core) {r : Result (Unit {0}) _} → OwnersAreThere w → CloseCall w r w' → LoadsStay v w w' → Passes v w w'
 close-passes v w w' there c loads =
     let x = by-goes v (shut w w'.failures) w' (quiet-goes nothing_felt (fell-anyhow c.falls))
-    (then-fell (owner_worker v) (worker-apart v) c.falls.falls (record { each = λ q row own s. s }) (record { each = (list-free v w there).each })) loads in
+    (then-fell (owner_worker v) (worker-apart v) c.falls.falls (record { each = λ q row own s. s }) (record {
+      each = λ q row own s. false_from_ne_true (is_listed w q) (λ is.
+          let some : 0 < times (λ (h : HandleNumber). h.0 == q) w.list = grind (arith, nat_tests, is) in
+          let found = counted (λ (h : HandleNumber). one (h.0 == q)) w.list some in
+          let other = (listed-free (owner_worker v) refl there found.1.0 found.0 found.1.1).each q row own s in
+          let here : (q == found.0.0) ≡ true = ap (λ n. q == n) (same-number _ _ (one-true _ found.2)) ∙ self-number q in
+          cc);
+    })) loads in
     record { spares = record { each = x.spares.each }; loads = loads; nodes = x.nodes; handles = x.handles; rows = x.rows; cells = x.cells }
 
 -- each event of another's
@@ -101,40 +95,35 @@ event-passes m v u u' whole event reply others h loads = by-goes v u.core u'.cor
 
 -- what a machine keeps of a worker stays in step with the pager through each event that the worker doesn't make
 module _ {v : ℕ} {w w' : Core} (whole : HandlesAreWhole w) (passes : Passes v w w') where
-  stands-on : {r : ArcRef} {h : HandleNumber} → StandsAt w r h → StandsAt w' r h
-  stands-on {r} {h} s =
-      record {
-        node_given = let a = s.node_given in let b = passes.nodes in omega (arith, a, b);
-        given = let a = s.given in let b = passes.handles in omega (arith, a, b);
-        is = λ row live. let was = passes.rows h.0 row live s.given in let old = s.is was.was was.live in (sym was.at ∙ old.0, λ kind. was.loose (old.1 kind));
-      }
-
   kind-on : {r : ArcRef} → IsOfKind w r → IsOfKind w' r
   kind-on {r} k = first_of (grind (arith, common_steps, nat_tests), search (rules))
 
-  load-on : {r : ArcRef} {through : HandleNumber} {own : Own} → IsLoading w v r through own → IsLoading w' v r through own
-  load-on l =
-      record {
-        is = record {
-          load = l.is.load;
-          owned = record { stands_open = passes.loads _ _ l.is.owned.stands_open l.is.owned.own; own = l.is.owned.own };
-          key = l.is.key;
-          sort = l.is.sort;
-        };
-        for_cell = l.for_cell;
-        t = l.t;
-        root = l.root;
-      }
-
-  pin-on : {r : ArcRef} {k : HandleNumber} → HoldsPin w (owner_worker v) r k → HoldsPin w' (owner_worker v) r k
-  pin-on {r} {k} p =
-      let s = passes.spares.each k.0 p.pins.row p.own (stands-whole whole k.0 p.pins.row p.pins.live) in
-      record { pins = record { row = p.pins.row; live = s.live; at = p.pins.at; pins = p.pins.pins }; own = p.own }
-
   fits-on : {X : Type 0} {g : Ghosts X} (task : Task X g) → TaskFits v w task → TaskFits v w' task
-  fits-on (Task.Pin r place) (stands, kind) = (stands-on stands, kind-on kind)
-  fits-on (Task.Load r place through own) (kind, loading) = (kind-on kind, load-on loading)
-  fits-on (Task.Write r place through pin) (kind, holds) = (kind-on kind, pin-on holds)
+  fits-on (Task.Pin r place) (s, kind) = (
+    record {
+      node_given = let a = s.node_given in let b = passes.nodes in omega (arith, a, b);
+      given = let a = s.given in let b = passes.handles in omega (arith, a, b);
+      is = λ row live. let was = passes.rows r.handle.0 row live s.given in let old = s.is was.was was.live in (sym was.at ∙ old.0, λ loose. was.loose (old.1 loose));
+    },
+    kind-on kind,
+  )
+  fits-on (Task.Load r place through own) (kind, l) = (
+    kind-on kind,
+    record {
+      is = record {
+        load = l.is.load;
+        owned = record { stands_open = passes.loads _ _ l.is.owned.stands_open l.is.owned.own; own = l.is.owned.own };
+        key = l.is.key;
+        sort = l.is.sort;
+      };
+      for_cell = l.for_cell;
+      t = l.t;
+      root = l.root;
+    },
+  )
+  fits-on (Task.Write r place through pin) (kind, p) =
+      let s = passes.spares.each pin.0 p.pins.row p.own (stands-whole whole pin.0 p.pins.row p.pins.live) in
+      (kind-on kind, record { pins = record { row = p.pins.row; live = s.live; at = p.pins.at; pins = p.pins.pins }; own = p.own })
   fits-on task fits = tt
 
   pub walk-on : {X : Type 0} {g : Ghosts X} {last last' : ℕ} {k : Walk X g} → last ≤ last' → w'.workers v ≡ w.workers v → IsWalkKept w last v k → IsWalkKept w' last' v k
@@ -181,18 +170,16 @@ module _ {w : Core} {kept : Kept} (all : AllKept w kept) {me : Owner} {works : �
 
   -- one is kept anew
   pub kept-one : {kept' : Kept} (l : ℕ) (x : Option Own) → KeepsOne kept l x kept' → ((own : Own) → x ≡ Some own → IsKept w' l own) → AllKept w' kept'
-  kept-one l x keeps new =
-      kept-on (λ q own is. elim (one-or-old l x keeps q own is) [ inl there ↦ inl there.1 | inr (here, same) ↦ inr (subst (λ n. IsKept w' n own) (sym here) (new own same)) ])
+  kept-one l x keeps new = kept-on (λ q own is. elim (one-or-old l x keeps q own is) [ inl there ↦ inl there.1 | inr (here, same) ↦ inr (subst (λ n. IsKept w' n own) (sym here) (new own same)) ])
 
 -- a machine in step with a pager that is whole is whole
 pub machine-whole : {X : Type 0} {g : Ghosts X} {N E : Type 0} (v : Values N) (s : PagerState N E) (h : Holding g) → WellFormed v s → IsServing s.core h → IsMachineWhole v (machine_of s h)
-machine-whole {X} {g} v s h formed serving =
-    record {
-      pager = formed;
-      readings = λ l reading is. of l reading (s.core.loads l) refl (h.readings l) refl is;
-      walkings = of-walk;
-      all_there = λ n is. let there = serving.all_there n is in grind (arith, nat_tests);
-    }
+machine-whole {X} {g} v s h formed serving = record {
+  pager = formed;
+  readings = λ l reading is. of l reading (s.core.loads l) refl (h.readings l) refl is;
+  walkings = of-walk;
+  all_there = λ n is. let there = serving.all_there n is in grind (arith, nat_tests);
+}
   where
     of : (l : ℕ) (reading : Reading) (found : Option OpenLoad) → s.core.loads l ≡ found → (own : Option Own) → h.readings l ≡ own
         → if_there (λ (load : OpenLoad). option_map reading_of own) None found ≡ Some reading → IsReadingWhole s.core l reading
@@ -216,15 +203,14 @@ makes-with m s s' {h} {h'} formed event reply happens moves writes now =
 pub one-serves : {X : Type 0} {g : Ghosts X} {w w' : Core} {h h' : Holding g} → IsServing w h → HandlesAreWhole w → (v : ℕ) (k : Walk X g) → KeepsOne h.walks v (Some k) h'.walks
     → length h.tables ≤ length h'.tables → AllKept w' h'.readings → ((q : ℕ) → q ≢ v → Passes q w w') → ((q : ℕ) → q ≢ v → w'.workers q ≡ w.workers q) → IsWalkKept w' (length h'.tables) v k
     → IsServing w' h'
-one-serves {X} {g} {w} {w'} {h} {h'} serving whole v k keeps more readings passes works new =
-    record {
-      readings = readings;
-      walks = λ q x is. elim (one-or-old v (Some k) keeps q x is) [
-        | inl (other, was) ↦ walk-on whole (passes q other) more (works q other) (serving.walks q x was)
-        | inr (at, same) ↦ subst (λ n. IsWalkKept w' (length h'.tables) n x) (sym at) (subst (λ y. IsWalkKept w' (length h'.tables) v y) (same_some _ _ same) new)
-      ];
-      all_there = λ q is. there q is (q == v) refl;
-    }
+one-serves {X} {g} {w} {w'} {h} {h'} serving whole v k keeps more readings passes works new = record {
+  readings = readings;
+  walks = λ q x is. elim (one-or-old v (Some k) keeps q x is) [
+    | inl (other, was) ↦ walk-on whole (passes q other) more (works q other) (serving.walks q x was)
+    | inr (at, same) ↦ subst (λ n. IsWalkKept w' (length h'.tables) n x) (sym at) (subst (λ y. IsWalkKept w' (length h'.tables) v y) (same_some _ _ same) new)
+  ];
+  all_there = λ q is. there q is (q == v) refl;
+}
   where
     there : (q : ℕ) → w'.workers q ≡ true → (b : Bool) → (q == v) ≡ b → is_some (h'.walks q) ≡ true
     there q is true e = ap is_some (ap h'.walks (same-number q v e) ∙ keeps.here)
@@ -237,13 +223,12 @@ module _ {X : Type 0} {g : Ghosts X} {N B W E : Type 0} (m : Seen N B W) (s s' :
       → Moves (EventBrings m.values (world_of (machine_of s h)) event) s s' → ReplyWrites m s reply → AllKept s'.core h'.readings → Makes m s h event reply s' h'
   makes event reply none happens moves writes now = makes-with m s s' formed event reply happens moves writes (record {
     readings = now;
-    walks = λ v k is. walk-on was.whole.handles (passes v) more (on.workers v) (serving.walks v k (sym (walks v) ∙ is));
+    walks = λ v k is.
+        let passes = event-passes m v (world_of (machine_of s h)) (world_of (machine_of s' h')) was.whole event reply (none v) happens
+        (λ l load is own. on.others l load is (was.whole.loads.numbered l (ap is_some is)).1 (ap (is_owner Owner.Caller) own)) in
+        walk-on was.whole.handles passes more (on.workers v) (serving.walks v k (sym (walks v) ∙ is));
     all_there = λ v is. ap is_some (walks v) ∙ serving.all_there v (sym (on.workers v) ∙ is);
   })
-    where
-      passes : (v : ℕ) → Passes v s.core s'.core
-      passes v = event-passes m v (world_of (machine_of s h)) (world_of (machine_of s' h')) was.whole event reply (none v) happens
-          (λ l load is own. on.others l load is (was.whole.loads.numbered l (ap is_some is)).1 (ap (is_owner Owner.Caller) own))
 
 module _ {X : Type 0} {g : Ghosts X} {N B W E : Type 0} (m : Seen N B W) (s s' : PagerState N E) (h : Holding g) (kept' : Kept) (serving : IsServing s.core h) (was : WellFormed m.values s)
     (formed : WellFormed m.values s') where
@@ -263,34 +248,6 @@ module _ {X : Type 0} {g : Ghosts X} {N B W E : Type 0} (m : Seen N B W) (s s' :
       makes m s s' {h' = served} serving was formed (omega arith) (λ v. refl) on event reply none
       (happens (are-these s'.core kept' (readings_in h.readings s.core) (λ l load is. ap (option_map reading_of) (f.still l load is) ∙ as-before serving.readings on l load is)))
       moves writes (kept-on serving.readings on (λ l own is. inl (f.only l own is)))
-
-  -- a load of a key begins, and is kept
-  pub key-starts : (key t : ℕ) (l : LoadNumber) (k : ℕ) (own : Own) → CallStep m s.core Owner.Caller (Call.LoadKey key) (Reply.Begun (Ok (Beginning.Load l k))) s'.core → Moves (λ n x. ⊥) s s'
-      → reading_of own ≡ fresh l t → own.key ≡ key → own.for_cell ≡ false → KeepsOne h.readings l.0 (Some own) kept'
-      → Makes m s h (Event.LoadKey key t) (EventReply.Started (Ok (Beginning.Load l k))) s' served
-  key-starts key t l k own step moves is key_is sort keeps =
-      let on = call-leaves s.core s'.core m (Call.LoadKey key) (Reply.Begun (Ok (Beginning.Load l k))) step.does in
-      let next = step.does.begins.1.above in
-      let a = step.does.begins.2 in
-      let last : s'.core.last.load ≡ s.core.last.load + 1 = ap (λ (x : Last). x.load) a.last in
-      let load : OpenLoad = record { owner = Owner.Caller; key = key; root = of_key } in
-      let there : s'.core.loads l.0 ≡ Some load = ap s'.core.loads next ∙ a.loads (s.core.last.load + 1) ∙ updated-at (s.core.last.load + 1) (Some load) s.core.loads in
-      let reads : ReadsFor load own = record { owned = refl; key = sym key_is; sort = sym sort; typed = tt } in
-      let new : IsKept s'.core l.0 own =
-      record {
-        number = ap (λ (r : Reading). r.load.0) is;
-        given = omega (arith, next, last);
-        reads = λ other open_load. subst (λ x. ReadsFor x own) (same_some _ _ (sym there ∙ open_load)) reads;
-      } in
-      makes m s s' {h' = served} serving was formed (omega arith) (λ v. refl) on (Event.LoadKey key t) (EventReply.Started (Ok (Beginning.Load l k))) (λ v. refl)
-      (record {
-        step = step.does;
-        begun = are-these s'.core kept' (updated l.0 (Some (fresh l t)) (readings_in h.readings s.core))
-            (λ q open_load is_open. at-one reading_of l.0 (Some own) (Some (fresh l t)) (readings_in h.readings s.core) keeps (ap Some is) q (as-before serving.readings on q open_load is_open));
-        refused = tt;
-        work = same-work;
-      }) moves tt
-      (kept-one serving.readings on l.0 (Some own) keeps (λ other same. subst (λ x. IsKept s'.core l.0 x) (same_some _ _ same) new))
 
 -- the same is kept
 module _ {X : Type 0} {g : Ghosts X} {N B W E : Type 0} (m : Seen N B W) {s s' : PagerState N E} {h h' : Holding g} (serving : IsServing s.core h) (was : WellFormed m.values s)
@@ -316,5 +273,5 @@ nothing-done s was = record { step = still s.core; moves = record { each = λ n 
 
 -- a machine over a pager does what is made of both
 pub drives : {X : Type 0} {g : Ghosts X} {N S E : Type 0} {v : Values N} {tells : Telling S} {old new : Over N S E g} {event : Given N} {reply : Answer N}
-    → Makes (plain v) (state_in tells old.pager) (holding old.held) (plain_event event) (plain_answer reply) (state_in tells new.pager) (holding new.held) → Drives v tells old event reply new
+    → Makes (plainly v) (state_in tells old.pager) (holding old.held) (plain_event event) (plain_answer reply) (state_in tells new.pager) (holding new.held) → Drives v tells old event reply new
 drives makes = record { makes = makes }

@@ -1,31 +1,33 @@
 -- A worker's step, and the table that it writes in its place. And a run goes on by one event more, and the headline holds of it after whatever came before.
-use Rattle.pagable.proofs.Keeping.{Leaves, Passes, are-these, as-before, at-one, end-leaves, event-passes, kept-on, leaves-so, makes-with, not-same, one-serves, updated-at, works_after}
-use Rattle.pagable.specs.{Driving.{Answer, Drives, Given, IsInStep, MachineView, Over, Runs, claims_at, claims_of, holding, machine_in, table_view, view_of}, Keeping.{Holding, IsServing, KeepsOne}}
-use Rattle.pagable.specs.{Keeping.{Makes, machine_of, readings_in}, Serving.{plain_answer, plain_event, plain_moved}, Walking.{IsWalkKept, SetsTable, WalksOn, shelf_at, task_in, todo_left}}
-use Rattle.{pagable.specs.{Walking.walking_of, declared.held.Walk.Walk}, pagable_core.specs.declared.context.writing.SerializedData.SerializedData, pagable_laws.proofs.Chains.headline_law}
-use Rattle.{pagable_laws.proofs.{Effects.owned-mine, ReadingSteps.{FrontMine, walk-goes}, Trees.{chains_join, same-number}}, pagable_model.specs.declared.numbers.WorkerNumber.WorkerNumber}
-use Rattle.{pagable_pager.specs.View.{Telling, state_in}, pagable_walk.specs.{Slots.{is_same, slot_of}, Table.shelf_of, Tasks.{todo_of, todos}, Turns.{Stepped, TaskFits, answer_in, plain}}}
-use Rattle.{pagable_walk.specs.{Turns.{plain_took, plan}, declared.{results.Trees.Ghosts, table.SlotTable.SlotTable, tasks.{Task.Task, Turn.Turn, Waiting.Waiting}}}, pagable_world.specs.Events.Ends}
-use Rattle.pagable_world.specs.{Events.{Happens, WorkerSteps, no_shelf, steps_after}, Kinds.{is_owner, owner_worker}, Pager.{MachineState, PagerState, TodoBrings, WellFormed, world_of}, Plain.Blob}
-use Rattle.pagable_world.specs.{Plain.{if_there, updated}, Runs.{AreMoments, Does, HasRun, Moment, state_after}, Workers.{answer_after, is_counted}, World.{Core, SameShelf, Seen, Shelf, Todo}}
-use Rattle.{pagable_world.specs.{World.{Values, Written}, declared.events.{Event.Event, EventReply.EventReply, Took.Took, WorkerAnswer.WorkerAnswer, WorkerReply.WorkerReply}}, std.proofs.Common.Bool}
-use Rattle.std.proofs.Common.{List, None, Ok, Option, Some, [], ap, arith, false, if◌then◌else◌, inl, inr, length, map, refl, rules, subst, suc, sym, true, zero, ℕ, ◌++◌, ◌<◌, ◌==◌, ◌∙◌, ◌∷◌, ◌≡◌}
-use Rattle.std.proofs.{Common.{◌≢◌, ◌≤◌}, Math.{ListN.set, Path.fun_ext}, lemmas.{Bool.Decides.nat_tests, Grind.common_steps, List.{append-nil, append_assoc, get_or-set_other, get_or-set_same}}}
-use Rattle.std.proofs.lemmas.{List.{length-map, length-set, map-append, nil_from_length}, Map.Made.lookup-map_values, Option.{slice_get-map, slice_get_cases, slice_get_past, slice_get_read}}
-use Rattle.std.specs.{Map.lookup, Option.option_map, Prelude.{is_none, is_some, nat_eq, slice_get}, declared.{alloc.Global.Global, sync.Arc.Arc}}
+use Rattle.{pagable_core.specs.declared.{storage.data.PagableData.PagableData, context.writing.SerializedData.SerializedData}, pagable_model.specs.declared.numbers.WorkerNumber.WorkerNumber}
+use Rattle.pagable.proofs.Keeping.{at-one, as-before, Leaves, kept-on, end-leaves, are-these, leaves-so, one-serves, works_after, not-same, updated-at, event-passes, makes-with}
+use Rattle.pagable.specs.{Walking.{todo_left, task_in, WalksOn, SetsTable, IsWalkKept, walking_of, shelf_at}, Serving.{plain_event, plainly, plain_moved, plain_answer}, Keeping.readings_in}
+use Rattle.pagable.specs.{Keeping.{IsServing, Holding, Makes, machine_of, KeepsOne}, Driving.{claims_at, Given, Runs, Answer, MachineView, Drives, machine_in, Over, view_of, IsInStep, claims_of}}
+use Rattle.{pagable.specs.{Driving.{table_view, holding}, declared.held.Walk.Walk}, pagable_pager.specs.View.{Telling, state_in}, pagable_laws.proofs.{Chains.headline_law, Trees.same-number}}
+use Rattle.{pagable_laws.proofs.{Trees.chains_join, ReadingSteps.{FrontMine, walk-goes}, Effects.owned-mine}, pagable_walk.specs.{Slots.{is_same, slot_of}, declared.table.SlotTable.SlotTable}}
+use Rattle.pagable_walk.specs.{declared.{tasks.{Turn.Turn, Waiting.Waiting, Task.Task}, results.Trees.Ghosts}, Turns.{plan, plain, TaskFits, plain_took, Stepped, answer_in}, Table.shelf_of}
+use Rattle.{pagable_walk.specs.Tasks.{todo_of, todos}, std.specs.{Prelude.{slice_get, nat_eq, is_some, is_none}, Option.option_map, declared.{sync.Arc.Arc, alloc.Global.Global}, Map.lookup}}
+use Rattle.std.proofs.{Math.{Path.fun_ext, ListN.set}, Common.{[], ◌∙◌, arith, ◌≡◌, Option, ◌≢◌, map, suc, ℕ, subst, ◌++◌, ap, None, if◌then◌else◌, inr, Bool, zero, ◌==◌, List, Some, refl, false}}
+use Rattle.std.proofs.{Common.{◌∷◌, sym, ◌<◌, length, true, rules, ◌≤◌, inl, Ok}, lemmas.{Option.{slice_get-map, slice_get_read, slice_get_cases, slice_get_past}, List.{get_or-set_other, map-append}}}
+use Rattle.std.proofs.lemmas.{List.{nil_from_length, append-nil, get_or-set_same, length-set, length-map, append_assoc}, Bool.Decides.nat_tests, Grind.common_steps, Map.Made.lookup-map_values}
+use Rattle.pagable_world.specs.{Workers.{is_counted, answer_after, Site}, Runs.{state_after, Moment, HasRun, AreMoments, Does}, Events.{no_shelf, steps_after, WorkerSteps, Happens, Ends}}
+use Rattle.pagable_world.specs.{Pager.{MachineState, TodoBrings, world_of, PagerState, WellFormed}, Kinds.{is_owner, owner_worker}, declared.events.{WorkerReply.WorkerReply, Event.Event}}
+use Rattle.pagable_world.specs.{declared.events.{EventReply.EventReply, Took.Took, WorkerAnswer.WorkerAnswer}, Plain.{updated, if_there}, World.{Shelf, Seen, Core, SameShelf, Values, Todo, Written}}
+use Rattle.pagable_world.specs.Workers as workers
 
 -- ---- a table of a list is written in its place
-
-others-stay : {Y : Type 0} (xs : List Y) (i q : ℕ) (y : Y) → q ≢ i → slice_get (set xs i y) q ≡ slice_get xs q
-others-stay xs i q y other = grind (arith, nat_tests, get_or-set_other, length-set, set, slice_get_cases, slice_get_past, slice_get_read)
 
 pub set-at : {X : Type 0} {g : Ghosts X} (tables tables' : List (SlotTable X g)) (place : ℕ) (table : SlotTable X g) → place < length tables → tables' ≡ set tables place table
     → SetsTable tables place table tables'
 set-at {X} {g} tables tables' place table within is = subst (λ (list : List (SlotTable X g)). SetsTable tables place table list) (sym is) (record {
   len = length-set tables place table;
   here = slice_get_read (set tables place table) _ place table refl (subst (λ n. place < n) (sym (length-set tables place table)) within) (sym (get_or-set_same tables place table table within));
-  others = λ q other. others-stay tables place q table other;
+  others = λ q other. grind (arith, nat_tests, get_or-set_other, length-set, set, slice_get_cases, slice_get_past, slice_get_read);
 })
+
+-- a worker's step sees no blob
+as-does : {N : Type 0} (v : Values N) (n : ℕ) (s s' : Site) (todo : List Todo) (step : Took Written) → workers.Does (plain v) n s todo step s' → workers.Does (plainly v) n s todo step s'
+as-does v n s s' todo step d = grind (arith, nat_tests)
 
 -- the load that it goes on with is its own
 front-mine : {X : Type 0} {g : Ghosts X} (n : ℕ) (w : Core) (task : Task X g) (below : List Todo) → TaskFits n w task → FrontMine w (owner_worker n) (todo_of task ∷ below)
@@ -55,8 +57,8 @@ module _ {X : Type 0} {g : Ghosts X} {N E : Type 0} (v : Values N) (s s' : Pager
   abbrev after : Holding g
   after = record h { tables = tables'; walks = walks' }
 
-  abbrev m : Seen N Blob Written
-  m = plain v
+  abbrev m : Seen N PagableData Written
+  m = plainly v
 
   abbrev turn : Turn X g
   turn = on.moved.turn
@@ -87,7 +89,7 @@ module _ {X : Type 0} {g : Ghosts X} {N E : Type 0} (v : Values N) (s s' : Pager
 
   leaves : Leaves (owner_worker n.0) (works_after (answer_in turn) n.0 s.core.workers) s.core s'.core
   leaves =
-      let goes = walk-goes m n.0 (record { core = s.core; shelf = shelf_of on.table; todo = todo }) done.does.after todo step done.does.does.does in
+      let goes = walk-goes (plain v) n.0 (record { core = s.core; shelf = shelf_of on.table; todo = todo }) done.does.after todo step done.does.does.does in
       end-leaves (answer_in turn) n.0 (leaves-so goes.does (front-mine n.0 s.core on.task (todos k.path.items) fits)) ends
 
   -- its list and table are those that the machine knows
@@ -101,50 +103,42 @@ module _ {X : Type 0} {g : Ghosts X} {N E : Type 0} (v : Values N) (s s' : Pager
   walking-is = first_of (grind (arith, common_steps, nat_tests), grind (arith, nat_tests, left-is), search (rules, left-is))
 
   steps-so : WorkerSteps m (world_of (machine_of s h)) n told (world_of (machine_of s' after))
-  steps-so =
-      record {
-        walking = walking_of k;
-        after = done.does.after;
-        at = ap (option_map walking_of) kept;
-        at_work = unanswered;
-        does = rw (shelf-is, todo-is) done.does.does;
-        answers = sym done.answers ∙ ap (λ list. answer_after list step) (sym todo-is);
-        counts = on.after.steps ∙ ap (steps_after k.steps) (on.steps.counts ∙ ap (λ list. is_counted list step) (sym todo-is));
-        ends = ends;
-        readings = are-these s'.core h.readings (readings_in h.readings s.core) (λ l load is. as-before serving.readings leaves l load is);
-        work = record {
-          same_shelves = λ t. subst (λ number. SameShelf (updated number done.does.after.shelf (shelf_at h.tables) t) (shelf_at tables' t)) (sym on.on)
-              (shelf-set h.tables tables' on.place on.table' done.does.after.shelf on.sets done.does.shelf_is t);
-          last_is = on.sets.len;
-          same_walkings = λ q. at-one walking_of n.0 (Some k') _ (λ u. option_map walking_of (h.walks u)) keeps (ap Some walking-is) q refl;
-        };
-      }
+  steps-so = record {
+    walking = walking_of k;
+    after = done.does.after;
+    at = ap (option_map walking_of) kept;
+    at_work = unanswered;
+    does = rw (shelf-is, todo-is) (record { does = as-does v n.0 _ _ todo step done.does.does.does });
+    answers = sym done.answers ∙ ap (λ list. answer_after list step) (sym todo-is);
+    counts = on.after.steps ∙ ap (steps_after k.steps) (on.steps.counts ∙ ap (λ list. is_counted list step) (sym todo-is));
+    ends = ends;
+    readings = are-these s'.core h.readings (readings_in h.readings s.core) (λ l load is. as-before serving.readings leaves l load is);
+    work = record {
+      same_shelves = λ t. subst (λ number. SameShelf (updated number done.does.after.shelf (shelf_at h.tables) t) (shelf_at tables' t)) (sym on.on)
+          (shelf-set h.tables tables' on.place on.table' done.does.after.shelf on.sets done.does.shelf_is t);
+      last_is = on.sets.len;
+      same_walkings = λ q. at-one walking_of n.0 (Some k') _ (λ u. option_map walking_of (h.walks u)) keeps (ap Some walking-is) q refl;
+    };
+  }
 
   happens : Happens m (world_of (machine_of s h)) (Event.WorkerStep n) (EventReply.WorkerMoved (Ok told)) (world_of (machine_of s' after))
   happens = record { moves = steps-so; refused = tt }
 
-  passes : (q : ℕ) → q ≢ n.0 → Passes q s.core s'.core
-  passes q other =
-      event-passes m q (world_of (machine_of s h)) (world_of (machine_of s' after)) was.whole (Event.WorkerStep n) (EventReply.WorkerMoved (Ok told))
-      (ap (λ b. if b then step ∷ [] else []) (apart n.0 q (λ is. other (sym is)))) happens
-      (λ l load is own. leaves.others l load is (was.whole.loads.numbered l (ap is_some is)).1 (ap (is_owner (owner_worker n.0)) own ∙ apart q n.0 other))
-
-  at-work : s.core.workers n.0 ≡ true
-  at-work = mine.at_work ∙ ap is_none unanswered
-
   still : IsWalkKept s'.core (length tables') n.0 k'
-  still = grind (arith, nat_tests, at-work, done, fits, leaves, left-is, mine, updated-at)
+  still = let at_work : s.core.workers n.0 ≡ true = mine.at_work ∙ ap is_none unanswered in grind (arith, nat_tests, at_work, done, fits, leaves, left-is, mine, updated-at)
 
   pub worker-moved : Makes m s h (Event.WorkerStep n) (EventReply.WorkerMoved (Ok (plain_moved reply))) s' after
-  worker-moved =
-      rw on.replies (makes-with m s s' {h' = after} done.does.whole (Event.WorkerStep n) (EventReply.WorkerMoved (Ok told)) happens
+  worker-moved = rw on.replies (makes-with m s s' {h' = after} done.does.whole (Event.WorkerStep n) (EventReply.WorkerMoved (Ok told)) happens
       (record {
         each = λ q x is. elim (done.does.moves.each q x is)
             [ inl there ↦ inl there | inr (none, came) ↦ inr (none, (walking_of k, ap (option_map walking_of) kept, subst (λ (list : List Todo). TodoBrings v s.core list q x) (sym todo-is) came)) ];
         environment = done.does.moves.environment;
       }) done.does.writes
       (one-serves {h' = after} serving was.whole.handles n.0 k' keeps (subst (λ last. length h.tables ≤ last) (sym on.sets.len) (omega arith))
-      (kept-on serving.readings leaves (λ l own is. inl is)) passes
+      (kept-on serving.readings leaves (λ l own is. inl is))
+      (λ q other. event-passes m q (world_of (machine_of s h)) (world_of (machine_of s' after)) was.whole (Event.WorkerStep n) (EventReply.WorkerMoved (Ok told))
+      (ap (λ b. if b then step ∷ [] else []) (apart n.0 q (λ is. other (sym is)))) happens
+      (λ l load is own. leaves.others l load is (was.whole.loads.numbered l (ap is_some is)).1 (ap (is_owner (owner_worker n.0)) own ∙ apart q n.0 other)))
       (λ q other. leaves.workers q ∙ works-others (answer_in turn) n.0 q s.core.workers other) still))
 
 -- ---- what the machine's value shows of tables and workers is what it keeps of them
@@ -200,24 +194,23 @@ module _ {N S E X : Type 0} {t : Ghosts X} (tells : Telling S) (v : E → Values
   pub record SoFar (all rest : List (Given N)) (replies : List (Answer N)) (now : Over N S E t) : Type 0 where
     pub done : List (Given N)
     pub left : done ++ rest ≡ all
-    pub run : HasRun (plain (v old.pager.environment)) (machine_in tells old) (map plain_event done) (map plain_answer replies) (raw_in tells now)
+    pub run : HasRun (plainly (v old.pager.environment)) (machine_in tells old) (map plain_event done) (map plain_answer replies) (raw_in tells now)
     pub environment : now.pager.environment ≡ old.pager.environment
     pub in_step : IsInStep tells now
 
   pub at-first : (all : List (Given N)) (now : Over N S E t) → old ≡ view_of now.pager now.held → IsInStep tells now → SoFar all all [] now
-  at-first all now is in_step =
-      record {
-        done = [];
-        left = refl;
-        run = subst (λ x. HasRun (plain (v old.pager.environment)) (machine_in tells old) [] [] x) (ap (machine_in tells) is ∙ view-is tells now) (no-run _ _);
-        environment = ap (λ (x : MachineView N S E). x.pager.environment) (sym is);
-        in_step = in_step;
-      }
+  at-first all now is in_step = record {
+    done = [];
+    left = refl;
+    run = subst (λ x. HasRun (plainly (v old.pager.environment)) (machine_in tells old) [] [] x) (ap (machine_in tells) is ∙ view-is tells now) (no-run _ _);
+    environment = ap (λ (x : MachineView N S E). x.pager.environment) (sym is);
+    in_step = in_step;
+  }
 
   pub one-more : (all rest : List (Given N)) (event : Given N) (replies : List (Answer N)) (reply : Answer N) (mid new : Over N S E t)
       → SoFar all (event ∷ rest) replies mid → Drives (v mid.pager.environment) tells mid event reply new → SoFar all rest (replies ++ reply ∷ []) new
   one-more all rest event replies reply mid new so made =
-      let does = subst (λ e. Does (plain (v e)) (raw_in tells mid) (plain_event event) (plain_answer reply) (raw_in tells new)) so.environment made.makes.does in
+      let does = subst (λ e. Does (plainly (v e)) (raw_in tells mid) (plain_event event) (plain_answer reply) (raw_in tells new)) so.environment made.makes.does in
       let more = run-more _ _ _ _ _ _ (plain_event event) (plain_answer reply) so.run does in
       record {
         done = so.done ++ event ∷ [];
@@ -231,7 +224,7 @@ module _ {N S E X : Type 0} {t : Ghosts X} (tells : Telling S) (v : E → Values
       → length rest ≡ 0 → SoFar all rest replies new → Runs (v old.pager.environment) tells old all replies (view_of new.pager new.held)
   all-ran all rest replies new none so =
       let is : so.done ≡ all = sym (append-nil so.done) ∙ ap (λ xs. so.done ++ xs) (sym (nil_from_length rest none)) ∙ so.left in
-      let m = plain (v old.pager.environment) in
+      let m = plainly (v old.pager.environment) in
       let run = subst (λ xs. HasRun m (machine_in tells old) (map plain_event xs) (map plain_answer replies) (machine_in tells (view_of new.pager new.held))) is
       (subst (λ x. HasRun m (machine_in tells old) (map plain_event so.done) (map plain_answer replies) x) (sym (view-is tells new)) so.run) in
       record {

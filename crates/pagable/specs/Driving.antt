@@ -2,9 +2,9 @@
 use Rattle.std.specs.{HashMap.{HashMap, get}, Map.lookup, Prelude.{ℕ, ◌≡◌, ◌++◌, zero, suc, List, length, map, Option, nat_eq, slice_get}, declared.alloc.Global.Global}
 use Rattle.std.specs.declared.{hash.{BuildHasherDefault.BuildHasherDefault, FoldHasher.FoldHasher}, sync.Arc.Arc}
 use Rattle.{pagable_core.specs.declared.{context.writing.SerializedData.SerializedData, storage.data.PagableData.PagableData}, pagable_loads.specs.declared.reading.Reading.Reading as Own}
-use Rattle.pagable.specs.{Keeping.{Holding, IsServing, Makes, readings_in}, Serving.{plain_answer, plain_event}, Walking.walking_of, declared.held.Held.Held}
-use Rattle.{pagable_pager.specs.View.{PagerView, Telling, core_in, state_in}, pagable_walk.specs.{Slots.{is_same, slot_of}, Turns.plain, declared.{results.Trees.Ghosts, table.SlotTable.SlotTable}}}
-use Rattle.pagable_world.specs.{Events.no_shelf, Headline.Headline, Pager.{IsIdle, IsMachineWhole, MachineState}, Plain.{Blob, Identity, if_there}, Runs.{AreMoments, HasRun, Moment, state_after}}
+use Rattle.pagable.specs.{Keeping.{Holding, IsServing, Makes, readings_in}, Serving.{plain_answer, plain_event, plainly}, Walking.walking_of, declared.held.Held.Held}
+use Rattle.{pagable_pager.specs.View.{PagerView, Telling, core_in, state_in}, pagable_walk.specs.{Slots.{is_same, slot_of}, declared.{results.Trees.Ghosts, table.SlotTable.SlotTable}}}
+use Rattle.pagable_world.specs.{Events.no_shelf, Headline.Headline, Pager.{IsIdle, IsMachineWhole, MachineState}, Plain.{Identity, if_there}, Runs.{AreMoments, HasRun, Moment, state_after}}
 use Rattle.pagable_world.specs.{World.{Shelf, Slot, Values, Walking, Written}, declared.events.{Event.Event, EventReply.EventReply}}
 
 abbrev pub ByNumber : Type 0 → Type 0
@@ -34,16 +34,15 @@ claims_at tables zero = no_shelf
 claims_at tables (suc t) = if_there claims_of no_shelf (slice_get tables t)
 
 abbrev pub machine_in : {N S E : Type 0} → Telling S → MachineView N S E → MachineState N E
-machine_in tells s =
-    record {
-      pager = state_in tells s.pager;
-      work = record {
-        shelves = claims_at s.tables;
-        last_table = length s.tables;
-        readings = readings_in (kept_at s.readings) (core_in tells s.pager);
-        walkings = λ v. lookup (nat_eq v) s.walks;
-      };
-    }
+machine_in tells s = record {
+  pager = state_in tells s.pager;
+  work = record {
+    shelves = claims_at s.tables;
+    last_table = length s.tables;
+    readings = readings_in (kept_at s.readings) (core_in tells s.pager);
+    walkings = λ v. lookup (nat_eq v) s.walks;
+  };
+}
 
 -- the events that it takes, and what it answers
 abbrev pub Given : Type 0 → Type 0
@@ -77,11 +76,11 @@ module _ {N S E X : Type 0} {g : Ghosts X} where
 
   -- One event.
   pub record Drives (v : Values N) (tells : Telling S) (old : Over N S E g) (event : Given N) (reply : Answer N) (new : Over N S E g) : Type 0 where
-    pub makes : Makes (plain v) (state_in tells old.pager) (holding old.held) (plain_event event) (plain_answer reply) (state_in tells new.pager) (holding new.held)
+    pub makes : Makes (plainly v) (state_in tells old.pager) (holding old.held) (plain_event event) (plain_answer reply) (state_in tells new.pager) (holding new.held)
 
 -- These events, with these replies, led from the old machine to the new one; and the headline holds of them after whatever led from an idle machine to the old one.
 pub record Runs {N S E : Type 0} (v : Values N) (tells : Telling S) (old : MachineView N S E) (happened : List (Given N)) (replied : List (Answer N)) (new : MachineView N S E) : Type 0 where
-  pub run : HasRun (plain v) (machine_in tells old) (map plain_event happened) (map plain_answer replied) (machine_in tells new)
-  pub right : (start : MachineState N E) (before : List (Moment N E Blob Written)) → IsMachineWhole v start → IsIdle start → AreMoments (plain v) start before
+  pub run : HasRun (plainly v) (machine_in tells old) (map plain_event happened) (map plain_answer replied) (machine_in tells new)
+  pub right : (start : MachineState N E) (before : List (Moment N E PagableData Written)) → IsMachineWhole v start → IsIdle start → AreMoments (plainly v) start before
       → state_after start before ≡ machine_in tells old
-      → Headline (plain v) start (before ++ run.moments)
+      → Headline (plainly v) start (before ++ run.moments)

@@ -1,9 +1,9 @@
 -- What a machine keeps of loads, tables and workers, and when it is in step with its pager; and what one event does to both.
-use Rattle.std.specs.{Option.option_map, Prelude.{ℕ, ◌≡◌, ◌≢◌, ◌≤◌, ◌⊎◌, true, List, length, Option, Some, None, is_some}}
-use Rattle.{pagable_model.specs.declared.numbers.LoadNumber.LoadNumber, pagable_loads.specs.{Frames.{IsLoadOf, is_cell, reading_of}, Stepping.IsSameLoad, declared.reading.Reading.Reading as Own}}
-use Rattle.pagable_world.specs.{Access.ReadingStep, Pager.{FitsRoot, MachineState, PagerState}, Plain.if_there, Runs.Does, Workers.fresh, World.{Core, OpenLoad, Reading, Seen, Values, Work, one_more}}
-use Rattle.{pagable_world.specs.declared.{events.{Event.Event, EventReply.EventReply, LoadAnswer.LoadAnswer, LoadReply.LoadReply}, handles.Owner.Owner}, pagable.specs.Walking.IsWalkKept}
-use Rattle.{pagable.specs.{Walking.{shelf_at, walking_of}, declared.held.Walk.Walk}, pagable_walk.specs.declared.{results.Trees.Ghosts, table.SlotTable.SlotTable}}
+use Rattle.std.specs.{Option.option_map, Prelude.{List, None, Option, Some, is_some, length, true, ℕ, ◌≡◌, ◌≢◌, ◌≤◌, ◌⊎◌}}
+use Rattle.pagable_world.specs.{declared.{events.{EventReply.EventReply, LoadReply.LoadReply, Event.Event, LoadAnswer.LoadAnswer}, handles.Owner.Owner}, Workers.fresh, Pager.MachineState}
+use Rattle.pagable_world.specs.{Pager.{PagerState, FitsRoot}, World.{Seen, Work, OpenLoad, one_more, Core, Values, Reading}, Runs.Does, Access.ReadingStep, Plain.if_there}
+use Rattle.{pagable_walk.specs.declared.{results.Trees.Ghosts, table.SlotTable.SlotTable}, pagable_model.specs.declared.numbers.LoadNumber.LoadNumber, pagable_loads.specs.Frames.{IsLoadOf, is_cell}}
+use Rattle.{pagable_loads.specs.{Frames.reading_of, declared.reading.Reading.Reading as Own, Stepping.IsSameLoad}, pagable.specs.{Walking.{shelf_at, walking_of, IsWalkKept}, declared.held.Walk.Walk}}
 
 -- what is kept of loads, by their numbers
 abbrev pub Kept : Type 0
@@ -78,14 +78,6 @@ pub record Stepped {N E : Type 0} (v : Values N) (me : Owner) (own : Own) (reply
   pub does : IsLoadOf s.core me own → ReadingStep v me (reading_of own) s reply.ended (reading_of new).frames s'
   pub same : IsSameLoad own new (one_more own.steps)
   pub counts : reply.steps ≡ one_more own.steps
-
--- The kept reading of the load made a step, and is kept still.
-pub record KeptStep {N E : Type 0} (v : Values N) (kept : Kept) (l : ℕ) (reply : LoadReply N) (kept' : Kept) (s s' : PagerState N E) : Type 0 where
-  pub own : Own
-  pub new : Own
-  pub was : kept l ≡ Some own
-  pub stepped : Stepped v Owner.Caller own reply new s s'
-  pub keeps : KeepsOne kept l (Some new) kept'
 
 -- what is kept after a step that ended the load, or didn't
 abbrev pub rest_after : {N : Type 0} → Option (LoadAnswer N) → Option Own → Option Own

@@ -4,36 +4,5 @@ pub mod Keeping
 pub mod Driving
 pub mod Paged
 -- The words of the clauses about values, blobs and keys, so that a crate with types of its own names `pagable` alone.
-pub use Rattle.pagable_model.specs.Basic
-pub use Rattle.pagable_model.specs.Blob
-pub use Rattle.pagable_model.specs.Canonical
-pub use Rattle.pagable_model.specs.Carried
-pub use Rattle.pagable_model.specs.Causes
-pub use Rattle.pagable_model.specs.Form
-pub use Rattle.pagable_model.specs.Gives
-pub use Rattle.pagable_model.specs.Keyed
-pub use Rattle.pagable_model.specs.Keys
-pub use Rattle.pagable_model.specs.Lengths
-pub use Rattle.pagable_model.specs.Lifted
-pub use Rattle.pagable_model.specs.Meaning
-pub use Rattle.pagable_model.specs.Numbers
-pub use Rattle.pagable_model.specs.OneForm
-pub use Rattle.pagable_model.specs.Reading
-pub use Rattle.pagable_model.specs.References
-pub use Rattle.pagable_model.specs.Refusals
-pub use Rattle.pagable_model.specs.Session
-pub use Rattle.pagable_model.specs.Shape
-pub use Rattle.pagable_model.specs.Standing
-pub use Rattle.pagable_model.specs.Statics
-pub use Rattle.pagable_model.specs.Stored
-pub use Rattle.pagable_model.specs.Tagged
-pub use Rattle.pagable_model.specs.Writing
-pub use Rattle.pagable_model.specs.declared.error.Error
-pub use Rattle.pagable_model.specs.declared.numbers.ArcRef
-pub use Rattle.pagable_traits.specs.InNodes
-pub use Rattle.pagable_traits.specs.KeyLaws
-pub use Rattle.pagable_traits.specs.Meanings
-pub use Rattle.pagable_traits.specs.OwnCauses
-pub use Rattle.pagable_traits.specs.ReadBack
-pub use Rattle.pagable_traits.specs.StaticValues
-pub use Rattle.pagable_traits.specs.declared.static_value.StaticValue
+pub use Rattle.pagable_model.specs as model
+pub use Rattle.pagable_traits.specs as traits

@@ -1,8 +1,8 @@
 //! Each call of the pager as the machine makes it: a step of the plain world, with a reply of the call's type.
 
-ghost use Rattle.std.specs.Prelude.{◌≡◌};
+ghost use Rattle.std.specs.{Arc.arc_value, Prelude.◌≡◌};
 ghost use Rattle.{pagable_world.specs.{Events.given_of, World.seen_as}, pagable_loads.specs.Telling.values_at, pagable_pager.specs.View.{telling, given_as}};
-ghost use Rattle.pagable.specs.Serving.{Serves, plain_blob};
+ghost use Rattle.{pagable.specs.Serving.{Serves, plain_found}, pagable_core.specs.Data.blob_of};
 
 use either::Either;
 use pagable_codec::{Env, NodeSet};
@@ -17,7 +17,7 @@ use std::sync::Arc;
 fn found(
     given: Result<Either<HandleNumber, Arc<PagableData>>, Error>,
 ) -> Result<Found<Arc<PagableData>>, Error>
-    ensures { seen_as (given_of plain_blob) result ≡ seen_as (given_as plain_blob) given }
+    ensures { seen_as (given_of blob_of) (seen_as plain_found result) ≡ seen_as (given_as (λ d. blob_of (arc_value d))) given }
 {
     match given {
         Ok(Either::Left(known)) => Ok(Found::Cached(known)),

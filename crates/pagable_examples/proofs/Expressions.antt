@@ -1,7 +1,8 @@
 -- Expressions: a number, or two expressions one level further down.
-use Rattle.pagable.{proofs.Parts.{no-failure, no-success, refused_second, refuses_first, refuses_whole, writes_pair, writes_whole}, specs.{ArcRef.ArcRef, Basic.bool_form, Error.Error, Form.err-form}}
-use Rattle.pagable.specs.{Form.ok-form, Gives.{deep_or, memory}, Lifted.MeansPair, Meaning.{Meaning, failure, number, pair, success}, Reading.deepest, Shape.{both, nested, unsigned}, Standing.Is}
-use Rattle.{pagable.specs.Writing.nesting, pagable_codec.specs.declared.{env.Env.Ghosts as Environments, serializer.PagableSerializer.Ghosts as Serializers}}
+use Rattle.pagable.{proofs.Parts.{no-failure, no-success, refused_second, refuses_first, refuses_whole, writes_pair, writes_whole}, specs.model.{Basic.bool_form, Form.err-form}}
+use Rattle.pagable.specs.model.{Form.ok-form, Gives.{deep_or, memory}, Lifted.MeansPair, Meaning.{Meaning, failure, number, pair, success}, Reading.deepest, Shape.{both, nested, unsigned}}
+use Rattle.pagable_model.specs.declared.{error.Error.Error, numbers.ArcRef.ArcRef}
+use Rattle.{pagable.specs.model.{Standing.Is, Writing.nesting}, pagable_codec.specs.declared.{env.Env.Ghosts as Environments, serializer.PagableSerializer.Ghosts as Serializers}}
 use Rattle.pagable_examples.{proofs.Levels.{refused-down, writes-down}, specs.{Expressions.{expression, node, nodes, of_expression, written}, declared.expression.Expression.{Expression, Number}}}
 use Rattle.{pagable_traits.{proofs.JsonSteps.{wrote-below, wrote-nothing, wrote-then, wrote-then-err}, specs.JsonSteps.{Piece, Wrote, bytes}}, std.proofs.Common.{Err, Ok, Result, false, inr, refl}}
 use Rattle.std.{proofs.Common.{true, ℕ, ◌+◌, ◌-◌, ◌<◌, ◌≡◌}, specs.{Int.w64, Result.IsErrAnd}}
@@ -25,8 +26,7 @@ module _ {S E N H K V : Type 0} (env : Environments E N H K V) (s : Serializers 
 
   pub number_written : {X : Type 0} (x : ℕ) (value : Expression) → value ≡ Number x → {a b c : S} (r : Result X Error) → Wrote env s (bytes (bool_form true)) memory a b (let p : Result (Unit {0}) Error = Ok tt in p)
       → Wrote env s (written (Is number x) (unsigned w64)) memory b c r → Wrote env s (expression value node) (deep_or memory) a c r
-  number_written x value is r f w =
-      wrote-then env s r f w
+  number_written x value is r f w = wrote-then env s r f w
       (λ n old mid new e v. writes_whole (nesting n.levels nodes) (nesting n.levels nodes) success (unsigned w64) node (Is number x) (Is of_expression value) (λ m h. rw (h, is) refl) (bool_form true) old mid new
       (λ m b k form. ok-form _ _ _ m b k form) e v)
       (λ n e l h. refuses_whole (nesting n.levels nodes) (nesting n.levels nodes) success (unsigned w64) node (Is number x) (Is of_expression value) (λ m h. rw (h, is) refl) e (no-success _ _ _) l) (λ e h. inr h)
@@ -46,8 +46,7 @@ module _ {S E N H K V : Type 0} (env : Environments E N H K V) (s : Serializers 
 
     pub sum_written : {X Y : Type 0} {d : X} {c z : S} (r : Result Y Error) → Wrote env s (expression x (nested 0)) (deep_or memory) b c (let p : Result X Error = Ok d in p)
         → Wrote env s (expression y (nested 0)) (deep_or memory) c z r → Wrote env s (expression value node) (deep_or memory) a z r
-    sum_written r v w =
-        wrote-then env s r f
+    sum_written r v w = wrote-then env s r f
         (wrote-then env s {W = written (two x y) (both (nested 0) (nested 0))} {causes = deep_or memory} r v w
         (λ n old mid new p q. writes_pair (Is of_expression) (Is of_expression) (x, y) (nesting n.levels nodes) (nested 0) (nested 0) old mid new p q)
         (λ n e l h. refused_second {X = Unit {0}} (Err e) (Is of_expression) (Is of_expression) (λ u. (of_expression u, refl)) (x, y) (nesting n.levels nodes) (nested 0) (nested 0) l) (λ e h. h))

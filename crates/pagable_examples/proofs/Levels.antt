@@ -1,8 +1,8 @@
 -- A part one level further down, in any environment: what writing and reading it on the deeper level says of it.
-use Rattle.pagable.specs.{ArcRef.ArcRef, Error.Error, Form.nested-form, Meaning.Meaning, Reading.{Rest, deepest, read, read_with, below}, Shape.{Shape, nested}, Standing.{Answer, handles_at}}
-use Rattle.{pagable.specs.Writing.{Out, nesting, WritesSome, NoForm, Refused}, std.{proofs.Common.{◌≡◌, ℕ, suc, ◌+◌, ◌-◌, ◌<◌, ◌≤◌, arith, refl, Result, Err}, specs.Prelude.IfErr}}
-use Rattle.pagable.proofs.Reading.{moves_refl, moves_trans}
-use Rattle.pagable.specs.Error.TheVariants as errors
+use Rattle.pagable.{proofs.Reading.{moves_refl, moves_trans}, specs.model.{Form.nested-form, Meaning.Meaning, Reading.{Rest, below, deepest, read, read_with}, Shape.{Shape, nested}, Standing.Answer}}
+use Rattle.{pagable.specs.model.{Standing.handles_at, Writing.{NoForm, Out, Refused, WritesSome, nesting}, declared.{error.Error.Error, numbers.ArcRef.ArcRef}}, std.proofs.Common.{Err, Result, arith}}
+use Rattle.std.{proofs.Common.{refl, suc, ℕ, ◌+◌, ◌-◌, ◌<◌, ◌≡◌, ◌≤◌}, specs.Prelude.IfErr}
+use Rattle.pagable.specs.model.declared.error.Error.TheVariants as errors
 
 module _ (parts : ℕ → Shape) (part : ℕ) where
   pub writes-down : (M : Meaning ArcRef → Type 0) (levels : ℕ) (old new : Out) → levels < deepest → WritesSome M (nesting (levels + 1) parts) (parts part) old new → WritesSome M (nesting levels parts) (nested part) old new

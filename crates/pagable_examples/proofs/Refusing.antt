@@ -1,6 +1,6 @@
 -- The refusals of a storage that fails once, and of a node that is read.
-use Rattle.{pagable_examples.specs.Failing.{own_failures, failures_of}, pagable_model.specs.{Blob.Blob, Stored.{HasFailed, RefusesFetch, RefusesStore, RefusesFlush}, declared.error.Error.Error}}
-use Rattle.std.{proofs.{Common.{◌≡◌, ◌+◌, ◌-◌, ◌^◌, ◌<◌, ◌⊎◌, ℕ, Bool, true, false, min, arith, Option, Result, inl, inr}, lemmas.Bool.cases_lt}, specs.Prelude.IfErr}
+use Rattle.{pagable_examples.specs.Failing.failures_of, pagable_model.specs.{Blob.Blob, Stored.{HasFailed, RefusesFetch, RefusesStore, RefusesFlush}, declared.error.Error.Error}}
+use Rattle.std.{proofs.{Common.{◌≡◌, ◌+◌, ◌-◌, ◌^◌, ◌<◌, ◌⊎◌, ℕ, Bool, true, false, min, arith, Option, Result, inl, inr}, lemmas.Bool.cases_lt}, specs.{Int.from_bool, Prelude.IfErr}}
 
 -- counts that are cut off at the greatest
 cut : (before after : ℕ) → before < after → HasFailed (min (2 ^ 64 - 1) before) (min (2 ^ 64 - 1) after)
@@ -10,7 +10,7 @@ pub own_failure : (inner : ℕ) (before after : Bool) → before ≡ false → a
 own_failure inner before after is_not is = rw (is_not, is) (cut (inner + 0) (inner + 1) (omega arith))
 
 passed-on : (failed : Bool) (before after : ℕ) → HasFailed before after → HasFailed (failures_of failed before) (failures_of failed after)
-passed-on failed before after (inl lt) = cut (before + own_failures failed) (after + own_failures failed) (omega arith)
+passed-on failed before after (inl lt) = cut (before + from_bool failed) (after + from_bool failed) (omega arith)
 passed-on failed before after (inr h) = inr (omega (arith, h.0, h.1), omega (arith, h.0, h.1))
 
 module _ {X : Type 0} (failed : Bool) (before after : ℕ) where

@@ -1,7 +1,7 @@
 -- The tags of animals, and what stands under each.
-use Rattle.std.specs.{Int.w8, Prelude.{refl, ℕ, List, [], ◌∷◌, cond}, Str.bytes_eq}
-use Rattle.pagable.specs.{ArcRef.ArcRef, Carried.of_tagged, Meaning.{Meaning, none, number}, Meanings.Meanings, Shape.{Shape, nothing, unsigned}, Standing.Is, Tagged.MeansTagged}
-use Rattle.pagable_examples.specs.{declared.animal.Animal.Animal, declared.animal.AnimalReader.AnimalReader}
+use Rattle.std.specs.{Int.w8, Prelude.{List, [], cond, refl, ℕ, ◌∷◌}, Str.bytes_eq}
+use Rattle.pagable.specs.model.{Carried.of_tagged, Meaning.{Meaning, none, number}, Shape.{Shape, nothing, unsigned}, Standing.Is, Tagged.MeansTagged, declared.numbers.ArcRef.ArcRef}
+use Rattle.{pagable.specs.traits.Meanings.Meanings, pagable_examples.specs.declared.animal.{Animal.Animal, AnimalReader.AnimalReader}}
 use Rattle.pagable_examples.specs.declared.animal.Animal.TheVariants as animals
 use Rattle.pagable_examples.specs.declared.animal.AnimalReader.TheVariants as readers
 

@@ -1,7 +1,8 @@
 -- What expressions mean, and how they are spelled.
-use Rattle.std.specs.{Int.w64, Prelude.{◌≡◌, ℕ, Result, Ok, Err}}
-use Rattle.pagable.specs.{ArcRef.ArcRef, Error.Error, Gives.memory, Meaning.{Meaning, number, pair, success, failure}, Shape.{Shape, unsigned, both, nested, outcome}, Standing.Is}
-use Rattle.{pagable.specs.Writing.{nesting, WritesSome, Refused}, pagable_examples.specs.declared.expression.Expression.{Expression, Number, Sum'}, pagable_traits.specs.JsonSteps.Piece}
+use Rattle.std.specs.{Int.w64, Prelude.{Err, Ok, Result, ℕ, ◌≡◌}}
+use Rattle.pagable.specs.model.{Gives.memory, Meaning.{Meaning, failure, number, pair, success}, Shape.{Shape, both, nested, outcome, unsigned}, Standing.Is, Writing.{Refused, WritesSome, nesting}}
+use Rattle.{pagable.specs.model.declared.{error.Error.Error, numbers.ArcRef.ArcRef}, pagable_examples.specs.declared.expression.Expression.{Expression, Number, Sum'}}
+use Rattle.pagable_traits.specs.JsonSteps.{Piece}
 
 -- a number, or two expressions, each one level further down
 abbrev pub node : Shape

@@ -1,11 +1,12 @@
 -- What links and bundles mean and refer to, and what the nodes that hold them do.
-use Rattle.std.{proofs.Common.arith, specs.{Arc.arc_value, Global.Vec, Prelude.{◌≡◌, ◌<◌, ◌^◌, refl, true, false, ℕ, zero, suc, List, Option, Some, None}}}
-use Rattle.pagable_traits.specs.{Plain.plain_means, References.{holding_means, loose_means, reads_unlent, reference_has_one_form, reference_is_read}, Refers.{ListsInOrder, both_in_order}}
-use Rattle.{pagable_traits.specs.Refers.{list_in_order, optional_in_order, reference_in_order}, pagable_examples.specs.declared.linked.{LinkedNode.LinkedNode, bundle.Bundle.Bundle, chain.Chain.Chain}}
-use Rattle.pagable.specs.{InNodes.{Holds, holds-none, holds-value}, Meanings.{AreSingle, Meanings, exactly, lists, lists_single, options, options_single, pairs, pairs_single, seen_by, some}}
-use Rattle.pagable.specs.{OneForm.{over_has_one_form, two_has_one_form}, OwnCauses.{ReadCauses, WriteCauses, reads_either, reads_memory_or, reads_never, writes_either, writes_long_or, writes_memory}}
-use Rattle.{pagable.specs.{OwnCauses.writes_memory_or, ReadBack.{IsReadThroughout, over_is_read, two_is_read}}, pagable_model.specs.{Meaning.Meaning, OneForm.HasOneFormThroughout}}
-use Rattle.pagable_model.specs.{References.{references_in, SameReferences}, Shape.{Shape, both, list, nothing, optional, reference}, Standing.SomeMeaning, declared.numbers.ArcRef.ArcRef}
+use Rattle.std.{proofs.Common.arith, specs.{Arc.arc_value, Global.Vec, Prelude.{List, None, Option, Some, false, refl, suc, true, zero, ℕ, ◌<◌, ◌^◌, ◌≡◌}}}
+use Rattle.pagable.specs.{model.OneForm.{over_has_one_form, two_has_one_form}, traits.{InNodes.{Holds, holds-none, holds-value}, Meanings.{AreSingle, Meanings, exactly, lists, lists_single, options}}}
+use Rattle.pagable.specs.traits.{Meanings.{options_single, pairs, pairs_single, seen_by, some}, OwnCauses.{ReadCauses, WriteCauses, reads_either, reads_memory_or, reads_never, writes_either}}
+use Rattle.pagable.specs.traits.{OwnCauses.{writes_long_or, writes_memory, writes_memory_or}, ReadBack.{IsReadThroughout, over_is_read, two_is_read}}
+use Rattle.{pagable_examples.specs.declared.linked.{LinkedNode.LinkedNode, bundle.Bundle.Bundle, chain.Chain.Chain}, pagable_model.specs.{Meaning.Meaning, OneForm.HasOneFormThroughout}}
+use Rattle.pagable_model.specs.{References.{SameReferences, references_in}, Shape.{Shape, both, list, nothing, optional, reference}, Standing.SomeMeaning, declared.numbers.ArcRef.ArcRef}
+use Rattle.pagable_traits.specs.{References.{holding_means, loose_means, plain_means, reads_unlent, reference_has_one_form, reference_is_read}, Refers.{ListsInOrder, both_in_order, list_in_order}}
+use Rattle.pagable_traits.specs.Refers.{optional_in_order, reference_in_order}
 use Rattle.pagable_examples.specs.declared.linked.LinkedNode.TheVariants as nodes
 
 -- the environment has no part with a number
@@ -41,8 +42,7 @@ abbrev pub bundle_means : Meanings Bundle
 bundle_means = seen_by (λ b. (b.shared, (b.loose, b.pinned))) (pairs (many (holding_means 1 false)) (pairs (many (loose_means 0)) (many (holding_means 0 true))))
 
 pub bundle_single : AreSingle bundle_means
-bundle_single b =
-    pairs_single (many (holding_means 1 false)) (pairs (many (loose_means 0)) (many (holding_means 0 true))) (many-single (holding_means 1 false))
+bundle_single b = pairs_single (many (holding_means 1 false)) (pairs (many (loose_means 0)) (many (holding_means 0 true))) (many-single (holding_means 1 false))
     (pairs_single (many (loose_means 0)) (many (holding_means 0 true)) (many-single (loose_means 0)) (many-single (holding_means 0 true))) (b.shared, (b.loose, b.pinned))
 
 -- what holds of a list of references of any kind, and of a pair if of its parts, holds of a bundle

@@ -1,7 +1,8 @@
 -- What the nodes of texts mean, and how they are spelled.
-use Rattle.std.specs.{Arc.arc_value, Prelude.{◌≡◌, refl, ℕ, zero, suc, [], Option, Some, None}, String.string_bytes}
-use Rattle.{pagable.specs.{ArcRef.ArcRef, Meaning.Meaning, References.{references_in, SameReferences}, Shape.{Shape, text}}, pagable_examples.specs.declared.text.TextNode.TextNode}
-use Rattle.pagable.specs.Meaning as meanings
+use Rattle.std.specs.{Arc.arc_value, Prelude.{None, Option, Some, [], refl, suc, zero, ℕ, ◌≡◌}, String.string_bytes}
+use Rattle.pagable.specs.model.{Meaning.Meaning, References.{SameReferences, references_in}, Shape.{Shape, text}, declared.numbers.ArcRef.ArcRef}
+use Rattle.pagable_examples.specs.declared.text.TextNode.{TextNode}
+use Rattle.pagable.specs.model.Meaning as meanings
 
 -- the one type of texts has the number 0
 abbrev pub shape_of : ℕ → Option Shape

@@ -1,6 +1,6 @@
 -- What static texts and bytes mean.
-use Rattle.std.{specs.Borrow.Bor, specs.Prelude.{◌≡◌, refl, ℕ, List, [], ◌∷◌, map, IsTrue}, specs.Str.bytes_eq, proofs.Common.ap, proofs.lemmas.Slice.Eq.bytes_eq-Decides}
-use Rattle.pagable.specs.{Canonical.HasNoReference, Meaning.{Meaning, text, number, sequence}}
+use Rattle.std.{proofs.{Common.ap, lemmas.Slice.Eq.bytes_eq-Decides}, specs.{Borrow.Bor, Prelude.{IsTrue, List, [], map, refl, ℕ, ◌∷◌, ◌≡◌}, Str.bytes_eq}}
+use Rattle.pagable.specs.model.{Canonical.HasNoReference, Meaning.{Meaning, number, sequence, text}}
 
 abbrev pub of_text : List ℕ → Meaning ⊥
 of_text bytes = text bytes

@@ -1,8 +1,8 @@
 //! Animals, which are written as a tag and a body, and the readers of the bodies.
 
 ghost use Rattle.std.specs.Prelude.{◌≡◌};
-ghost use Rattle.pagable.specs.{Carried.tagged_by, Meanings.exactly, OwnCauses.{reads_never, reads_memory_or, writes_memory_or, writes_long_or}, StaticValues.writes_unregistered, Tagged.grammars};
-ghost use Rattle.pagable_examples.specs.Animals.{animal_means, tag_of, written, body_of, tag_read, grammar_of};
+ghost use Rattle.pagable.specs.{model.{Carried.tagged_by, Tagged.grammars}, traits.{Meanings.exactly, OwnCauses.{reads_memory_or, reads_never, writes_long_or, writes_memory_or}}};
+ghost use Rattle.{pagable.specs.traits.StaticValues.writes_unregistered, pagable_examples.specs.Animals.{animal_means, body_of, grammar_of, tag_of, tag_read, written}};
 
 use crate::zoo::Zoo;
 use pagable::{

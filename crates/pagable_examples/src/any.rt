@@ -1,30 +1,14 @@
 //! Values that no environment bears on, written, and read in a way that a type tells.
 
-use crate::zoo::NoNode;
 use pagable::{
     Env, Error, NoReferences, PagableDeserialize, PagableDeserializer, PagableDeserializerImpl,
-    PagableSerialize, PagableSerializerImpl, SessionContext, WeighHash,
+    PagableSerialize, PagableSerializerImpl, SessionContext,
 };
 use std::alloc::Global;
 use std::marker::PhantomData;
 
 /// An environment without nodes: the values hold no references, so any will do.
-#[derive(Drop)]
-pub struct AnyEnv;
-
-impl Env for AnyEnv {
-    type Node = NoNode;
-
-    type Hash = WeighHash;
-
-    type CtxKey = ();
-
-    type CtxValue = ();
-
-    ghost use Rattle.pagable.specs.Shape.{nothing};
-
-    ghost parts = { λ e number. nothing };
-}
+pub use crate::expression::Sheet as AnyEnv;
 
 /// A way to read values.
 pub trait Takes<'de, E: Env> {

@@ -1,9 +1,9 @@
 //! Types that refer to each other, and their environment: links refer to links, and a bundle to links of both sorts by each
 //! sort of references.
 
-ghost use Rattle.std.specs.{Arc.arc_value, Prelude.{◌≡◌, ◌++◌, IfErr, OnOk, Some, refl}};
-ghost use Rattle.pagable.specs.{References.references_in, Writing.{Grows, Refused, WritesSome, nesting}};
-ghost use Rattle.pagable_examples.specs.Linked.{arc_link_in, bundle_in, holds_arc_link, holds_bundle, holds_link, link_in, no_parts, numbers_are_small};
+ghost use Rattle.std.specs.{Arc.arc_value, Prelude.{IfErr, OnOk, Some, refl, ◌++◌, ◌≡◌}};
+ghost use Rattle.{pagable.specs.model.{References.references_in, Writing.{Grows, Refused, WritesSome, nesting}}, pagable_examples.specs.Linked.{arc_link_in, bundle_in, holds_arc_link, holds_bundle}};
+ghost use Rattle.pagable_examples.specs.Linked.{holds_link, link_in, no_parts, numbers_are_small};
 
 pub mod bundle;
 pub mod chain;

@@ -29,7 +29,7 @@ impl<H: KeyHash> Env for TextEnv<H> {
 
     type CtxValue = ();
 
-    ghost use Rattle.pagable.specs.Shape.{nothing};
+    ghost use Rattle.pagable.specs.model.Shape.{nothing};
 
     ghost parts = { λ e number. nothing };
 }
@@ -53,7 +53,7 @@ impl TextNode {
 
 impl<H: KeyHash> NodeSet<TextEnv<H>> for TextNode {
     ghost use Rattle.std.specs.Prelude.{◌≡◌, [], refl};
-    ghost use Rattle.pagable.specs.{Causes.{memory_is_own_reading, text_may_refuse_writing}, Gives.{memory, long_or}, Shape.text as text_shape};
+    ghost use Rattle.pagable.specs.model.{Causes.{memory_is_own_reading, text_may_refuse_writing}, Gives.{long_or, memory}, Shape.text as text_shape};
     ghost use Rattle.pagable_examples.specs.Texts.{shape_of, text_of, texts_refer};
 
     ghost type_of = { λ n. 0 };

@@ -1,7 +1,7 @@
 //! A type that is written and read eagerly: it holds no reference, and needs not be carried besides.
 
 ghost use Rattle.std.specs.Int.{w16};
-ghost use Rattle.pagable.specs.{Meaning.number, Meanings.exactly, OwnCauses.{reads_never, writes_memory}, Shape.unsigned};
+ghost use Rattle.pagable.specs.{model.{Meaning.number, Shape.unsigned}, traits.{Meanings.exactly, OwnCauses.{reads_never, writes_memory}}};
 
 use pagable::{
     EagerlyCarried, Env, Error, PagableDeserializer, PagableEagerDeserialize,

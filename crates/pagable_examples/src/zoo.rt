@@ -1,6 +1,7 @@
 //! An environment with registries.
 
-ghost use Rattle.{pagable.specs.Shape.nothing, pagable_examples.specs.Words.{is_equal, meets_equal, numbers_apart, numbers_refer_to_nothing, of_numbers, of_text, text_refers_to_nothing, texts_apart}};
+ghost use Rattle.{pagable.specs.model.Shape.nothing, pagable_examples.specs.Words.{is_equal, meets_equal, numbers_apart, numbers_refer_to_nothing, of_numbers, of_text, text_refers_to_nothing}};
+ghost use Rattle.pagable_examples.specs.Words.{texts_apart};
 
 use crate::animal::{Animal, AnimalReader};
 use pagable::{

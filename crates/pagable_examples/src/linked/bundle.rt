@@ -1,7 +1,7 @@
 //! Bundles: references of each sort to values of other types.
 
-ghost use Rattle.pagable.specs.ReadBack.{IsReadThroughout};
-ghost use Rattle.pagable_examples.specs.Linked.{bundle_has_one_form, bundle_in_order, bundle_means, bundle_reads, bundle_shape, bundle_single, bundle_writes, no_parts};
+ghost use Rattle.{pagable.specs.traits.ReadBack.IsReadThroughout, pagable_examples.specs.Linked.{bundle_has_one_form, bundle_in_order, bundle_means, bundle_reads, bundle_shape, bundle_single}};
+ghost use Rattle.pagable_examples.specs.Linked.{bundle_writes, no_parts};
 
 use crate::linked::Linked;
 use crate::linked::chain::{ArcLink, Link};

@@ -6,8 +6,7 @@ returns-in-Call g c =
     rw c.in-Call.is (call-drives (values_at g.E.Node.NodeSet g.E.Env g.E.Hash.KeyHash) _ _ _ _ c.requires c.is_whole.ensures _ _ _ c.serve-reply.ensures c.is_whole-in-Call.ensures c.forget.ensures)
 
 pub returns-in-LoadStart : goal.returns-in-LoadStart
-returns-in-LoadStart g c =
-    rw c.in-LoadStart.is (start-drives (values_at g.E.Node.NodeSet g.E.Env g.E.Hash.KeyHash) _ _ _ _ c.requires c.is_whole.ensures _ _
+returns-in-LoadStart g c = rw c.in-LoadStart.is (start-drives (values_at g.E.Node.NodeSet g.E.Env g.E.Hash.KeyHash) _ _ _ _ c.requires c.is_whole.ensures _ _
     (serves-same c.load_begin-begun.ensures.step c.load_begin-begun.ensures.only) c.is_whole-in-LoadStart.ensures)
 
 pub returns-in-LoadStep : goal.returns-in-LoadStep

@@ -24,11 +24,5 @@ pub returns : goal.returns
 returns g c =
     let ends : c.step_by-reply.new.lent.pager.now ≡ c.pager-1.given.0 = search rules in
     step-drives (values_at g.E.Node.NodeSet g.E.Env g.E.Hash.KeyHash) _ _ _ _ c.requires c.is_whole.ensures _ _ _ _ c.in_ok-key.ensures.reads c.prepare.new.readings _ _
-    c.in_ok-prepare.ensures.ready c.end.ensures
-    (record {
-      own = c.in-Some.own.now;
-      new = c.step_by-reply.new.own;
-      was = sym c.in-Some.ensures.value;
-      stepped = rw ends at (rw c.new-lent.ensures.same at c.step_by-reply.ensures.step);
-      keeps = record { here = search rules; others = search rules };
-    })
+    c.in_ok-prepare.ensures.ready c.end.ensures c.in-Some.own.now c.step_by-reply.new.own (sym c.in-Some.ensures.value)
+    (rw ends at (rw c.new-lent.ensures.same at c.step_by-reply.ensures.step)) (record { here = search rules; others = search rules })

@@ -3,8 +3,7 @@ use Rattle.{pagable.proofs.{Driven.{entry-refused, listed-started, keeps-after},
 use Rattle.pagable.proofs.workers.worker_listed.Goals as goal
 
 pub returns-then-place-pending : goal.returns-then-place-pending
-returns-then-place-pending g c =
-    drives (refused _ c.requires c.is_whole.ensures (nothing-done _ c.is_whole.ensures) (λ l. refl) refl (λ q. refl) _ _ (λ q. refl)
+returns-then-place-pending g c = drives (refused _ c.requires c.is_whole.ensures (nothing-done _ c.is_whole.ensures) (λ l. refl) refl (λ q. refl) _ _ (λ q. refl)
     (λ stays. record { starts = tt; refused = (inl (refl, inr (grind arith)), stays) }) tt)
 
 pub returns-in_err-ready : goal.returns-in_err-ready

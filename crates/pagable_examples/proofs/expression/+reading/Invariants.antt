@@ -1,4 +1,4 @@
-use Rattle.{pagable.specs.Reading.deepest, std.proofs.Common.{◌+◌, ◌-◌, ◌*◌}}
+use Rattle.{pagable.specs.model.Reading.deepest, std.proofs.Common.{◌*◌, ◌+◌, ◌-◌}}
 use Rattle.pagable_examples.proofs.expression.+reading.Given as goal
 
 abbrev pub decreases-read_below : goal.decreases-read_below

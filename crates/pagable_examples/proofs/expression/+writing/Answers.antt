@@ -1,5 +1,5 @@
-use Rattle.pagable_examples.{specs.Expressions.nodes, proofs.{Expressions.{nothing, written_down, number_written, left_unwritten, sum_written}, Levels.refused-deep}}
-use Rattle.{pagable_traits.proofs.JsonSteps.{wrote-deep, wrote-nothing}, std.proofs.Common.{refl, inl}, pagable.specs.Gives.memory}
+use Rattle.{pagable.specs.model.Gives.memory, pagable_examples.proofs.{Expressions.{left_unwritten, nothing, number_written, sum_written, written_down}, Levels.refused-deep}}
+use Rattle.{pagable_examples.specs.Expressions.nodes, pagable_traits.proofs.JsonSteps.{wrote-deep, wrote-nothing}, std.proofs.Common.{inl, refl}}
 use Rattle.pagable_examples.proofs.expression.+writing.Goals as goal
 
 pub write_below-returns-in_err-enter : goal.write_below-returns-in_err-enter

@@ -1,4 +1,4 @@
-use Rattle.{pagable.specs.Reading.deepest, std.proofs.Common.{◌+◌, ◌-◌, ◌*◌}}
+use Rattle.{pagable.specs.model.Reading.deepest, std.proofs.Common.{◌*◌, ◌+◌, ◌-◌}}
 use Rattle.pagable_examples.proofs.expression.+writing.Given as goal
 
 abbrev pub decreases-write_below : goal.decreases-write_below

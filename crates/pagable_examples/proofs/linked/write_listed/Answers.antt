@@ -1,4 +1,4 @@
-use Rattle.{pagable.specs.Writing.nesting, pagable_traits.proofs.Listed.written_listed}
+use Rattle.{pagable.specs.model.Writing.nesting, pagable_traits.proofs.Listed.written_listed}
 use Rattle.pagable_examples.proofs.linked.write_listed.Goals as goal
 
 pub returns-clause-listed : goal.returns-clause-listed

@@ -1,4 +1,4 @@
-use Rattle.{pagable.{proofs.Parts.basic_written, specs.{Form.unsigned-form, Meaning.number, Shape.unsigned, Writing.nesting}}, std.{proofs.Common.rules, specs.Int.w16}}
+use Rattle.{pagable.{proofs.Parts.basic_written, specs.model.{Form.unsigned-form, Meaning.number, Shape.unsigned, Writing.nesting}}, std.{proofs.Common.rules, specs.Int.w16}}
 use Rattle.pagable_examples.proofs.ticket.TicketPagableEagerSerialize.eager_pagable_serialize.Goals as goal
 
 pub returns-clause-ok : goal.returns-clause-ok
