@@ -2,12 +2,10 @@
 
 pub mod answers;
 pub mod asked;
-pub mod looks;
 pub mod nodes;
 pub mod references;
 
 use crate::calls::asked::{events, split};
-use crate::calls::looks::look;
 use crate::calls::nodes::{CellEnv, CellNode};
 use anyhow::bail;
 use pagable::{
@@ -19,8 +17,6 @@ use std::alloc::Global;
 
 pub type CellStorage<H> = FailingStorage<InMemoryBlobs<CellEnv<H>>>;
 
-pub type CellPager<H> = Pager<CellEnv<H>, CellStorage<H>>;
-
 pub type CellMachine<H> = Machine<CellEnv<H>, CellStorage<H>>;
 
 pub type CellCall = Call<CellNode, PagableData>;
@@ -29,10 +25,9 @@ pub type CellEvent = Event<CellNode, PagableData, SerializedData>;
 
 /// Answers rows of events, by the machine that the last row of the word `machine` has made: by this hash or by that.
 #[derive(Drop)]
-pub struct Calls {
-    weigh: CellMachine<WeighHash>,
-    sha256: CellMachine<Sha256Key>,
-    is_sha256: bool,
+pub enum Calls {
+    Weigh(CellMachine<WeighHash>),
+    Sha256(CellMachine<Sha256Key>),
 }
 
 /// A storage without blobs, of which one call fails, after as many others as the word tells, or which is closed.
@@ -45,7 +40,7 @@ fn storage_of<H: KeyHash>(alloc: Global, word: &str) -> CellStorage<H> {
 }
 
 /// A pager without cells over such a storage.
-pub fn pager_over<H: KeyHash>(alloc: Global, word: &str) -> CellPager<H> {
+pub fn pager_over<H: KeyHash>(alloc: Global, word: &str) -> Pager<CellEnv<H>, CellStorage<H>> {
     Pager::new(alloc, storage_of(alloc, word), CellEnv::new())
 }
 
@@ -54,21 +49,26 @@ fn machine_over<H: KeyHash>(alloc: Global, word: &str) -> CellMachine<H> {
     Machine::new(alloc, storage_of(alloc, word), CellEnv::new())
 }
 
+/// Puts a value in the place of another, where its type is open: at a known one the check would follow how each of its parts is let go.
+fn set<T: Drop>(place: &mut T, value: T) {
+    *place = value;
+}
+
+/// Lets a value go, where its type is open.
+pub fn let_go<T: Drop>(_value: T) {}
+
 impl Calls {
-    /// Machines without cells, of whose storages no call fails.
-    pub fn new(alloc: Global) -> Calls {
-        Calls {
-            weigh: machine_over(alloc, ""),
-            sha256: machine_over(alloc, ""),
-            is_sha256: false,
+    /// A machine without cells, over a storage as the word tells, or with keys by SHA-256.
+    pub fn new(alloc: Global, word: &str) -> Calls {
+        match word {
+            "sha256" => Calls::Sha256(machine_over(alloc, "")),
+            _ => Calls::Weigh(machine_over(alloc, word)),
         }
     }
 
-    /// Goes on with new machines, over a storage as the word tells, or with keys by SHA-256.
+    /// Goes on with a new machine, as `new` makes it.
     pub fn restart(&mut self, alloc: Global, word: &str) {
-        self.is_sha256 = word == "sha256";
-        replace(&mut self.weigh, machine_over(alloc, word));
-        replace(&mut self.sha256, machine_over(alloc, ""));
+        set(self, Calls::new(alloc, word));
     }
 
     /// The answer to a row, in one line.
@@ -78,29 +78,11 @@ impl Calls {
             self.restart(alloc, rest);
             return Ok(String::new(alloc));
         }
-        if self.is_sha256 {
-            answer(alloc, &mut self.sha256, line)
-        } else {
-            answer(alloc, &mut self.weigh, line)
+        match self {
+            Calls::Weigh(machine) => answer(alloc, machine, line),
+            Calls::Sha256(machine) => answer(alloc, machine, line),
         }
     }
-}
-
-/// Lets a pager go, where its types are open.
-pub fn let_go<E: Env + Drop, S: PagableStorage<E> + Drop>(_pager: Pager<E, S>)
-where
-    E::Node: NodeSet<E>,
-{}
-
-/// Puts a new machine in the place of another.
-fn replace<E: Env + Drop, S: PagableStorage<E> + Drop>(
-    machine: &mut Machine<E, S>,
-    new: Machine<E, S>,
-)
-where
-    E::Node: NodeSet<E>,
-{
-    *machine = new;
 }
 
 /// The answer to a row by a machine: a look at its pager, or to a list of events, or to the last of such a list.
@@ -114,7 +96,7 @@ where
 {
     let (word, rest) = split(line);
     match word {
-        "look" => look(alloc, machine.pager(), rest.parse::<u64>()?),
+        "look" => answers::look(alloc, machine.pager(), rest.parse::<u64>()?),
         "last" => {
             let all = run(alloc, machine, rest)?;
             let last = all.as_str().rsplit(';').next().unwrap_or_default();

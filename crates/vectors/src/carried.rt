@@ -1,14 +1,82 @@
-//! What comes of values that are read and written again.
+//! What comes of inputs: of values that are read and written again.
 
-use crate::outcome::Outcome;
 use pagable::{
     Env, Error, PagableDeserialize, PagableDeserializer, PagableEagerDeserialize,
     PagableEagerSerialize, PagableSerialize, PagableSerializerImpl,
 };
 use pagable_examples::any::{AnyEnv, Takes, Twice, finished, read, taken, written};
-use std::alloc::Global;
+use std::alloc::{AllocError, Global};
 use std::fmt::Display;
 use std::marker::PhantomData;
+
+/// What comes of reading an input and of writing what was read; the number of the refusal, which was met twice; or None, where what should be the
+/// same twice was not.
+pub type Outcome = Result<Taken, Option<u32>>;
+
+/// A value that was read.
+#[derive(Drop)]
+pub struct Taken {
+    /// So many bytes were taken.
+    pub used: usize,
+    /// What was written again, or the number of the refusal.
+    pub written: Result<Vec<u8>, u32>,
+    /// What the value shows, where it is shown.
+    pub shown: Option<String>,
+}
+
+impl Taken {
+    /// One that isn't shown.
+    pub fn new(used: usize, written: Result<Vec<u8>, u32>) -> Taken {
+        Taken {
+            used,
+            written,
+            shown: None,
+        }
+    }
+}
+
+/// The same with what the value shows.
+pub fn with_shown(outcome: Outcome, shown: Option<String>) -> Outcome {
+    let taken = outcome?;
+    Ok(Taken { shown, ..taken })
+}
+
+/// What was written again, if a value was read and written.
+pub fn written_bytes(outcome: &Outcome) -> Option<&[u8]> {
+    Some(outcome.as_ref().ok()?.written.as_ref().ok()?.as_slice())
+}
+
+/// The outcome as a text: `ok USED WRITTEN = SHOWN` or `refused N`. What was written is left out where it is what was taken of
+/// the input.
+pub fn text(alloc: Global, outcome: &Outcome, input: &[u8]) -> Result<String, AllocError> {
+    let taken = match outcome {
+        Ok(taken) => taken,
+        Err(Some(number)) => return format!(in alloc; "refused {number}"),
+        Err(None) => return String::from_str(alloc, "unlike"),
+    };
+    let written = written_text(alloc, &taken.written, input.get(..taken.used))?;
+    match &taken.shown {
+        Some(shown) => format!(in alloc; "ok {}{written} = {shown}", taken.used),
+        None => format!(in alloc; "ok {}{written}", taken.used),
+    }
+}
+
+/// ` WRITTEN` where other bytes were written than were taken.
+fn written_text(
+    alloc: Global,
+    written: &Result<Vec<u8>, u32>,
+    taken: Option<&[u8]>,
+) -> Result<String, AllocError> {
+    match written {
+        Err(number) => format!(in alloc; " refused {number}"),
+        Ok(bytes) if taken == Some(bytes.as_slice()) => Ok(String::new(alloc)),
+        Ok(bytes) if bytes.is_empty() => String::from_str(alloc, " -"),
+        Ok(bytes) => {
+            let hex = hex::encode(alloc, bytes.as_slice())?;
+            format!(in alloc; " {hex}")
+        }
+    }
+}
 
 /// What comes of an input of the type `T` of an environment, which is read twice from its front. Where the first reading was
 /// refused, the second one must be refused alike.
@@ -17,9 +85,13 @@ where
     T: PagableSerialize<E> + PagableDeserialize<'de, E> + Drop,
 {
     let ((first, second), used) = taken::<E, Twice<T>>(alloc, env, input);
+    let number = second.as_ref().err().map(Error::number);
+    if first != number {
+        return Some(Err(None));
+    }
     Some(match second {
-        Ok(value) => Outcome::taken(first, used, written(alloc, env, &value)),
-        Err(refusal) => Outcome::refused(first, refusal.number()),
+        Ok(value) => Ok(Taken::new(used, written(alloc, env, &value))),
+        Err(_) => Err(number),
     })
 }
 
@@ -41,7 +113,7 @@ where
         Ok(value) => value.to_string(alloc).ok(),
         Err(_) => None,
     };
-    Some(outcome.with_shown(text))
+    Some(with_shown(outcome, text))
 }
 
 /// To read a value eagerly.
@@ -73,7 +145,7 @@ where
 {
     let (read, used) = taken::<E, Eagerly<T>>(alloc, env, input);
     Some(match read {
-        Ok(value) => Outcome::taken(None, used, written_eagerly(alloc, env, &value)),
-        Err(refusal) => Outcome::Refused(refusal.number()),
+        Ok(value) => Ok(Taken::new(used, written_eagerly(alloc, env, &value))),
+        Err(refusal) => Err(Some(refusal.number())),
     })
 }

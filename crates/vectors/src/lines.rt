@@ -2,15 +2,17 @@
 
 use crate::blobs::{self, bytes_of};
 use crate::calls::Calls;
-use crate::{drawn, own};
+use crate::carried::{text, written_bytes};
+use crate::{own, types};
 use pagable_examples::any::{AnyEnv, written};
+use pagable_examples::input_of;
 use serde_json::Value;
 use std::alloc::{AllocError, Global};
 
 /// What comes of the bytes of a type.
 fn read_bytes(alloc: Global, name: &str, bytes: &[u8]) -> Result<String, AllocError> {
     match own::answer(alloc, name, bytes) {
-        Some(outcome) => outcome.text(alloc, bytes),
+        Some(outcome) => text(alloc, &outcome, bytes),
         None => String::from_str(alloc, "no such type"),
     }
 }
@@ -41,6 +43,30 @@ fn json(alloc: Global, text: &str) -> Result<String, AllocError> {
     }
 }
 
+/// One step of FNV-1a of 64 bits, with a number in place of a byte.
+fn summed(sum: u64, number: u64) -> u64 {
+    (sum ^ number).wrapping_mul(0x0000_0100_0000_01b3)
+}
+
+/// The check sum of bytes, with their count before them.
+fn sum_of(bytes: &[u8]) -> u64 {
+    let mut sum = summed(0xcbf2_9ce4_8422_2325, bytes.len() as u64);
+    for byte in bytes {
+        sum = summed(sum, u64::from(*byte));
+    }
+    sum
+}
+
+/// What comes of so many drawn values: `NAME N bytes wrote SUM`.
+fn drawn(alloc: Global, name: &str, count: u32) -> anyhow::Result<String> {
+    let Some((name_of_type, input)) = input_of(alloc, name, count)? else {
+        return Ok(String::from_str(alloc, "no such values")?);
+    };
+    let outcome = types::answer(alloc, name_of_type, input.as_slice());
+    let bytes = outcome.as_ref().and_then(written_bytes).unwrap_or_default();
+    Ok(format!(in alloc; "{name} {} bytes wrote {:016x}", bytes.len(), sum_of(bytes))?)
+}
+
 /// The answers to the inputs of a line, in their order.
 fn answer_all(alloc: Global, name: &str, verb: &str, inputs: &str) -> anyhow::Result<String> {
     let mut answers = String::new(alloc);
@@ -65,7 +91,7 @@ pub fn answer(alloc: Global, calls: &mut Calls, line: &str) -> anyhow::Result<St
     let (verb, inputs) = rest.split_once(' ').unwrap_or((rest, ""));
     match verb {
         "write" => Ok(json(alloc, inputs)?),
-        "drawn" => drawn::answer(alloc, name, inputs.parse::<u32>()?),
+        "drawn" => drawn(alloc, name, inputs.parse::<u32>()?),
         "read" | "cut" | "weigh" if !name.ends_with(';') => answer_all(alloc, name, verb, inputs),
         _ => calls.answer(alloc, line),
     }

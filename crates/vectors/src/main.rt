@@ -6,15 +6,13 @@
 mod blobs;
 mod calls;
 mod carried;
-mod drawn;
 mod lines;
-mod outcome;
 mod own;
 mod times;
 mod types;
 mod worked;
 
-use crate::calls::Calls;
+use crate::calls::{Calls, let_go};
 use anyhow::Context;
 use std::{env, fs};
 
@@ -44,19 +42,27 @@ fn time(rt: &HostRuntime, words: &[String]) -> anyhow::Result<()> {
     times::run(rt, words.first().map(String::as_str), runs.parse::<u64>()?)
 }
 
-/// Answers the files of these names, one after the other: the rows of calls of one go on where those of the file before have ended.
-fn answer_all(rt: &HostRuntime, calls: &mut Calls, words: &[String]) -> anyhow::Result<()> {
+/// Answers files one after the other: the rows of calls of one go on where those of the file before have ended.
+fn answer_each(rt: &HostRuntime, calls: &mut Calls, words: &[String]) -> anyhow::Result<()> {
     for word in words {
         answer(rt, calls, word.as_str())?;
     }
     Ok(())
 }
 
+/// Answers the files of these names, from a new machine on.
+fn answer_all(rt: &HostRuntime, words: &[String]) -> anyhow::Result<()> {
+    let mut calls = Calls::new(rt.alloc(), "");
+    let done = answer_each(rt, &mut calls, words);
+    let_go(calls);
+    done
+}
+
 /// Does what the words after the program's name ask for.
 fn run(rt: &HostRuntime, words: &[String]) -> anyhow::Result<()> {
     match words {
         [first, rest @ ..] if first.as_str() == "time" => time(rt, rest),
-        _ => answer_all(rt, &mut Calls::new(rt.alloc()), words),
+        _ => answer_all(rt, words),
     }
 }
 

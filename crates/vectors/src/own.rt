@@ -1,7 +1,6 @@
 //! Types of one's own, and static and tagged values by an environment's registries.
 
-use crate::carried::{replay_eagerly, replay_in};
-use crate::outcome::Outcome;
+use crate::carried::{Outcome, replay_eagerly, replay_in, with_shown};
 use crate::types;
 use pagable::{StaticBytes, StaticStr};
 use pagable_examples::any::{AnyEnv, read};
@@ -15,7 +14,7 @@ fn static_text(alloc: Global, zoo: &Zoo, input: &[u8]) -> Option<Outcome> {
         Ok(value) => String::from_str(alloc, value.as_str()).ok(),
         Err(_) => None,
     };
-    Some(outcome.with_shown(text))
+    Some(with_shown(outcome, text))
 }
 
 /// What comes of static bytes, which are shown as a text.
@@ -25,7 +24,7 @@ fn static_bytes(alloc: Global, zoo: &Zoo, input: &[u8]) -> Option<Outcome> {
         Ok(value) => String::from_utf8(value.as_bytes().to_vec(alloc).ok()?).ok(),
         Err(_) => None,
     };
-    Some(outcome.with_shown(text))
+    Some(with_shown(outcome, text))
 }
 
 /// An environment with four texts and three lists of bytes, in which these readers are registered.

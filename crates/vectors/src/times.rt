@@ -95,21 +95,18 @@ fn run_row(clock: &impl Clock, alloc: Global, name: &str, count: u32) -> anyhow:
 
 /// Runs a row so often, and prints its shortest times, as `NAME write T s read T s`.
 fn print_row(rt: &HostRuntime, name: &str, count: u32, runs: u64) -> anyhow::Result<()> {
-    let Outcome {
-        mut write,
-        mut read,
-    } = run_row(rt, rt.alloc(), name, count)?;
+    let mut best = run_row(rt, rt.alloc(), name, count)?;
     for _ in 1..runs {
         let again = run_row(rt, rt.alloc(), name, count)?;
-        write = write.min(again.write);
-        read = read.min(again.read);
+        best.write = best.write.min(again.write);
+        best.read = best.read.min(again.read);
     }
     println!(rt;
         "{name} write {}.{:06} s read {}.{:06} s",
-        write.as_secs(),
-        write.subsec_micros(),
-        read.as_secs(),
-        read.subsec_micros()
+        best.write.as_secs(),
+        best.write.subsec_micros(),
+        best.read.as_secs(),
+        best.read.subsec_micros()
     )?;
     Ok(())
 }

@@ -1,13 +1,13 @@
 //! The carried types by their names. Each function knows a few, since the check of one grows faster than their number, and
 //! hands the other names on; for an unknown name the answer is None.
 
-mod lent;
-
-use crate::carried::{replay, shown};
-use crate::outcome::Outcome;
+use crate::carried::{Outcome, Taken, replay, shown};
 use indexmap::{IndexMap, IndexSet};
-use pagable::{PathText, SavedRegex, Thin};
-use pagable_examples::any::{AnyEnv, read, written};
+use pagable::{
+    Error, PagableBoxDeserialize, PagableDeserializer, PagableSerializerImpl, PagableSlice,
+    PagableVecFlavor, PathText, SavedRegex, Thin, serialize_slice,
+};
+use pagable_examples::any::{AnyEnv, Takes, finished, read, taken, written};
 use serde_json::Value;
 use smallvec::SmallVec;
 use std::alloc::Global;
@@ -18,27 +18,90 @@ use std::sync::OnceLock;
 use std::sync::atomic::AtomicI64;
 use std::time::Duration;
 
-/// What a hash map wrote, which took so many bytes, read again as a map in the order of its keys and written as that one: it
-/// must be as long.
-fn sorted(alloc: Global, used: usize, bytes: &[u8]) -> Option<Outcome> {
-    let map: BTreeMap<String, i32> = read(alloc, &AnyEnv, bytes).ok()?;
+/// What a hash map wrote, read again as a map in the order of its keys and written as that one: it must be as long.
+fn sorted(alloc: Global, taken: &Taken) -> Option<Outcome> {
+    let bytes = taken.written.as_ref().ok()?;
+    let map: BTreeMap<String, i32> = read(alloc, &AnyEnv, bytes.as_slice()).ok()?;
     let sorted = written(alloc, &AnyEnv, &map).ok()?;
     if sorted.len() == bytes.len() {
-        return Some(Outcome::taken(None, used, Ok(sorted)));
+        return Some(Ok(Taken::new(taken.used, Ok(sorted))));
     }
-    Some(Outcome::Unlike)
+    Some(Err(None))
 }
 
 /// What comes of a hash map, whose entries may be written in any order.
 fn hash_map(alloc: Global, input: &[u8]) -> Option<Outcome> {
-    let outcome = replay::<HashMap<String, i32>>(alloc, input)?;
-    if outcome.bytes().is_none() {
-        return Some(outcome);
+    match replay::<HashMap<String, i32>>(alloc, input)? {
+        Ok(taken) => sorted(alloc, &taken),
+        refused => Some(refused),
     }
-    sorted(alloc, outcome.used()?, outcome.bytes()?)
 }
 
-/// What comes of a map or a set; other names are handed on.
+// ---- calls that read or write in a way of their own: lent slices, boxes, byte arrays
+
+/// A list of numbers, and how many bytes it takes.
+fn numbers(alloc: Global, input: &[u8]) -> Option<(usize, Vec<i32>)> {
+    let used = replay::<Vec<i32>>(alloc, input)?.ok()?.used;
+    let numbers = read(alloc, &AnyEnv, input).ok()?;
+    Some((used, numbers))
+}
+
+/// A list as it is written without its count as a lent slice.
+fn lent_slice(alloc: Global, input: &[u8]) -> Option<Outcome> {
+    let (used, numbers) = numbers(alloc, input)?;
+    let bytes = written(alloc, &AnyEnv, &numbers.as_slice());
+    Some(Ok(Taken::new(used, bytes)))
+}
+
+/// A list as it is written by `serialize_slice`.
+fn slice(alloc: Global, input: &[u8]) -> Option<Outcome> {
+    let (used, numbers) = numbers(alloc, input)?;
+    let mut out = PagableSerializerImpl::testing_new(alloc, &AnyEnv);
+    let done = serialize_slice(numbers.as_slice(), &mut out);
+    Some(Ok(Taken::new(used, finished(done, out))))
+}
+
+/// To read a number into a box.
+struct IntoBox;
+
+impl<'de> Takes<'de, AnyEnv> for IntoBox {
+    type Taken = Result<Box<u16>, Error>;
+
+    fn take<D: PagableDeserializer<AnyEnv>>(
+        alloc: Global,
+        source: &mut D,
+    ) -> Result<Box<u16>, Error> {
+        u16::deserialize_box(alloc, source)
+    }
+}
+
+/// What comes of a number that is read into a box.
+fn boxed(alloc: Global, input: &[u8]) -> Outcome {
+    let (read, used) = taken::<AnyEnv, IntoBox>(alloc, &AnyEnv, input);
+    match read {
+        Ok(number) => Ok(Taken::new(used, written(alloc, &AnyEnv, &*number))),
+        Err(refusal) => Err(Some(refusal.number())),
+    }
+}
+
+/// What comes of a byte array, of which the reader lends the bytes.
+fn bytes(alloc: Global, input: &[u8]) -> Outcome {
+    let mut reader = PagableSlice::new(input);
+    let found = match reader.read_bytes() {
+        Ok(found) => found,
+        Err(refusal) => return Err(Some(refusal.number())),
+    };
+    let mut writer = PagableVecFlavor::default(alloc);
+    let written = match writer.write_bytes(found) {
+        Ok(()) => Ok(writer.finalize()),
+        Err(refusal) => Err(refusal.number()),
+    };
+    Ok(Taken::new(reader.position(), written))
+}
+
+// ---- the names
+
+/// What comes of a map or a set.
 fn map(alloc: Global, name: &str, input: &[u8]) -> Option<Outcome> {
     match name {
         "HashMap<String,i32>" => hash_map(alloc, input),
@@ -56,11 +119,11 @@ fn map(alloc: Global, name: &str, input: &[u8]) -> Option<Outcome> {
         "IndexMap<String,BTreeSet<Option<i8>>>" => {
             replay::<IndexMap<String, BTreeSet<Option<i8>>>>(alloc, input)
         }
-        _ => lent::answer(alloc, name, input),
+        _ => None,
     }
 }
 
-/// Arrays, headers with lists and lists that aren't vectors, and what comes after them.
+/// Arrays, headers with lists, lists that aren't vectors and calls of their own, and what comes after them.
 fn array(alloc: Global, name: &str, input: &[u8]) -> Option<Outcome> {
     match name {
         "[u16;2]" => replay::<[u16; 2]>(alloc, input),
@@ -68,6 +131,10 @@ fn array(alloc: Global, name: &str, input: &[u8]) -> Option<Outcome> {
         "Thin<u8,u8>" => replay::<Thin<u8, u8>>(alloc, input),
         "Box<[u32]>" => replay::<BoxedSlice<u32>>(alloc, input),
         "SmallVec<[String;4]>" => replay::<SmallVec<String, 4>>(alloc, input),
+        "&[i32]" => lent_slice(alloc, input),
+        "[i32]" => slice(alloc, input),
+        "Boxed<u16>" => Some(boxed(alloc, input)),
+        "bytes" => Some(bytes(alloc, input)),
         _ => map(alloc, name, input),
     }
 }

@@ -1,10 +1,11 @@
-//! What events answer, in words.
+//! What events answer, in words, and looks at a pager, which change nothing.
 
 use crate::calls::nodes::CellNode;
 use crate::calls::references::push_references;
 use pagable::{
-    Beginning, Claim, Error, EventReply, Found, Identity, LoadAnswer, LoadReply, OptionalDataKey,
-    PagableData, PinStep, Pinning, Reply, SerializedData, Took, WorkerAnswer, WorkerReply,
+    Beginning, Claim, Env, Error, EventReply, Found, HandleNumber, Identity, LoadAnswer, LoadReply,
+    NodeSet, OptionalDataKey, PagableData, PagableStorage, Pager, PinStep, Pinning, Reply,
+    SerializedData, Took, WorkerAnswer, WorkerReply,
 };
 use std::alloc::{AllocError, Global};
 use std::sync::Arc;
@@ -135,11 +136,8 @@ fn took(took: &Took<Arc<SerializedData>>) -> (&'static str, Option<Identity>, To
         Took::SetKey(identity, Ok(_)) => (" set", Some(*identity), NOTHING),
         Took::SetKey(identity, Err(e)) => (" set", Some(*identity), fault(" refused", e)),
         Took::Publish(identity, key, height) => {
-            (
-                " publish",
-                Some(*identity),
-                ("", Some(key.get()), Some(*height as u128)),
-            )
+            let told = ("", Some(key.get()), Some(*height as u128));
+            (" publish", Some(*identity), told)
         }
         Took::Release(identity) => (" release", Some(*identity), NOTHING),
         Took::Fail => (" fail", None, NOTHING),
@@ -242,6 +240,51 @@ pub fn replies(alloc: Global, replies: &[CellAnswer]) -> anyhow::Result<String> 
             text.push_str("; ")?;
         }
         push_event(alloc, &mut text, reply)?;
+    }
+    Ok(text)
+}
+
+/// Adds a live handle: its number, its node, the node's count and key, or 0 for none, whether the value is in memory, and the value.
+fn push_handle<E: Env<Node = CellNode>, S: PagableStorage<E>>(
+    alloc: Global,
+    text: &mut String,
+    pager: &Pager<E, S>,
+    handle: HandleNumber,
+) -> Result<(), Error>
+where
+    E::Node: NodeSet<E>,
+{
+    let node = pager.node_of(handle)?.0;
+    let count = pager.count(handle)?;
+    let key = match pager.key(handle)? {
+        OptionalDataKey::None => 0,
+        OptionalDataKey::Some(key) => key.get(),
+    };
+    let place = if pager.is_paged_out(handle)? {
+        "away"
+    } else {
+        "here"
+    };
+    text.push_str(format!(in alloc; "; {}: {node} {count} {key} {place}", handle.0)?.as_str())?;
+    if let Some(value) = pager.value(handle)? {
+        text.push_str(" = ")?;
+        value.push(alloc, text)?;
+    }
+    Ok(())
+}
+
+/// How long the list is, and each live handle from 1 up to this number.
+pub fn look<E: Env<Node = CellNode>, S: PagableStorage<E>>(
+    alloc: Global,
+    pager: &Pager<E, S>,
+    last: u64,
+) -> anyhow::Result<String>
+where
+    E::Node: NodeSet<E>,
+{
+    let mut text = format!(in alloc; "pending {}", pager.pending())?;
+    for number in 1..=last {
+        let _ = push_handle(alloc, &mut text, pager, HandleNumber(number));
     }
     Ok(text)
 }

@@ -1,15 +1,15 @@
 //! The values of the rows, by the numbers of their types.
 
 use crate::blobs::bytes_of;
-use crate::calls::references::{of_kind, of_kinds, push_references, references};
+use crate::calls::references::{of_kind, of_kinds, of_two_kinds, push_references, references};
 use anyhow::{bail, ensure};
 use pagable::{
     ArcRef, Env, Error, KeyHash, NodeSet, OfKind, PagableDeserialize, PagableDeserializer,
-    PagableSerialize, PagableSerializer, Reason, WeighHash, references_of,
+    PagableSerialize, PagableSerializer, Reason, Refers, WeighHash, references_of,
 };
+use pagable_examples::linked::write_listed;
 use std::alloc::Global;
 use std::marker::PhantomData;
-use std::sync::Arc;
 
 /// The environment of these values, whose keys are made by the hash `H`.
 #[derive(Drop)]
@@ -43,6 +43,9 @@ type Lists = (
     (Vec<OfKind<7>>, (Vec<OfKind<8>>, (Vec<OfKind<1>>, Names))),
 );
 
+/// A byte and lists.
+type Mixed = (u8, Lists);
+
 /// A link to the next one by a loose reference: of its own kind.
 type Link = Option<OfKind<10>>;
 
@@ -56,35 +59,34 @@ type Names = Vec<OfKind<0>>;
 #[derive(Drop)]
 pub enum CellNode {
     /// Of the type 0: a text.
-    Name(Arc<String>),
+    Name(String),
     /// Of the type 1: a text that can be read, and whose writer refuses.
-    Note(Arc<String>),
+    Note(String),
     /// Of the type 2: a byte and lists.
-    Mixed(Arc<(u8, Lists)>),
+    Mixed(Mixed),
     /// Of the type 3.
     Link(Link),
     /// Of the type 4.
     ArcLink(ArcLink),
     /// Of the type 5.
-    Names(Arc<Names>),
+    Names(Names),
     /// Of the type 6: a shared reference to a name, and no byte.
     Holder(OfKind<0>),
     /// Of the type 7: two bytes.
-    Bytes(u8, u8),
+    Bytes((u8, u8)),
 }
 
 impl CellNode {
     /// Adds the value as rows spell it, but for its type. The byte before lists is left out if it is 0.
     pub fn push(&self, alloc: Global, text: &mut String) -> Result<(), Error> {
         match self {
-            CellNode::Name(name) | CellNode::Note(name) => text.push_str(name.as_ref().as_str())?,
-            CellNode::Bytes(first, second) => {
+            CellNode::Name(name) | CellNode::Note(name) => text.push_str(name.as_str())?,
+            CellNode::Bytes((first, second)) => {
                 text.push_str(hex::encode(alloc, &[*first, *second])?.as_str())?;
             }
             _ => {
-                if let CellNode::Mixed(mixed) = self {
-                    let tag = mixed.as_ref().0;
-                    if tag != 0 {
+                if let CellNode::Mixed((tag, _)) = self {
+                    if *tag != 0 {
                         text.push_str(format!(in alloc; "{tag}/")?.as_str())?;
                     }
                 }
@@ -101,41 +103,39 @@ impl CellNode {
 pub fn node(alloc: Global, spelled: &str) -> anyhow::Result<CellNode> {
     let (node_type, rest) = spelled.split_once(' ').unwrap_or((spelled, ""));
     match node_type {
-        "0" => Ok(CellNode::Name(text(alloc, rest)?)),
-        "1" => Ok(CellNode::Note(text(alloc, rest)?)),
+        "0" => Ok(CellNode::Name(String::from_str(alloc, rest)?)),
+        "1" => Ok(CellNode::Note(String::from_str(alloc, rest)?)),
         "2" => mixed(alloc, rest),
         "7" => bytes(alloc, rest),
         _ => referring(alloc, node_type, references(alloc, rest)?.as_slice()),
     }
 }
 
-/// A text that is shared.
-fn text(alloc: Global, text: &str) -> anyhow::Result<Arc<String>> {
-    Ok(Arc::new(alloc, String::from_str(alloc, text)?)?)
-}
-
 /// A byte and lists.
 fn mixed(alloc: Global, spelled: &str) -> anyhow::Result<CellNode> {
     let (tag, rest) = spelled.split_once('/').unwrap_or(("0", spelled));
+    let tag = tag.parse::<u8>()?;
     let spelled = references(alloc, rest)?;
-    let own = of_kinds(alloc, spelled.as_slice())?;
-    let loose = of_kinds(alloc, spelled.as_slice())?;
-    let pinned = of_kinds(alloc, spelled.as_slice())?;
-    let loose_names = of_kinds(alloc, spelled.as_slice())?;
-    let names = of_kinds(alloc, spelled.as_slice())?;
-    let lists: Lists = (own, (loose, (pinned, (loose_names, names))));
+    Ok(CellNode::Mixed((tag, lists(alloc, spelled.as_slice())?)))
+}
+
+/// The lists of these references, list after list.
+fn lists(alloc: Global, spelled: &[ArcRef]) -> anyhow::Result<Lists> {
+    let (own, loose) = of_two_kinds(alloc, spelled)?;
+    let (pinned, names) = (of_kinds(alloc, spelled)?, of_two_kinds(alloc, spelled)?);
+    let lists: Lists = (own, (loose, (pinned, names)));
     let listed = references_of::<CellEnv<WeighHash>, Lists>(alloc, &lists)?;
     ensure!(
-        listed.as_slice() == spelled.as_slice(),
+        listed.as_slice() == spelled,
         "references of other kinds, or in another order"
     );
-    Ok(CellNode::Mixed(Arc::new(alloc, (tag.parse::<u8>()?, lists))?))
+    Ok(lists)
 }
 
 /// Two bytes.
 fn bytes(alloc: Global, spelled: &str) -> anyhow::Result<CellNode> {
     match bytes_of(alloc, spelled)?.as_slice() {
-        [first, second] => Ok(CellNode::Bytes(*first, *second)),
+        [first, second] => Ok(CellNode::Bytes((*first, *second))),
         _ => bail!("no two bytes"),
     }
 }
@@ -143,7 +143,7 @@ fn bytes(alloc: Global, spelled: &str) -> anyhow::Result<CellNode> {
 /// A value of references of one kind.
 fn referring(alloc: Global, node_type: &str, references: &[ArcRef]) -> anyhow::Result<CellNode> {
     match (node_type, references) {
-        ("5", names) => Ok(CellNode::Names(Arc::new(alloc, of_kinds(alloc, names)?)?)),
+        ("5", names) => Ok(CellNode::Names(of_kinds(alloc, names)?)),
         ("3", []) => Ok(CellNode::Link(None)),
         ("3", [next]) => Ok(CellNode::Link(Some(of_kind(*next)?))),
         ("4", []) => Ok(CellNode::ArcLink(None)),
@@ -153,10 +153,22 @@ fn referring(alloc: Global, node_type: &str, references: &[ArcRef]) -> anyhow::R
     }
 }
 
-impl<H: KeyHash> NodeSet<CellEnv<H>> for CellNode {
-    ghost use Rattle.{pagable.specs.OwnCauses.reads_memory, vectors.specs.Cells.{has_shape, shape_of, told, type_of, writes}};
+/// A byte refers to nothing.
+impl<H: KeyHash> Refers<CellEnv<H>> for u8 {
+    #[tactic(auto, using(pagable_traits::proofs::Listed::parts), unfolding(pagable_model::specs::References::references_in))]
+    fn list_references(&self, _list: &mut Vec<ArcRef>) -> Result<(), Error> {
+        Ok(())
+    }
 
-    ghost type_of = { type_of };
+    ghost use Rattle.vectors.specs.Cells.{byte_in_order};
+
+    ghost in_order = { λ e. byte_in_order };
+}
+
+impl<H: KeyHash> NodeSet<CellEnv<H>> for CellNode {
+    ghost use Rattle.{pagable.specs.traits.OwnCauses.reads_memory, vectors.specs.Cells.{shape_of, told, writes}};
+
+    ghost type_of = { λ n. (told n).number };
 
     ghost shape_of = { λ e t. shape_of t };
 
@@ -178,7 +190,7 @@ impl<H: KeyHash> NodeSet<CellEnv<H>> for CellNode {
 
     ghost refers = { λ n. (told n).refers };
 
-    ghost has_shape = { λ e n. has_shape n };
+    ghost has_shape = { λ e n. (told n).has_shape };
 
     fn node_type(&self) -> u32 {
         match self {
@@ -189,32 +201,32 @@ impl<H: KeyHash> NodeSet<CellEnv<H>> for CellNode {
             CellNode::ArcLink(_) => 4,
             CellNode::Names(_) => 5,
             CellNode::Holder(_) => 6,
-            CellNode::Bytes(_, _) => 7,
+            CellNode::Bytes(_) => 7,
         }
     }
 
+    #[tactic(auto, unfolding(pagable_model::specs::References::references_in))]
     fn refs(&self, alloc: Global) -> Result<Vec<ArcRef>, Error> {
         match self {
-            CellNode::Mixed(mixed) => references_of::<CellEnv<H>, Lists>(alloc, &mixed.as_ref().1),
+            CellNode::Mixed(mixed) => references_of::<CellEnv<H>, Lists>(alloc, &mixed.1),
             CellNode::Link(next) => references_of::<CellEnv<H>, Link>(alloc, next),
             CellNode::ArcLink(next) => references_of::<CellEnv<H>, ArcLink>(alloc, next),
-            CellNode::Names(names) => references_of::<CellEnv<H>, Names>(alloc, names.as_ref()),
+            CellNode::Names(names) => references_of::<CellEnv<H>, Names>(alloc, names),
             CellNode::Holder(name) => references_of::<CellEnv<H>, OfKind<0>>(alloc, name),
-            CellNode::Name(_) | CellNode::Note(_) | CellNode::Bytes(_, _) => Ok(Vec::new(alloc)),
+            CellNode::Name(_) | CellNode::Note(_) | CellNode::Bytes(_) => Ok(Vec::new(alloc)),
         }
     }
 
-    #[tactic(auto, using(crate::proofs::Listed::writing))]
     fn write<S: PagableSerializer<CellEnv<H>>>(&self, serializer: &mut S) -> Result<(), Error> {
         match self {
-            CellNode::Name(text) => text.as_ref().pagable_serialize(serializer),
+            CellNode::Name(text) => write_listed(text, serializer),
             CellNode::Note(_) => Err(Error::Custom(Reason::new("writing is refused"))),
-            CellNode::Mixed(mixed) => mixed.as_ref().pagable_serialize(serializer),
-            CellNode::Link(next) => next.pagable_serialize(serializer),
-            CellNode::ArcLink(next) => next.pagable_serialize(serializer),
-            CellNode::Names(names) => names.as_ref().pagable_serialize(serializer),
-            CellNode::Holder(name) => name.pagable_serialize(serializer),
-            CellNode::Bytes(first, second) => (*first, *second).pagable_serialize(serializer),
+            CellNode::Mixed(mixed) => write_listed(mixed, serializer),
+            CellNode::Link(next) => write_listed(next, serializer),
+            CellNode::ArcLink(next) => write_listed(next, serializer),
+            CellNode::Names(names) => write_listed(names, serializer),
+            CellNode::Holder(name) => write_listed(name, serializer),
+            CellNode::Bytes(bytes) => write_listed(bytes, serializer),
         }
     }
 
@@ -224,35 +236,14 @@ impl<H: KeyHash> NodeSet<CellEnv<H>> for CellNode {
         deserializer: &mut D,
     ) -> Result<CellNode, Error> {
         match node_type {
-            0 => {
-                let text = String::pagable_deserialize(alloc, deserializer)?;
-                Ok(CellNode::Name(Arc::new(alloc, text)?))
-            }
-            1 => {
-                let text = String::pagable_deserialize(alloc, deserializer)?;
-                Ok(CellNode::Note(Arc::new(alloc, text)?))
-            }
-            2 => {
-                let mixed: (u8, Lists) = PagableDeserialize::pagable_deserialize(
-                    alloc,
-                    deserializer,
-                )?;
-                Ok(CellNode::Mixed(Arc::new(alloc, mixed)?))
-            }
+            0 => Ok(CellNode::Name(String::pagable_deserialize(alloc, deserializer)?)),
+            1 => Ok(CellNode::Note(String::pagable_deserialize(alloc, deserializer)?)),
+            2 => Ok(CellNode::Mixed(Mixed::pagable_deserialize(alloc, deserializer)?)),
             3 => Ok(CellNode::Link(Link::pagable_deserialize(alloc, deserializer)?)),
             4 => Ok(CellNode::ArcLink(ArcLink::pagable_deserialize(alloc, deserializer)?)),
-            5 => {
-                let names = Names::pagable_deserialize(alloc, deserializer)?;
-                Ok(CellNode::Names(Arc::new(alloc, names)?))
-            }
+            5 => Ok(CellNode::Names(Names::pagable_deserialize(alloc, deserializer)?)),
             6 => Ok(CellNode::Holder(OfKind::<0>::pagable_deserialize(alloc, deserializer)?)),
-            7 => {
-                let (first, second): (u8, u8) = PagableDeserialize::pagable_deserialize(
-                    alloc,
-                    deserializer,
-                )?;
-                Ok(CellNode::Bytes(first, second))
-            }
+            7 => Ok(CellNode::Bytes(PagableDeserialize::pagable_deserialize(alloc, deserializer)?)),
             _ => Err(Error::WrongKind),
         }
     }

@@ -59,3 +59,12 @@ pub fn of_kinds<const KIND: u32>(
     }
     Ok(found)
 }
+
+/// Those that are of the one kind, and those that are of the other.
+pub fn of_two_kinds<const KIND: u32, const OTHER: u32>(
+    alloc: Global,
+    references: &[ArcRef],
+) -> Result<(Vec<OfKind<KIND>>, Vec<OfKind<OTHER>>), Error> {
+    let first = of_kinds(alloc, references)?;
+    Ok((first, of_kinds(alloc, references)?))
+}

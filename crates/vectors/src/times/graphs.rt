@@ -58,9 +58,8 @@ where
     fn list(&self, texts: &[HandleNumber], draws: &mut Draws) -> anyhow::Result<Item> {
         let mut spelled = String::from_str(self.alloc, "08:")?;
         for _ in 0..8 {
-            let text = texts
-                .get((draws.number() % SHARED) as usize)
-                .context("no text")?;
+            let place = (draws.number() % SHARED) as usize;
+            let text = texts.get(place).context("no text")?;
             self.refer(&mut spelled, 0, *text)?;
         }
         Ok(Arc::new(self.alloc, item(self.alloc, spelled.as_str())?)?)
