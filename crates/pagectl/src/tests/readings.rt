@@ -1,43 +1,41 @@
-//! What a value refers to is read with it by a shared reference or a pin, and is what stands in the pager. And what lends a
-//! deserializer its references comes back from it.
+//! What a value refers to is read with it by a shared reference or a pin, and is what stands in the pager.
 
-use crate::tests::equal::equal;
+use crate::tests::equal;
 use pagable::paging::{deserialize_pagable_data, page_out_pending};
 use pagable::{
-    ArcRef, DataKey, Error, HandleNumber, InMemoryBlobs, Kind, NoReferences, OfNode,
-    OptionalDataKey, PagableData, PagableDeserializerImpl, Pager, References, SessionContext,
+    ArcRef, DataKey, Error, HandleNumber, InMemoryBlobs, OfNode, OptionalDataKey, PagableData,
+    Pager,
 };
 use pagable_examples::linked::bundle::Bundle;
 use pagable_examples::linked::chain::Chain;
 use pagable_examples::linked::{Linked, LinkedNode};
 use std::alloc::Global;
 use std::sync::Arc;
-use std::test::Fail;
 
 type LinkPager = Pager<Linked, InMemoryBlobs<Linked>>;
 
-/// Stores a link, and one that refers to it, whose key is answered.
-fn store_two(alloc: Global, pager: &mut LinkPager) -> Result<DataKey, Error> {
-    let bytes = vec![in alloc; 0]?;
-    let arcs = Vec::new(alloc);
-    let last = pager.store(alloc, PagableData { bytes, arcs })?;
-    let bytes = vec![in alloc; 1]?;
-    let arcs = vec![in alloc; last]?;
+/// Stores a blob.
+fn store(
+    alloc: Global,
+    pager: &mut LinkPager,
+    bytes: &[u8],
+    keys: &[DataKey],
+) -> Result<DataKey, Error> {
+    let bytes = Vec::from_slice(alloc, bytes)?;
+    let arcs = Vec::from_slice(alloc, keys)?;
     pager.store(alloc, PagableData { bytes, arcs })
-}
-
-/// The reference to the link after this one.
-fn next<const KIND: u32>(link: &Chain<KIND>) -> Option<ArcRef> {
-    let next = link.next.as_ref()?;
-    Some(next.reference())
 }
 
 /// Stores a bundle of a shared link and a pinned one, after both of which another one comes.
 fn store_bundle(alloc: Global, pager: &mut LinkPager) -> Result<DataKey, Error> {
-    let link = store_two(alloc, pager)?;
-    let bytes = vec![in alloc; 1, 0, 1]?;
-    let arcs = vec![in alloc; link, link]?;
-    pager.store(alloc, PagableData { bytes, arcs })
+    let last = store(alloc, pager, &[0], &[])?;
+    let link = store(alloc, pager, &[1], &[last])?;
+    store(alloc, pager, &[1, 0, 1], &[link, link])
+}
+
+/// The reference to the link after this one.
+fn next<const KIND: u32>(link: &Chain<KIND>) -> Option<ArcRef> {
+    link.next.as_ref().map(|next| next.reference())
 }
 
 /// The reference to the link after the one that stands in the pager under this handle.
@@ -72,18 +70,14 @@ fn paged_out(alloc: Global, pager: &mut LinkPager, bundle: Arc<Bundle>) -> Optio
 }
 
 /// Whether a bundle holds the links of the pager where they are read with it, and where they were there; and whether it is written as it was.
-fn read_bundles(alloc: Global, pager: &mut LinkPager) -> Result<[bool; 3], Error> {
-    let key = store_bundle(alloc, pager)?;
-    let first: Arc<Bundle> = deserialize_pagable_data(alloc, pager, key).map_err(
-        |refused| refused.0,
-    )?;
-    let second: Arc<Bundle> = deserialize_pagable_data(alloc, pager, key).map_err(
-        |refused| refused.0,
-    )?;
+fn read_bundles(alloc: Global, pager: &mut LinkPager) -> Option<[bool; 3]> {
+    let key = store_bundle(alloc, pager).ok()?;
+    let first: Arc<Bundle> = deserialize_pagable_data(alloc, pager, key).ok()?;
+    let second: Arc<Bundle> = deserialize_pagable_data(alloc, pager, key).ok()?;
     let first_holds = holds_what_stands(pager, first.as_ref());
     let second_holds = holds_what_stands(pager, second.as_ref());
     let is_same = paged_out(alloc, pager, second) == Some(OptionalDataKey::Some(key));
-    Ok([first_holds, second_holds, is_same])
+    Some([first_holds, second_holds, is_same])
 }
 
 #[test]
@@ -91,17 +85,5 @@ fn what_is_read_with_a_value_is_what_stands(rt: HostRuntime) {
     let alloc = rt.alloc();
     let mut pager = Pager::new(alloc, InMemoryBlobs::new(alloc), Linked);
     let bundles = read_bundles(alloc, &mut pager);
-    equal(&rt, bundles, Ok([true; 3]), "bundles");
-}
-
-#[test]
-fn what_lends_references_comes_back(rt: HostRuntime) -> Result<(), Fail> {
-    let env = Linked;
-    let session = SessionContext::new(rt.alloc());
-    let source = PagableDeserializerImpl::new(b"", &[], NoReferences::new(&env, &session));
-    let mut lent = source.finish();
-    let key = DataKey::new(90).ok_or("90 is a key")?;
-    let found = lent.reference(0, key, Kind(5));
-    equal(&rt, found, Err(Error::WrongKind), "a reference");
-    Ok(())
+    equal(&rt, bundles, Some([true; 3]), "bundles");
 }

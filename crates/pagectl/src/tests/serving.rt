@@ -7,22 +7,15 @@ use std::io;
 use std::io::{BufReader, Read, Write};
 use std::test::Fail;
 
-/// Gives its bytes three at a time, and then so many letters a; and fails once they are used up, if it isn't to end there.
+/// Gives its bytes three at a time, and fails once they are used up, if it isn't to end there.
 #[derive(Drop)]
 struct Source {
     bytes: &'static [u8],
-    letters: usize,
     ends: bool,
 }
 
 impl Read for Source {
     fn read(&mut self, buf: &mut [u8]) -> io::Result<usize> {
-        if self.bytes.is_empty() && self.letters > 0 {
-            let count = self.letters.min(buf.len());
-            buf[..count].fill(b'a');
-            self.letters -= count;
-            return Ok(count);
-        }
         let count = self.bytes.len().min(buf.len()).min(3);
         if count == 0 && !self.ends {
             return Err(io::Error::from(io::ErrorKind::BrokenPipe));
@@ -61,7 +54,7 @@ impl Write for Short {
 fn a_failure_ends_it(rt: HostRuntime) -> Result<(), Fail> {
     let alloc = rt.alloc();
     let two: &[u8] = b"new a x\nnew b y\n";
-    let cases: [(&[u8], usize, bool, usize, bool, &[u8]); 9] = [
+    let cases: [(&[u8], u64, bool, usize, bool, &[u8]); 9] = [
         // Reading fails in the third line.
         (b"new a x\npending\nnew b", 0, false, 64, false, b"ok\n0\n"),
         // Writing fails at once, in an answer, and between two.
@@ -76,11 +69,7 @@ fn a_failure_ends_it(rt: HostRuntime) -> Result<(), Fail> {
         (b"new a ", 65_531, true, 64, true, b"bad line\n"),
     ];
     for (bytes, letters, ends, room, is_whole, wanted) in cases {
-        let source = Source {
-            bytes,
-            letters,
-            ends,
-        };
+        let source = Source { bytes, ends }.chain(io::repeat(b'a').take(letters));
         let mut reader = BufReader::new(alloc, source)?;
         let written = Vec::new(alloc);
         let mut writer = Short { room, written };
