@@ -1,7 +1,7 @@
 #!/usr/bin/env python3
 """Times `vectors time` beside the original crate, and writes the table of docs/PROOFS.md.
 
-    tools/compare_speed.py ORIGINAL WORK [ROUNDS]
+    tools/compare_speed.py ORIGINAL WORK
 
 ORIGINAL is the folder of the Rust crate `pagable` 0.4.2, or of a cargo workspace that has it as a member. It is copied into the folder
 WORK, together with tools/original_speed.rs as one of its examples, and built by cargo twice: as `cargo build --release` does, and with
@@ -9,8 +9,8 @@ LTO, one codegen unit and the processor level for which `vectors` is built (x86-
 has to be built before: (cd crates/vectors && rt run -- time).
 
 The values of the first five rows come from tools/speed_sums.py, which `vectors` is held against too; both programs fail where they write another form
-than they read. Each row is timed ROUNDS times (5 if left out), by all three in turn, each time in a process of its own; a row's time is the least
-of all. The peak of memory is that of a process that reads the row's value and writes it once, by GNU time.
+than they read. Each row is timed five times, by all three in turn, each time in a process of its own; a row's time is the least of all. The peak of
+memory is that of a process that reads the row's value and writes it once, by GNU time.
 """
 import datetime
 import os
@@ -61,10 +61,10 @@ def peak(words):
     return int(ran.stderr.split()[-1])
 
 
-def measured(programs, forms, row, rounds):
+def measured(programs, forms, row):
     """The least times of each program's writing and reading, and the peaks here and of the original."""
     times = [[] for _ in programs]
-    for _ in range(rounds):
+    for _ in range(5):
         for program, mine in zip(programs, times):
             _, _, write, _, _, read, _ = output(words_of(program, forms, row, 5)).split()
             mine.append((float(write), float(read)))
@@ -88,10 +88,9 @@ def machine():
 
 
 def main():
-    if len(sys.argv) not in (3, 4):
-        sys.exit("usage: compare_speed.py ORIGINAL WORK [ROUNDS]")
+    if len(sys.argv) != 3:
+        sys.exit("usage: compare_speed.py ORIGINAL WORK")
     original, work = pathlib.Path(sys.argv[1]), pathlib.Path(sys.argv[2]).resolve()
-    rounds = int(sys.argv[3]) if len(sys.argv) == 4 else 5
     if not VECTORS.exists():
         sys.exit("vectors isn't built: (cd crates/vectors && rt run -- time)")
     folder = laid_out(original, work)
@@ -99,7 +98,7 @@ def main():
     forms = work / "forms"
     forms.mkdir(exist_ok=True)
     output([sys.executable, TOP / "tools" / "speed_sums.py", forms])
-    rows = {row: measured(programs, forms, row, rounds) for row in ROWS}
+    rows = {row: measured(programs, forms, row) for row in ROWS}
     table = "\n".join([machine(), "", *lines(rows)])
     before, rest = PAGE.read_text().split(BEGIN)
     PAGE.write_text(f"{before}{BEGIN}\n{table}\n{END}{rest.split(END)[1]}")

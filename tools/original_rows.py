@@ -245,4 +245,5 @@ def main():
     print_lines(word, "blob weigh", of_blobs)
 
 
-main()
+if __name__ == "__main__":
+    main()

@@ -27,11 +27,16 @@ class Refused(Exception):
         return f"refused {self.number}" + ("" if self.told is None else f" {self.told}") + " back" * self.back
 
 
+def need(is_so, number, told=None, back=False):
+    """Refuses what isn't so."""
+    if not is_so:
+        raise Refused(number, told, back)
+
+
 def refuse_first(causes, back=False):
     """Of several causes the first in their order is told."""
     for number in ORDER:
-        if number in causes:
-            raise Refused(number, back=back)
+        need(number not in causes, number, back=back)
 
 
 def type_of(kind):
@@ -98,24 +103,20 @@ class Bytes:
         self.rest, self.keys = blob.data, list(blob.arcs)
 
     def take(self, count):
-        if len(self.rest) < count:
-            raise Refused(UNEXPECTED_END)
+        need(len(self.rest) >= count, UNEXPECTED_END)
         taken, self.rest = self.rest[:count], self.rest[count:]
         return taken
 
     def varint(self, most, last):
         """A varint of so many bytes at most; at that length the last is at most this."""
         ends = [place for place, byte in enumerate(self.rest[:most], 1) if byte < 128]
-        if not ends and len(self.rest) < most:
-            raise Refused(UNEXPECTED_END)
-        if not ends or ends[0] == most and self.rest[most - 1] > last:
-            raise Refused(BAD_VARINT)
+        need(ends or len(self.rest) >= most, UNEXPECTED_END)
+        need(ends and (ends[0] < most or self.rest[most - 1] <= last), BAD_VARINT)
         return sum(byte % 128 << 7 * place for place, byte in enumerate(self.take(ends[0])))
 
     def length(self):
         length = self.varint(10, 1)
-        if length > 2**32 - 1:
-            raise Refused(TOO_LONG)
+        need(length < 2**32, TOO_LONG)
         return length
 
     def string(self):
@@ -126,13 +127,11 @@ class Bytes:
 
     def bool(self):
         byte = self.take(1)[0]
-        if byte > 1:
-            raise Refused(BAD_BOOL)
+        need(byte <= 1, BAD_BOOL)
         return byte == 1
 
     def reference(self):
-        if not self.keys:
-            raise Refused(NO_MORE_KEYS)
+        need(self.keys, NO_MORE_KEYS)
         return self.keys.pop(0)
 
 
@@ -147,8 +146,7 @@ class RowTypes:
     @classmethod
     def write(cls, value):
         node_type, content, kinds = value.node_type, value.content, [kind for kind, _ in value.references]
-        if node_type == cls.NOTE:
-            raise Refused(CUSTOM)
+        need(node_type != cls.NOTE, CUSTOM)
         if node_type == cls.NAME:
             return varint(len(content.encode())) + content.encode()
         if node_type == cls.MIXED:
@@ -159,8 +157,7 @@ class RowTypes:
     def read(cls, node_type, blob):
         """Asks for each reference by kind and key, gets its handle, and ends in the value. What is left over is accepted."""
         taken, content, references = Bytes(blob), None, []
-        if node_type >= cls.END:
-            raise Refused(WRONG_KIND)
+        need(node_type < cls.END, WRONG_KIND)
         if node_type <= cls.NOTE:
             return Value(node_type, taken.string())
         if node_type == cls.BYTES:
@@ -181,22 +178,18 @@ class Storage:
 
     def called(self):
         self.calls_before -= 1
-        if self.calls_before == -1:
-            raise Refused(STORAGE, 7)
+        need(self.calls_before != -1, STORAGE, 7)
 
     def fetch(self, key):
         self.called()
-        if key not in self.blobs:
-            raise Refused(NO_DATA, key)
+        need(key in self.blobs, NO_DATA, key)
         return self.blobs[key]
 
     def store(self, blob):
         self.called()
-        if self.closed:
-            raise Refused(CLOSED)
+        need(not self.closed, CLOSED)
         key = self.key_of(blob)
-        if self.blobs.setdefault(key, blob) != blob:
-            raise Refused(KEY_TAKEN)
+        need(self.blobs.setdefault(key, blob) == blob, KEY_TAKEN)
         return key
 
     def close(self):
@@ -234,15 +227,10 @@ class Load:
 
 @dataclass
 class Slot:
-    """What a table has for an identity: the worker that claimed it, and then a key with its height, or that it failed."""
+    """What a table has for an identity: the worker that claimed it, and what another finds: "waiting", and then a key with its height, or "failed"."""
 
     worker: int
-    key: int = None
-    height: int = 0
-    failed: bool = False
-
-    def is_open(self):
-        return self.key is None and not self.failed
+    found: object = "waiting"
 
 
 class Pager:
@@ -259,8 +247,7 @@ class Pager:
     # ---- what is looked up
 
     def live(self, number):
-        if number not in self.handles:
-            raise Refused(NO_SUCH_HANDLE)
+        need(number in self.handles, NO_SUCH_HANDLE)
         return self.handles[number]
 
     def cause(self, number, owner, modes, node_type=None):
@@ -276,13 +263,10 @@ class Pager:
 
     def cause_of_references(self, owner, references):
         """The first faulty reference decides. A handle that is named again is faulty at its second place."""
-        named = set()
-        for kind, number in references:
-            cause = NOT_YOURS if number in named else self.cause(number, owner, modes_of(kind), type_of(kind))
-            if cause is not None:
-                return cause
-            named.add(number)
-        return None
+        numbers = [number for _, number in references]
+        causes = (NOT_YOURS if number in numbers[:place] else self.cause(number, owner, modes_of(kind), type_of(kind))
+                  for place, (kind, number) in enumerate(references))
+        return next(filter(None, causes), None)
 
     def own(self, number, *modes):
         """A handle of who calls, of one of these modes."""
@@ -406,35 +390,29 @@ class Pager:
     def load_lazy(self, load, kind, key):
         """A handle of a cell that isn't fetched."""
         self.open(load)
-        if not is_lazy(kind):
-            raise Refused(WRONG_KIND)
+        need(is_lazy(kind), WRONG_KIND)
         owner = ("load", load)
         return self.cached(kind, key, owner) or self.record(kind, key, self.bear(Cell(type_of(kind), key, None), LOOSE_UNPINNED, owner))
 
     def load_end(self, load, value):
         """What the load's row says is looked at first, and gives the value back; then the handle that began it."""
-        if load not in self.loads:
-            raise Refused(NO_SUCH_HANDLE, back=True)
+        need(load in self.loads, NO_SUCH_HANDLE, back=True)
         row = self.loads[load]
         root = WRONG_MODE if row.begun_by is None else None if row.node_type == value.node_type else WRONG_KIND
         refuse_first([self.foreign(load), root, self.cause_of_references(("load", load), value.references)], back=True)
-        cause = self.cause(row.begun_by, self.me, ALL_MODES)
-        if cause is not None:
+        try:
+            handle = self.own(row.begun_by, *ALL_MODES)
+            if self.is_away(row.node):
+                self.cells[row.node].value = value
+                self.hand_in(value, row.node)
+            return self.pin_through(handle)
+        finally:
             self.close_load(load)
-            raise Refused(cause)
-        cell = self.cells[row.node]
-        if cell.value is None:
-            cell.value = value
-            self.hand_in(value, row.node)
-        pinned = self.pin_through(self.handles[row.begun_by])
-        self.close_load(load)
-        return pinned
 
     def load_take(self, load, *numbers):
         row = self.loads.get(load) or self.open(load)
-        causes = [self.foreign(load)] + [NO_SUCH_HANDLE if n not in self.handles else None for n in numbers]
-        strange = len(set(numbers)) < len(numbers) or any(self.cause(n, ("load", load), ALL_MODES) == NOT_YOURS for n in numbers)
-        refuse_first([*causes, NOT_YOURS if strange else None, None if row.begun_by is None else WRONG_MODE])
+        causes = [self.foreign(load), *(self.cause(number, ("load", load), ALL_MODES) for number in numbers)]
+        refuse_first([*causes, NOT_YOURS if len(set(numbers)) < len(numbers) else None, None if row.begun_by is None else WRONG_MODE])
         for number in numbers:
             self.handles[number].owner = CALLER
         self.close_load(load)
@@ -650,7 +628,7 @@ class Worker:
         key = yield from self.do("store", identity, lambda: self.store(data, keys))
         # (only a cell gets its key, by the clone that the worker made)
         yield from self.do("set", identity, lambda: (self.pager.set_data_key(self.clones[identity], key), ""))
-        yield from self.do("publish", identity, lambda: (self.slots.update({identity: Slot(self.number, key, height)}), f"{key} {height}"))
+        yield from self.do("publish", identity, lambda: (self.slots.update({identity: Slot(self.number, (key, height))}), f"{key} {height}"))
         return key, height
 
     # ---- the calls
@@ -660,23 +638,20 @@ class Worker:
         self.waits.pop(self.number, None)
         at = self.pager.handles.get(number)
         refuse_first([NO_SUCH_HANDLE if at is None or at.node != node else self.pager.cause(number, at.owner, modes_of(kind), type_of(kind))])
-        slot = self.slots.get((kind, node))
-        if place > DEEPEST or slot and (place + slot.height > DEEPEST or slot.is_open() and self.closes_ring(slot)):
-            raise Refused(TOO_DEEP)
-        if slot and slot.key is not None:
-            return (slot.key, slot.height), f"known {slot.key} {slot.height}"
-        found = "claimed" if slot is None else "failed" if slot.failed else "waiting"
-        if slot is None:
+        slot = self.slots.get((kind, node), Slot(self.number, "claimed"))
+        key, height = slot.found if isinstance(slot.found, tuple) else (None, 0)
+        need(place + height <= DEEPEST and not (slot.found == "waiting" and self.closes_ring(slot)), TOO_DEEP)
+        if slot.found == "claimed":
             self.slots[kind, node] = Slot(self.number)
-        elif slot.is_open():
+        elif slot.found == "waiting":
             self.waits[self.number] = (kind, node)
-        return found, found
+        return slot.found, slot.found if key is None else f"known {key} {height}"
 
     def closes_ring(self, slot):
         """Whether the worker that has it is this one, or waits, by way of others that wait, for this one."""
         while slot.worker != self.number:
             slot = self.slots.get(self.waits.get(slot.worker))
-            if slot is None or not slot.is_open():
+            if slot is None or slot.found != "waiting":
                 return False
         return True
 
@@ -690,7 +665,7 @@ class Worker:
         return begun, f"load {begun[1]}"
 
     def load_on(self, begun):
-        _, end = self.machine.load_step(begun[1])
+        _, end = self.machine.step(begun[1])
         if isinstance(end, Refused):
             raise end
         return (begun, "went") if end is None else (end, f"held {end}")
@@ -709,11 +684,10 @@ class Worker:
             self.pager.fall(number)
 
     def fail(self):
-        """An entry whose cell was never pinned goes back to the list's end."""
+        """An entry whose cell was never pinned goes back to the list's end. A load that the worker began is closed: only its own step can refuse."""
         for slot in self.slots.values():
-            slot.failed |= slot.worker == self.number and slot.is_open()
-        for load in [n for n, row in self.pager.loads.items() if row.by == self.me]:
-            self.pager.close_load(load)
+            if (slot.worker, slot.found) == (self.number, "waiting"):
+                slot.found = "failed"
         entry, self.pager.me = self.pager.handles.get(self.entry), CALLER
         if entry:
             entry.owner = CALLER
@@ -723,43 +697,41 @@ class Worker:
 
 
 class Machine:
-    """A pager that is driven by events: a call, the begin of a load, a load's next step, a table of page-out, a worker on it, or a
-    worker's next step."""
+    """A pager that is driven by events, a method for each that is no call but the begin of a load: a load's next step, a table of page-out, a worker
+    on it, or a worker's next step."""
 
     def __init__(self, pager):
         self.pager, self.tables, self.workers = pager, [], []
 
-    def table_new(self):
+    def table(self):
         """Slots by identity, and for each worker that waits the identity for which it does."""
         self.tables.append(({}, {}))
         return len(self.tables)
 
     def worker(self, table):
-        refuse_first([None if 0 < table <= len(self.tables) else NO_SUCH_HANDLE])
+        need(0 < table <= len(self.tables), NO_SUCH_HANDLE)
         return Worker(self, len(self.workers) + 1, *self.tables[table - 1])
 
-    def worker_item(self, table, data, references):
+    def item(self, table, data, references):
         worker = self.worker(table)
         return worker.begin(worker.item(data, references))
 
-    def worker_listed(self, table, place):
+    def listed(self, table, place):
         worker = self.worker(table)
-        refuse_first([None if place < self.pager.pending() else NO_SUCH_HANDLE])
+        need(place < self.pager.pending(), NO_SUCH_HANDLE)
         worker.entry = self.pager.list.pop(place)
         self.pager.handles[worker.entry].owner = worker.me
         return worker.begin(worker.listed())
 
-    def worker_step(self, number):
-        if not 0 < number <= len(self.workers) or self.workers[number - 1].is_done:
-            raise Refused(NO_SUCH_HANDLE)
+    def work(self, number):
+        need(0 < number <= len(self.workers) and not self.workers[number - 1].is_done, NO_SUCH_HANDLE)
         return self.workers[number - 1].step()
 
-    def load_step(self, load):
+    def step(self, load):
         """How many steps there were, and a handle, a value or a refusal if this one ended the load, as each refusal does. A load that has no type for its
         root makes none."""
         row = self.pager.open(load)
-        if row.node_type is None:
-            raise Refused(WRONG_MODE)
+        need(row.node_type is not None, WRONG_MODE)
         row.steps, row.walk = row.steps + 1, row.walk or self.root(load, row)
         try:
             return row.steps, next(row.walk)
@@ -790,8 +762,7 @@ class Machine:
                 return end.value
             found = self.pager.load_lazy(load, kind, key) if is_lazy(kind) else self.pager.load_fetch(load, kind, key)
             if isinstance(found, Blob):
-                if level > DEEPEST:
-                    raise Refused(TOO_DEEP)
+                need(level <= DEEPEST, TOO_DEEP)
                 yield None
                 value = yield from self.read(load, type_of(kind), found, level + 1)
                 found = self.pager.load_adopt(load, kind, key, value)

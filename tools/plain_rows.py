@@ -2,10 +2,9 @@
 """Rows of events, as the program `vectors` reads them, answered by a plain pager or drawn from a seed.
 
     plain_rows.py answers FILE              prints the answer to each row of the file that has one, as `vectors` has to
-    plain_rows.py draw SEED COUNT [looks]   prints a new machine, COUNT drawn lists of events and a look; with the word `looks` lists of one
-                                            event with a look after each
+    plain_rows.py draw SEED COUNT           prints a new machine, COUNT drawn lists of events and a look
 
-A row is one line: a new machine, a look, or calls parted by semicolons. docs/PROOFS.md tells its words.
+A row is one line: a new machine, a look, or calls parted by semicolons. docs/PROOFS.md tells its words, of which `chain` stands in worked rows alone.
 """
 
 import random
@@ -24,8 +23,7 @@ def references(words):
 class Rows:
     """Answers rows, over the machine that stands."""
 
-    EVENTS = {"start": "load_begin", "read": "load_key", "step": "load_step", "table": "table_new", "item": "worker_item",
-              "listed": "worker_listed", "work": "worker_step"}
+    EVENTS = {"start": "load_begin", "read": "load_key"}
 
     def __init__(self):
         self.start("")
@@ -48,11 +46,8 @@ class Rows:
         return ""
 
     def answers(self, call):
-        """The answer to a call, or to each of so many steps or births, of which each refers to the one before."""
+        """The answer to a call, or to each of so many steps."""
         name, *rest = call.split(" ")
-        if name == "chain":
-            births = [f"{rest[0]} {rest[1]}" + (f" {rest[2]}:{place}:{place}" if place else "") for place in range(int(rest[3]))]
-            return list(map(self.call, births))
         times = int(rest.pop()) if name in ("step", "work") and len(rest) == 2 else 1
         return [self.call(" ".join([name, *rest])) for _ in range(times)]
 
@@ -143,18 +138,13 @@ class Draw:
         self.head = "machine" + self.random.choice(self.STORAGES)
         self.plain.answer(self.head)
 
-    def rows(self, count, looks):
+    def rows(self, count):
         """A new machine; lists of one to twelve events each, the first of which stores a text, since a second word `read` would make a row one of
-        values; and looks. All are made."""
+        values; and a look. All are made."""
         yield self.head
         for _ in range(count):
-            yield "; ".join([self.make("store 0178")[0], *(self.next() for _ in range(1 if looks else self.random.randint(1, 12)))])
-            if looks:
-                yield self.look()
-        yield self.look()
-
-    def look(self):
-        return f"look {self.plain.pager.last_handle + 1}"
+            yield "; ".join([self.make("store 0178")[0], *(self.next() for _ in range(self.random.randint(1, 12)))])
+        yield f"look {self.plain.pager.last_handle + 1}"
 
     def next(self):
         """The next call of one of the plans that are under way, or a single one. It is made."""
@@ -418,8 +408,8 @@ def main(words):
         rows = Rows()
         with open(words[1], encoding="utf-8") as lines:
             print("\n".join(filter(None, (rows.answer(line) for line in lines.read().splitlines() if line[:1] not in ("", "#")))))
-    elif len(words) >= 3 and words[0] == "draw":
-        print("\n".join(Draw(int(words[1])).rows(int(words[2]), "looks" in words)))
+    elif len(words) == 3 and words[0] == "draw":
+        print("\n".join(Draw(int(words[1])).rows(int(words[2]))))
     else:
         sys.exit(__doc__)
 

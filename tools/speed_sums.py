@@ -9,7 +9,7 @@ import pathlib
 import sys
 
 sys.dont_write_bytecode = True
-from plain_pager import varint
+from original_rows import form
 
 WORD = (1 << 64) - 1
 
@@ -25,7 +25,7 @@ def draws_of(state):
 
 
 def drawn_text(draws, letters):
-    return bytes(97 + next(draws) % 26 for _ in range(letters))
+    return "".join(chr(97 + next(draws) % 26) for _ in range(letters))
 
 
 def sum_of(numbers):
@@ -36,45 +36,24 @@ def sum_of(numbers):
     return state
 
 
-def text_form(text):
-    return varint(len(text)) + text
-
-
-def list_form(forms):
-    return varint(len(forms)) + b"".join(forms)
-
-
 def maps(draws):
-    outer = {}
-    for _ in range(400):
-        inner = outer[next(draws)] = {}
-        for place in range(400):
-            key = next(draws) >> 16
-            inner[key] = next(draws) >> place % 64
-    return list_form([varint(key) + list_form([varint(k) + varint(v) for k, v in sorted(inner.items())]) for key, inner in sorted(outer.items())])
+    drawn = {next(draws): {next(draws) >> 16: next(draws) >> place % 64 for place in range(400)} for _ in range(400)}
+    return [(key, sorted(inner.items())) for key, inner in sorted(drawn.items())]
 
 
-def ordered(draws):
-    entries = {}
-    for _ in range(100_000):
-        key = drawn_text(draws, 12 + next(draws) % 16)
-        entries[key] = next(draws) >> 32
-    return list_form([text_form(k) + varint(v) for k, v in entries.items()])
-
-
-# What is drawn from the seeds 1, 2 and so on.
-FORMS = {
-    "numbers": lambda draws: list_form([varint(next(draws) >> place % 64) for place in range(1_000_000)]),
-    "bytes": lambda draws: text_form(bytes(next(draws) >> 56 for _ in range(1_000_000))),
-    "texts": lambda draws: list_form([text_form(drawn_text(draws, next(draws) % 32)) for _ in range(200_000)]),
-    "maps": maps,
-    "ordered": ordered,
+# The type and the items of what is drawn from the seeds 1, 2 and so on.
+DRAWN = {
+    "numbers": ("Vec<u64>", lambda draws: [next(draws) >> place % 64 for place in range(1_000_000)]),
+    "bytes": ("Vec<u8>", lambda draws: [next(draws) >> 56 for _ in range(1_000_000)]),
+    "texts": ("Vec<String>", lambda draws: [drawn_text(draws, next(draws) % 32) for _ in range(200_000)]),
+    "maps": ("BTreeMap<u64,BTreeMap<u64,u64>>", maps),
+    "ordered": ("IndexMap<String,u32>", lambda draws: {drawn_text(draws, 12 + next(draws) % 16): next(draws) >> 32 for _ in range(100_000)}.items()),
 }
 
 if __name__ == "__main__":
-    for seed, (name, made) in enumerate(FORMS.items(), 1):
-        form = made(draws_of(seed))
+    for seed, (name, (its_type, drawn)) in enumerate(DRAWN.items(), 1):
+        data = form(its_type, drawn(draws_of(seed)))
         if len(sys.argv) > 1:
-            (pathlib.Path(sys.argv[1]) / name).write_bytes(form)
+            (pathlib.Path(sys.argv[1]) / name).write_bytes(data)
         else:
-            print(f"{name} {len(form)} bytes wrote {sum_of([len(form), *form]):016x}")
+            print(f"{name} {len(data)} bytes wrote {sum_of([len(data), *data]):016x}")

@@ -3,11 +3,11 @@
 
 usage: tools/wrong_bodies.py [CRATE..]        (with no word: every crate that has wrong bodies)
 
-Under a line 'file: src/lib.rt' stand the edits of that file: a line 'NAME: TEXT' with the edit's name and the old text, which stands once in the file,
-and a line 'new: TEXT'; pairs of lines 'old: TEXT' and 'new: TEXT' may follow, which apply to what the earlier ones made. All edits of a crate are tried
-together, on a copy of the repository over the work that earlier checks kept: one body a function and round, so that one check answers many. An edit
-counts as refused where the check says of its function that it isn't proved for a reason of its own; one of which the check of its round doesn't say so
-is tried once more, alone. A function that only calls a broken one says nothing.
+Under a line 'file: src/lib.rt' stand the edits of that file, a line 'NAME: TEXT' for each, with a text that stands once in the file, but that for
+'⟦OLD ⇒ NEW⟧' the file has OLD, and gets NEW, either of which may be empty; a line 'and: TEXT' does more of the same edit, on what the line before it
+made. All edits of a crate are tried together, on a copy of the repository over the work that earlier checks kept: one body a function and round, so that
+one check answers many. An edit counts as refused where the check says of its function that it isn't proved for a reason of its own; one of which the
+check of its round doesn't say so is tried once more, alone. A function that only calls a broken one says nothing.
 The last line is 'N passed, M failed'; the status is 1 where one failed.
 """
 import os
@@ -20,6 +20,7 @@ from pathlib import Path
 
 TOP = Path(__file__).resolve().parent.parent
 EDITS = TOP / "tools" / "wrong_bodies"
+CHANGE = re.compile(r"⟦(.*?) ⇒ (.*?)⟧")
 UNREAD = re.compile(r"is not in scope|has no field|is no name|operand is missing|expected the end|cannot continue")
 
 
@@ -44,15 +45,15 @@ class Edit:
 
 def edits_of(crate):
     """The wrong bodies of a crate."""
-    edits, told = [], {}
+    edits = []
     for line in (EDITS / f"{crate}.edits").read_text(encoding="utf-8").splitlines():
         word, _, text = line.partition(": ")
-        if word not in ("file", "old", "new"):
+        if word == "file":
+            file = text
+            continue
+        if word != "and":
             edits.append(Edit(f"{crate}/{word}"))
-            word = "old"
-        told[word] = text
-        if word == "new":
-            edits[-1].pairs.append((told["file"], told["old"], text))
+        edits[-1].pairs.append((file, CHANGE.sub(r"\1", text), CHANGE.sub(r"\2", text)))
     return edits
 
 
