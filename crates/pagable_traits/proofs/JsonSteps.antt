@@ -1,6 +1,6 @@
 -- One step after another: what each of two functions that write or read owes, both owe.
-use Rattle.pagable_traits.proofs.Words.{◌≡◌, ℕ, ◌<◌, ◌≤◌, ◌+◌, ◌-◌, [], ◌∷◌, ◌++◌, List, arith, refl, ◌∙◌, Result, Ok, Err, inl, inr, err_from_is_err_and, OnOk, IfErr, ◌⊎◌, IsErrAnd, Error, ArcRef}
-use Rattle.pagable_traits.proofs.Words.{memory, memory_or, subst, read, GivesSome, Meaning, Context, Gets, Rest, deepest, items, Shape, Answer, MovesOn, Out, Nesting, nesting, WritesSome, Refused, Grows, grows_refl}
+use Rattle.pagable_traits.proofs.Words.{◌≡◌, ℕ, ◌<◌, ◌≤◌, ◌+◌, ◌-◌, [], ◌∷◌, ◌++◌, List, arith, refl, ◌∙◌, Result, Ok, Err, inl, inr, err_from_is_err_and, ◌⊎◌, IsErrAnd, Error, ArcRef}
+use Rattle.pagable_traits.proofs.Words.{memory, memory_or, subst, read, GivesSome, Meaning, Context, Gets, Rest, deepest, items, Shape, Answer, MovesOn, Out, Nesting, nesting, grows_refl}
 use Rattle.pagable_traits.proofs.{Words.{grows_trans, moves_trans, Piece, Wrote, Reads, nested_in, context_in}, Maps.viewed}
 use Rattle.pagable_traits.proofs.Items.{Shows, Wraps, each-written, ends, goes_on, is_done, refused_counted, starts, with_front, writes-counted}
 use Rattle.pagable_traits.{proofs.{Parts.{err_along, ok_along}, Words.{Option, SomeMeaning, added, length, length_form}}, specs.{JsonSteps.value, Walks.counted as walked}}
@@ -14,27 +14,10 @@ abbrev pub below : Piece → Piece
 below p = record { wrote = λ n old new. (n.levels < deepest) × p.wrote (deeper n) old new; lacks = λ n e. (n.levels < deepest) × p.lacks (deeper n) e }
 
 module _ {S E N H K V : Type 0} (env : Environments E N H K V) (s : Serializers S E N H K V) where
-  -- the clauses of PagableSerialize
-  abbrev pub Owes : {X : Type 0} → (Meaning ArcRef → Type 0) → Shape → (Error → Type 0) → S → S → Result X Error → Type 0
-  Owes M shape causes old new r = record {
-    ok : OnOk r (WritesSome M (nested_in env s old) shape (s.out old) (s.out new));
-    refused : IfErr r (Refused M (nested_in env s old) shape);
-    only : IfErr r causes;
-    err : Grows (s.out old) (s.out new);
-    same_env : s.environment new ≡ s.environment old;
-    same_levels : s.levels new ≡ s.levels old;
-  }
-
-  pub clauses : {X : Type 0} {M : Meaning ArcRef → Type 0} {shape : Shape} {causes : Error → Type 0} {old new : S} {r : Result X Error}
-      → Wrote env s (value M shape) causes old new r → Owes M shape causes old new r
-  clauses p = record { ok = p.ok; refused = p.refused; only = p.only; err = p.err; same_env = p.same_env; same_levels = p.same_levels }
-
-  -- a value, as the functions write it that have these clauses, by its shape in an environment that is the same
+  -- a value, by its shape in an environment that is the same
   pub as-form : {X : Type 0} {old new : S} (M : Meaning ArcRef → Type 0) (shape : E → Shape) (causes : Error → Type 0) (r : Result X Error) {e : E} → s.environment old ≡ e
-      → Owes M (shape (s.environment old)) causes old new r → Wrote env s (value M (shape e)) causes old new r
-  as-form {old = old} {new = new} M shape causes r same told =
-      let P : E → Type 0 = λ e. Wrote env s (value M (shape e)) causes old new r in
-      subst P same (record { ok = told.ok; refused = told.refused; only = told.only; err = told.err; same_env = told.same_env; same_levels = told.same_levels })
+      → Wrote env s (value M (shape (s.environment old))) causes old new r → Wrote env s (value M (shape e)) causes old new r
+  as-form {old = old} {new = new} M shape causes r same told = let P : E → Type 0 = λ e. Wrote env s (value M (shape e)) causes old new r in subst P same told
 
   -- the second after the first
   pub wrote-then : {X Y : Type 0} {P Q W : Piece} {first second causes : Error → Type 0} {a b c : S} {x : X} (r : Result Y Error) → Wrote env s P first a b (Ok x) → Wrote env s Q second b c r
@@ -106,13 +89,15 @@ module _ {D E R N H K V : Type 0} (env : Environments E N H K V) (d : Deserializ
       → Reads env d (memory_or own) L whole a b r
   read-no-room r is lack moves same_env same_levels = let q = err_from_is_err_and r is in rw (q.1, q.2) (record { gives = inr (inl lack); moves = moves; same_env = same_env; same_levels = same_levels })
 
-  -- a value, as its reader has these clauses, by its shape in an environment that is the same
+  -- a value, by its shape in an environment that is the same
   pub as-read : {X : Type 0} (own : Error → Type 0) (M : X → Meaning ArcRef → Type 0) (r : Result X Error) {b c : D} (shape : E → Shape) {e : E} → d.environment b ≡ e
-      → record { gives : GivesSome own M (d.rest c) r (read (context_in env d b) (shape (d.environment b)) (d.rest b)); moves : MovesOn (d.standing b) (d.standing c); same_env : d.environment c ≡ d.environment b; same_levels : d.levels c ≡ d.levels b }
-      → Reads env d own M (λ x. read x (shape e)) b c r
-  as-read own M r {b} {c} shape same told =
-      let P : E → Type 0 = λ e. GivesSome own M (d.rest c) r (read (context_in env d b) (shape e) (d.rest b)) in
-      record { gives = subst P same told.gives; moves = told.moves; same_env = told.same_env; same_levels = told.same_levels }
+      → Reads env d own M (λ x. read x (shape (d.environment b))) b c r → Reads env d own M (λ x. read x (shape e)) b c r
+  as-read own M r {b} {c} shape same told = let P : E → Type 0 = λ e. Reads env d own M (λ x. read x (shape e)) b c r in subst P same told
+
+  -- what is given is given as another whole
+  pub reads-as : {X Y Z : Type 0} {own : Error → Type 0} {M : X → Y → Type 0} {N : X → Z → Type 0} {part : Context Answer ArcRef → Gets Answer Y} {whole : Context Answer ArcRef → Gets Answer Z} {a b : D} (r : Result X Error) → Reads env d own M part a b r
+      → (GivesSome own M (d.rest b) r (part (context_in env d a) (d.rest a)) → GivesSome own N (d.rest b) r (whole (context_in env d a) (d.rest a))) → Reads env d own N whole a b r
+  reads-as r told f = record { gives = f told.gives; moves = told.moves; same_env = told.same_env; same_levels = told.same_levels }
 
   -- no level was left
   pub read-deep : {Z W : Type 0} {causes : Error → Type 0} {a b c : D} {e : Error} (r : Result Z Error) {L : Z → W → Type 0} {whole : Context Answer ArcRef → Gets Answer W} → IsErrAnd r (λ f. f ≡ e) → MovesOn (d.standing a) (d.standing b) → d.environment b ≡ d.environment a → d.levels b ≡ d.levels a

@@ -2,7 +2,7 @@
 //! reference to what is static, as `&'static str`: nothing is proved yet of a `&'static T` with a type parameter `T`.
 
 ghost use Rattle.std.specs.List.Sorted.{IsPermutation};
-ghost use Rattle.std.specs.{List.{Sorted.{IsSorted, IsStable}, slice_get}, Prelude.{Err, IfErr, IfNone, IfOk, IfSome, IsTrue, List, Option, Some, length, map, vec_len, ⊤, ◌<◌, ◌↔◌, ◌≡◌, ◌≤◌}};
+ghost use Rattle.std.specs.{List.{Sorted.{IsSorted, IsStable}, slice_get}, Prelude.{Err, IfErr, IfNone, IfOk, IfSome, IsTrue, List, Option, Some, length, map, vec_len, ◌<◌, ◌↔◌, ◌≡◌, ◌≤◌}};
 ghost use Rattle.pagable_model.specs.{Basic.longest, Canonical.HasNoReference};
 ghost use Rattle.pagable_model.specs.{Gives.{Gives, memory_or, never}, Lengths.long_or_memory, Meaning.{Meaning, lifted}, Reading.{read, registered}, Shape.static_value};
 ghost use Rattle.{pagable_model.specs.{Standing.Is, Statics.{HasEqual, NoEqualBelow, StandsAt, meanings_of, unregistered}}, pagable_traits.specs.JsonSteps.{Reads, Wrote, value as form}};
@@ -23,23 +23,12 @@ const MOST_ENTRIES: usize = 4_294_967_295;
 
 /// A value, and its index in the registry that it stands in. Two entries are equal where their values are.
 #[derive_where(PartialEq, Eq, Hash; T)]
+#[derive_where(Clone, Copy; T: Copy)]
 pub struct StaticValueEntry<T> {
     pub value: T,
     #[derive_where(skip)]
     pub index: u32,
 }
-
-impl<T: Copy> Clone for StaticValueEntry<T> {
-    ghost is_clone = { λ x y. y ≡ x };
-
-    ghost is_infallible = { λ _. ⊤ };
-
-    fn clone(&self) -> Result<Self, AllocError> {
-        Ok(*self)
-    }
-}
-
-impl<T: Copy> Copy for StaticValueEntry<T> {}
 
 /// A value that is written as its index. Two are equal where their values are, whatever their indices.
 #[derive(PartialEq, Eq, Hash)]
