@@ -28,8 +28,8 @@ ROWS = ["numbers", "bytes", "texts", "maps", "ordered", "cells", "items", "trees
 TUNED = {"CARGO_PROFILE_RELEASE_LTO": "fat", "CARGO_PROFILE_RELEASE_CODEGEN_UNITS": "1", "RUSTFLAGS": "-C target-cpu=x86-64-v2"}
 
 
-def output(words):
-    return subprocess.run(words, check=True, text=True, capture_output=True).stdout
+def ran(*words):
+    return subprocess.run(words, check=True, text=True, capture_output=True)
 
 
 def laid_out(original, work):
@@ -50,26 +50,18 @@ def built(folder, target, settings):
     return target / "release" / "examples" / "speed"
 
 
-def words_of(program, forms, row, runs):
-    """`vectors` draws a row's value itself; the original reads it from a file."""
-    return [program, "time", row, str(runs)] if program == VECTORS else [program, row, forms / row, str(runs)]
-
-
-def peak(words):
-    """The peak of memory in KiB. GNU time stands between, since a child's peak counts the memory of whoever forked it."""
-    ran = subprocess.run(["env", "time", "-f", "%M", *words], check=True, text=True, capture_output=True)
-    return int(ran.stderr.split()[-1])
-
-
 def measured(programs, forms, row):
-    """The least times of each program's writing and reading, and the peaks here and of the original."""
+    """The least times of each program's writing and reading, and the peaks in KiB here and of the original. GNU time stands between, since a child's peak
+    counts the memory of whoever forked it."""
+    # `vectors` draws a row's value itself; the original reads it from a file.
+    calls = [[program, "time", row] if program == VECTORS else [program, row, forms / row] for program in programs]
     times = [[] for _ in programs]
     for _ in range(5):
-        for program, mine in zip(programs, times):
-            _, _, write, _, _, read, _ = output(words_of(program, forms, row, 5)).split()
+        for call, mine in zip(calls, times):
+            _, _, write, _, _, read, _ = ran(*call, "5").stdout.split()
             mine.append((float(write), float(read)))
     best = [[min(those) for those in zip(*mine)] for mine in times]
-    return best, [peak(words_of(program, forms, row, 1)) for program in programs[:2]]
+    return best, [int(ran("env", "time", "-f", "%M", *call, "1").stderr.split()[-1]) for call in calls[:2]]
 
 
 def lines(rows):
@@ -81,23 +73,22 @@ def lines(rows):
 
 
 def machine():
-    text = pathlib.Path("/proc/cpuinfo").read_text()
-    model = re.search(r"^model name\s*: (.*)$", text, re.MULTILINE)[1]
-    cores = len(re.findall(r"^processor\s*:", text, re.MULTILINE))
-    return f"{datetime.date.today()}, {model}, {cores} processors; `{output(['rt', 'version']).strip()}`, {output(['rustc', '--version']).strip()}."
+    model = re.search(r"^model name\s*: (.*)$", pathlib.Path("/proc/cpuinfo").read_text(), re.MULTILINE)[1]
+    toolchain, compiler = ran("rt", "version").stdout.strip(), ran("rustc", "--version").stdout.strip()
+    return f"{datetime.date.today()}, {model}, {os.cpu_count()} processors; `{toolchain}`, {compiler}."
 
 
 def main():
     if len(sys.argv) != 3:
         sys.exit("usage: compare_speed.py ORIGINAL WORK")
-    original, work = pathlib.Path(sys.argv[1]), pathlib.Path(sys.argv[2]).resolve()
+    work = pathlib.Path(sys.argv[2]).resolve()
     if not VECTORS.exists():
         sys.exit("vectors isn't built: (cd crates/vectors && rt run -- time)")
-    folder = laid_out(original, work)
+    folder = laid_out(sys.argv[1], work)
     programs = [VECTORS, built(folder, work / "target", {}), built(folder, work / "tuned", TUNED)]
     forms = work / "forms"
     forms.mkdir(exist_ok=True)
-    output([sys.executable, TOP / "tools" / "speed_sums.py", forms])
+    ran(sys.executable, TOP / "tools" / "speed_sums.py", forms)
     rows = {row: measured(programs, forms, row) for row in ROWS}
     table = "\n".join([machine(), "", *lines(rows)])
     before, rest = PAGE.read_text().split(BEGIN)

@@ -4,11 +4,9 @@
     tools/original_rows.py data original.jsonl > crates/vectors/data/original.txt
     tools/original_rows.py answers original.jsonl     # the part of crates/vectors/stdout behind that of by_hand.txt
 
-Each line of the input is a JSON object: a value that the original wrote ("op": "enc"), an input that it read ("op":
-"dec"), or a tree of blobs that it stored ("op": "blob"). docs/PROOFS.md says what the lines of the output mean. A type is
-added by its name in CARRIED, and by a case of `form` where it is a new kind of type.
-
-The original's own bytes check `form`: a line that it wrote and `form` doesn't give ends the program.
+Each line of the input is a JSON object: a value that the original wrote ("op": "enc"), an input that it read ("op": "dec"), or a tree of blobs that it
+stored ("op": "blob"). docs/PROOFS.md says what the lines of the output mean. A type is added by its name in CARRIED, and by a case of `form` where it is
+a new kind of type. The original's own bytes check `form`: a line that it wrote and `form` doesn't give ends the program.
 """
 import itertools
 import json
@@ -34,24 +32,13 @@ SHOWN = ("u16", "u128", "i128")
 UNSIGNED = ("u8", "u16", "u32", "u64", "u128", "usize")
 SIGNED = ("i8", "i16", "i32", "i64", "i128")
 
-# Texts, with a length in bytes.
-TEXTS = ("char", "String", "Box<str>", "PathBuf", "Regex")
+# The numbers of the refusals that a reading can meet, by their classes. Left out are those that tell nothing of the cause, as of an array's item, and
+# BadChar, which the original gives to longer texts too.
+REFUSALS = {"UnexpectedEnd": 1, "BadVarint": 2, "BadBool": 3, "BadUtf8": 4, "TooLong": 6, "JsonCase": 8, "RegexRefused": 11}
 
-# The greatest length of a text or a list; the original has no such limit below 64 bits.
-LONGEST = 2**32 - 1
-
-# The numbers of the refusals that a reading can meet, by their classes. Left out are those that tell nothing of the cause, as
-# of an array's item, and BadChar, which the original gives to longer texts too.
-REFUSALS = {
-    "UnexpectedEnd": 1, "BadVarint": 2, "BadBool": 3, "BadUtf8": 4, "TooLong": 6, "JsonCase": 8, "RegexRefused": 11,
-}
-
-# How many inputs of a type are taken, beside the bounds of numbers, and how many blobs; and how long an input may be.
-WRITTEN, READ, BLOBS = 5, 8, 12
-LONGEST_INPUT = 44
-
-# How many columns the inputs of a line or their answers may fill before another line begins.
-COLUMNS = 190
+# How many inputs of a type are taken, beside the bounds of numbers, and how many blobs; how long an input may be; and how many columns the inputs of a
+# line or their answers may fill before another line begins.
+WRITTEN, READ, BLOBS, LONGEST_INPUT, COLUMNS = 5, 8, 12, 44, 190
 
 
 def split(text):
@@ -65,80 +52,72 @@ def split(text):
     return parts + [text[start:]]
 
 
-def inside(name, *outer):
-    """The type parameters of `outer<..>`, or None where the name is another type's."""
-    word, _, rest = name.partition("<")
-    return split(rest[:-1]) if word in outer else None
-
-
 # The type of the items of a list; of an array or a lent slice, which have no count.
 LIST = re.compile(r"(?:Vec|BTreeSet|IndexSet)<(.*)>$|SmallVec<\[(.*);\d+\]>$|Box<\[(.*)\]>$|\[(i32)\]$")
 ARRAY = re.compile(r"&\[(.*)\]$|\[(.*);\d+\]$")
-
 
 # The cases of JSON values, but for numbers, and the types of their parts.
 JSON = {type(None): (0, "()"), bool: (1, "bool"), str: (3, "String"), list: (4, "Vec<Json>"), dict: (5, "HashMap<String,Json>")}
 
 
+def json_form(value):
+    case, part = JSON[type(value)]
+    return bytes([case]) + form(part, value.items() if type(value) is dict else value)
+
+
+# The shortest forms of types without parameters.
+FORMS = {
+    **dict.fromkeys(UNSIGNED, lambda value: varint(int(value))),
+    **dict.fromkeys((*SIGNED, "AtomicI64"), lambda value: varint(abs(2 * int(value)) - (int(value) < 0))),
+    **dict.fromkeys(("u8", "i8"), lambda value: bytes([int(value) % 256])),
+    **dict.fromkeys(("char", "String", "Box<str>", "PathBuf", "Regex"), lambda value: varint(len(value.encode())) + value.encode()),
+    **dict.fromkeys(("()", "PhantomData"), lambda value: b""),
+    "bool": lambda value: bytes([value]),
+    "Duration": lambda value: varint(int(value["secs"])) + varint(int(value["nanos"])),
+    "Json": json_form,
+}
+
+
 def form(name, value):
     """The shortest form of a value."""
-    if name in ("u8", "i8"):
-        return bytes([int(value) % 256])
-    if name in UNSIGNED:
-        return varint(int(value))
-    if name in SIGNED or name == "AtomicI64":
-        number = int(value)
-        return varint(2 * number if number >= 0 else -2 * number - 1)
-    if name == "bool":
-        return b"\x01" if value else b"\x00"
-    if name in TEXTS:
-        return varint(len(value.encode())) + value.encode()
-    if name in ("()", "PhantomData"):
-        return b""
-    if name == "Json":
-        case, part = JSON[type(value)]
-        return bytes([case]) + form(part, value.items() if type(value) is dict else value)
-    if name == "Duration":
-        return varint(int(value["secs"])) + varint(int(value["nanos"]))
-    if part := inside(name, "Option", "OnceLock"):
-        return b"\x00" if value is None else b"\x01" + form(part[0], value["some"])
-    if parts := inside(name, "Result"):
-        return b"\x01" + form(parts[0], value["ok"]) if "ok" in value else b"\x00" + form(parts[1], value["err"])
+    if name in FORMS:
+        return FORMS[name](value)
+    if name.startswith("("):
+        return b"".join(map(form, split(name[1:-1]), value))
     if found := LIST.match(name) or ARRAY.match(name):
         count = varint(len(value)) if found.re is LIST else b""
         return count + b"".join(form(found[found.lastindex], item) for item in value)
-    if part := inside(name, "Box"):
-        return form(part[0], value)
-    if name.startswith("("):
-        return b"".join(form(part, item) for part, item in zip(split(name[1:-1]), value))
-    if parts := inside(name, "HashMap", "BTreeMap", "IndexMap"):
-        entries = sorted(value, key=lambda entry: entry[0].encode()) if name.startswith("HashMap") else value
-        return varint(len(value)) + b"".join(form(part, item) for entry in entries for part, item in zip(parts, entry))
+    outer, _, inside = name[:-1].partition("<")
+    if outer.endswith("Map"):
+        return form(f"Vec<({inside})>", value if outer == "IndexMap" else sorted(value))
+    if outer in ("Option", "OnceLock"):
+        return b"\x00" if value is None else b"\x01" + form(inside, value["some"])
+    if outer == "Result":
+        success, failure = split(inside)
+        return b"\x01" + form(success, value["ok"]) if "ok" in value else b"\x00" + form(failure, value["err"])
+    if outer == "Box":
+        return form(inside, value)
     raise SystemExit(f"no form is known of {name}")
 
 
 def forms(name, value):
     """Every form that the original may write; a hash map's entries come in any order."""
-    if not name.startswith("HashMap"):
-        return [form(name, value)]
-    return [form("Index" + name[4:], list(order)) for order in itertools.permutations(value)]
+    is_hashed = name.startswith("HashMap")
+    return [form(name.replace("Hash", "Index"), order) for order in (itertools.permutations(value) if is_hashed else [value])]
 
 
 def value_of(data):
     return sum((byte % 128) << 7 * place for place, byte in enumerate(data))
 
 
-def may_be_too_long(data):
-    """Whether a number above the greatest length begins anywhere in the input."""
-    return any(value_of(number) > LONGEST for number in re.findall(rb"(?=([\x80-\xff]{0,9}[\0-\xff]?))", data))
-
-
 def is_compared(name, line):
-    """Whether what the original makes of an input is to be compared: its JSON numbers are others, its char takes the first of
-    several, and it knows no length that is too long."""
+    """Whether what the original makes of an input is to be compared: its JSON numbers are others, its char takes the first of several, and it knows no
+    length that is too long."""
     data = bytes.fromhex(line["input_hex"])
     has_length = any(word in name for word in ("String", "Vec", "str", "char", "Map", "Set", "Path", "Regex", "Json", "Box<["))
-    if line["result"] not in ("ok", "err") or ("Json" in name and 2 in data) or (has_length and may_be_too_long(data)):
+    # The greatest length of a text or a list is 2**32 - 1, and a number above it may begin anywhere; the original has no such limit below 64 bits.
+    is_too_long = any(value_of(number) >= 2**32 for number in re.findall(rb"(?=([\x80-\xff]{0,9}[\0-\xff]?))", data))
+    if line["result"] not in ("ok", "err") or ("Json" in name and 2 in data) or (has_length and is_too_long):
         return False
     if line["result"] == "err":
         return line["class"] in REFUSALS and ("char" not in name or name == "char")
@@ -146,36 +125,27 @@ def is_compared(name, line):
     return not ("char" in name and not line["canon"]) and not (isinstance(line["value"], dict) and list(line["value"]) == ["len"])
 
 
-def accepted(name, data, used, value):
-    """The answer to an input that is read: what is written again stands there where it isn't what was taken."""
+def row(line):
+    """An input and its answer, which tells what is written again where it isn't what was taken; or None where the original's isn't to be compared."""
+    name, is_written = line["type"], line["op"] == "enc"
+    if not is_written and not is_compared(name, line):
+        return None
+    data = bytes.fromhex(line["bytes_hex" if is_written else "input_hex"])
+    if not is_written and line["result"] == "err":
+        return data, f"refused {REFUSALS[line['class']]}"
+    value, used = line["value"], len(data) if is_written else line["used"]
+    if (is_written or line.get("canon")) and data[:used] not in forms(name, value):
+        raise SystemExit(f"the original has {line}")
+    if is_written and name == "&[i32]":
+        data = form("[i32]", value)
+        used = len(data)
     again = form(name, value)
     other = "" if again == data[:used] else f" {again.hex() or '-'}"
-    return f"ok {used}{other}" + (f" = {value}" if name in SHOWN else "")
-
-
-def row(line):
-    """An input and its answer, or None where the original's answer isn't to be compared."""
-    name = line["type"]
-    if line["op"] == "enc":
-        data = bytes.fromhex(line["bytes_hex"])
-        if data not in forms(name, line["value"]):
-            raise SystemExit(f"the original writes {line}")
-        if name == "&[i32]":
-            data = form("[i32]", line["value"])
-        return data, accepted(name, data, len(data), line["value"])
-    if not is_compared(name, line):
-        return None
-    data = bytes.fromhex(line["input_hex"])
-    if line["result"] == "err":
-        return data, f"refused {REFUSALS[line['class']]}"
-    if line.get("canon") and data[:line["used"]] not in forms(name, line["value"]):
-        raise SystemExit(f"the original reads {line}")
-    return data, accepted(name, data, line["used"], line["value"])
+    return data, f"ok {used}{other}" + (f" = {value}" if name in SHOWN else "")
 
 
 def picked(rows, most, kind):
-    """At most so many of the rows: short ones before long ones, one of each kind first, and then more that
-    are read."""
+    """At most so many of the rows: short ones before long ones, one of each kind first, and then more that are read."""
     order = sorted(range(len(rows)), key=lambda place: (len(rows[place][0]), place))
     first = list({kind(rows[place]): place for place in reversed(order)}.values())
     more = [place for place in order if place not in first and kind(rows[place])[0] == "ok"]
@@ -183,24 +153,19 @@ def picked(rows, most, kind):
 
 
 def kind_of_answer(row):
-    """Refusals are kinds, of one byte and of more; so is each count of bytes that are written again as others; the rest is one
-    kind."""
+    """Refusals are kinds, of one byte and of more; so is each count of bytes that are written again as others; the rest is one kind."""
     words = row[1].split(" = ")[0].split()
-    if words[0] == "refused":
-        return (*words, len(row[0]) > 1)
-    return tuple(words[:2] if len(words) > 2 else words[:1])
+    return (*words, len(row[0]) > 1) if words[0] == "refused" else tuple(words[:2] if len(words) > 2 else words[:1])
 
 
 def bounds(name, rows):
     """Of the numbers of each length in bytes the least and the greatest, of those below zero too."""
-    best = {}
+    groups, longest = {}, max(len(data) for data, _ in rows)
     for data, answer in rows:
         number = int.from_bytes(data, "little", signed=name == "i8") if len(data) == 1 else value_of(data)
-        key = (len(data), name in SIGNED and len(data) > 1 and number % 2)
-        least, greatest = best.get(key, ((number, data, answer),) * 2)
-        best[key] = min(least, (number, data, answer)), max(greatest, (number, data, answer))
-    longest = max(length for length, _ in best)
-    return list(dict.fromkeys(pair[1:] for (length, _), pairs in best.items() if length < 4 or length == longest for pair in pairs))
+        if len(data) in (1, 2, 3, longest):
+            groups.setdefault((len(data), name in SIGNED and len(data) > 1 and number % 2), []).append((number, data, answer))
+    return list(dict.fromkeys(bound(group)[1:] for group in groups.values() for bound in (min, max)))
 
 
 def rows_of(name, lines):
@@ -213,13 +178,10 @@ def rows_of(name, lines):
 
 def print_lines(word, start, rows):
     """Prints either the inputs or the answers of the rows, in lines that aren't too long."""
-    lines, width = [], COLUMNS + 1
+    lines = []
     for row in rows:
-        longer = max(map(len, row)) + 2
-        width += longer
-        if width > COLUMNS:
+        if not lines or sum(max(map(len, other)) + 2 for other in [*lines[-1], row]) > COLUMNS:
             lines.append([])
-            width = longer
         lines[-1].append(row)
     for line in lines:
         inputs, answers = zip(*line)
@@ -228,19 +190,18 @@ def print_lines(word, start, rows):
 
 def main():
     word, path = sys.argv[1:]
-    lines, blobs = {}, {}
+    lines, blobs = {name: [] for name in CARRIED}, {}
     with open(path, encoding="utf-8") as texts:
         for line in map(json.loads, texts):
             if line["op"] == "blob" and line["hash"] == "weigh":
                 for blob in line["blobs"]:
                     blobs[(blob["data_hex"] or "-") + ":" * bool(blob["arcs"]) + ",".join(blob["arcs"]), blob["key"]] = None
-            elif line.get("type") in CARRIED and not line.get("differs"):
-                lines.setdefault(line["type"], []).append(line)
+            elif line.get("type") in lines and not line.get("differs"):
+                lines[line["type"]].append(line)
     if word == "data":
         print("# What the original crate wrote and read, by tools/original_rows.py.")
     for name in CARRIED:
-        rows = [(data.hex() or "-", answer) for data, answer in rows_of(name, lines.get(name, []))]
-        print_lines(word, f"{name} read", rows)
+        print_lines(word, f"{name} read", [(data.hex() or "-", answer) for data, answer in rows_of(name, lines[name])])
     of_blobs = picked(list(blobs), BLOBS, lambda blob: ("ok", ":" in blob[0], blob[0].count(","), len(blob[0])))
     print_lines(word, "blob weigh", of_blobs)
 

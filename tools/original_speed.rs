@@ -19,6 +19,13 @@ use pagable::traits::{PagableDeserialize, PagableSerialize};
 /// How long writing took, and reading.
 type Times = (Duration, Duration);
 
+/// What is made, and how long that took.
+fn timed<T>(make: impl FnOnce() -> T) -> (T, Duration) {
+    let start = Instant::now();
+    let made = black_box(make());
+    (made, start.elapsed())
+}
+
 fn read<T: for<'a> PagableDeserialize<'a>>(form: &[u8]) -> T {
     let storage = InMemoryPagableStorage::new();
     let handle = PagableStorageHandle::new(storage.handle());
@@ -28,14 +35,12 @@ fn read<T: for<'a> PagableDeserialize<'a>>(form: &[u8]) -> T {
 
 /// The value that is read has to be written alike.
 fn codec<T: PagableSerialize + for<'a> PagableDeserialize<'a>>(form: &[u8]) -> Times {
-    let start = Instant::now();
-    let value = black_box(read::<T>(form));
-    let read_time = start.elapsed();
-    let start = Instant::now();
-    let mut out = PagableSerializerImpl::testing_new();
-    value.pagable_serialize(&mut out).unwrap();
-    let bytes = black_box(out.finish().unwrap().data);
-    let write_time = start.elapsed();
+    let (value, read_time) = timed(|| read::<T>(form));
+    let (bytes, write_time) = timed(|| {
+        let mut out = PagableSerializerImpl::testing_new();
+        value.pagable_serialize(&mut out).unwrap();
+        out.finish().unwrap().data
+    });
     assert!(bytes == form, "another form is written");
     (write_time, read_time)
 }
@@ -72,13 +77,8 @@ fn cell<T: pagable::Pagable>(handle: &PagableStorageHandle, value: T) -> Pagable
 
 /// Page-out of the cells that wait, and the time of their loads.
 fn out_and_in<T: pagable::Pagable>(mut storage: InMemoryPagableStorage, cells: Vec<PagableArc<T>>) -> Times {
-    let start = Instant::now();
-    storage.page_out_pending();
-    let write_time = start.elapsed();
-    let start = Instant::now();
-    let pins: Vec<_> = cells.iter().map(|cell| cell.pin_sync().unwrap()).collect();
-    let read_time = start.elapsed();
-    drop(pins);
+    let (_, write_time) = timed(|| storage.page_out_pending());
+    let (_pins, read_time) = timed(|| cells.iter().map(|cell| cell.pin_sync().unwrap()).collect::<Vec<_>>());
     (write_time, read_time)
 }
 
@@ -104,19 +104,16 @@ fn items(storage: &InMemoryPagableStorage, handle: &PagableStorageHandle, count:
         })
         .collect();
     let table = DashMap::new();
-    let start = Instant::now();
-    let keys: Vec<_> = written
-        .into_iter()
-        .map(|(data, arcs)| store.page_out_item(data, arcs, &table, context).unwrap_or_else(|_| panic!("an item isn't paged out")))
-        .collect();
-    let write_time = start.elapsed();
-    let start = Instant::now();
-    for key in &keys {
-        let data = store.fetch_data_blocking(key).unwrap();
-        let mut source = PagableDeserializerImpl::new(&data.data, &data.arcs, handle);
-        black_box(Vec::<Arc<String>>::pagable_deserialize(&mut source).unwrap());
-    }
-    (write_time, start.elapsed())
+    let paged_out = |(data, arcs)| store.page_out_item(data, arcs, &table, context).unwrap_or_else(|_| panic!("an item isn't paged out"));
+    let (keys, write_time) = timed(|| written.into_iter().map(paged_out).collect::<Vec<_>>());
+    let (_, read_time) = timed(|| {
+        for key in &keys {
+            let data = store.fetch_data_blocking(key).unwrap();
+            let mut source = PagableDeserializerImpl::new(&data.data, &data.arcs, handle);
+            black_box(Vec::<Arc<String>>::pagable_deserialize(&mut source).unwrap());
+        }
+    });
+    (write_time, read_time)
 }
 
 /// A row once: a value's form is read and written, or values that refer to others, or lone texts, go out of a new storage and come back.

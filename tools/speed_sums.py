@@ -28,6 +28,10 @@ def drawn_text(draws, letters):
     return "".join(chr(97 + next(draws) % 26) for _ in range(letters))
 
 
+def inner_map(draws):
+    return {next(draws) >> 16: next(draws) >> place % 64 for place in range(400)}
+
+
 def sum_of(numbers):
     """FNV-1a of 64 bits, over numbers in place of bytes."""
     state = 0xCBF29CE484222325
@@ -36,17 +40,12 @@ def sum_of(numbers):
     return state
 
 
-def maps(draws):
-    drawn = {next(draws): {next(draws) >> 16: next(draws) >> place % 64 for place in range(400)} for _ in range(400)}
-    return [(key, sorted(inner.items())) for key, inner in sorted(drawn.items())]
-
-
 # The type and the items of what is drawn from the seeds 1, 2 and so on.
 DRAWN = {
     "numbers": ("Vec<u64>", lambda draws: [next(draws) >> place % 64 for place in range(1_000_000)]),
     "bytes": ("Vec<u8>", lambda draws: [next(draws) >> 56 for _ in range(1_000_000)]),
     "texts": ("Vec<String>", lambda draws: [drawn_text(draws, next(draws) % 32) for _ in range(200_000)]),
-    "maps": ("BTreeMap<u64,BTreeMap<u64,u64>>", maps),
+    "maps": ("BTreeMap<u64,BTreeMap<u64,u64>>", lambda draws: {next(draws): inner_map(draws).items() for _ in range(400)}.items()),
     "ordered": ("IndexMap<String,u32>", lambda draws: {drawn_text(draws, 12 + next(draws) % 16): next(draws) >> 32 for _ in range(100_000)}.items()),
 }
 
