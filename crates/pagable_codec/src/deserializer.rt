@@ -40,8 +40,7 @@ pub trait PagableDeserializer<E: Env> {
         ensures* writes_back { sem 𝓛 (Lends Self.row Self.Reader.row self.entry result (with_reader self.old)) }
         ensures value { result.now ≡ reader self.old };
 
-    /// The next reference, of this kind. It takes the next key, and that counts as used also where the reference is
-    /// refused; NoMoreKeys where none is left.
+    /// The next reference, of this kind. It takes the next key, and that counts as used also where the reference is refused; NoMoreKeys where none is left.
     fn deserialize_arc(&mut self, kind: Kind) -> Result<ArcRef, Error>
         ensures of_kind { IfOk result (λ r. r.kind ≡ kind) }
         ensures gives { Gives never (λ r. (meaning_of r, rest self.new)) result (reference_at answer_at kind.0 (rest self.old).refs (rest self.old)) }
@@ -50,8 +49,7 @@ pub trait PagableDeserializer<E: Env> {
         ensures same_env { environment self.new ≡ environment self.old }
         ensures same_levels { levels self.new ≡ levels self.old };
 
-    /// The value of a reference that was read together with its value, shared; or None where none of this type is lent. Refused
-    /// by want of memory alone.
+    /// The value of a reference that was read together with its value, shared; or None where none of this type is lent. Refused by want of memory alone.
     fn shared<T: OfNode<E>>(
         &self,
         alloc: Global,

@@ -1,7 +1,6 @@
 //! The caller's environment.
 
-ghost use Rattle.std.specs.Prelude.{ℕ};
-ghost use Rattle.pagable_model.specs.Shape.{Shape};
+ghost use Rattle.{pagable_model.specs.Shape.Shape, std.specs.Prelude.ℕ};
 
 use crate::hash::KeyHash;
 use crate::session::SessionValue;

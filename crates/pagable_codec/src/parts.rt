@@ -1,8 +1,7 @@
 //! The parts of values that hold others: flags and counts. Each later type is written and read by these.
 
-ghost use Rattle.std.specs.Prelude.{◌≡◌, ◌≤◌, [], length, min, OnOk, IfErr};
-ghost use Rattle.pagable_model.specs.{Basic.bool_form, Basic.bool_at, Basic.length_form, Basic.length_at, Basic.longest, Gives.Gives, Gives.never, Gives.memory, Lengths.long_or_memory};
-ghost use Rattle.pagable_model.specs.{Reading.bytes_of, Standing.MovesOn, Writing.added, Writing.Grows};
+ghost use Rattle.pagable_model.specs.{Basic.{bool_at, bool_form, length_at, length_form, longest}, Gives.{Gives, memory, never}, Lengths.long_or_memory, Reading.bytes_of, Standing.MovesOn};
+ghost use Rattle.{pagable_model.specs.Writing.{Grows, added}, std.specs.Prelude.{IfErr, OnOk, [], length, min, ◌≡◌, ◌≤◌}};
 
 use crate::deserializer::PagableDeserializer;
 use crate::env::Env;

@@ -1,8 +1,7 @@
 //! What one session of reading and writing shares among its values: a map under a lock.
 
-ghost use Rattle.std.{proofs.Common.rules, specs.{BTreeMap.{IsEmpty, IsUnchanged, Updates, get}, Cmp.Rules.comparing, Prelude.{◌≡◌, None, Some, IfOk, IfErr, IfSome, IsSome, OnOk, OnErr, IsTrue}}};
-ghost use Rattle.std.specs.Prelude.{refl};
-ghost use Rattle.pagable_model.specs.{Gives.memory, Session.{IsCloneOf, IsBack}};
+ghost use Rattle.{pagable_model.specs.{Gives.memory, Session.{IsBack, IsCloneOf}}, std.{proofs.Common.rules, specs.{BTreeMap.{IsEmpty, IsUnchanged, Updates, get}, Cmp.Rules.comparing}}};
+ghost use Rattle.std.specs.Prelude.{IfErr, IfOk, IfSome, IsSome, IsTrue, None, OnErr, OnOk, Some, refl, ◌≡◌};
 
 use pagable_flavors::Error;
 use std::alloc::Global;
@@ -45,9 +44,8 @@ impl<K: Ord + Drop, V: Clone> SessionMap<K, V> {
     pub fn new(alloc: Global) -> Self
         ensures { IsEmpty result.values }
     {
-        SessionMap {
-            values: BTreeMap::new(alloc),
-        }
+        let values = BTreeMap::new(alloc);
+        SessionMap { values }
     }
 
     /// A clone of the key's value, or None where there is none. Refused by want of memory alone.
@@ -56,14 +54,10 @@ impl<K: Ord + Drop, V: Clone> SessionMap<K, V> {
         ensures there { OnErr result (IsSome (get K.cmp self.now.values key.now)) }
         ensures only { IfErr result memory }
     {
-        match self.values.get(key) {
-            None => Ok(None),
-            Some(value) => Ok(Some(value.clone()?)),
-        }
+        Ok(self.values.get(key).cloned()?)
     }
 
-    /// Gives the key this value, in place of the one that it had. Refused by want of memory alone; then nothing changes,
-    /// and key and value come back.
+    /// Gives the key this value, in place of the one that it had. Refused by want of memory alone; then nothing changes, and key and value come back.
     pub fn set(&mut self, key: K, value: V) -> Result<(), (Error, K, V)>
         ensures ok { OnOk result (Updates K.cmp self.old.values self.new.values key (Some value)) }
         ensures err { OnErr result (IsUnchanged self.old.values self.new.values) }
@@ -134,9 +128,8 @@ impl<K: Ord, V> AsRef<SessionContext<K, V>> for SessionContext<K, V> {
 impl<K: Ord + Drop, V: Clone> SessionContext<K, V> {
     /// A context without values.
     pub fn new(alloc: Global) -> Self {
-        SessionContext {
-            map: Mutex::new(SessionMap::new(alloc)),
-        }
+        let map = Mutex::new(SessionMap::new(alloc));
+        SessionContext { map }
     }
 
     /// The same as `new`.
@@ -148,8 +141,7 @@ impl<K: Ord + Drop, V: Clone> SessionContext<K, V> {
     pub fn get<R: Wait>(&self, rt: &R, key: &K) -> Result<Option<V>, Error>
         ensures only { IfErr result memory }
     {
-        let map = self.map.lock(rt);
-        map.get(key)
+        self.map.lock(rt).get(key)
     }
 
     /// `SessionMap::set` on the lent map.
@@ -157,8 +149,7 @@ impl<K: Ord + Drop, V: Clone> SessionContext<K, V> {
         ensures only { IfErr result (λ e. memory e.0) }
         ensures back { IfErr result (λ e. (e.1 ≡ key) × (e.2 ≡ value)) }
     {
-        let mut map = self.map.lock(rt);
-        map.set(key, value)
+        self.map.lock(rt).set(key, value)
     }
 
     /// `SessionMap::get_or_insert_with` on the lent map; the value is made under the lock.
@@ -172,7 +163,6 @@ impl<K: Ord + Drop, V: Clone> SessionContext<K, V> {
         ensures only { IfErr result (λ e. memory e.0) }
         ensures back { IfErr result (λ e. (e.1 ≡ key) × IfSome e.2 (F.post make)) }
     {
-        let mut map = self.map.lock(rt);
-        map.get_or_insert_with(key, make)
+        self.map.lock(rt).get_or_insert_with(key, make)
     }
 }

@@ -1,6 +1,6 @@
 -- Numbers of seven bits a byte, byte by byte.
-use Rattle.std.proofs.Common.{length, get_or, add-one, ◌≡◌, ℕ, zero, suc, ◌+◌, ◌-◌, ◌*◌, ◌/◌, ◌%◌, ◌<◌, ◌≤◌, ◌≢◌, refl, arith, List, [], ◌∷◌, ◌++◌, drop, Result, Ok, Err, sym, ap, ◌∙◌, append_assoc}
-use Rattle.std.proofs.{Math.Nat.mul-le-mul_left, Math.Seq.drop-cons, lemmas.Bool.le-ltb, lemmas.Bool.lt-ltb, lemmas.Bool.le-leb, lemmas.Bool.lt-leb, lemmas.List.append-nil, lemmas.List.drop_all}
+use Rattle.std.proofs.Common.{length, get_or, add-one, ◌≡◌, ℕ, zero, suc, ◌+◌, ◌-◌, ◌*◌, ◌/◌, ◌%◌, ◌<◌, ◌≤◌, ◌≢◌, refl, arith, List, [], ◌∷◌, ◌++◌, drop, Ok, Err, sym, ap, ◌∙◌, append_assoc}
+use Rattle.std.proofs.{Math.Seq.drop-cons, lemmas.Bool.le-ltb, lemmas.Bool.lt-ltb, lemmas.Bool.le-leb, lemmas.Bool.lt-leb, lemmas.List.append-nil, lemmas.List.drop_all}
 use Rattle.pagable_model.specs.{Gives.Extends, Numbers.Read, Numbers.byte_at, Numbers.varint, Numbers.varint_at, Numbers.varint_limit, Steps.◌>>=◌, Numbers.AppendsVarint}
 use Rattle.pagable_model.specs.declared.error.Error.TheVariants as errors
 
@@ -10,35 +10,30 @@ raised low scale (Ok high) = Ok (low + scale * high.0, high.1)
 raised low scale (Err e) = Err e
 
 raised_twice : (low scale byte : ℕ) (r : Read ℕ) → raised low scale (raised byte 128 r) ≡ raised (low + scale * byte) (scale * 128) r
-raised_twice low scale byte (Ok high) = let e : low + scale * (byte + 128 * high.0) ≡ low + scale * byte + scale * 128 * high.0 = omega arith in rw e refl
-raised_twice low scale byte (Err e) = refl
+raised_twice low scale byte x3 = grind arith
 
 varint_at-long : (more last b : ℕ) (xs : List ℕ) → 128 ≤ b → varint_at (suc more) last (b ∷ xs) ≡ raised (b - 128) 128 (varint_at more last xs)
 unfolding varint_at
 varint_at-long more last b xs l = rw (le-ltb b 128 l) (go (varint_at more last xs))
   where
     go : (r : Read ℕ) → (r >>= λ high. Ok (b - 128 + 128 * high.0, high.1)) ≡ raised (b - 128) 128 r
-    go (Ok high) = refl
-    go (Err e) = refl
+    go x0 = grind arith
 
 varint_at-short : (more last b : ℕ) (xs : List ℕ) → b < 128 → varint_at (suc more) last (b ∷ xs) ≡ Ok (b, xs)
 unfolding varint_at
 varint_at-short more last b xs l = rw (lt-ltb b 128 l) refl
 
-same_ok : {X E : Type 0} (x y : X) → (let r : Result X E = Ok x in r) ≡ Ok y → x ≡ y
-same_ok x y e = cc
-
 -- a number of one byte
 pub varint_at_first : (more last b : ℕ) (xs ys : List ℕ) → byte_at xs ≡ Ok (b, ys) → b < 128 → 0 < more → varint_at more last xs ≡ Ok (b, ys)
 varint_at_first more last b [] ys h l p = cc
 varint_at_first zero last b (x ∷ xs) ys h l p = absurd (omega arith)
-varint_at_first (suc more) last b (x ∷ xs) ys h l p = varint_at-short more last x xs (omega (arith, ap (λ (p : ℕ × List ℕ). p.0) (same_ok _ _ h))) ∙ h
+varint_at_first (suc more) last b (x ∷ xs) ys h l p =
+    let same : (let read : ℕ × List ℕ = (x, xs) in read) ≡ (b, ys) = cc in varint_at-short more last x xs (omega (arith, ap (λ (read : ℕ × List ℕ). read.0) same)) ∙ h
 
 -- after `place` bytes with the top bit set
 pub record ReadsOn (more last : ℕ) (bytes : List ℕ) (place low scale : ℕ) : Type 0 where
   pub reads : varint_at more last bytes ≡ raised low scale (varint_at (more - place) last (drop place bytes))
-  pub limit : scale * varint_limit (more - place) last ≡ varint_limit more last
-  pub below : low < scale
+  pub room : (byte : ℕ) → byte < varint_limit (more - place) last → low + scale * byte < varint_limit more last
   pub turn : place ≤ more
 
 -- what such numbers stay below
@@ -51,25 +46,17 @@ limit-above (suc more) last = omega (arith, limit-above more last)
 one-left : {more last : ℕ} {bytes : List ℕ} {place low scale : ℕ} → ReadsOn more last bytes place low scale → place ≢ more → more - place ≡ suc (more - (place + 1))
 one-left r p = omega (arith, r.turn)
 
-below_raised : (low scale byte top : ℕ) → low < scale → byte < top → low + scale * byte < scale * top
-below_raised low scale byte top l h = omega (arith, mul-le-mul_left scale (let e : byte + 1 ≤ top = omega arith in e))
-
 -- a byte that may stand here leaves the number below its limit
-below_limit : {more last : ℕ} {bytes : List ℕ} {place low scale : ℕ} (byte : ℕ) → ReadsOn more last bytes place low scale → byte < varint_limit (more - place) last → low + scale * byte < varint_limit more last
-below_limit {more} {last} {bytes} {place} {low} {scale} byte r h = omega (arith, below_raised low scale byte (varint_limit (more - place) last) r.below h, r.limit)
-
 pub ReadsOn_below : {more last : ℕ} {bytes : List ℕ} {place low scale : ℕ} (byte : ℕ) → ReadsOn more last bytes place low scale → place ≢ more → byte < 128 → low + scale * byte < varint_limit more last
 unfolding varint_limit
-ReadsOn_below {more} {last} {bytes} {place} byte r p small = below_limit byte r (rw (one-left r p) (omega (arith, limit-above (more - (place + 1)) last)))
+ReadsOn_below {more} {last} {bytes} {place} byte r p small = r.room byte (rw (one-left r p) (omega (arith, limit-above (more - (place + 1)) last)))
 
 pub ReadsOn_below_end : {more last : ℕ} {bytes : List ℕ} {place low scale : ℕ} (byte : ℕ) → ReadsOn more last bytes place low scale → byte ≤ last → low + scale * byte < varint_limit more last
-ReadsOn_below_end {more} {last} {bytes} {place} byte r small = below_limit byte r (omega (arith, limit-above (more - place) last))
+ReadsOn_below_end {more} {last} {bytes} {place} byte r small = r.room byte (omega (arith, limit-above (more - place) last))
 
-pub ReadsOn_scale : {more last : ℕ} {bytes : List ℕ} {place low scale : ℕ} → ReadsOn more last bytes place low scale → place ≢ more → 0 < last → scale * 256 ≤ varint_limit more last
+pub ReadsOn_scale : {more last : ℕ} {bytes : List ℕ} {place low scale : ℕ} → ReadsOn more last bytes place low scale → place ≢ more → 0 < last → low + scale * 255 < varint_limit more last
 unfolding varint_limit
-ReadsOn_scale {more} {last} {bytes} {place} {low} {scale} r p l =
-    let two : 256 ≤ varint_limit (more - place) last = rw (one-left r p) (omega (arith, limit-above (more - (place + 1)) last)) in
-    omega (arith, mul-le-mul_left scale two, r.limit)
+ReadsOn_scale {more} {last} {bytes} {place} r p l = r.room 255 (rw (one-left r p) (omega (arith, limit-above (more - (place + 1)) last)))
 
 -- what the next byte and those after it read as is the high part
 at_byte : {more last : ℕ} {bytes : List ℕ} {place low scale : ℕ} (byte : ℕ) (high : Read ℕ) → ReadsOn more last bytes place low scale → place < length bytes → byte ≡ get_or bytes place 0
@@ -78,16 +65,15 @@ at_byte {more} {last} {bytes} {place} {low} {scale} byte high r h e is =
     let here : drop place bytes ≡ byte ∷ drop (place + 1) bytes = rw (e, add-one) (drop-cons bytes place 0 h) in
     r.reads ∙ ap (λ (xs : List ℕ). raised low scale (varint_at (more - place) last xs)) here ∙ ap (raised low scale) is
 
-pub ReadsOn_more : {more last : ℕ} {bytes : List ℕ} {place low scale : ℕ} (byte : ℕ) → ReadsOn more last bytes place low scale → place < length bytes → place ≢ more → byte ≡ get_or bytes place 0 - 128 → 128 ≤ get_or bytes place 0 → byte < 128
-    → ReadsOn more last bytes (place + 1) (low + scale * byte) (scale * 128)
+pub ReadsOn_more : {more last : ℕ} {bytes : List ℕ} {place low scale : ℕ} (byte : ℕ) → ReadsOn more last bytes place low scale → place < length bytes → place ≢ more → byte ≡ get_or bytes place 0 - 128
+    → 128 ≤ get_or bytes place 0 → get_or bytes place 0 < 256 → ReadsOn more last bytes (place + 1) (low + scale * byte) (scale * 128)
 unfolding varint_limit
 ReadsOn_more {more} {last} {bytes} {place} {low} {scale} byte r h apart e long small =
     let front : varint_at (more - place) last (get_or bytes place 0 ∷ drop (place + 1) bytes) ≡ raised (get_or bytes place 0 - 128) 128 (varint_at (more - (place + 1)) last (drop (place + 1) bytes)) =
     rw (one-left r apart) (varint_at-long _ last _ _ long) in
     record {
       reads = at_byte _ _ r h refl front ∙ rw (← e) (raised_twice low scale byte (varint_at (more - (place + 1)) last (drop (place + 1) bytes)));
-      limit = omega (arith, rw (one-left r apart) at r.limit);
-      below = below_raised low scale byte 128 r.below small;
+      room = λ next h. let both : low + scale * (byte + 128 * next) < varint_limit more last = r.room (byte + 128 * next) (rw (one-left r apart) (omega arith)) in omega arith;
       turn = omega (arith, r.turn);
     }
 
@@ -124,35 +110,31 @@ pub Extends_twice : {X : Type 0} (a b c : List X) → Extends a b → Extends b 
 Extends_twice a b c p q = (p.0 ++ q.0, q.1 ∙ ap (λ x. x ++ q.0) p.1 ∙ append_assoc a p.0 q.0)
 
 -- what is still to be written after some bytes with the top bit set, whatever width is meant
-pub record StillToWrite (start here : List ℕ) (number rest more : ℕ) : Type 0 where
-  pub less : ℕ
-  pub fits : rest < varint_limit less 127
-  pub same : start ++ varint more number ≡ here ++ varint less rest
-
 pub record WritesOn (start here : List ℕ) (number rest : ℕ) : Type 0 where
-  pub still : (more : ℕ) → number < varint_limit more 127 → StillToWrite start here number rest more
+  pub still : (more : ℕ) → number < varint_limit more 127 → (less : ℕ) × (rest < varint_limit less 127) × (start ++ varint more number ≡ here ++ varint less rest)
   pub extends : Extends start here
 
 pub WritesOn_none : (start : List ℕ) (number : ℕ) → WritesOn start start number number
 WritesOn_none start number = record {
-  still = λ more h. record { less = more; fits = h; same = refl };
+  still = λ more h. (more, h, refl);
   extends = ([], sym (append-nil start));
 }
 
 pub WritesOn_more : {start here next : List ℕ} {number rest : ℕ} (byte : ℕ) → WritesOn start here number rest → 128 ≤ rest → byte ≡ 128 + rest % 128 → next ≡ here ++ byte ∷ [] → WritesOn start next number (rest / 128)
 unfolding varint_limit varint
 WritesOn_more {start} {here} {next} {number} {rest} byte w l b e = record {
-  still = λ more h. let s = w.still more h in go more s.less s.fits s.same;
+  still = λ more h. let s = w.still more h in go more s.0 s.1 s.2;
   extends = Extends_twice start here next w.extends (Extends_end here next (byte ∷ []) e);
 }
   where
-    go : (more less : ℕ) → rest < varint_limit less 127 → start ++ varint more number ≡ here ++ varint less rest → StillToWrite start next number (rest / 128) more
+    go : (more less : ℕ) → rest < varint_limit less 127 → start ++ varint more number ≡ here ++ varint less rest
+        → (left : ℕ) × (rest / 128 < varint_limit left 127) × (start ++ varint more number ≡ next ++ varint left (rest / 128))
     go more zero fits same = absurd (omega arith)
-    go more (suc less) fits same = record { less = less; fits = omega arith; same = same ∙ rw (le-ltb rest 128 l, ← b, e, append_assoc) refl }
+    go more (suc less) fits same = (less, omega arith, same ∙ rw (le-ltb rest 128 l, ← b, e, append_assoc) refl)
 
 pub WritesOn_last : {start here next : List ℕ} {number rest : ℕ} → WritesOn start here number rest → rest < 128 → next ≡ here ++ rest ∷ [] → AppendsVarint start next number
 WritesOn_last {start} {here} {next} {number} {rest} w l e = record {
-  appends = λ more h. let s = w.still more h in e ∙ ap (λ xs. here ++ xs) (sym (varint-short s.less rest l)) ∙ sym s.same;
+  appends = λ more h. let s = w.still more h in e ∙ ap (λ xs. here ++ xs) (sym (varint-short s.0 rest l)) ∙ sym s.2;
 }
 
 pub ruleset reading = (ReadsOn_below, ReadsOn_below_end, ReadsOn_scale, ReadsOn_end, ReadsOn_bad, ReadsOn_short)

@@ -20,8 +20,7 @@ pub struct PagableSlice<'de> {
 }
 
 impl<'de> Model for PagableSlice<'de> {
-    ghost use Rattle.std.specs.Prelude.{◌≤◌, length};
-    ghost use Rattle.pagable_model.specs.Track.{Track};
+    ghost use Rattle.{pagable_model.specs.Track.Track, std.specs.Prelude.{length, ◌≤◌}};
 
     ghost Value = { Track };
 
@@ -91,10 +90,8 @@ impl<'de> PagableSlice<'de> {
         if count > self.bytes.len() - self.position {
             return Err(Error::UnexpectedEnd);
         }
-        let end = self.position + count;
-        let bytes = self.bytes;
-        let taken = &bytes[self.position..end];
-        self.position = end;
+        let taken = &self.bytes[self.position..self.position + count];
+        self.position += count;
         Ok(taken)
     }
 

@@ -1,7 +1,6 @@
 //! Bytes that are written one after another.
 
-ghost use Rattle.std.specs.Prelude.{◌≡◌, ◌+◌, ◌≤◌, List, [], ◌∷◌, ◌++◌, length, take, drop, OnOk, OnErr, IfErr};
-ghost use Rattle.pagable_model.specs.Gives.{memory};
+ghost use Rattle.{pagable_model.specs.Gives.memory, std.specs.Prelude.{IfErr, List, OnErr, OnOk, [], drop, length, take, ◌++◌, ◌+◌, ◌∷◌, ◌≡◌, ◌≤◌}};
 
 mod writing;
 
@@ -14,8 +13,7 @@ pub(crate) const LONGEST: usize = 4_294_967_295;
 
 /// A writer, which contracts see as the bytes that were written.
 ///
-/// A writing call that is refused leaves what stood before, with more at its end or nothing; `try_push` and `try_extend`
-/// leave nothing more.
+/// A writing call that is refused leaves what stood before, with more at its end or nothing; `try_push` and `try_extend` leave nothing more.
 #[derive(Drop)]
 pub struct PagableVecFlavor {
     bytes: Vec<u8>,
@@ -29,23 +27,13 @@ impl Model for PagableVecFlavor {
     ghost view = { λ w. w.bytes.items };
 }
 
-// Writes these bytes over those that stand from `pos` on.
-fn overwrite(held: &mut [u8], pos: usize, bytes: &[u8])
-    requires { pos + length bytes.now ≤ length held.old }
-    ensures { held.new ≡ take pos held.old ++ bytes.now ++ drop (pos + length bytes.now) held.old }
-{
-    let end = pos + bytes.len();
-    held[pos..end].copy_from_slice(bytes);
-}
-
 impl PagableVecFlavor {
     /// A writer of no bytes yet, which takes no memory until it is written to.
     pub fn new(alloc: Global) -> PagableVecFlavor
         ensures { result ≡ [] }
     {
-        PagableVecFlavor {
-            bytes: Vec::new(alloc),
-        }
+        let bytes = Vec::new(alloc);
+        PagableVecFlavor { bytes }
     }
 
     /// The same as `new`.
@@ -67,7 +55,9 @@ impl PagableVecFlavor {
         requires { pos + length bytes.now ≤ length self.old }
         ensures { self.new ≡ take pos self.old ++ bytes.now ++ drop (pos + length bytes.now) self.old }
     {
-        overwrite(&mut self.bytes, pos, bytes);
+        let held = self.bytes.as_mut_slice();
+        let end = pos + bytes.len();
+        held[pos..end].copy_from_slice(bytes);
     }
 
     /// Appends a byte. `OutOfMemory` where the writer can't grow.

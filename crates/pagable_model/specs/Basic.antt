@@ -34,12 +34,9 @@ bytes_at n bytes = if nat_lt (length bytes) n then Err Error.UnexpectedEnd else 
 abbrev pub text_form : List ℕ → List ℕ
 text_form t = length_form (length t) ++ t
 
-abbrev pub checked_text : List ℕ × List ℕ → Read (List ℕ)
-checked_text t = if is_utf8 t.0 then Ok t else Err Error.BadUtf8
-
 -- a text: too long, then too short, then not UTF-8
 unfoldable pub text_at : List ℕ → Read (List ℕ)
-text_at bytes = length_at bytes >>= λ n. bytes_at n.0 n.1 >>= checked_text
+text_at bytes = length_at bytes >>= λ n. bytes_at n.0 n.1 >>= λ t. if is_utf8 t.0 then Ok t else Err Error.BadUtf8
 
 -- postcard, byte array: the length in bytes, and the bytes
 abbrev pub byte_array_form : List ℕ → List ℕ

@@ -39,8 +39,7 @@ HasNoReference (meanings.reference a) = absurd a
 HasNoReference (followed kind a) = ⊥
 HasNoReference _ = Unit {0}
 
--- A shape whose forms are read, if this is so of its numbered parts. Each tag under which anything is written has to be
--- registered with a reader of what is written.
+-- A shape whose forms are read, if this is so of its numbered parts. Each tag under which anything is written has to be registered with a reader of what is written.
 unfoldable pub IsReadable : Shape → Type 0
 IsReadable (optional s) = IsReadable s
 IsReadable (outcome s t) = IsReadable s × IsReadable t
@@ -113,30 +112,28 @@ IsCanonicalTree types t = IsCanonicalType types t.type × EachType (IsCanonicalT
 abbrev pub IsReadableTree : Types → Tree → Type 0
 IsReadableTree types t = IsReadableType types t.type × EachType (IsReadableType types) t.meaning
 
--- A set of node types that no reference leads out of: in the shape of each, and in all parts of its values, references
--- lead into the set.
+-- A set of node types that no reference leads out of: in the shape of each, and in all parts of its values, references lead into the set.
 abbrev pub IsClosed : Types → (ℕ → Type 0) → Type 0
 IsClosed types nodes = (n : ℕ) (s : Shape) → nodes n → types.nodes n ≡ Some s → Throughout (LiesIn nodes (λ part. Unit {0})) types.parts s
 
--- what lies in sets lies in greater ones
-pub lies-along : {nodes parts more_nodes more_parts : ℕ → Type 0} → ((n : ℕ) → nodes n → more_nodes n) → ((n : ℕ) → parts n → more_parts n) → (s : Shape) → LiesIn nodes parts s → LiesIn more_nodes more_parts s
+-- what lies in a set of parts lies in a greater one
+lies-along : {parts more : ℕ → Type 0} → ((n : ℕ) → parts n → more n) → (s : Shape) → LiesIn (λ n. Unit {0}) parts s → LiesIn (λ n. Unit {0}) more s
 unfolding LiesIn
-lies-along f g (optional s) h = lies-along f g s h
-lies-along f g (outcome s t) h = (lies-along f g s h.0, lies-along f g t h.1)
-lies-along f g (list s) h = lies-along f g s h
-lies-along f g (run s) h = lies-along f g s h
-lies-along f g (array n s) h = lies-along f g s h
-lies-along f g (both s t) h = (lies-along f g s h.0, lies-along f g t h.1)
-lies-along f g (sorted_map order s t) h = (lies-along f g s h.0, lies-along f g t h.1)
-lies-along f g (placed_map s t) h = (lies-along f g s h.0, lies-along f g t h.1)
-lies-along f g (hash_map s t) h = (lies-along f g s h.0, lies-along f g t h.1)
-lies-along f g (sorted_set order s) h = lies-along f g s h
-lies-along f g (placed_set s) h = lies-along f g s h
-lies-along f g (tagged written known body) h = (λ tag. lies-along f g (written tag) (h.0 tag), λ tag e. lies-along f g (body tag) (h.1 tag e))
-lies-along f g (cases w known part) h = λ n e. lies-along f g (part n) (h n e)
-lies-along f g (reference kind) h = f (type_of kind) h
-lies-along f g (nested n) h = g n h
-lies-along f g _ h = tt
+lies-along f (optional s) h = lies-along f s h
+lies-along f (outcome s t) h = (lies-along f s h.0, lies-along f t h.1)
+lies-along f (list s) h = lies-along f s h
+lies-along f (run s) h = lies-along f s h
+lies-along f (array n s) h = lies-along f s h
+lies-along f (both s t) h = (lies-along f s h.0, lies-along f t h.1)
+lies-along f (sorted_map order s t) h = (lies-along f s h.0, lies-along f t h.1)
+lies-along f (placed_map s t) h = (lies-along f s h.0, lies-along f t h.1)
+lies-along f (hash_map s t) h = (lies-along f s h.0, lies-along f t h.1)
+lies-along f (sorted_set order s) h = lies-along f s h
+lies-along f (placed_set s) h = lies-along f s h
+lies-along f (tagged written known body) h = (λ tag. lies-along f (written tag) (h.0 tag), λ tag e. lies-along f (body tag) (h.1 tag e))
+lies-along f (cases w known part) h = λ n e. lies-along f (part n) (h n e)
+lies-along f (nested n) h = f n h
+lies-along f _ h = tt
 
 -- P holds throughout a shape whose numbered parts lie in a set of parts that have P and lie in it themselves
 pub throughout-in : (P : Shape → Type 0) (parts : ℕ → Shape) (those : ℕ → Type 0) → ((n : ℕ) → those n → P (parts n) × LiesIn (λ n. Unit {0}) those (parts n)) → (s : Shape) → P s → LiesIn (λ n. Unit {0}) those s → Throughout P parts s
@@ -145,4 +142,4 @@ throughout-in P parts those closed s p l = record { within = λ steps. steps_in 
   where
     steps_in : (steps : ℕ) (t : Shape) → P t → LiesIn (λ n. Unit {0}) those t → Within P parts steps t
     steps_in zero t q k = q
-    steps_in (suc steps) t q k = (q, lies-along (λ n u. u) (λ n i. steps_in steps (parts n) (closed n i).0 (closed n i).1) t k)
+    steps_in (suc steps) t q k = (q, lies-along (λ n i. steps_in steps (parts n) (closed n i).0 (closed n i).1) t k)

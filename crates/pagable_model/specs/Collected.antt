@@ -2,8 +2,7 @@
 use Rattle.std.specs.Prelude.{◌≡◌, List, [], ◌∷◌}
 use Rattle.pagable_model.specs.{declared.numbers.ArcRef.ArcRef, Meaning.Meaning, Lifted.MeanAll}
 
--- Items were put in one after another: acc was there first, and now is left. What one more leaves may be open, as the
--- place of an entry in a hash map is.
+-- Items were put in one after another: acc was there first, and now is left. What one more leaves may be open, as the place of an entry in a hash map is.
 unfoldable pub PutInTurn : {X : Type 0} → (List X → X → List X → Type 0) → List X → List X → List X → Type 0
 PutInTurn puts acc [] now = now ≡ acc
 PutInTurn {X} puts acc (x ∷ xs) now = (mid : List X) × puts acc x mid × PutInTurn puts mid xs now

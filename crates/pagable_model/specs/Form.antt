@@ -7,8 +7,7 @@ use Rattle.pagable_model.specs.Shape.{optional, outcome, list, run, array, both,
 use Rattle.pagable_model.specs.Reading.{registered}
 use Rattle.pagable_model.specs.Meaning as meanings
 
--- A is what stands for a reference, and kind_of its kind; parts is how the environment spells the parts that have
--- numbers; the first index is how many levels are left.
+-- A is what stands for a reference, and kind_of its kind; parts is how the environment spells the parts that have numbers; the first index is how many levels are left.
 mutual
   pub data Form (A : Type 0) (kind_of : A → ℕ) (parts : ℕ → Shape) : ℕ → Shape → Meaning A → List ℕ → List A → Type 0 where
     nothing-form : (left : ℕ) → Form A kind_of parts left nothing none [] []

@@ -2,8 +2,7 @@
 use Rattle.std.specs.Prelude.{◌≡◌, List, ◌++◌, Result, Ok, Err, ◌⊎◌}
 use Rattle.pagable_model.specs.declared.error.Error.{Error}
 
--- What a function returned, seen by view, is what reading gives. A refusal is the first fault that reading meets, or
--- one of the causes that the function has of its own.
+-- What a function returned, seen by view, is what reading gives. A refusal is the first fault that reading meets, or one of the causes that the function has of its own.
 abbrev pub Gives : {X Y : Type 0} → (Error → Type 0) → (X → Y) → Result X Error → Result Y Error → Type 0
 Gives own view (Ok x) read = read ≡ Ok (view x)
 Gives own view (Err e) read = (read ≡ Err e) ⊎ own e

@@ -3,8 +3,7 @@ use Rattle.std.{proofs.{Common.{◌∙◌, sym}, lemmas.Simd.map-map}, specs.{Pr
 use Rattle.pagable_model.specs.{declared.numbers.ArcRef.ArcRef, Meaning.{Meaning, pair, entry}, Keys.Entry, Carried.of_hash_map}
 use Rattle.pagable_model.specs.Lifted.{MeanAll, MeansPair, items_are_meanings, items_single, pair_is_meaning, pair_single}
 
--- One more entry was put in, and no key is there twice. The value of a key that was there is replaced; a new key stands
--- anywhere.
+-- One more entry was put in, and no key is there twice. The value of a key that was there is replaced; a new key stands anywhere.
 abbrev pub PutsAnywhere : {K V : Type 0} → (K → K → Bool) → List (K × V) → K × V → List (K × V) → Type 0
 PutsAnywhere eq old e new = IsDistinct eq (keys_of new) × MatchOption (lookup (eq e.0) old) (IsPermutation (e ∷ old) new) (λ _. new ≡ set_value (eq e.0) old e.1)
 

@@ -1,5 +1,4 @@
--- What the key law asks of a type, and why it holds of the types that may be keys: of those made of others too, when two of their keys are the same and
--- in which order they stand.
+-- What the key law asks of a type, and why it holds of the types that may be keys: of those made of others too, when two of their keys are the same and in which order they stand.
 use Rattle.std.{proofs.{Common.{ap, arith, ◌∙◌}, lemmas.{Bool.{and_parts, eqb-true, eq-eqb, Decides.Decides-int_eq}, Slice.Eq.bytes_eq-Decides}}, specs.Cmp.{both_ways, Lexicographic.slice_cmp}}
 use Rattle.std.specs.{Cmp.Lexicographic.pointwise, Option.{option_eq, option_cmp}, Ordering.{nat_cmp, int_cmp, int_eq, bool_cmp, ordering_then}, Prelude.{◌≡◌, ◌&&◌, ◌∷◌, ℕ, ℤ, zero, suc, Bool, true}}
 use Rattle.std.specs.{Prelude.{List, nat_eq, refl, Option, Result}, Result.{result_eq, result_cmp}, Str.bytes_eq, declared.cmp.Ordering.Ordering}
@@ -77,15 +76,12 @@ nothing_is_same = refl
 -- ---- two keys are the same if their parts are
 
 both-same : (a b c d : Meaning ⊥) → (bytes_eq (code a) (code c) && bytes_eq (code b) (code d)) ≡ bytes_eq (code (pair a b)) (code (pair c d))
-both-same a b c d = same-by (bytes_eq (code a) (code c) && bytes_eq (code b) (code d)) (pair a b) (pair c d) one told
-  where
-    one : (bytes_eq (code a) (code c) && bytes_eq (code b) (code d)) ≡ true → pair a b ≡ pair c d
-    one e =
-        let both = and_parts (bytes_eq (code a) (code c)) (bytes_eq (code b) (code d)) e in
-        cc (one-meaning a c ((bytes_eq-Decides (code a) (code c)).0 both.0), one-meaning b d ((bytes_eq-Decides (code b) (code d)).0 both.1))
-
-    told : code (pair a b) ≡ code (pair c d) → (bytes_eq (code a) (code c) && bytes_eq (code b) (code d)) ≡ true
-    told e = let whole : pair a b ≡ pair c d = one-meaning (pair a b) (pair c d) e in rw ((bytes_eq-Decides (code a) (code c)).1 (cc), (bytes_eq-Decides (code b) (code d)).1 (cc)) refl
+both-same a b c d =
+    let first = bytes_eq-Decides (code a) (code c) in
+    let rest = bytes_eq-Decides (code b) (code d) in
+    same-by (bytes_eq (code a) (code c) && bytes_eq (code b) (code d)) (pair a b) (pair c d)
+    (λ e. let both = and_parts (bytes_eq (code a) (code c)) (bytes_eq (code b) (code d)) e in cc (one-meaning a c (first.0 both.0), one-meaning b d (rest.0 both.1)))
+    (λ e. let whole : pair a b ≡ pair c d = one-meaning (pair a b) (pair c d) e in rw (first.1 (cc), rest.1 (cc)) refl)
 
 pub pair_is_same : {A : Type 0} (s t : Bool) (a b c d : Meaning A) → s ≡ same_key a c → t ≡ same_key b d → (s && t) ≡ same_key (pair a b) (pair c d)
 unfolding plain

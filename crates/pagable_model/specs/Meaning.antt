@@ -7,8 +7,7 @@ pub data Meaning (A : Type 0) : Type 0 where
   number : ℕ → Meaning A
   integer : ℤ → Meaning A
   -- a text's bytes, and those of a pattern
-  text : List ℕ → Meaning A
-  pattern : List ℕ → Meaning A
+  text pattern : List ℕ → Meaning A
   -- nothing, and the end of a list
   none : Meaning A
   -- a first part and the rest

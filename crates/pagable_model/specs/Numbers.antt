@@ -12,8 +12,7 @@ abbrev pub byte_at : List ℕ → Read ℕ
 byte_at [] = Err Error.UnexpectedEnd
 byte_at (b ∷ rest) = Ok (b, rest)
 
--- The shortest varint of a number (postcard, Varint Encoded Integers): seven bits a byte, low bits first; at most
--- `more` bytes with the top bit set, and then one without.
+-- The shortest varint of a number (postcard, Varint Encoded Integers): seven bits a byte, low bits first; at most `more` bytes with the top bit set, and then one without.
 unfoldable pub varint : ℕ → ℕ → List ℕ
 varint zero n = n ∷ []
 varint (suc more) n = if nat_lt n 128 then n ∷ [] else (128 + n % 128) ∷ varint more (n / 128)

@@ -1,5 +1,4 @@
--- What holds throughout a shape where it holds throughout those that it is made of: no meaning of a carried type has two forms, and
--- nothing in a key is a reference.
+-- What holds throughout a shape where it holds throughout those that it is made of: no meaning of a carried type has two forms, and nothing in a key is a reference.
 use Rattle.std.{specs.Prelude.{◌≡◌, ℕ}, proofs.Common.arith}
 use Rattle.pagable_model.specs.Shape.{Shape, nothing, unsigned, signed, flag, text, letter, duration, pattern, json, optional, outcome, list, run, array, both, sorted_map, placed_map, sorted_set, placed_set}
 use Rattle.pagable_model.specs.{Canonical.{IsCanonical, IsReadable, LiesIn, Throughout}, Keyed.{RefersToNothing, throughout-alone, throughout-over, throughout-two}}

@@ -1,5 +1,4 @@
--- The numbers of the refusals, and which of them say that an input or a value is outside the wire format,
--- and which others readers and writers may have.
+-- The numbers of the refusals, and which of them say that an input or a value is outside the wire format, and which others readers and writers may have.
 use Rattle.std.specs.Prelude.{ℕ, Bool, true, false}
 use Rattle.pagable_model.specs.declared.error.Error.{Error}
 
@@ -49,8 +48,7 @@ is_reading_fault Error.BadStaticIndex = true
 is_reading_fault Error.NoMoreKeys = true
 is_reading_fault _ = false
 
--- Those that a reader may have of its own beside them: a pattern that isn't built, want of memory, and what it tells in words. What
--- a pager, a storage or a writer refuses is none of them.
+-- Those that a reader may have of its own beside them: a pattern that isn't built, want of memory, and what it tells in words. What a pager, a storage or a writer refuses is none of them.
 abbrev pub is_own_reading : Error → Bool
 is_own_reading Error.RegexRefused = true
 is_own_reading Error.OutOfMemory = true
@@ -72,8 +70,7 @@ is_writing_fault Error.TooDeep = true
 is_writing_fault Error.JsonNumber = true
 is_writing_fault _ = false
 
--- Those that a writer may answer at all: these three, a value that isn't registered, want of memory, and what it tells in words.
--- What a pager, a storage or a reader refuses is none of them.
+-- Those that a writer may answer at all: these three, a value that isn't registered, want of memory, and what it tells in words. What a pager, a storage or a reader refuses is none of them.
 abbrev pub may_refuse_writing : Error → Bool
 may_refuse_writing Error.TooLong = true
 may_refuse_writing Error.TooDeep = true

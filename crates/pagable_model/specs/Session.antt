@@ -7,8 +7,7 @@ IsCloneOf is_clone None None = Unit {0}
 IsCloneOf is_clone (Some x) (Some y) = is_clone x y
 IsCloneOf is_clone _ _ = ⊥
 
--- What a refused call gives back of the value that it was to make: the one that it made, or none where it didn't come to
--- that, since the key has a value.
+-- What a refused call gives back of the value that it was to make: the one that it made, or none where it didn't come to that, since the key has a value.
 abbrev pub IsBack : {V : Type 0} → (V → Type 0) → Option V → Option V → Type 0
 IsBack made old None = IsSome old
 IsBack made old (Some x) = (old ≡ None) × made x

@@ -6,10 +6,8 @@ pub data Shape : Type 0 where
   -- no byte
   nothing : Shape
   -- whole numbers without and with a sign
-  unsigned : Width → Shape
-  signed : Width → Shape
-  flag : Shape
-  text : Shape
+  unsigned signed : Width → Shape
+  flag text : Shape
   -- one character
   letter : Shape
   duration : Shape
@@ -30,15 +28,13 @@ pub data Shape : Type 0 where
   both : Shape → Shape → Shape
   -- maps: in the order of the keys, in the order of arrival, and in no order
   sorted_map : KeyOrder → Shape → Shape → Shape
-  placed_map : Shape → Shape → Shape
-  hash_map : Shape → Shape → Shape
+  placed_map hash_map : Shape → Shape → Shape
   -- sets, likewise
   sorted_set : KeyOrder → Shape → Shape
   placed_set : Shape → Shape
   -- the index of a value in this registry
   static_value : List (Meaning ⊥) → Shape
-  -- a tag and its body: how a body is written under each tag; which tags are registered, and how the reader of each
-  -- reads the body
+  -- a tag and its body: how a body is written under each tag; which tags are registered, and how the reader of each reads the body
   tagged : (List ℕ → Shape) → (List ℕ → Bool) → (List ℕ → Shape) → Shape
   -- the number of a case, if there is one, and its part
   cases : Width → (ℕ → Bool) → (ℕ → Shape) → Shape

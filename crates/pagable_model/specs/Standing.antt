@@ -39,8 +39,7 @@ pub record Gave {Y R : Type 0} (M : Y → Type 0) (after : R) (read : Result (Y 
   pub is : M m
   pub gave : read ≡ Ok (m, after)
 
--- A value was returned that means what reading gives. A refusal is the first fault that reading meets, a reference's
--- own refusal included, or one of the causes that the type has of its own.
+-- A value was returned that means what reading gives. A refusal is the first fault that reading meets, a reference's own refusal included, or one of the causes that the type has of its own.
 abbrev pub GivesSome : {X Y R : Type 0} → (Error → Type 0) → (X → Y → Type 0) → R → Result X Error → Result (Y × R) Error → Type 0
 GivesSome own means after (Ok x) read = Gave (means x) after read
 GivesSome own means after (Err e) read = (read ≡ Err e) ⊎ own e

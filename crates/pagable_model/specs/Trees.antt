@@ -41,8 +41,7 @@ pub record ReadsAs (store : ℕ → Option Blob) (types : Types) (type key : ℕ
   pub rest : Rest ℕ
   pub reads : read_typed (blob_context types) (types.nodes type) (rest_of blob) ≡ Ok (m, rest)
 
--- A meaning with bare keys, and the same where each key is followed to what own says stands under it, as a value of
--- the kind's type. By recursion on the tree.
+-- A meaning with bare keys, and the same where each key is followed to what own says stands under it, as a value of the kind's type. By recursion on the tree.
 pub data IsFollowed (own : ℕ → ℕ → Meaning KeyRef → Type 0) : Meaning KeyRef → Meaning ⊥ → Type 0 where
   number-followed : (n : ℕ) → IsFollowed own (number n) (number n)
   integer-followed : (z : ℤ) → IsFollowed own (integer z) (integer z)

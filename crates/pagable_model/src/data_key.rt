@@ -50,8 +50,7 @@ impl fmt::Display for DataKey {
     ghost output = { λ k. Some (decimal k) };
 
     fn fmt<W: fmt::Write>(&self, f: &mut fmt::Formatter<W>) -> fmt::Result {
-        let number = self.number;
-        write!(f, "{number}")
+        write!(f, "{}", self.number)
     }
 }
 
@@ -74,10 +73,7 @@ impl OptionalDataKey {
     pub fn is_none(&self) -> bool
         ensures { IsTrue result ↔ (self.now ≡ OptionalDataKey.None) }
     {
-        match self {
-            OptionalDataKey::None => true,
-            OptionalDataKey::Some(_) => false,
-        }
+        matches!(self, OptionalDataKey::None)
     }
 
     /// The key, which has to be there.

@@ -1,7 +1,6 @@
 //! Why something is refused.
 
-ghost use Rattle.std.specs.Prelude.{◌≡◌};
-ghost use Rattle.pagable_model.specs.{Refusals.number_of, declared.error.Error.TheVariants.OutOfMemory};
+ghost use Rattle.{pagable_model.specs.{Refusals.number_of, declared.error.Error.TheVariants.OutOfMemory}, std.specs.Prelude.◌≡◌};
 
 use crate::data_key::DataKey;
 use crate::reason::Reason;
@@ -47,8 +46,7 @@ pub enum Error {
     WrongKind,
     /// Nothing live has this number, or the handle isn't at the node that its reference names.
     NoSuchHandle,
-    /// The handle's mode doesn't fit the call or the kind, or the load was begun by another call than this one
-    /// needs.
+    /// The handle's mode doesn't fit the call or the kind, or the load was begun by another call than this one needs.
     WrongMode,
     /// The handle is owned by another than the one who asks, or is named twice, or a worker began the load.
     NotYours,

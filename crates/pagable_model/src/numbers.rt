@@ -1,7 +1,6 @@
 //! The numbers by which nodes, handles, loads and workers are named, and what a reference is.
 
-/// The kind of a reference. A value type with the number t has three kinds: 3t for an `Arc`, 3t + 1 for a
-/// `PagableArc` and 3t + 2 for a `PinnedPagableArc`.
+/// The kind of a reference. A value type with the number t has three kinds: 3t for an `Arc`, 3t + 1 for a `PagableArc` and 3t + 2 for a `PinnedPagableArc`.
 #[derive(Clone, Copy, Debug, PartialEq, Eq, Hash)]
 pub struct Kind(pub u32);
 
@@ -36,8 +35,7 @@ pub struct ArcRef {
     pub handle: HandleNumber,
 }
 
-/// A place between two parts of a value that is written or read: how many bytes and how many references stand
-/// before it.
+/// A place between two parts of a value that is written or read: how many bytes and how many references stand before it.
 #[derive(Clone, Copy, Debug, Default, PartialEq, Eq)]
 pub struct PagableCursor {
     pub byte_pos: usize,

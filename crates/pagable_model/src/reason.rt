@@ -30,24 +30,19 @@ fn kept_length(text: &str) -> usize
 impl Reason {
     /// The reason that is this text, of which the first 62 bytes are kept, up to the end of a character.
     pub fn new(text: &str) -> Reason {
-        let length = kept_length(text);
+        let kept = kept_length(text);
         let mut bytes = [0; REASON_BYTES];
-        for (place, byte) in bytes.iter_mut().zip(text.as_bytes()).take(length) {
+        for (place, byte) in bytes.iter_mut().zip(text.as_bytes()).take(kept) {
             *place = *byte;
         }
-        Reason {
-            bytes,
-            length: length as u8,
-        }
+        let length = kept as u8;
+        Reason { bytes, length }
     }
 
     /// The text.
     pub fn as_str(&self) -> &str {
         let length = usize::from(self.length).min(REASON_BYTES);
-        match std::str::from_utf8(&self.bytes[..length]) {
-            Ok(text) => text,
-            Err(_) => "",
-        }
+        std::str::from_utf8(&self.bytes[..length]).unwrap_or("")
     }
 }
 

@@ -174,10 +174,9 @@ abbrev pub StepsAreWithin : {N E B W : Type 0} → Values N → MachineState N E
 StepsAreWithin v s [] = Unit {0}
 StepsAreWithin v s (x ∷ xs) = StepIsWithin v s x.event x.reply × StepsAreWithin v x.after xs
 
--- What holds of a chain. Each event is a step of the plain world that leaves the machine whole: so each count is the number of pinning handles, and a
--- cell holds its value exactly while it is pinned or has no key. Workers' steps are in order, each identity is claimed at most once on a table, and
--- all is within its bounds. And where the types are read back from their forms and each event met what is asked of it, each pin that succeeds gives
--- the tree that its node was made with, and each page-out that answers a key leaves all that it met stored and answers the key of its item or cell.
+-- What holds of a chain. Each event is a step of the plain world that leaves the machine whole: so each count is the number of pinning handles, and a cell holds its value exactly while it is pinned
+-- or has no key. Workers' steps are in order, each identity is claimed at most once on a table, and all is within its bounds. And where the types are read back from their forms and each event met
+-- what is asked of it, each pin that succeeds gives the tree that its node was made with, and each page-out that answers a key leaves all that it met stored and answers the key of its item or cell.
 pub record Headline {N E B W : Type 0} (m : Seen N B W) (start : MachineState N E) (moments : List (Moment N E B W)) : Type 0 where
   pub chain : AreMoments m start moments
   pub work : WorkIsRight m (state_after start moments) (events_of moments) (replies_of moments)

@@ -54,8 +54,7 @@ pub data Need : Type 0 where
   -- the blob of its own key
   needs_root : Need
   -- a reference of this kind under this key, which is read together with the value, or isn't
-  needs_nested : Kind → ℕ → Need
-  needs_lazy : Kind → ℕ → Need
+  needs_nested needs_lazy : Kind → ℕ → Need
   -- a node of what the innermost blob reads as, for the blob below it
   to_adopt : Need
   -- nothing more: the root is read

@@ -7,8 +7,7 @@ use Rattle.pagable_world.specs.{Runs.{Fact, Moment, state_after}, Workers.IsPubl
 
 -- whose turn a moment is; the begin of a load or worker is its first
 pub data Turn : Type 0 where
-  of_load : ℕ → Turn
-  of_worker : ℕ → Turn
+  of_load of_worker : ℕ → Turn
   of_nobody : Turn
 
 abbrev pub turn_of : {N B W : Type 0} → Event N B W → EventReply N B W → Turn
@@ -44,13 +43,9 @@ pub record HasNoForm (types : Types) (t : Tree) : Type 0 where
 abbrev pub LeadsToNoForm : Types → Tree → Type 0
 LeadsToNoForm types t = HasNoForm types t ⊎ ((below : Tree) × Reaches t.meaning below × HasNoForm types below)
 
--- the path through a reference, or one below it, is too long
-abbrev pub IsLongBelow : ℕ → Meaning ⊥ → Type 0
-IsLongBelow kind m = longest_path < max (above kind (height m)) (deepest_path m)
-
--- a path of too many references leads down from the item, or from the listed cell
+-- a path of too many references leads down from the item, through one of its own or from below one, or from the listed cell
 abbrev pub IsTooDeepTask : (ℕ → Tree) → Task → Type 0
-IsTooDeepTask trees (of_item written) = (r : ArcRef) × Among written.references r × IsLongBelow r.kind.0 (trees r.node.0).meaning
+IsTooDeepTask trees (of_item written) = (r : ArcRef) × Among written.references r × (longest_path < max (above r.kind.0 (height (trees r.node.0).meaning)) (deepest_path (trees r.node.0).meaning))
 IsTooDeepTask trees (of_entry h i) = longest_path < deepest_path (trees i.node.0).meaning
 
 -- some value that the task reaches has no form

@@ -122,8 +122,7 @@ pub data Todo : Type 0 where
   to_item : Written → List ℕ → Todo
   -- set, publish and release: with key and height
   to_set : ArcRef → HandleNumber → ℕ → ℕ → Todo
-  to_publish : ArcRef → ℕ → ℕ → Todo
-  to_release : ArcRef → ℕ → ℕ → Todo
+  to_publish to_release : ArcRef → ℕ → ℕ → Todo
   -- give all up, and this entry back to the list
   to_fail : Fault → Option HandleNumber → Todo
 

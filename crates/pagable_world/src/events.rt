@@ -104,8 +104,7 @@ pub enum WorkerAnswer {
     AlreadyFailed,
 }
 
-/// What a step of a worker answers: what it was, the worker's answer if it was the last, and how many steps the worker
-/// has made.
+/// What a step of a worker answers: what it was, the worker's answer if it was the last, and how many steps the worker has made.
 #[derive(Drop)]
 pub struct WorkerReply<W: Drop> {
     pub took: Took<W>,

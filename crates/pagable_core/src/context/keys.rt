@@ -1,7 +1,6 @@
 //! The keys of a blob, which are read one after another.
 
-ghost use Rattle.std.specs.Prelude.{◌≡◌, ◌≤◌, ◌<◌, ◌+◌, length, slice_get, Some, IfSome, IfNone, OnSome};
-ghost use Rattle.pagable_model.specs.Track.{Track};
+ghost use Rattle.{pagable_model.specs.Track.Track, std.specs.Prelude.{IfNone, IfSome, OnSome, Some, length, slice_get, ◌+◌, ◌<◌, ◌≡◌, ◌≤◌}};
 
 use pagable_flavors::DataKey;
 use std::marker::Model;
@@ -14,8 +13,7 @@ pub struct PagableKeys<'de> {
 }
 
 impl<'de> Model for PagableKeys<'de> {
-    ghost use Rattle.std.specs.Prelude.{◌≤◌, length};
-    ghost use Rattle.pagable_model.specs.Track.{Track};
+    ghost use Rattle.{pagable_model.specs.Track.Track, std.specs.Prelude.{length, ◌≤◌}};
 
     ghost Value = { Track };
 
@@ -58,8 +56,7 @@ impl<'de> PagableKeys<'de> {
         if self.position >= self.keys.len() {
             return None;
         }
-        let keys = self.keys;
-        let key = keys[self.position];
+        let key = self.keys[self.position];
         self.position += 1;
         Some(key)
     }

@@ -1,7 +1,6 @@
 //! The deserializer over one blob.
 
-ghost use Rattle.std.specs.Prelude.{◌≡◌};
-ghost use Rattle.pagable_core.specs.Context.{at_front};
+ghost use Rattle.{pagable_core.specs.Context.at_front, std.specs.Prelude.◌≡◌};
 
 use crate::context::keys::PagableKeys;
 use crate::context::references::References;
@@ -57,8 +56,7 @@ impl<'de, E: Env, B: Reader, R: References<E>> PagableDeserializer<E>
     for PagableDeserializerImpl<'de, B, R> {
     type Reader = B;
 
-    ghost use Rattle.std.specs.Prelude.{refl};
-    ghost use Rattle.{pagable_core.specs.Context.{standing_of, moves_of}, pagable_model.specs.Standing.rest_at};
+    ghost use Rattle.{pagable_core.specs.Context.{moves_of, standing_of}, pagable_model.specs.Standing.rest_at, std.specs.Prelude.refl};
 
     ghost standing = { λ s. standing_of (R.answer s.references) s.keys (B.track s.reader) };
 

@@ -6,6 +6,9 @@ ghost use Rattle.pagable_model.specs.{Refusals.may_refuse_reference, declared.{e
 use pagable_codec::{ArcRef, Env, Kind, SessionContext};
 use pagable_flavors::{DataKey, Error};
 
+/// The context of a session over an environment.
+pub type SessionOf<E> = SessionContext<<E as Env>::CtxKey, <E as Env>::CtxValue>;
+
 /// What lends a deserializer its environment and its session's context, and answers for its references. An answer depends on
 /// the place of the reference in the blob, its key and its kind alone, so that a blob may be read again from its front.
 pub trait References<E: Env> {
@@ -41,15 +44,12 @@ pub trait References<E: Env> {
 #[derive(Drop)]
 pub struct NoReferences<'e, E: Env> {
     env: &'e E,
-    session: &'e SessionContext<E::CtxKey, E::CtxValue>,
+    session: &'e SessionOf<E>,
 }
 
 impl<'e, E: Env> NoReferences<'e, E> {
     /// Lends this environment, and this context as that of the session.
-    pub fn new(
-        env: &'e E,
-        session: &'e SessionContext<E::CtxKey, E::CtxValue>,
-    ) -> NoReferences<'e, E>
+    pub fn new(env: &'e E, session: &'e SessionOf<E>) -> NoReferences<'e, E>
         ensures { ⟦<NoReferences<'e, E> as References<E>>⟧.environment result ≡ env.now }
     {
         NoReferences { env, session }

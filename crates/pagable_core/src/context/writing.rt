@@ -1,8 +1,8 @@
 //! The serializer that collects bytes and references.
 
-ghost use Rattle.std.specs.Prelude.{◌≡◌, refl, [], length, IsOk, IfOk};
-ghost use Rattle.pagable_core.specs.Context.{nothing, out_of, pair_out, written};
+ghost use Rattle.{pagable_core.specs.Context.{nothing, out_of, pair_out, written}, std.specs.Prelude.{IfOk, IsOk, [], length, refl, ◌≡◌}};
 
+use crate::context::references::SessionOf;
 use pagable_codec::{ArcRef, Env, PagableCursor, PagableSerializer, SessionContext};
 use pagable_flavors::{Error, PagableVecFlavor};
 use std::alloc::Global;
@@ -43,26 +43,14 @@ impl<'e, E, S> SerializerOver<'e, E, S> {
 }
 
 /// A serializer with a session's context of its own.
-pub type PagableSerializerImpl<'e, E> = SerializerOver<
-    'e,
-    E,
-    SessionContext<<E as Env>::CtxKey, <E as Env>::CtxValue>,
->;
+pub type PagableSerializerImpl<'e, E> = SerializerOver<'e, E, SessionOf<E>>;
 
 /// The serializer that page-out writes a value to, which is lent the session's context.
-pub type SerializerForPaging<'e, E> = SerializerOver<
-    'e,
-    E,
-    &'e SessionContext<<E as Env>::CtxKey, <E as Env>::CtxValue>,
->;
+pub type SerializerForPaging<'e, E> = SerializerOver<'e, E, &'e SessionOf<E>>;
 
 impl<'e, E: Env> SerializerForPaging<'e, E> {
     /// A serializer to which nothing was written. It takes no memory.
-    pub fn new(
-        alloc: Global,
-        env: &'e E,
-        session: &'e SessionContext<E::CtxKey, E::CtxValue>,
-    ) -> SerializerForPaging<'e, E>
+    pub fn new(alloc: Global, env: &'e E, session: &'e SessionOf<E>) -> SerializerForPaging<'e, E>
         ensures out { ⟦<SerializerForPaging<'e, E> as PagableSerializer<E>>⟧.out result ≡ nothing }
         ensures levels { ⟦<SerializerForPaging<'e, E> as PagableSerializer<E>>⟧.levels result ≡ 0 }
         ensures env { ⟦<SerializerForPaging<'e, E> as PagableSerializer<E>>⟧.environment result ≡ env.now }
@@ -95,10 +83,8 @@ impl<'e, E: Env> PagableSerializerImpl<'e, E> {
         ensures data { IfOk result (λ d. out_of d ≡ ⟦<PagableSerializerImpl<'e, E> as PagableSerializer<E>>⟧.out self.entry) }
     {
         let SerializerOver { writer, arcs, .. } = self;
-        Ok(SerializedData {
-            bytes: writer.finalize(),
-            arcs,
-        })
+        let bytes = writer.finalize();
+        Ok(SerializedData { bytes, arcs })
     }
 }
 

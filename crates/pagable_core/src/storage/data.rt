@@ -1,7 +1,6 @@
 //! Blobs and their keys.
 
-ghost use Rattle.std.specs.Prelude.{◌≡◌};
-ghost use Rattle.{pagable_core.specs.Data.blob_of, pagable_model.specs.Blob.key_of};
+ghost use Rattle.{pagable_core.specs.Data.blob_of, pagable_model.specs.Blob.key_of, std.specs.Prelude.◌≡◌};
 
 use pagable_codec::KeyHash;
 use pagable_flavors::DataKey;
@@ -14,9 +13,8 @@ pub struct PagableData {
 }
 
 impl PagableData {
-    /// The key under which the blob stands: the hash of its preimage as a number of 128 bits, low bytes first, where
-    /// 0 becomes 1. The preimage is the count of child keys as 8 bytes, the bytes, and each child key as 16 bytes,
-    /// low bytes first throughout. It takes no memory.
+    /// The key under which the blob stands: the hash of its preimage as a number of 128 bits, low bytes first, where 0 becomes 1. The preimage is the count of
+    /// child keys as 8 bytes, the bytes, and each child key as 16 bytes, low bytes first throughout. It takes no memory.
     #[tactic(auto, using(crate::proofs::Weighing::keying))]
     pub fn compute_key<H: KeyHash>(&self) -> DataKey
         ensures { result ≡ key_of H.digest (blob_of self.now) }
@@ -27,10 +25,6 @@ impl PagableData {
         for key in &self.arcs {
             hash.update(&key.get().to_le_bytes());
         }
-        let bytes = hash.finish();
-        match DataKey::new(u128::from_le_bytes(bytes).max(1)) {
-            Some(key) => key,
-            None => unreachable!(),
-        }
+        DataKey::new(u128::from_le_bytes(hash.finish()).max(1)).unwrap()
     }
 }

@@ -1,7 +1,6 @@
 //! The hash of keys in use.
 
-ghost use Rattle.std.specs.Prelude.{take};
-ghost use Rattle.sha2.specs.{Hashers.Holds256, Sha256.sha256};
+ghost use Rattle.{sha2.specs.{Hashers.Holds256, Sha256.sha256}, std.specs.Prelude.take};
 
 use pagable_codec::KeyHash;
 use sha2::{Digest, Sha256};
@@ -18,9 +17,8 @@ impl KeyHash for Sha256Key {
     ghost digest = { λ bytes. take 16 (sha256 bytes) };
 
     fn new() -> Sha256Key {
-        Sha256Key {
-            hasher: Sha256::new(),
-        }
+        let hasher = Sha256::new();
+        Sha256Key { hasher }
     }
 
     fn update(&mut self, bytes: &[u8]) {

@@ -9,8 +9,7 @@ use pagable_flavors::{DataKey, Error};
 use std::alloc::Global;
 use std::sync::Arc;
 
-/// A storage of blobs: a map from keys to blobs that only grows, until it is closed. It counts its own failures, so
-/// that no other can blame it.
+/// A storage of blobs: a map from keys to blobs that only grows, until it is closed. It counts its own failures, so that no other can blame it.
 pub trait PagableStorage<E: Env>: Sized {
     // What is stored under each key.
     ghost stored: { Self → ℕ → Option Blob };

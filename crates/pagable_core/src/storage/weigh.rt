@@ -1,12 +1,10 @@
 //! A hash for tests.
 
-ghost use Rattle.std.specs.Prelude.{◌≡◌, ◌%◌, ◌^◌, ◌+◌, List, ℕ, length};
-ghost use Rattle.{pagable_core.specs.Data.IsWeighed, pagable_model.specs.Blob.weigh_hash};
+ghost use Rattle.{pagable_core.specs.Data.IsWeighed, pagable_model.specs.Blob.weigh_hash, std.specs.Prelude.{List, length, ℕ, ◌%◌, ◌+◌, ◌^◌, ◌≡◌}};
 
 use pagable_codec::KeyHash;
 
-/// The sum of each byte times its place, from 1 on, modulo 2^128: a hash for tests, which anyone can compute by hand
-/// and which has collisions.
+/// The sum of each byte times its place, from 1 on, modulo 2^128: a hash for tests, which anyone can compute by hand and which has collisions.
 #[derive(Clone, Copy, Debug)]
 pub struct WeighHash {
     place: u128,

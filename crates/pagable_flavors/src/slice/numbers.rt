@@ -6,8 +6,7 @@ ghost use Rattle.{pagable_flavors.specs.Calls.Reads, pagable_model.specs.{Gives.
 use super::PagableSlice;
 use pagable_model::Error;
 
-// The number at the front, of at most `more` bytes with the top bit set and one that is at most `last`, and how many
-// bytes it takes.
+// The number at the front, of at most `more` bytes with the top bit set and one that is at most `last`, and how many bytes it takes.
 #[tactic(auto, using(crate::proofs::Varint::reading))]
 fn varint_of(bytes: &[u8], more: usize, last: u8) -> Result<(u64, usize), Error>
     requires ends { (0 < last) × (last < 128) }
@@ -66,13 +65,10 @@ impl<'de> PagableSlice<'de> {
         ensures reads { MatchOption result (self.new ≡ self.old) (λ b. (b < 128) × (byte_at (left self.old) ≡ Ok (b, left self.new))) }
         ensures goes { GoesOn self.old self.new }
     {
-        if self.position == self.bytes.len() {
+        if self.position == self.bytes.len() || self.bytes[self.position] >= 128 {
             return None;
         }
         let byte = self.bytes[self.position];
-        if byte >= 128 {
-            return None;
-        }
         self.position += 1;
         Some(byte)
     }

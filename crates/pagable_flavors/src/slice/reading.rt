@@ -1,7 +1,6 @@
 //! Basic values are read, and texts and byte arrays that stay where they are.
 
-ghost use Rattle.std.specs.Prelude.{◌≡◌};
-ghost use Rattle.pagable_model.specs.{Basic.text_at, Basic.byte_array_at, Gives.Gives, Gives.never, Track.left, Track.GoesOn};
+ghost use Rattle.{pagable_model.specs.{Basic.{byte_array_at, text_at}, Gives.{Gives, never}, Track.{GoesOn, left}}, std.specs.Prelude.◌≡◌};
 
 use super::PagableSlice;
 use crate::reader::Reader;
@@ -43,8 +42,7 @@ impl Reader for PagableSlice<'_> {
         if let Some(byte) = self.short() {
             return Ok(u16::from(byte));
         }
-        let number = self.varint(2, 3)?;
-        Ok(number as u16)
+        Ok(self.varint(2, 3)? as u16)
     }
 
     #[tactic(auto, using(crate::proofs::Varint::varint_at_first), unfolding(pagable_model::specs::Numbers::varint_limit))]
@@ -52,8 +50,7 @@ impl Reader for PagableSlice<'_> {
         if let Some(byte) = self.short() {
             return Ok(u32::from(byte));
         }
-        let number = self.varint(4, 15)?;
-        Ok(number as u32)
+        Ok(self.varint(4, 15)? as u32)
     }
 
     #[tactic(auto, using(crate::proofs::Varint::varint_at_first), unfolding(pagable_model::specs::Numbers::varint_limit))]
@@ -61,8 +58,7 @@ impl Reader for PagableSlice<'_> {
         if let Some(byte) = self.short() {
             return Ok(u64::from(byte));
         }
-        let number = self.varint(9, 1)?;
-        Ok(number)
+        Ok(self.varint(9, 1)?)
     }
 
     #[tactic(auto, using(crate::proofs::Varint::varint_at_first))]
@@ -70,47 +66,38 @@ impl Reader for PagableSlice<'_> {
         if let Some(byte) = self.short() {
             return Ok(u128::from(byte));
         }
-        let number = self.wide_varint()?;
-        Ok(number)
+        Ok(self.wide_varint()?)
     }
 
     fn read_usize(&mut self) -> Result<usize, Error> {
-        let number = self.read_u64()?;
-        Ok(number as usize)
+        Ok(self.read_u64()? as usize)
     }
 
     fn read_i8(&mut self) -> Result<i8, Error> {
-        let byte = self.pop()?;
-        Ok(byte.cast_signed())
+        Ok(self.pop()?.cast_signed())
     }
 
     fn read_i16(&mut self) -> Result<i16, Error> {
-        let number = self.read_u16()?;
-        Ok(zigzag::decode(u64::from(number)) as i16)
+        Ok(zigzag::decode(u64::from(self.read_u16()?)) as i16)
     }
 
     fn read_i32(&mut self) -> Result<i32, Error> {
-        let number = self.read_u32()?;
-        Ok(zigzag::decode(u64::from(number)) as i32)
+        Ok(zigzag::decode(u64::from(self.read_u32()?)) as i32)
     }
 
     fn read_i64(&mut self) -> Result<i64, Error> {
-        let number = self.read_u64()?;
-        Ok(zigzag::decode(number))
+        Ok(zigzag::decode(self.read_u64()?))
     }
 
     fn read_i128(&mut self) -> Result<i128, Error> {
-        let number = self.read_u128()?;
-        Ok(zigzag::decode_wide(number))
+        Ok(zigzag::decode_wide(self.read_u128()?))
     }
 
     #[tactic(auto, using(crate::proofs::Basic::char_steps), unfolding(pagable_model::specs::Basic::char_at))]
     fn read_char(&mut self) -> Result<char, Error> {
         let text = self.read_str()?;
         let mut characters = text.chars();
-        let Some(character) = characters.next() else {
-            return Err(Error::BadChar);
-        };
+        let character = characters.next().ok_or(Error::BadChar)?;
         if characters.next().is_some() {
             return Err(Error::BadChar);
         }
@@ -127,8 +114,7 @@ impl Reader for PagableSlice<'_> {
     }
 
     fn read_string(&mut self, alloc: Global) -> Result<String, Error> {
-        let text = self.read_str()?;
-        Ok(String::from_str(alloc, text)?)
+        Ok(String::from_str(alloc, self.read_str()?)?)
     }
 }
 
@@ -141,10 +127,7 @@ impl<'de> PagableSlice<'de> {
     {
         let count = self.read_len()?;
         let bytes = self.try_take_n(count)?;
-        match str::from_utf8(bytes) {
-            Ok(text) => Ok(text),
-            Err(_) => Err(Error::BadUtf8),
-        }
+        str::from_utf8(bytes).or(Err(Error::BadUtf8))
     }
 
     /// A byte array, which stays where it is among the bytes. `TooLong`, then `UnexpectedEnd`.
@@ -154,7 +137,6 @@ impl<'de> PagableSlice<'de> {
         ensures goes { GoesOn self.old self.new }
     {
         let count = self.read_len()?;
-        let array = self.try_take_n(count)?;
-        Ok(array)
+        Ok(self.try_take_n(count)?)
     }
 }

@@ -1,8 +1,7 @@
 //! Basic values are written: whole numbers, flags, lengths, texts and byte arrays.
 
-ghost use Rattle.std.specs.{Int.w8, Int.w16, Int.w32, Int.w64, Int.w128, Prelude.{◌≡◌, ◌++◌, length, OnOk, IfErr}};
-ghost use Rattle.pagable_model.specs.{Basic.{bool_form, length_form, text_form, char_form, byte_array_form}, Gives.{memory, Extends}, Numbers.{unsigned_form, signed_form, AppendsVarint}};
-ghost use Rattle.pagable_flavors.specs.Calls.{Appends, AppendsCounted};
+ghost use Rattle.{pagable_flavors.specs.Calls.{Appends, AppendsCounted}, pagable_model.specs.{Basic.{bool_form, byte_array_form, char_form, length_form, text_form}, Gives.{Extends, memory}}};
+ghost use Rattle.{pagable_model.specs.Numbers.{AppendsVarint, signed_form, unsigned_form}, std.specs.{Int.{w128, w16, w32, w64, w8}, Prelude.{IfErr, OnOk, length, ◌++◌, ◌≡◌}}};
 
 use super::{LONGEST, PagableVecFlavor};
 use crate::zigzag;
@@ -124,8 +123,7 @@ impl PagableVecFlavor {
         self.try_push(u8::from(value))
     }
 
-    /// The length of a text or the count of a list. `TooLong` above 4,294,967,295, and nothing is written then;
-    /// `OutOfMemory` where the writer can't grow.
+    /// The length of a text or the count of a list. `TooLong` above 4,294,967,295, and nothing is written then; `OutOfMemory` where the writer can't grow.
     pub fn write_len(&mut self, len: usize) -> Result<(), Error>
         ensures { AppendsCounted len (length_form len) result self.old self.new }
     {
@@ -135,8 +133,7 @@ impl PagableVecFlavor {
         self.write_usize(len)
     }
 
-    /// A text: its length in bytes, and its bytes. `TooLong` above 4,294,967,295 bytes, and nothing is written then;
-    /// `OutOfMemory` where the writer can't grow.
+    /// A text: its length in bytes, and its bytes. `TooLong` above 4,294,967,295 bytes, and nothing is written then; `OutOfMemory` where the writer can't grow.
     pub fn write_str(&mut self, text: &str) -> Result<(), Error>
         ensures { AppendsCounted (length text.now) (text_form text.now) result self.old self.new }
     {
@@ -144,8 +141,7 @@ impl PagableVecFlavor {
         self.try_extend(text.as_bytes())
     }
 
-    /// A byte array: its length, and its bytes. `TooLong` above 4,294,967,295 bytes, and nothing is written then;
-    /// `OutOfMemory` where the writer can't grow.
+    /// A byte array: its length, and its bytes. `TooLong` above 4,294,967,295 bytes, and nothing is written then; `OutOfMemory` where the writer can't grow.
     pub fn write_bytes(&mut self, bytes: &[u8]) -> Result<(), Error>
         ensures { AppendsCounted (length bytes.now) (byte_array_form bytes.now) result self.old self.new }
     {
