@@ -1,15 +1,17 @@
 -- A form is read again, whatever follows it, and is refused where one of its references is.
 use Rattle.pagable_laws.proofs.Words.{Bool, Entries, Entry, Err, Error, Form, Forms, IsReadable, LiesIn, List, Meaning, Ok, Result, Shape, Throughout, [], ap, append-nil, append_assoc, arith, false}
-use Rattle.pagable_laws.proofs.Words.{inl, inr, length, length-append, nat_tests, put_all, read, reference-form, refl, rest, run-form, subst, suc, sym, zero, ℕ, ℤ, ◌++◌, ◌+◌, ◌<◌, ◌∙◌, ◌∷◌, ◌≡◌, ◌≤◌}
-use Rattle.{pagable_laws.specs.FormLaws.{IsPrefixFree, IsReadAgain, LooksUp, more-references, no-references}, pagable_model.specs.Basic.{bool_at, bool_form, char_at, char_form, duration_at}}
-use Rattle.pagable_model.specs.{Basic.{duration_form, length_at, length_form, longest, nanos_of_second, text_at, text_form}, Canonical.{HasNoCase, Within}, Form.{array-form, both-form, case-form}}
-use Rattle.pagable_model.specs.Form.{duration-form, err-form, flag-form, hash-map-form, json-array-form, json-flag-form, json-number-form, json-object-form, json-text-form, letter-form, list-form}
-use Rattle.pagable_model.specs.Form.{more-entries, more-forms, nested-form, no-entries, no-forms, ok-form, pattern-form, placed-map-form, placed-set-form, signed-form, some-form, sorted-map-form}
-use Rattle.pagable_model.specs.{Form.{sorted-set-form, static-form, tagged-form, text-form, unsigned-form}, Keyed.{throughout-alone, throughout-over}, Keys.{AllAfter, Apart, Ascends, KeyOrder}}
-use Rattle.pagable_model.specs.{Keys.{ordered, put_placed, put_placed_item, put_sorted, put_sorted_item, same_key, text_order}, Numbers.{IsSigned, bound, signed_at, signed_form, signed_from}}
-use Rattle.pagable_model.specs.{Numbers.{unsigned_at, unsigned_form, unsigned_of, varint, varint_at, varint_limit}, Reading.{Gets, Look, Rest, below, items, read_with, two}, Shape.nested, Steps.◌>>=◌}
-use Rattle.std.proofs.{Common.{ltb, ◌%◌, ◌/◌, ◌^◌, ◌⊎◌}, lemmas.{Bool.{le-leb, le-ltb, lt-ltb}, List.{append_cancel_right, drop_at, take_at}, Str.{IsUtf8-encode, chars-encodes, is_utf8-from_IsUtf8}}}
-use Rattle.std.{proofs.lemmas.Str.length-encode, specs.{Char.{IsScalar, encode_utf8, len_utf8}, Int.{Width, w32, w64}, Str.{IsUtf8, chars}, declared.cmp.Ordering.Ordering}}
+use Rattle.pagable_laws.proofs.Words.{inl, inr, length, length-append, nat_tests, one, put_all, read, reference-form, refl, rest, run-form, subst, suc, sym, zero, ℕ, ℤ, ◌++◌, ◌+◌, ◌<◌, ◌∙◌, ◌∷◌, ◌≡◌}
+use Rattle.{pagable_laws.{proofs.Words.{◌≤◌, ◌⊎◌}, specs.FormLaws.{IsPrefixFree, IsReadAgain, LooksUp, more-references, no-references}}, pagable_model.specs.Basic.{bool_at, bool_form, char_at}}
+use Rattle.pagable_model.specs.{Basic.{char_form, duration_at, duration_form, length_at, length_form, longest, nanos_of_second, text_at, text_form}, Canonical.{HasNoCase, IsCanonical, Within}}
+use Rattle.pagable_model.specs.{Carried.of_entries, Form.{array-form, both-form, case-form, duration-form, err-form, flag-form, hash-map-form, json-array-form, json-flag-form, json-number-form}}
+use Rattle.pagable_model.specs.Form.{json-object-form, json-text-form, letter-form, list-form, more-entries, more-forms, nested-form, no-entries, no-forms, nothing-form, ok-form, pattern-form}
+use Rattle.pagable_model.specs.Form.{placed-map-form, placed-set-form, signed-form, some-form, sorted-map-form, sorted-set-form, static-form, tagged-form, text-form, unsigned-form}
+use Rattle.pagable_model.specs.{Keyed.{throughout-alone, throughout-over}, Keys.{AllAfter, Apart, Ascends, KeyOrder, ordered, put_placed, put_placed_item, put_sorted, put_sorted_item, same_key}}
+use Rattle.pagable_model.specs.{Keys.text_order, Meaning.sequence, Numbers.{IsSigned, bound, signed_at, signed_form, signed_from, unsigned_at, unsigned_form, unsigned_of, varint, varint_at}}
+use Rattle.{pagable_model.specs.{Numbers.varint_limit, Reading.{Gets, Look, Rest, below, items, read_with, two}, Shape.nested, Steps.◌>>=◌}, std.proofs.Common.{ltb, ◌%◌, ◌/◌, ◌^◌, ◌⊎◌}}
+use Rattle.std.proofs.lemmas.{Bool.{le-leb, le-ltb, lt-ltb}, List.{append_cancel_right, drop_at, take_at}, Str.{IsUtf8-encode, chars-encodes, is_utf8-from_IsUtf8, length-encode}}
+use Rattle.std.specs.{Char.{IsScalar, encode_utf8, len_utf8}, FinMap.Entries.put, Int.{Width, w32, w64}, Str.{IsUtf8, chars}, declared.cmp.Ordering.Ordering}
+pub use Rattle.{pagable_world.proofs.Elements.{at-most-sum, counted, sum-none as sum-zero}, std.proofs.lemmas.{Bool.eqb-true as same-number, Option.same_Some as same_some}}
 
 -- ---- from what holds throughout a shape to what holds throughout the shapes in it
 
@@ -239,3 +241,66 @@ prefix_free {A} parts s t kind_of left m n b c x y k l u v f g e h =
       append_cancel_right b c y (rw (← same_bytes) (rw (← same_bytes) at e)),
       append_cancel_right k l v (rw (← same_refs) (rw (← same_refs) at h)),
     )
+
+-- ---- a meaning of a canonical shape has at most one form
+
+-- parts that are the same, one after the other
+joined : {A : Type 0} (a b c d : List ℕ) (j k l i : List A) → (a ≡ b) × (j ≡ k) → (c ≡ d) × (l ≡ i) → (a ++ c ≡ b ++ d) × (j ++ l ≡ k ++ i)
+joined a b c d j k l i h g = (rw (h.0, g.0) refl, rw (h.1, g.1) refl)
+
+sized : {A : Type 0} (m n : ℕ) (b c : List ℕ) (k l : List A) → (b ≡ c) × (k ≡ l) × (m ≡ n) → (length_form m ++ b ≡ length_form n ++ c) × (k ≡ l)
+sized m n b c k l h = (rw (h.0, h.2) refl, h.1)
+
+module _ {A : Type 0} {kind_of : A → ℕ} {parts : ℕ → Shape} where
+  mutual
+    unfolding IsCanonical LiesIn
+
+    pub one-form : {left left2 : ℕ} {s : Shape} {m n : Meaning A} {b c : List ℕ} {k l : List A} → Form A kind_of parts left s m b k → Form A kind_of parts left2 s n c l
+        → Throughout IsCanonical parts s → m ≡ n → (b ≡ c) × (k ≡ l)
+    one-form (some-form left s m b k h) (some-form left2 s2 m2 b2 k2 h2) r e = joined (1 ∷ []) (1 ∷ []) _ _ [] [] _ _ (refl, refl) (one-form h h2 (narrowed r (λ p. p) (λ n d l. l)) cc)
+    one-form (err-form left s t m b k h) (err-form left2 s2 t2 m2 b2 k2 h2) r e = joined (0 ∷ []) (0 ∷ []) _ _ [] [] _ _ (refl, refl) (one-form h h2 (narrowed r (λ p. p.1) (λ n d l. l.1)) cc)
+    one-form (ok-form left s t m b k h) (ok-form left2 s2 t2 m2 b2 k2 h2) r e = joined (1 ∷ []) (1 ∷ []) _ _ [] [] _ _ (refl, refl) (one-form h h2 (narrowed r (λ p. p.0) (λ n d l. l.0)) cc)
+    one-form (list-form left s ms b k le h) (list-form left2 s2 ms2 b2 k2 le2 h2) r e = sized _ _ _ _ _ _ (one-forms h h2 (narrowed r (λ p. p) (λ n d l. l)) e)
+    one-form (run-form left s ms b k le h) (run-form left2 s2 ms2 b2 k2 le2 h2) r e = let o = one-forms h h2 (narrowed r (λ p. p) (λ n d l. l)) e in (o.0, o.1)
+    one-form (array-form left n s ms b k q h) (array-form left2 n2 s2 ms2 b2 k2 q2 h2) r e = let o = one-forms h h2 (narrowed r (λ p. p) (λ n d l. l)) e in (o.0, o.1)
+    one-form (both-form left s t m n b c k l h g) (both-form left2 s2 t2 m2 n2 b2 c2 k2 l2 h2 g2) r e =
+        joined _ _ _ _ _ _ _ _ (one-form h h2 (narrowed r (λ p. p.0) (λ n d l. l.0)) cc) (one-form g g2 (narrowed r (λ p. p.1) (λ n d l. l.1)) cc)
+    one-form (sorted-map-form left o s t es b k le up h) (sorted-map-form left2 o2 s2 t2 es2 b2 k2 le2 up2 h2) r e =
+        sized _ _ _ _ _ _ (one-entries h h2 (narrowed r (λ p. p.0) (λ n d l. l.0)) (narrowed r (λ p. p.1) (λ n d l. l.1)) e)
+    one-form (placed-map-form left s t es b k le up h) (placed-map-form left2 s2 t2 es2 b2 k2 le2 up2 h2) r e =
+        sized _ _ _ _ _ _ (one-entries h h2 (narrowed r (λ p. p.0) (λ n d l. l.0)) (narrowed r (λ p. p.1) (λ n d l. l.1)) e)
+    one-form (sorted-set-form left o s ms b k le up h) (sorted-set-form left2 o2 s2 ms2 b2 k2 le2 up2 h2) r e = sized _ _ _ _ _ _ (one-forms h h2 (narrowed r (λ p. p) (λ n d l. l)) e)
+    one-form (placed-set-form left s ms b k le up h) (placed-set-form left2 s2 ms2 b2 k2 le2 up2 h2) r e = sized _ _ _ _ _ _ (one-forms h h2 (narrowed r (λ p. p) (λ n d l. l)) e)
+    one-form (tagged-form left written known body tag m b k u h f) (tagged-form left2 written2 known2 body2 tag2 m2 b2 k2 u2 h2 f2) r e =
+        let tags : tag ≡ tag2 = cc in
+        let f3 = let P : List ℕ → Type 0 = λ t. Form A kind_of parts left2 (written t) m2 b2 k2 in subst P (sym tags) f2 in
+        let rest = one-form f f3 (narrowed r (λ p. p.0 tag) (λ n d l. l.0 tag)) cc in (rw (tags, rest.0) refl, rest.1)
+    one-form (case-form left w known part n m b k lt is f) (case-form left2 w2 known2 part2 n2 m2 b2 k2 lt2 is2 f2) r e =
+        let cases : n ≡ n2 = cc in
+        let f3 = let P : ℕ → Type 0 = λ x. Form A kind_of parts left2 (part x) m2 b2 k2 in subst P (sym cases) f2 in
+        let rest = one-form f f3 (narrowed r (λ p. p n is) (λ nodes d l. l n is)) cc in
+        (rw (cases, rest.0) refl, rest.1)
+    one-form (reference-form left kind a q) (reference-form left2 kind2 a2 q2) r e = let same : a ≡ a2 = cc in (refl, ap (λ (x : A). x ∷ []) same)
+    one-form (nested-form left less n m b k p h) (nested-form left2 less2 n2 m2 b2 k2 p2 h2) r e = one-form h h2 (part_of r) e
+    one-form (json-array-form left less ms b k p le h) (json-array-form left2 less2 ms2 b2 k2 p2 le2 h2) r e =
+        joined (4 ∷ []) (4 ∷ []) _ _ [] [] _ _ (refl, refl) (sized _ _ _ _ _ _ (one-forms h h2 (alone (λ n d. tt) tt) cc))
+    one-form (json-object-form left less es b k p le up h) (json-object-form left2 less2 es2 b2 k2 p2 le2 up2 h2) r e =
+        joined (5 ∷ []) (5 ∷ []) _ _ [] [] _ _ (refl, refl) (sized _ _ _ _ _ _ (one-entries h h2 (alone (λ n d. tt) tt) (alone (λ n d. tt) tt) cc))
+    one-form x0 (nothing-form left) r e = grind (arith, nat_tests)
+    one-form x0 x1 r e = grind (arith, nat_tests, here)
+
+    pub one-forms : {left left2 : ℕ} {s : Shape} {ms ns : List (Meaning A)} {b c : List ℕ} {k l : List A} → Forms A kind_of parts left s ms b k → Forms A kind_of parts left2 s ns c l
+        → Throughout IsCanonical parts s → sequence ms ≡ sequence ns → (b ≡ c) × (k ≡ l) × (length ms ≡ length ns)
+    one-forms (no-forms left s) (no-forms left2 s2) r e = (refl, refl, refl)
+    one-forms (more-forms left s m ms b c k l h g) (more-forms left2 s2 m2 ms2 b2 c2 k2 l2 h2 g2) r e =
+        let o = one-form h h2 r cc in let p = one-forms g g2 r cc in
+        (rw (o.0, p.0) refl, rw (o.1, p.1) refl, ap suc p.2)
+    one-forms f g r e = absurd cc
+
+    pub one-entries : {left left2 : ℕ} {s t : Shape} {es fs : List (Entry A)} {b c : List ℕ} {k l : List A} → Entries A kind_of parts left s t es b k → Entries A kind_of parts left2 s t fs c l
+        → Throughout IsCanonical parts s → Throughout IsCanonical parts t → of_entries es ≡ of_entries fs → (b ≡ c) × (k ≡ l) × (length es ≡ length fs)
+    one-entries (no-entries left s t) (no-entries left2 s2 t2) r q e = (refl, refl, refl)
+    one-entries (more-entries left s t m n es b c d j k l h g f) (more-entries left2 s2 t2 m2 n2 es2 b2 c2 d2 j2 k2 l2 h2 g2 f2) r q e =
+        let o = one-form h h2 r cc in let p = one-form g g2 q cc in let i = one-entries f f2 r q cc in
+        (rw (o.0, p.0, i.0) refl, rw (o.1, p.1, i.1) refl, ap suc i.2)
+    one-entries f g r q e = absurd cc

@@ -2,22 +2,22 @@
 -- Each stage once: what is still to be done of it, with what was done, is at most what was claimed.
 -- What follows for keys: each that is published is its tree's, each that is answered is its task's, and what a worker met that answers one is left paged out.
 -- A worker's steps up to its answer: none of its own claims waits any more, and what another claimed is as it was.
-use Rattle.{pagable_model.specs.Merkle.KeyOfItem, pagable_world.specs.{Pager.{Moves, SameTrees, StandsFor, kids_of}, Workers.{first_todo, fresh}}, std.{proofs.Math.Nat.zero-add, specs.Prelude.nat_le}}
-use Rattle.pagable_world.specs.{Access.{AccessState, AllHaveResults, LoadAsksWell, LoadRun}, Kinds.has_key, Plain.{is_loose_kind, longest_path}, Runs.TakesWell, Workers.{is_open_outcome, next_start}}
-use Rattle.pagable_world.specs.{Access.{PinLaw, ReadLaw, ReadingStep, WalkStep, WorkerRun, load-ends, load-goes-on, worker-ends, worker-goes-on}, World.{Fault, Root, is_identity, of_key, to_publish}}
-use Rattle.pagable_world.specs.{Headline.{AnswerIsKey, AnswerLeavesAll, AreKeysOf}, LoadCalls.with_load, Loads.{Does as LoadDoes, gone_on}, Order.{Follows, Leads, is_claim_of, is_later_of}}
-use Rattle.pagable_world.specs.Headline.{FailedElsewhere, IsKeyOfTask, IsLeftPagedOut, IsMetFailure, LeavesAll, Meets, PublishIsKey, ReadIsRight, meets-below, meets-entry, meets-of-item}
-use Rattle.pagable_laws.proofs.{SparingSteps.{hands, read-right}, Words.{Alike, ArcRef, Blob, Bool, Claim, Core, Does, Event, EventReply, Frame, FramesFit, HandleNumber, Happens, HoldsSettled}}
-use Rattle.pagable_laws.proofs.Words.{Identity, IsLawful, IsMachineWhole, IsPublished, Last, List, LoadAnswer, LoadNumber, MachineState, Mode, None, Ok, OpenLoad, Option, OptionalDataKey, Owner}
-use Rattle.pagable_laws.proofs.Words.{PagerState, Reading, ReadingFeels, ReadsItsTypes, Represents, Seen, Shelf, Site, Slot, Some, Task, Todo, Took, Tree, Values, Walking, WellFormed, WorkFits}
-use Rattle.pagable_laws.proofs.Words.{WorkerAnswer, WorkerNumber, WorkerReply, WorkerSteps, Written, [], answer_after, ap, append_assoc, arith, cases_Bool, false, give, held, identity_of, if_there}
-use Rattle.pagable_laws.proofs.Words.{inl, inr, is_some, key_at, nat_eq, nat_tests, no_result, nothing_felt, of_cell, of_entry, of_item, one, refl, subst, sum_by-cons, sym, times, to_fail, to_finish}
-use Rattle.pagable_laws.proofs.{Trees.one_item_key, Words.{to_item, to_load, to_pin, to_release, to_set, to_start, to_write, true, with_handle, world_of, ℕ, ◌&&◌, ◌++◌, ◌+◌, ◌==◌, ◌∙◌, ◌∷◌, ◌≡◌, ◌≤◌}}
-use Rattle.pagable_laws.proofs.{Coming.{FailsMet, answered as was-answered, failed-elsewhere, failed-stays}, Decoding.{among-left, among-right}, Trees.{one_key, same-number, same_some, steps_follow}}
-use Rattle.pagable_laws.proofs.{Coming.{fails-stay, first-met, follows-met, goes-same, stands-on}, Following.{IdentityStands, cell-of, keys-of, known-of}, ReadingSteps.{caller-free, reading-feels}}
-use Rattle.pagable_laws.proofs.{Following.tree-form, Stepping.all-known, Taking.{Going, fits-nothing, given-nodes, going-new, going-step, reading-fits, row-held, stands-here, trees-go-on, was-open}}
-use Rattle.pagable_laws.proofs.{Called.{begin-goes, begins-key}, Goes.{Goes, updated-at}, Standing.{AllStand, AllWait, Covers, Goes as ShelfGoes}, Stepping.{all-low, done-on, keys-same, stands-for}}
-use Rattle.pagable_laws.{proofs.Standing.{HasNoFailed, first-stands, grows, some-none, some-same}, specs.TreeSteps.{AllHold, Ground, HasHandle, IsDone, KeyIsSet, KeysHeld, Waits, Walks, ground_of}}
+use Rattle.pagable_laws.proofs.{Called.{begin-goes, begins-key}, Coming.{FailsMet, answered as was-answered, failed-elsewhere, failed-stays, fails-stay, first-met, follows-met, goes-same, stands-on}}
+use Rattle.pagable_laws.proofs.{Decoding.{among-left, among-right}, Following.{cell-of, keys-of, known-of, tree-form}, Goes.{Goes, updated-at}, Merkle.{one_item_key, one_key}, ReadingSteps.site_of}
+use Rattle.pagable_laws.proofs.{ReadingSteps.{caller-free, reading-feels}, SparingSteps.{hands, read-right}, Standing.{AllStand, AllWait, Covers, Goes as ShelfGoes, HasNoFailed, first-stands, grows}}
+use Rattle.pagable_laws.proofs.{Standing.{some-none, some-same}, Stepping.{all-known, all-low, done-on, keys-same, stands-for}, Taking.{Going, fits-nothing, given-nodes, going-new, going-step}}
+use Rattle.pagable_laws.proofs.{Taking.{reading-fits, row-held, stands-here, trees-go-on, was-open}, Trees.{same-number, same_some, steps_follow}, Words.{Alike, ArcRef, Blob, Bool, Claim, Core, Ok}}
+use Rattle.pagable_laws.proofs.Words.{Does, Event, EventReply, Frame, FramesFit, HandleNumber, Happens, HoldsSettled, Identity, IsLawful, IsMachineWhole, IsPublished, Last, List, LoadAnswer, Mode, ℕ}
+use Rattle.pagable_laws.proofs.Words.{LoadNumber, MachineState, None, OpenLoad, Option, OptionalDataKey, Owner, PagerState, Reading, ReadingFeels, ReadsItsTypes, Represents, Seen, Shelf, Site, Slot}
+use Rattle.pagable_laws.proofs.Words.{Some, Task, Todo, Took, Tree, Values, Walking, WellFormed, WorkFits, WorkerAnswer, WorkerNumber, WorkerReply, WorkerSteps, Written, [], answer_after, ap, arith}
+use Rattle.pagable_laws.proofs.Words.{append_assoc, cases_Bool, false, give, held, identity_of, if_there, inl, inr, is_some, key_at, nat_eq, nat_tests, no_result, nothing_felt, of_cell, of_entry}
+use Rattle.pagable_laws.proofs.Words.{of_item, one, refl, subst, sum_by-cons, sym, times, to_fail, to_finish, to_item, to_load, to_pin, to_release, to_set, to_start, to_write, true, with_handle, ◌+◌}
+use Rattle.pagable_laws.{proofs.Words.{world_of, ◌&&◌, ◌++◌, ◌==◌, ◌∙◌, ◌∷◌, ◌≡◌, ◌≤◌}, specs.TreeSteps.{AllHold, Ground, HasHandle, IsDone, KeyIsSet, KeysHeld, Waits, Walks, ground_of}}
+use Rattle.{pagable_model.specs.Merkle.KeyOfItem, pagable_world.specs.Access.{AccessState, AllHaveResults, LoadAsksWell, LoadRun, PinLaw, ReadLaw, ReadingStep, WalkStep, WorkerRun, load-ends}}
+use Rattle.pagable_world.specs.{Access.{load-goes-on, worker-ends, worker-goes-on}, Headline.{AnswerIsKey, AnswerLeavesAll, AreKeysOf, FailedElsewhere, IsKeyOfTask, IsLeftPagedOut, IsMetFailure}}
+use Rattle.pagable_world.specs.{Headline.{LeavesAll, Meets, PublishIsKey, ReadIsRight, meets-below, meets-entry, meets-of-item}, Kinds.has_key, LoadCalls.with_load, Loads.{Does as LoadDoes, gone_on}}
+use Rattle.pagable_world.specs.{Order.{Follows, Leads, is_claim_of, is_later_of}, Pager.{Moves, SameTrees, StandsFor, kids_of}, Plain.{is_loose_kind, longest_path}, Runs.TakesWell, Workers.fresh}
+use Rattle.{pagable_world.specs.{Workers.{first_todo, is_open_outcome, next_start}, World.{Fault, Root, is_identity, of_key, to_publish}}, std.{proofs.Math.Nat.zero-add, specs.Prelude.nat_le}}
 
 -- the pager stands for trees, and what the load has read fits them
 record Under {N E : Type 0} (v : Values N) (s : PagerState N E) (trees : ℕ → Tree) (key : ℕ) (reading : Reading) : Type 0 where
@@ -213,14 +213,13 @@ module _ {N E : Type 0} (v : Values N) (s : MachineState N E) (trees : ℕ → T
   abbrev shelf : Shelf
   shelf = s.work.shelves t
 
-  keys-stand : (i : Identity) (key height : ℕ) → IsPublished shelf i key height → IdentityStands v (ground_of s trees) i key
-  keys-stand = stands-for v (ground_of s trees) shelf (fit.slots t)
-
   is-key : (task : Task) (key : ℕ) → IsDone v shelf task key → IsKeyOfTask v trees task key
   is-key (of_item written) key (keys, known, is, lows) =
-      let k : KeyOfItem v.hash v.types written.bytes (kids_of trees written.references) key = record { keys = keys; each = keys-of keys-stand written.references keys known; is = is } in
+      let each = keys-of (stands-for v (ground_of s trees) shelf (fit.slots t)) written.references keys known in
+      let k : KeyOfItem v.hash v.types written.bytes (kids_of trees written.references) key = record { keys = keys; each = each; is = is } in
       (k, λ canonical other o. one_item_key.one v.hash v.types written.bytes (kids_of trees written.references) other key canonical o k)
-  is-key (of_entry h i) key (height, p) = let k = (keys-stand i key height p).right.is_key in (k, λ canonical other o. one_key v.hash v.types (trees i.node.0) other key canonical o k)
+  is-key (of_entry h i) key (height, p) =
+      let k = (stands-for v (ground_of s trees) shelf (fit.slots t) i key height p).right.is_key in (k, λ canonical other o. one_key v.hash v.types (trees i.node.0) other key canonical o k)
 
   met : (task : Task) (key : ℕ) → IsDone v shelf task key → (i : Identity) → Meets shelf task i → (k : ℕ) × ((h : ℕ) × IsPublished shelf i k h)
   met task key done i (meets-of-item written r is among) = let d = subst (λ x. IsDone v shelf x key) is done in let p = known-of shelf written.references d.0 d.1 r among in (p.0, p.1)
@@ -253,12 +252,9 @@ module _ {N B W E : Type 0} (m : Seen N B W) (s s' : MachineState N E) (trees tr
     (earlier : IsMachineWhole m.values s) (whole : IsMachineWhole m.values s')
     (stands : StandsFor m.values s' trees') (held_before : KeysHeld (world_of s)) (held : KeysHeld (world_of s')) where
   module _ (n : WorkerNumber) (reply : WorkerReply W) (w : WorkerSteps m (world_of s) n reply (world_of s')) where
-    abbrev site : Site
-    site = record { core = s.pager.core; shelf = s.work.shelves w.walking.table; todo = w.walking.todo }
-
     done : (key : ℕ) → reply.answer ≡ Some (WorkerAnswer.Key key) → IsDone m.values (s'.work.shelves w.walking.table) w.walking.task key
     done key is =
-        let a = answered m n.0 (ground_of s trees) w.walking.task site w.after w.walking.todo reply.took w.does.does (before.walks n.0 w.walking w.at) key (sym w.answers ∙ is) in
+        let a = answered m n.0 (ground_of s trees) w.walking.task (site_of (world_of s) w.walking) w.after w.walking.todo reply.took w.does.does (before.walks n.0 w.walking w.at) key (sym w.answers ∙ is) in
         done-on (keys-same (λ i. (w.work.same_shelves w.walking.table).slots i ∙ ap (λ (x : Shelf). x.slots i) (updated-at w.walking.table w.after.shelf s.work.shelves) ∙ a.1 i))
         m.values w.walking.task key a.0
 
@@ -280,8 +276,8 @@ module _ {N B W E : Type 0} (m : Seen N B W) (s s' : MachineState N E) (trees tr
   keys-right (Event.WorkerStep n) (EventReply.WorkerMoved (Ok reply)) is =
       let w = is.moves in (
         λ i key height e.
-            let does = subst (λ (k : Took W). Does m n.0 (site n reply w) w.walking.todo k w.after) e w.does.does in
-            let set = set-by-then m n.0 (site n reply w) w.after w.walking.todo i key height does (held_before.walks n.0 w.walking w.at) (λ k h.
+            let does = subst (λ (k : Took W). Does m n.0 (site_of (world_of s) w.walking) w.walking.todo k w.after) e w.does.does in
+            let set = set-by-then m n.0 (site_of (world_of s) w.walking) w.after w.walking.todo i key height does (held_before.walks n.0 w.walking w.at) (λ k h.
             subst (λ k. is_some (s.pager.core.cells k) ≡ true) h.at (cell-of earlier.pager.whole.handles h.row.node.0 (row-held s.pager.core h.h h.row h.live))) in (grind (arith, nat_tests), set),
         λ walking key there e. is-after n reply w (λ x. IsKeyOfTask m.values trees' x.task key)
             (is-key m.values s' trees' after w.walking.table w.walking.task key (done n reply w key e)) walking there,

@@ -1,21 +1,21 @@
 -- A handle goes on to stand for its reference, as a clone does; a key that was set stays. And each event keeps trees: what it brings fits some trees afterwards, with all that its loads read.
-use Rattle.{pagable_laws.specs.TreeSteps.{AllHold, ChangeFits, CoreGoes, EventFeels}, std.{proofs.{Common.append-nil, Math.Nat.zero-add, lemmas.List.Sums.sum_by-append}, specs.Prelude.is_none}}
-use Rattle.pagable_laws.specs.TreeSteps.{HasHandle, HasPin, Holds, IsSteppedReading, KeyIsSet, KeysAreReady, KeysHeld, PinHolds, StandsAt, WaitsHeld, by-call, by-key, by-nothing, by-reading}
-use Rattle.pagable_laws.proofs.Taking.{Going, call-fits, fits-key, fits-nothing, given-nodes, going-new, going-of, going-on, going-step, none-comes, pin_stands, reading-fits, tree-stays, trees-go-on}
-use Rattle.pagable_laws.proofs.{Called.{begin-goes, pins}, Words.{Among, ArcRef, AreMoments, Beginning, Bool, Change, Claim, CloneCall, Core, Does, Event, EventReply, HandleNumber, HandleRow}}
-use Rattle.pagable_laws.proofs.Words.{HandlesAreWhole, Happens, HoldsSettled, Identity, IsIdle, IsLawful, IsMachineWhole, IsPublished, IsWellAsked, List, MachineState, Moment, NodeNumber, None, Ok}
-use Rattle.pagable_laws.proofs.Words.{Option, Owner, Reading, ReadsItsTypes, Seen, Shelf, Site, Slot, Some, Todo, Took, Tree, Values, Walking, WorkFits, WorkerAnswer, WorkerNumber, WorkerReply}
-use Rattle.pagable_laws.proofs.Words.{WorkerSteps, World, [], above, any_mode, ap, append_assoc, arith, false, false_from_ne_true, find_row, give, identity_of, inl, inr, is_owner, is_some, le_trans}
-use Rattle.pagable_laws.proofs.Words.{nat_tests, nothing_felt, one, owner_worker, refl, row_at, rules, state_after, step_of, subst, sum_by-cons, sym, times, to_finish, to_item, to_load, to_pin}
-use Rattle.pagable_laws.proofs.{Stepping.{fits-on, keys-same}, Trees.{each-type, one-small}, Words.{to_set, to_start, to_write, true, type_of, world_of, ℕ, ◌&&◌, ◌++◌, ◌+◌, ◌∙◌, ◌∷◌, ◌≡◌, ◌≤◌, ◌⊎◌}}
-use Rattle.pagable_laws.proofs.{ReadingSteps.ends-quiet, SparingSteps.{LoadsStand, Spares, event-on, idle-bounded, reads-give, step-within, steps-left}, Trees.{same_some, sum-zero, tree_readable}}
-use Rattle.pagable_laws.proofs.{Coming.{EventTurns, HasGone, StandsIn, event-turns, goes-on, idle-stands, turns-keep}, ReadingSteps.{event-goes, is-reading-of, readings-on, walk-goes, works-free}}
-use Rattle.pagable_laws.proofs.{Answered.{at-once, keys-right}, Coming.{turns-stand, waits-well}, Following.given-of, Goes.{Stands, among-found, fell, found-number, goes-quiet, pins-hold, quiet-goes}}
-use Rattle.pagable_laws.proofs.{Goes.{stands-alike, stands-fell, stands-new, stands-whole, updated-at}, Standing.{KeepsTask, ShelfGrows, grows, is-same, keeps-task, put-cases, puts-slot, true-false}}
-use Rattle.pagable_world.specs.{Headline.{HasLetGo, HeadlineLaw, IsRight, PinGives, StepsAreWithin, TableMeets, WorkIsRight, WorkerIsRight, claims_made, is_on_table}, World.{SameShelf, published}}
-use Rattle.pagable_world.specs.{Order.{InOrder, OnceEach, is_claim_of, steps_of}, Pager.{EventBrings, IsReadingOf, StandsFor}, Runs.{Does as DoesMoment, Fact, IsPremised}, World.{to_publish, type_at}}
-use Rattle.pagable_world.specs.{Calls.SetKeyCall, Runs.{TakesWell, TreesAfter, TreesAlong, events_of, replies_of}, Workers.{claim_fault, give_known, next_start, with_changed_slot, with_outcome}}
-use Rattle.pagable_world.specs.{Calls.{row_of, with_key}, Events.Ends, Kinds.{fits_mode, is_loose}, Plain.is_loose_kind, Refusals.Owns, declared.{answers.Pinning.Pinning, events.PinStep.PinStep}}
+use Rattle.pagable_world.specs.{Headline.{HasLetGo, HeadlineLaw, IsRight, PinGives, StepsAreWithin, TableMeets, WorkerIsRight, claims_made, is_on_table}, Plain.is_loose_kind}
+use Rattle.pagable_world.specs.{Calls.{SetKeyCall, row_of, with_key}, Kinds.fits_mode, World.{SameShelf, published, to_publish, type_at}, declared.{answers.Pinning.Pinning, events.PinStep.PinStep}}
+use Rattle.pagable_world.specs.{Kinds.is_loose, Pager.{EventBrings, IsReadingOf, StandsFor}, Runs.{Does as DoesMoment, Fact, IsPremised, TakesWell, TreesAfter, TreesAlong, events_of, replies_of}}
+use Rattle.pagable_world.specs.{Events.Ends, Order.{InOrder, OnceEach, is_claim_of, steps_of}, Refusals.Owns, Workers.{claim_fault, give_known, next_start, with_changed_slot, with_outcome}}
+use Rattle.{pagable_laws.proofs.Coming.{EventTurns, HasGone, StandsIn, event-turns}, std.{proofs.{Common.append-nil, Math.Nat.zero-add, lemmas.List.Sums.sum_by-append}, specs.Prelude.is_none}}
+use Rattle.pagable_laws.proofs.{Coming.{goes-on, idle-stands, turns-keep, turns-stand}, Taking.{Going, call-fits, fits-key, fits-nothing, given-nodes, going-new, going-of, going-on, going-step}}
+use Rattle.pagable_laws.proofs.{Standing.{KeepsTask, ShelfGrows, grows, is-same, keeps-task, put-cases, puts-slot, true-false}, Taking.{none-comes, pin_stands, reading-fits, tree-stays, trees-go-on}}
+use Rattle.pagable_laws.proofs.Words.{Among, ArcRef, AreMoments, Beginning, Bool, Change, Claim, CloneCall, Core, Does, Event, EventReply, HandleNumber, HandleRow, HandlesAreWhole, Happens, Identity}
+use Rattle.pagable_laws.proofs.Words.{HoldsSettled, IsIdle, IsLawful, IsMachineWhole, IsPublished, IsWellAsked, List, MachineState, Moment, NodeNumber, None, Ok, Option, Owner, Reading, Seen, Shelf}
+use Rattle.pagable_laws.proofs.Words.{ReadsItsTypes, Site, Slot, Some, Todo, Took, Tree, Values, Walking, WorkFits, WorkerAnswer, WorkerNumber, WorkerReply, WorkerSteps, World, [], above, any_mode}
+use Rattle.pagable_laws.proofs.Words.{ap, append_assoc, arith, false, false_from_ne_true, find_row, give, identity_of, inl, inr, is_owner, is_some, le_trans, nat_tests, nothing_felt, one, refl, sym}
+use Rattle.pagable_laws.proofs.Words.{owner_worker, row_at, rules, state_after, step_of, subst, sum_by-cons, times, to_finish, to_item, to_load, to_pin, to_set, to_start, to_write, true, type_of, ℕ}
+use Rattle.pagable_laws.proofs.{ReadingSteps.ends-quiet, SparingSteps.{LoadsStand, Spares, event-on, reads-give, step-within, steps-left}, Words.{world_of, ◌&&◌, ◌++◌, ◌+◌, ◌∙◌, ◌∷◌, ◌≡◌, ◌≤◌, ◌⊎◌}}
+use Rattle.pagable_laws.proofs.{Answered.{at-once, keys-right}, Called.{begin-goes, pins}, Merkle.tree_readable, ReadingSteps.{event-goes, is-reading-of, readings-on, site_of, walk-goes, works-free}}
+use Rattle.pagable_laws.proofs.{Following.given-of, Goes.{Stands, among-found, fell, found-number, goes-quiet}, Stepping.{fits-on, keys-same}, Trees.{each-type, one-small, same_some, sum-zero}}
+use Rattle.pagable_laws.{proofs.Goes.{pins-hold, quiet-goes, stands-alike, stands-fell, stands-new, stands-whole, updated-at}, specs.TreeSteps.{AllHold, ChangeFits, CoreGoes, EventFeels, HasHandle}}
+use Rattle.pagable_laws.specs.TreeSteps.{HasPin, Holds, IsSteppedReading, KeyIsSet, KeysAreReady, KeysHeld, PinHolds, StandsAt, WaitsHeld, by-call, by-key, by-nothing, by-reading}
 
 module _ {c : Change} {w w' : Core} (goes : CoreGoes c w w') where
   pub stands-on : {r : ArcRef} {h : HandleNumber} → StandsAt w r h → StandsAt w' r h
@@ -144,8 +144,7 @@ module _ {N B W : Type 0} (m : Seen N B W) (u u' : World) {c : Change} (goes : C
   a-step : StandsIn u' → (k : WorkerNumber) (r : WorkerReply W) (s : WorkerSteps m u k r u') → SlotsHeld s.after.shelf × AllHold u'.core k.0 s.after.todo
   a-step work k r s =
       let w : Walking = s.walking in
-      let site : Site = record { core = u.core; shelf = u.work.shelves w.table; todo = w.todo } in
-      let l = stepped m k.0 site s.after whole w.todo r.took refl s.does.does (walk-goes m k.0 site s.after w.todo r.took s.does.does).goes (held.walks k.0 w s.at) in
+      let l = stepped m k.0 (site_of u w) s.after whole w.todo r.took refl s.does.does (walk-goes m k.0 (site_of u w) s.after w.todo r.took s.does.does).goes (held.walks k.0 w s.at) in
       let ends = quiet-goes nothing_felt (ends-quiet r.answer k.0 s.ends) in
       let slots : SlotsHeld s.after.shelf = λ i key height p kind.
       elim (l.reveals i key height p) [ inl was ↦ key-on goes (held.slots w.table i key height was kind) | inr set ↦ key-on ends (set kind) ] in
@@ -222,7 +221,7 @@ module _ {N E B W : Type 0} (m : Seen N B W) (lawful : IsLawful m.values) (reada
       → IsPremised m.values s trees x.event x.reply x.after → (trees' : ℕ → Tree) × TreesAfter m (IsRight m.values) s trees x.event x.reply x.after trees' × IsGoingOn m.values x.after trees'
   goes s trees x on does premised =
       let g = event-goes m (world_of s) (world_of x.after) x.event x.reply premised.stays_open does.step.happens in
-      let felt = g.feels on.whole.pager.whole (waits-well (world_of s) on.work) in
+      let felt = g.feels on.whole.pager.whole (λ n w is. (on.work.workers n w is).waits) in
       let ready = keys-ready m.values s trees readable on.fits on.held in
       let f = event-fits m s trees on.stands on.readings lawful readable x.after on.settled on.whole does.whole ready x.event x.reply g.goes premised.well felt in
       let pager = trees-go-on lawful on.settled on.whole.pager does.whole.pager on.stands.pager does.moves g.goes f.1 in
@@ -309,7 +308,8 @@ module _ {N E B W : Type 0} (m : Seen N B W) where
       let turns : EventTurns m (world_of s) x.event x.reply (world_of x.after) =
       event-turns m (world_of s) (world_of x.after) work (λ v w there. (whole.walkings v w there).table.1) x.event x.reply does.step.happens in
       let t = turns.turned in let last = (state_after x.after xs).work.walkings in
-      let (rest, within) = arrives x.after xs chain does.whole (turns-stand m turns work) (event-on m s x.after whole x.event x.reply does.step.happens (waits-well (world_of s) work) loads) in
+      let waits = λ (n : ℕ) (w : Walking) (is : s.work.walkings n ≡ Some w). (work.workers n w is).waits in
+      let (rest, within) = arrives x.after xs chain does.whole (turns-stand m turns work) (event-on m s x.after whole x.event x.reply does.step.happens waits loads) in
       let on : (v : ℕ) (w : Walking) → s.work.walkings v ≡ Some w → KeepsTask last v w = λ v w there.
       let k = keeps-task turns.who s.work.shelves x.after.work.shelves s.work.walkings x.after.work.walkings t v w there in let l = rest.keeps v k.now k.there in
       record { now = l.now; there = l.there; table = l.table ∙ k.table; task = l.task ∙ k.task } in
@@ -350,15 +350,16 @@ module _ {N E B W : Type 0} (m : Seen N B W) (s end : MachineState N E) (happene
       let let_go = λ (answer : WorkerAnswer) (is : walking.answer ≡ Some answer). has-let-go m end all.work all.whole n walking answer there is in
       let within = went.within in record { order = order; once = once; bounded = omega arith; met = went.met; let_go = let_go }
 
-  work-right : WorkIsRight m end happened replied
-  work-right = record { claims_right = record { distinct = grind (arith, nat_tests, one-small); met = is-met m end all.work all.whole }; workers = worker; loads = steps-left m.values end all.loads }
-
 pub headline_law : {N B W : Type 0} (E : Type 0) (m : Seen N B W) → HeadlineLaw E m
 headline_law E m start moments whole idle chain =
-    let (all, within) = arrives m start moments chain whole (idle-stands start idle) (idle-bounded m.values.types start idle) in
+    let (all, within) = arrives m start moments chain whole (idle-stands start idle) (grind (arith, nat_tests)) in let end = state_after start moments in
     record {
       chain = chain;
-      work = work-right m start (state_after start moments) (events_of moments) (replies_of moments) idle all;
+      work = record {
+        claims_right = record { distinct = grind (arith, nat_tests, one-small, all.claims); met = is-met m end all.work all.whole };
+        workers = worker m start end (events_of moments) (replies_of moments) idle all;
+        loads = steps-left m.values end all.loads;
+      };
       loads = within;
       trees = λ trees stands lawful reads settled. along-with m lawful reads (IsRight m.values) (λ s xs. Unit {0}) (λ s trees trees' x xs on so whole' happens right. (right, tt))
           start trees moments (idle-goes m lawful reads start trees whole idle settled stands) tt chain;

@@ -1,13 +1,13 @@
 -- What each event does to workers and tables: it touches one worker, and claims of its own.
-use Rattle.pagable_laws.proofs.{Decoding.{among-left, among-right}, Goes.{le-of, updated-at}, ReadingSteps.event-goes, Standing.{AllStand, Covers, CoversBy, Goes, HasNoFailed, SameSlots, ShelfGrows}}
-use Rattle.pagable_laws.proofs.Standing.{SlotChanges, Turned, WaitsWell, WorkStands, all-stay, changes-slot, failed-goes, fails, follows-waits, given-open, gives, grows, is-changed, is-new, is-quiet}
-use Rattle.pagable_laws.proofs.Standing.{is-same, is-self, is-started, is-stepped, is_failed, is_open_in, meets-grow, open-slot, own-goes, plain, put-cases, puts-slot, same-slots, settles, some-none}
-use Rattle.pagable_laws.proofs.{Standing.{some-same, started-open, swaps, true-false, work-stands}, Trees.{same-number, steps_follow}, Words.{Among, ArcRef, Call, Claim, Core, Does, Err, Error}}
-use Rattle.pagable_laws.proofs.Words.{Event, EventReply, Happens, Identity, IsIdle, KeepsOpen, List, MachineState, None, Ok, Option, Seen, Shelf, Site, Slot, Some, Task, Todo, Took, Walking}
-use Rattle.pagable_laws.proofs.Words.{WorkerAnswer, WorkerNumber, WorkerReply, WorkerSteps, World, Written, [], answer_after, ap, arith, cases_Bool, drop, false, false_from_ne_true, give}
-use Rattle.pagable_laws.proofs.Words.{identity_of, if◌then◌else◌, inl, inr, length, nat_eq, nat_tests, no_result, one, refl, rules, step_of, subst, sum_by-cons, sym, times, to_fail, to_finish}
-use Rattle.pagable_laws.proofs.Words.{to_item, to_load, to_pin, to_release, to_set, to_start, to_write, true, updated, world_of, ℕ, ◌*◌, ◌++◌, ◌+◌, ◌<◌, ◌==◌, ◌∙◌, ◌∷◌, ◌≡◌, ◌≤◌, ◌⊎◌}
-use Rattle.pagable_world.specs.{Events.{Starts, WorkStays, new_walking}, Headline.{FailedElsewhere, IsMetFailure}, Order.{Follows, Leads, MetError, is_claim, own_references, references_written}}
+use Rattle.pagable_laws.proofs.{Decoding.{among-left, among-right}, Goes.{le-of, updated-at}, ReadingSteps.{event-goes, site_of}, Standing.{AllStand, Covers, CoversBy, Goes, HasNoFailed, SameSlots}}
+use Rattle.pagable_laws.proofs.Standing.{ShelfGrows, SlotChanges, Turned, WorkStands, all-stay, changes-slot, failed-goes, fails, follows-waits, given-open, gives, grows, is-changed, is-new, is-same}
+use Rattle.pagable_laws.proofs.Standing.{is-quiet, is-self, is-started, is-stepped, is_failed, is_open_in, meets-grow, open-slot, own-goes, plain, put-cases, puts-slot, same-slots, settles, swaps}
+use Rattle.pagable_laws.proofs.{Standing.{some-none, some-same, started-open, true-false, work-stands}, Trees.{same-number, steps_follow}, Words.{Among, ArcRef, Call, Claim, Core, Does, Err, Error}}
+use Rattle.pagable_laws.proofs.Words.{Event, EventReply, Happens, Identity, IsIdle, KeepsOpen, List, MachineState, None, Ok, Option, Seen, Shelf, Site, Slot, Some, Task, Todo, Took, Walking, World}
+use Rattle.pagable_laws.proofs.Words.{WorkerAnswer, WorkerNumber, WorkerReply, WorkerSteps, Written, [], answer_after, ap, arith, cases_Bool, drop, false, false_from_ne_true, give, identity_of, inl}
+use Rattle.pagable_laws.proofs.Words.{if◌then◌else◌, inr, length, nat_eq, nat_tests, no_result, one, refl, rules, step_of, subst, sum_by-cons, sym, times, to_fail, to_finish, to_item, to_load, true}
+use Rattle.{pagable_laws.proofs.Words.{to_pin, to_release, to_set, to_start, to_write, updated, world_of, ℕ, ◌*◌, ◌++◌, ◌+◌, ◌<◌, ◌==◌, ◌∙◌, ◌∷◌, ◌≡◌, ◌≤◌, ◌⊎◌}, pagable_world.specs.Events.Starts}
+use Rattle.pagable_world.specs.{Events.{WorkStays, new_walking}, Headline.{FailedElsewhere, IsMetFailure}, Order.{Follows, Leads, MetError, is_claim, own_references, references_written}}
 use Rattle.pagable_world.specs.{Workers.{first_todo, is_counted, next_start, settle, with_outcome, with_wait}, World.{Open, answer_of_fault, is_identity, published, to_publish}}
 use Rattle.{pagable_world.specs.declared.events.TableNumber.TableNumber, std.proofs.{Common.{append-nil, length-append, ◌-◌}, lemmas.{Bool.{or_cases, or_left, or_right}, List.length-drop}}}
 use Rattle.std.{proofs.lemmas.List.Sums.sum_by-append, specs.List.sum_by}
@@ -60,10 +60,6 @@ module _ {N B W : Type 0} (m : Seen N B W) (v : ℕ) (task : Task) (s s' : Site)
 
 abbrev pub StandsIn : World → Type 0
 StandsIn u = WorkStands u.work.shelves u.work.walkings u.core.last.worker
-
--- no load waits below what is done next
-pub waits-well : (u : World) → StandsIn u → (n : ℕ) (walking : Walking) → u.work.walkings n ≡ Some walking → WaitsWell walking.todo
-waits-well u work n walking is = (work.workers n walking is).waits
 
 -- what an event does to the worker that it touches, which makes these steps
 pub data OwnTurn {N B W : Type 0} (m : Seen N B W) (u : World) (v : ℕ) (taken : List (Took W)) (u' : World) : Type 0 where
@@ -126,15 +122,14 @@ module _ {N B W : Type 0} (m : Seen N B W) (u u' : World) (work : StandsIn u) wh
       let s = h.moves in let w = s.walking in
       let now : Walking = record w { todo = s.after.todo; steps = reply.steps; answer = reply.answer } in
       let stands = work.workers v.0 w s.at in
-      let site : Site = record { core = u.core; shelf = u.work.shelves w.table; todo = w.todo } in
-      let goes = stands-on m v.0 w.task site s.after w.todo refl stands.all stands.covers reply.took s.does.does in
+      let goes = stands-on m v.0 w.task (site_of u w) s.after w.todo refl stands.all stands.covers reply.took s.does.does in
       let shelf_is : (i : Identity) → (u'.work.shelves w.table).slots i ≡ s.after.shelf.slots i =
       λ i. (s.work.same_shelves w.table).slots i ∙ ap (λ (x : Shelf). x.slots i) (updated-at w.table s.after.shelf u.work.shelves) in
       let turned : Turned v.0 u.work.shelves u'.work.shelves u.work.walkings u'.work.walkings =
       is-stepped v.0 u.work.shelves u'.work.shelves u.work.walkings u'.work.walkings w now s.at (s.work.same_walkings v.0 ∙ updated-at v.0 (Some now) u.work.walkings) refl refl
       (λ n other. s.work.same_walkings n ∙ updated-off v.0 (Some now) u.work.walkings n other)
       (λ t other i. (s.work.same_shelves t).slots i ∙ ap (λ (x : Shelf). x.slots i) (updated-off w.table s.after.shelf u.work.shelves t other))
-      (stands.unfailed s.at_work) (follows-waits m.written_of w.todo reply.took s.after.todo (steps_follow m v.0 site s.after reply.took s.does) stands.waits)
+      (stands.unfailed s.at_work) (follows-waits m.written_of w.todo reply.took s.after.todo (steps_follow m v.0 (site_of u w) s.after reply.took s.does) stands.waits)
       (goes-same v.0 w.task (u.work.shelves w.table) s.after.shelf (u'.work.shelves w.table) reply.answer s.after.todo shelf_is (rw s.answers goes)) in
       let few = work.numbered v.0 w s.at in let last = last-on (Event.WorkerStep v) (EventReply.WorkerMoved (Ok reply)) h in
       record { who = v.0; turned = turned; last = last; small = omega (arith, few, last); others = λ n other. grind (arith, nat_tests); own = steps v reply refl (grind (arith, nat_tests)) s }
@@ -171,16 +166,14 @@ module _ {N B W : Type 0} (m : Seen N B W) {u u' : World} {event : Event N B W} 
       (begin : (n : ℕ) (shelf : Shelf) (t : TableNumber) (task : Task) → Walk n shelf (new_walking t task))
       (step : (k : WorkerNumber) (r : WorkerReply W) (s : WorkerSteps m u k r u') → step_of turns.who event reply ≡ r.took ∷ [] → ShelfGrows (u.work.shelves s.walking.table) s.after.shelf
       → Slots s.after.shelf × Walk k.0 s.after.shelf (record s.walking { todo = s.after.todo; steps = r.steps; answer = r.answer })) where
-    stays-so : (t : ℕ) → SameAs (u.work.shelves t) (u'.work.shelves t) → Slots (u'.work.shelves t)
-    stays-so t same = stay t (u'.work.shelves t) (turns-grow t) same
-
     all-hold : ((t : ℕ) → Slots (u'.work.shelves t)) → ((w : Walking) → u'.work.walkings turns.who ≡ Some w → Walk turns.who (u'.work.shelves w.table) w) → HoldsOfAll u' Slots Walk
     all-hold slots own = search (rules, nat_eq, true, false)
 
     pub turns-keep : OwnTurn m u turns.who (step_of turns.who event reply) u' → HoldsOfAll u' Slots Walk
-    turns-keep (rests none same still) = all-hold (λ t. stays-so t (same t)) (λ w there. rest turns.who w none (sym still ∙ there))
+    turns-keep (rests none same still) = all-hold (λ t. stay t (u'.work.shelves t) (turns-grow t) (same t)) (λ w there. rest turns.who w none (sym still ∙ there))
     turns-keep (begins t task none same nobody new) =
-        all-hold (λ q. stays-so q (same q)) (λ w there. subst (λ x. Walk turns.who (u'.work.shelves x.table) x) (some-same new there) (begin turns.who (u'.work.shelves t.0) t task))
+        all-hold (λ q. stay q (u'.work.shelves q) (turns-grow q) (same q))
+        (λ w there. subst (λ x. Walk turns.who (u'.work.shelves x.table) x) (some-same new there) (begin turns.who (u'.work.shelves t.0) t task))
     turns-keep (steps k r at one s) =
         let w = s.walking in
         let now : Walking = record w { todo = s.after.todo; steps = r.steps; answer = r.answer } in
@@ -189,7 +182,7 @@ module _ {N B W : Type 0} (m : Seen N B W) {u u' : World} {event : Event N B W} 
         let d = step k r s one (λ i slot there. let a = turns-grow w.table i slot there in (a.0, sym (table i) ∙ a.1, a.2)) in
         all-hold
         (λ t. at-number (λ shelf. SameAs shelf (u'.work.shelves t) → Slots (u'.work.shelves t)) w.table s.after.shelf u.work.shelves t (λ same. alike s.after.shelf (u'.work.shelves t) same d.0)
-        (stays-so t) (s.work.same_shelves t).slots)
+        (stay t (u'.work.shelves t) (turns-grow t)) (s.work.same_shelves t).slots)
         (λ x there. rw (← some-same at_now there, ← at) (onward s.after.shelf (u'.work.shelves w.table) (same-grow s.after.shelf (u'.work.shelves w.table) table) d.0 k.0 now d.1))
 
 -- and so it does where nobody works yet
@@ -337,14 +330,13 @@ module _ {N B W : Type 0} (m : Seen N B W) (u u' : World) (grow : (t : ℕ) → 
       let w : Walking = s.walking in
       let shelf : Shelf = u.work.shelves w.table in
       let shelf' : Shelf = u'.work.shelves w.table in
-      let site : Site = record { core = u.core; shelf = shelf; todo = w.todo } in
       let now : Walking = record w { todo = s.after.todo; steps = reply.steps; answer = reply.answer } in
       let new : u'.work.walkings k.0 ≡ Some now = s.work.same_walkings k.0 ∙ updated-at k.0 (Some now) u.work.walkings in
       let was : Went f k.0 shelf w past = subst (λ o. HasGone f k.0 u.work.shelves o past) s.at gone in
-      let follows = steps_follow m k.0 site s.after reply.took s.does in
+      let follows = steps_follow m k.0 (site_of u w) s.after reply.took s.does in
       let fails = fails-stay k.0 shelf shelf' past (past ++ reply.took ∷ []) w.todo (grow w.table) (λ x (i, at). among-left past (reply.took ∷ []) i x at) was.fails in
       let already : (i : Identity) → reply.took ≡ Took.Claim i (Ok Claim.AlreadyFailed) → FailedElsewhere shelf' k.0 i = λ i is. failed-stays k.0 shelf shelf' i (grow w.table)
-      (failed-elsewhere m k.0 site s.after w.todo i (subst (λ step. Does m k.0 site w.todo step s.after) is s.does.does) ((work.workers k.0 w s.at).unfailed s.at_work)) in
+      (failed-elsewhere m k.0 (site_of u w) s.after w.todo i (subst (λ step. Does m k.0 (site_of u w) w.todo step s.after) is s.does.does) ((work.workers k.0 w s.at).unfailed s.at_work)) in
       let leads = leads-more f (first_todo w.task) past w.todo reply.took s.after.todo was.leads follows in
       let left = follows-met k.0 shelf' (past ++ reply.took ∷ []) f w.todo reply.took s.after.todo follows (among-right past (reply.took ∷ []) 0 reply.took refl) already fails in
       let met = λ (answer : WorkerAnswer) (is : reply.answer ≡ Some answer). answered k.0 shelf' (past ++ reply.took ∷ []) w.todo reply.took answer (sym s.answers ∙ is) fails in

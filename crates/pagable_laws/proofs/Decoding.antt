@@ -2,21 +2,20 @@
 -- handle twice, where the handles that were got are apart.
 -- A value that was read of a blob leads to what the blob's key reads as: reading the blob with the references that were got runs along the reading of
 -- its bare keys, and each of these reads as the tree of the node that was got for it.
-use Rattle.pagable_laws.proofs.{Again.{Looked, form-again, looks-itself, not-looked, one-looked, read_again}, Related.{Out, OutLook, any_cause, both-faulty, both-given, both-looked-up, both-not}}
-use Rattle.pagable_laws.proofs.{Related.{both-refused, each, first-not, first-refused, keeps_forms, no_cause, one_cause, read_par, renamed, typed_par}, Trees.{AllTwo, Along, at-most-sum, counted}}
+use Rattle.pagable_model.specs.{Steps.◌>>=◌, Trees.{IsFollowed, KeyRef, ReadsAs, integer-followed, key_ref, none-followed, number-followed, pair-followed, pattern-followed, reference-followed}}
+use Rattle.pagable_model.specs.{Meaning.{integer, number, pattern, text}, Reading.{Rest, deepest}, References.SameReferences, Standing.Answer, Trees.{rest_of, text-followed, variant-followed}}
+use Rattle.{pagable_model.specs.{Standing.{answer_at, handles_at}, Writing.kind_of_arc}, std.proofs.{Common.sum_by, lemmas.{List.{length-map, map-append}, Option.{slice_get-get_or, slice_get_past}}}}
+use Rattle.pagable_laws.specs.{FormLaws.at, TreeSteps.{Decoded, LeadsTo, followed-leads, none-leads, number-leads, pair-leads, pattern-leads, reference-leads, text-leads, variant-leads}}
+use Rattle.pagable_laws.proofs.Related.{Out, OutLook, any_cause, both-faulty, both-given, both-looked-up, both-not, both-refused, each, first-not, first-refused, keeps_forms, no_cause, one_cause}
+use Rattle.pagable_laws.proofs.{Again.{Looked, form-again, looks-itself, not-looked, one-looked, read_again}, Related.{read_par, renamed, typed_par}, Trees.{AllTwo, Along, at-most-sum, counted}}
 use Rattle.pagable_laws.proofs.Trees.{each-two, followed-along, integer-along, more-two, no-two, none-along, number-along, one-true, one_tree, pair-along, pattern-along, reference-along, refs-two}
 use Rattle.pagable_laws.proofs.{Trees.{same-number, self-number, swap-two, text-along, tree_is, variant-along}, Words.{Among, ArcRef, Blob, Bool, Core, Err, Error, Form, Frame, IsLawful, IsReadable}}
-use Rattle.pagable_laws.proofs.Words.{IsReference, Kind, List, Meaning, None, Ok, Option, Owner, PagerState, ReadsItsTypes, ReadsTree, Result, Shape, Some, Throughout, Tree, Types, ValueStands}
-use Rattle.pagable_laws.proofs.Words.{Values, [], and_parts, ap, append-nil, append_assoc, arith, cases_Bool, cases_lt, false, followed, if◌then◌else◌, inl, inr, integer-leads, is_eager, is_in}
-use Rattle.pagable_laws.proofs.Words.{length, length-append, map, nat_tests, next_in, none, one, pair, read, reference, references_fault, references_in, refl, rest, slice_get, subst, suc, sum_by-cons}
-use Rattle.pagable_laws.{proofs.Words.{sym, times, tree, true, type_of, variant, zero, ℕ, ◌&&◌, ◌++◌, ◌+◌, ◌==◌, ◌∙◌, ◌∷◌, ◌≡◌, ◌≤◌, ◌⊎◌}, specs.{FormLaws.at, TreeSteps.{Decoded, LeadsTo}}}
-use Rattle.{pagable_laws.specs.TreeSteps.{followed-leads, none-leads, number-leads, pair-leads, pattern-leads, reference-leads, text-leads, variant-leads}, pagable_model.specs.Meaning.integer}
-use Rattle.pagable_model.specs.{Meaning.{number, pattern, text}, Reading.{Rest, deepest}, References.SameReferences, Standing.{Answer, answer_at, handles_at}, Steps.◌>>=◌, Trees.{IsFollowed, KeyRef}}
-use Rattle.pagable_model.specs.Trees.{ReadsAs, integer-followed, key_ref, none-followed, number-followed, pair-followed, pattern-followed, reference-followed, rest_of, text-followed, variant-followed}
-use Rattle.{pagable_model.specs.Writing.kind_of_arc, pagable_world.specs.{Loads.{IsDecoded, answer_of, answers_from, asks, is_faulty, next_by, next_of, read_with, reads}, Order.after_kinds}}
-use Rattle.pagable_world.specs.{Order.some_of, Pager.{FrameFits, MeaningStands, NodeStands, ReadsNodeTree, followed-stands, integer-stands, none-stands, number-stands, pair-stands, pattern-stands}}
-use Rattle.{pagable_world.specs.{Pager.{reference-stands, text-stands, variant-stands}, Refusals.reference_fault}, std.proofs.{Common.sum_by, lemmas.List.{length-map, map-append}}}
-use Rattle.std.proofs.lemmas.Option.{slice_get-get_or, slice_get_past}
+use Rattle.pagable_laws.proofs.Words.{IsReference, Kind, List, Meaning, None, Ok, Option, Owner, PagerState, ReadsItsTypes, ReadsTree, Result, Shape, Some, Throughout, Tree, Types, ValueStands, []}
+use Rattle.pagable_laws.proofs.Words.{Values, and_parts, ap, append-nil, append_assoc, arith, cases_Bool, cases_lt, false, followed, if◌then◌else◌, inl, inr, integer-leads, is_eager, is_in, length}
+use Rattle.pagable_laws.proofs.Words.{length-append, map, nat_tests, next_in, none, one, pair, read, reference, references_fault, references_in, refl, rest, slice_get, subst, suc, sum_by-cons, sym}
+use Rattle.{pagable_laws.proofs.Words.{times, tree, true, type_of, variant, zero, ℕ, ◌&&◌, ◌++◌, ◌+◌, ◌==◌, ◌∙◌, ◌∷◌, ◌≡◌, ◌≤◌, ◌⊎◌}, pagable_world.specs.Loads.{IsDecoded, answer_of, answers_from}}
+use Rattle.pagable_world.specs.{Loads.{asks, is_faulty, next_by, next_of, read_with, reads}, Order.{after_kinds, some_of}, Pager.{FrameFits, MeaningStands, NodeStands}, Refusals.reference_fault}
+use Rattle.pagable_world.specs.Pager.{ReadsNodeTree, followed-stands, integer-stands, none-stands, number-stands, pair-stands, pattern-stands, reference-stands, text-stands, variant-stands}
 
 abbrev pub kinds_of : List ArcRef → List ℕ
 kinds_of got = map (λ (r : ArcRef). r.kind.0) got
@@ -196,10 +195,6 @@ module _ (types : Types) (t : ℕ) (blob : Blob) (refs : List ArcRef) (f : IsFor
         ahead (got ++ r ∷ []) (done ++ q ∷ []) left (split ∙ sym (append_assoc done (q ∷ []) left))
         (kinds-pushed got r ∙ ap (λ ks. ks ++ r.kind.0 ∷ []) same ∙ ap (λ (k : Kind). kinds_of done ++ k.0 ∷ []) (sym kinds) ∙ sym (kinds-pushed done q))
   ])
-
-  -- where it is read, all were got
-  pub all-got : {got : List ArcRef} → GotAsked types t blob got → (own : Meaning ArcRef) → next_of types t blob got ≡ reads own → kinds_of got ≡ kinds_of refs
-  all-got h own is = grind (arith, nat_tests, comes-to)
 
 -- ---- a value that was read of a form names no handle twice, where the handles that were got are apart. So nothing is to be said against its references, where each is good
 

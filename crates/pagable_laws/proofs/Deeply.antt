@@ -1,15 +1,15 @@
 -- Heights that are known are those of trees: so no key is answered of what leads down too long a path, or to a value that has no form; and why a claim is too deep.
-use Rattle.pagable_laws.proofs.{Answered.answered, Chains.{IsGoingOn, along-with, headline_law, idle-goes}, Coming.StandsIn, Following.{known-of, tree-form}, Goes.updated-at, Standing.AllStand}
-use Rattle.pagable_laws.proofs.{Standing.{Covers, is-same, is_open_in}, Stepping.next-among, Trees.{Along, each-two, form-along, integer-along, none-along, number-along, pair-along, pattern-along}}
-use Rattle.pagable_laws.proofs.{Trees.{reference-along, same_some, text-along, tree_is, variant-along}, Words.{Among, ArcRef, AreMoments, Bool, Core, Does, Err, Error, Event, EventReply, FollowsTo}}
-use Rattle.pagable_laws.proofs.Words.{Happens, HoldsSettled, Identity, IsIdle, IsLawful, IsMachineWhole, IsPublished, List, MachineState, Meaning, Moment, Ok, ReadsItsTypes, Seen, Shelf, Site, Some}
-use Rattle.pagable_laws.proofs.Words.{Task, Todo, Took, Tree, Types, Values, Walking, WorkFits, WorkerAnswer, Written, above, ap, arith, followed, identity_of, if◌then◌else◌, inl, inr, is_eager, max}
-use Rattle.pagable_laws.proofs.Words.{nat_tests, of_entry, of_item, pair, refl, subst, suc, sym, to_finish, to_item, to_start, tree, true, type_of, variant, world_of, zero, ℕ, ◌+◌, ◌<◌, ◌∙◌, ◌∷◌, ◌≡◌}
-use Rattle.pagable_laws.{proofs.Words.{◌≤◌, ◌⊎◌}, specs.{DeepLaws.{ClaimIsDeep, DepthIsTold, HoldsAlong, MetDepthAlone, WaitsForAsker}, TreeSteps.{AllLow, BlobStands, Expects, Ground, IsAttained}}}
-use Rattle.{pagable_laws.specs.TreeSteps.{IsDone, Waits, Walks, WroteTree, followed-leads, ground_of, pair-leads, place_over, reference-leads, variant-leads}, pagable_model.specs.Deep.deepest_path}
-use Rattle.{pagable_model.specs.{Deep.height, Merkle.TreeForm, Writing.kind_of_arc}, pagable_world.specs.{Headline.IsMetFailure, OneWorker.{HasNoForm, IsFormlessTask, IsTooDeepTask, KeyIsShallow}}}
-use Rattle.pagable_world.specs.{OneWorker.{LeadsToNoForm, Reaches, in-first, in-part, in-rest, refers, refers-on}, Pager.{StandsFor, kids_of}, Plain.longest_path, Runs.{Fact, TreesAlong}}
-use Rattle.{pagable_world.specs.{Workers.Claims, World.is_identity}, std.{proofs.lemmas.Bool.or_cases, specs.Prelude.◌≢◌}}
+use Rattle.pagable_laws.proofs.{Answered.answered, Chains.{IsGoingOn, along-with, headline_law, idle-goes}, Coming.StandsIn, Following.{known-of, tree-form}, Goes.updated-at, ReadingSteps.site_of}
+use Rattle.pagable_laws.proofs.{Standing.{AllStand, Covers, is-same, is_open_in}, Stepping.next-among, Trees.{Along, each-two, form-along, integer-along, none-along, number-along, pair-along}}
+use Rattle.pagable_laws.proofs.{Trees.{pattern-along, reference-along, same_some, text-along, tree_is, variant-along}, Words.{Among, ArcRef, AreMoments, Bool, Core, Does, Err, Error, Event, Happens}}
+use Rattle.pagable_laws.proofs.Words.{EventReply, FollowsTo, HoldsSettled, Identity, IsIdle, IsLawful, IsMachineWhole, IsPublished, List, MachineState, Meaning, Moment, Ok, ReadsItsTypes, Seen, Site}
+use Rattle.pagable_laws.proofs.Words.{Shelf, Some, Task, Todo, Took, Tree, Types, Values, Walking, WorkFits, WorkerAnswer, Written, above, ap, arith, followed, identity_of, if◌then◌else◌, inl, inr}
+use Rattle.pagable_laws.proofs.Words.{is_eager, max, nat_tests, of_entry, of_item, pair, refl, subst, suc, sym, to_finish, to_item, to_start, tree, true, type_of, variant, world_of, zero, ℕ, ◌+◌}
+use Rattle.pagable_laws.{proofs.Words.{◌<◌, ◌∙◌, ◌∷◌, ◌≡◌, ◌≤◌, ◌⊎◌}, specs.{DeepLaws.{ClaimIsDeep, DepthIsTold, MetDepthAlone, WaitsForAsker}, TreeSteps.{AllLow, BlobStands, Expects, Ground}}}
+use Rattle.pagable_laws.specs.TreeSteps.{IsAttained, IsDone, Waits, Walks, WroteTree, followed-leads, ground_of, pair-leads, place_over, reference-leads, variant-leads}
+use Rattle.{pagable_model.specs.{Deep.{deepest_path, height}, Merkle.TreeForm, Writing.kind_of_arc}, pagable_world.specs.{Headline.IsMetFailure, OneWorker.{HasNoForm, IsFormlessTask, IsTooDeepTask}}}
+use Rattle.pagable_world.specs.{OneWorker.{KeyIsShallow, LeadsToNoForm, Reaches, in-first, in-part, in-rest, refers, refers-on}, Pager.{StandsFor, kids_of}, Plain.longest_path, Runs.Fact}
+use Rattle.{pagable_world.specs.{Runs.TreesAlong, Workers.Claims, World.is_identity}, std.{proofs.lemmas.Bool.or_cases, specs.Prelude.◌≢◌}}
 
 -- ---- what a tree's references lead to is part of it
 
@@ -189,16 +189,15 @@ module _ {N E : Type 0} (v : Values N) (s : MachineState N E) (trees : ℕ → T
   task-is-fine (of_entry h i) key (top, p) = (λ long. let d = (shallow-tree i key top p).1 in absurd (omega arith), has-forms i key top p)
 
 module _ {N B W E : Type 0} (m : Seen N B W) (s s' : MachineState N E) (trees trees' : ℕ → Tree) (fit : WorkFits m.values s trees) (work : StandsIn (world_of s)) where
-  key-is-shallow : (event : Event N B W) (reply : EventReply N B W) → Happens m (world_of s) event reply (world_of s') → KeyIsShallow m.values s trees event reply s' trees'
+  pub key-is-shallow : (event : Event N B W) (reply : EventReply N B W) → Happens m (world_of s) event reply (world_of s') → KeyIsShallow m.values s trees event reply s' trees'
   key-is-shallow (Event.WorkerStep n) (EventReply.WorkerMoved (Ok reply)) is = λ walking key there e.
       let w = is.moves in
-      let site : Site = record { core = s.pager.core; shelf = s.work.shelves w.walking.table; todo = w.walking.todo } in
-      let a = answered m n.0 (ground_of s trees) w.walking.task site w.after w.walking.todo reply.took w.does.does (fit.walks n.0 w.walking w.at) key (sym w.answers ∙ e) in
+      let a = answered m n.0 (ground_of s trees) w.walking.task (site_of (world_of s) w.walking) w.after w.walking.todo reply.took w.does.does (fit.walks n.0 w.walking w.at) key (sym w.answers ∙ e) in
       let fine = task-is-fine m.values s trees fit w.walking.table w.walking.task key a.0 in grind (arith, nat_tests, same_some)
   key-is-shallow event reply is = tt
 
   -- what a worker answers that leads down so, and met no other refusal
-  depth-is-told : (event : Event N B W) (reply : EventReply N B W) → Happens m (world_of s) event reply (world_of s') → KeyIsShallow m.values s trees event reply s' trees'
+  pub depth-is-told : (event : Event N B W) (reply : EventReply N B W) → Happens m (world_of s) event reply (world_of s') → KeyIsShallow m.values s trees event reply s' trees'
       → DepthIsTold m s trees event reply s' trees'
   depth-is-told (Event.WorkerStep n) (EventReply.WorkerMoved (Ok reply)) is shallow = λ start moments walking answer whole idle chain ends there e alone deep.
       let w = is.moves in
@@ -218,7 +217,7 @@ module _ {N B W E : Type 0} (m : Seen N B W) (s s' : MachineState N E) (trees tr
 
   module _ (n : ℕ) (walking : Walking) (there : s.work.walkings n ≡ Some walking) where
     abbrev site : Site
-    site = record { core = s.pager.core; shelf = s.work.shelves walking.table; todo = walking.todo }
+    site = site_of (world_of s) walking
 
     of-claim : (after : Site) (todo : List Todo) (i : Identity) → Does m n site todo (Took.Claim i (Err Error.TooDeep)) after → AllStand site.shelf n walking.task todo → Covers site.shelf n todo
         → Walks m.values (ground_of s trees) site.shelf walking.task todo → IsTooDeepTask trees walking.task ⊎ WaitsForAsker site.shelf n i
@@ -227,7 +226,7 @@ module _ {N B W E : Type 0} (m : Seen N B W) (s s' : MachineState N E) (trees tr
         (claim-deep m.values s trees fit walking.table n walking.task s.pager.core walking.todo r place below after c expects waits all covers at)
     of-claim after todo i does all covers walks = absurd does
 
-  claim-is-deep : (event : Event N B W) (reply : EventReply N B W) → Happens m (world_of s) event reply (world_of s') → ClaimIsDeep s trees event reply s' trees'
+  pub claim-is-deep : (event : Event N B W) (reply : EventReply N B W) → Happens m (world_of s) event reply (world_of s') → ClaimIsDeep s trees event reply s' trees'
   claim-is-deep x0 x1 is = grind (arith, nat_tests, same_some, of-claim)
 
 module _ {N B W E : Type 0} (m : Seen N B W) (lawful : IsLawful m.values) (readable : ReadsItsTypes m.values.types) (P : Fact N E B W) where
@@ -238,12 +237,3 @@ module _ {N B W E : Type 0} (m : Seen N B W) (lawful : IsLawful m.values) (reada
   along-first follows s moments trees whole idle chain stands settled =
       along-with m lawful readable P (λ s xs. Unit {0}) (λ s trees trees' x xs on so whole happens right. (follows s x.after trees trees' x.event x.reply on happens, tt))
       s trees moments (idle-goes m lawful readable s trees whole idle settled stands) tt chain
-
-pub shallow_law : {N B W : Type 0} (E : Type 0) (m : Seen N B W) → HoldsAlong E m (KeyIsShallow m.values)
-shallow_law E m start moments trees whole idle chain stands lawful readable settled = grind (arith, along-first, key-is-shallow)
-
-pub told_depth_law : {N B W : Type 0} (E : Type 0) (m : Seen N B W) → HoldsAlong E m (DepthIsTold m)
-told_depth_law E m start moments trees whole idle chain stands lawful readable settled = grind (arith, along-first, depth-is-told, key-is-shallow)
-
-pub deep_claim_law : {N B W : Type 0} (E : Type 0) (m : Seen N B W) → HoldsAlong E m ClaimIsDeep
-deep_claim_law E m start moments trees whole idle chain stands lawful readable settled = grind (arith, along-first, claim-is-deep)

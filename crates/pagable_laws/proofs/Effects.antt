@@ -127,7 +127,7 @@ module _ (mine : Owner) where
   pub spares-handle : (w : Core) (node : NodeNumber) (mode : Mode) (owner : Owner) → Spares w (with_handle w node mode owner)
   spares-handle w node mode owner = record { each = λ q row own s. with-one w node mode owner s }
 
-  unchanged : {last : ℕ} {rows : List HandleRow} {q : ℕ} {row : HandleRow} (test : HandleRow → Bool) (f : HandleRow → HandleRow) → ((h : HandleRow) → (f h).number ≡ h.number)
+  pub unchanged : {last : ℕ} {rows : List HandleRow} {q : ℕ} {row : HandleRow} (test : HandleRow → Bool) (f : HandleRow → HandleRow) → ((h : HandleRow) → (f h).number ≡ h.number)
       → test row ≡ false → Stands last rows q row → Stands last (changed test f rows) q row
   unchanged {last} {rows} {q} {row} test f same e s = subst (λ r. Stands last (changed test f rows) q r) (ap (λ b. if b then f row else row) e) (stands-changed test f same s)
 

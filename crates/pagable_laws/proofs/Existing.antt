@@ -1,9 +1,9 @@
 -- The least set of handles that fall. What falls of a value of two levels; and a lone cell that is unpinned.
-use Rattle.pagable_laws.proofs.{Trees.{at-most-sum, counted, one-small, one-true, pins_filter, same-number, sum-le, sum-plus, sum-zero}, Words.{Among, Blob, Bool, HandleRow, Last, List, Mode, Ok}}
-use Rattle.pagable_laws.proofs.Words.{Option, Owner, [], and_parts, ap, arith, cases_lt, false, false_from_ne_true, find_row, held, inl, inr, is_owned_by, is_owner, length, nat_tests, not, one}
-use Rattle.pagable_laws.{proofs.Words.{owner_value, pins, refl, suc, sum_by-cons, sym, true, zero, ℕ, ◌&&◌, ◌+◌, ◌<◌, ◌==◌, ◌||◌, ◌∙◌, ◌∷◌, ◌≡◌, ◌≤◌}, specs.FallLaws.{FallLaws, OwnsNothing, both}}
-use Rattle.{pagable_laws.specs.FallLaws.{first, first_node, lone, lone_listed, lone_unlisted, outer, two_rows}, pagable_world.specs.{Calls.{row_of, with_mode}, Cascade.{Falls, IsClosed, IsLeast}}}
-use Rattle.{pagable_world.specs.{Cascade.{IsWithin, is_outside, loses_value, nobody, owned_outside}, Kinds.{is_at, is_pin}}, std.{proofs.Common.sum_by, specs.Prelude.nat_lt}}
+use Rattle.pagable_laws.proofs.{Trees.{at-most-sum, counted, one-small, one-true, same-number, sum-le, sum-plus, sum-zero}, Words.{Among, Blob, Bool, HandleRow, Last, List, Mode, Ok, Option, Owner}}
+use Rattle.pagable_laws.proofs.Words.{[], and_parts, ap, arith, cases_lt, false, false_from_ne_true, find_row, held, inl, inr, is_owned_by, is_owner, is_pinning, length, nat_tests, not, one, pins, ℕ}
+use Rattle.pagable_laws.{proofs.Words.{owner_value, refl, suc, sum_by-cons, sym, true, zero, ◌&&◌, ◌+◌, ◌<◌, ◌==◌, ◌||◌, ◌∙◌, ◌∷◌, ◌≡◌, ◌≤◌}, specs.FallLaws.{FallLaws, OwnsNothing, first, first_node}}
+use Rattle.{pagable_laws.specs.FallLaws.{lone, lone_listed, lone_unlisted, two_rows}, pagable_world.specs.{Calls.{row_of, with_mode}, Cascade.{Falls, IsClosed, IsLeast, IsWithin, is_outside, nobody}}}
+use Rattle.{pagable_world.specs.{Cascade.{loses_value, owned_outside}, Kinds.{is_at, is_pin}}, std.{proofs.{Common.sum_by, lemmas.List.Sums.length-filter}, specs.Prelude.nat_lt}}
 
 -- 1 for a handle outside the set; one that the node's value owns; and one of the one set and not of the other
 abbrev outside : (ℕ → Bool) → HandleRow → ℕ
@@ -129,17 +129,18 @@ fell stored = record {
   leaves = grind (arith, nat_tests);
 }
 
-two-fall : IsLeast two_rows both [] outer both
-two-fall = record { holds = refl; closed = grind (arith, nat_tests, and-false); least = λ t holds closed. let f : owned_outside two_rows t 1 ≡ 0 = closed 1 (grind (arith, nat_tests)) in omega arith }
-
 pub fall_laws : FallLaws
 unfolding find_row
 fall_laws = record {
   least_set_is_there = λ rows keyed entries given. grows rows keyed entries given (sum_by (outside given) rows) given (omega arith) (within-self rows keyed entries given) (λ t holds closed. holds);
   least_set_is_one = least_is_one;
   given_fall_alone = λ rows keyed entries given s h nothing least among. least_is_one rows keyed entries given s given h least (given-least rows keyed entries given nothing) among;
-  pins_are_a_filter = pins_filter;
-  two_levels_fall = two-fall;
+  pins_are_a_filter = λ n rows. sym (length-filter (λ (h : HandleRow). h.node.0 == n && is_pinning h.mode) rows);
+  two_levels_fall = record {
+    holds = refl;
+    closed = grind (arith, nat_tests, and-false);
+    least = λ t holds closed. let f : owned_outside two_rows t 1 ≡ 0 = closed 1 (grind (arith, nat_tests)) in omega arith;
+  };
   not_less = λ least. let fallen = least.closed 1 refl in absurd (omega arith);
   lone_is_listed = λ stored. record { does = inr (row_of 1 first_node Mode.LoosePinned Owner.Caller, record { live = refl; own = refl; as_asked = refl }, inr (refl, fell stored)) };
   not_unlisted = λ stored call. elim call.does [

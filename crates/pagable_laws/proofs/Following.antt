@@ -1,15 +1,15 @@
 -- A form of a node's value is one of its tree: over its references it is followed to their nodes' trees, and with their keys it stands under the tree's own.
-use Rattle.pagable_world.specs.{Headline.AreKeysOf, Pager.{IsWrittenOf, MeaningStands, NodeStands, away, followed-stands, here, kids_of, number-stands}, World.{Outcome, digest, published, type_at}}
-use Rattle.{pagable_model.specs.Deep.{Kid, kid}, pagable_world.specs.Pager.{pair-stands, reference-stands, variant-stands}, std.{proofs.lemmas.Option.get_or_from_slice_get, specs.Prelude.nat_lt}}
-use Rattle.pagable_model.specs.{Deep.kind_of_kid, Merkle.{KeyOf, KeysOf, StoredAs, TreeForm, key-of, key_of_ref, kind_of_ref, more-keys, no-keys, unfolded}, Reading.deepest, Trees.IsFollowed}
-use Rattle.pagable_model.specs.Trees.{KeyRef, integer-followed, key_ref, none-followed, number-followed, pair-followed, pattern-followed, reference-followed, text-followed, variant-followed}
-use Rattle.{pagable_laws.proofs.Words.{Among, ArcRef, Bool, Core, FollowsTo, Form, HandleRow, HandlesAreWhole, HoldsSettled, Identity, IsLawful, IsPublished}, pagable_model.specs.Writing.kind_of_arc}
-use Rattle.pagable_laws.proofs.Words.{IsReadable, List, Meaning, Ok, Option, PagerState, ReadsItsTypes, Represents, Shape, Shelf, Slot, Some, Throughout, Tree, Types, Values, WellFormed, Written, []}
-use Rattle.pagable_laws.proofs.Words.{ap, append-nil, arith, blob_of, held, identity_of, if_there, inr, integer-leads, is_handle, is_owned_by, is_some, map, nat_tests, one, owner_value, reference}
-use Rattle.pagable_laws.proofs.Words.{references_in, refl, rename, rest, slice_get, slice_get_within, subst, suc, sum_by-cons, sym, times, tree, true, type_of, zero, ℕ, ◌&&◌, ◌++◌, ◌<◌, ◌==◌, ◌∙◌}
-use Rattle.pagable_laws.proofs.{Trees.{AllTwo, Along, followed-along, more-two, no-two, one_tree, pair-along, reference-along, same-number, same_some, sum-le, sum-zero}, Words.{◌∷◌, ◌≡◌, ◌≤◌}}
-use Rattle.pagable_laws.proofs.{Again.{looks-itself, read_again}, Decoding.{among-left, among-right, given-too}, Related.{both-looked-up, each, keeps_forms, one_cause, read_par}, Trees.variant-along}
+use Rattle.pagable_laws.proofs.{Related.{both-looked-up, each, keeps_forms, one_cause, read_par}, Trees.{AllTwo, Along, followed-along, more-two, no-two, one_tree, pair-along, reference-along}}
+use Rattle.pagable_laws.proofs.{Trees.{same-number, same_some, sum-le, sum-zero, variant-along}, Words.{Among, ArcRef, Bool, Core, FollowsTo, Form, HandleRow, HandlesAreWhole, HoldsSettled, List, ℕ}}
+use Rattle.pagable_laws.proofs.Words.{Identity, IsLawful, IsPublished, IsReadable, Meaning, Ok, Option, Owner, PagerState, ReadsItsTypes, Represents, Shape, Shelf, Slot, Some, Throughout, Tree, []}
+use Rattle.pagable_laws.proofs.Words.{Types, Values, WellFormed, Written, ap, append-nil, arith, blob_of, held, identity_of, if_there, inr, integer-leads, is_handle, is_owned_by, is_some, le_trans}
+use Rattle.pagable_laws.proofs.Words.{map, nat_tests, one, owner_value, reference, references_in, refl, rename, rest, slice_get, slice_get_within, subst, suc, sum_by-cons, sym, times, tree, true}
+use Rattle.pagable_laws.proofs.{Again.{looks-itself, read_again}, Decoding.{among-left, among-right, given-too}, Words.{type_of, zero, ◌&&◌, ◌++◌, ◌<◌, ◌==◌, ◌∙◌, ◌∷◌, ◌≡◌, ◌≤◌}}
 use Rattle.pagable_laws.specs.TreeSteps.{Ground, KeyStands, LeadsBy, WroteTree, followed-leads, none-leads, number-leads, pair-leads, pattern-leads, reference-leads, text-leads, variant-leads}
+use Rattle.pagable_model.specs.{Deep.{Kid, kid, kind_of_kid}, Reading.deepest, Trees.{IsFollowed, KeyRef, integer-followed, key_ref, none-followed, number-followed, pair-followed, pattern-followed}}
+use Rattle.pagable_model.specs.{Merkle.{KeyOf, KeysOf, StoredAs, TreeForm, key-of, key_of_ref, kind_of_ref, more-keys, no-keys, unfolded}, Trees.{reference-followed, text-followed, variant-followed}}
+use Rattle.{pagable_model.specs.Writing.kind_of_arc, pagable_world.specs.World.{Outcome, digest, published, type_at}, std.{proofs.lemmas.Option.get_or_from_slice_get, specs.Prelude.nat_lt}}
+use Rattle.pagable_world.specs.{Headline.AreKeysOf, Pager.{IsWrittenOf, MeaningStands, NodeStands, away, followed-stands, here, kids_of, number-stands, pair-stands, reference-stands, variant-stands}}
 
 -- ---- the references in a form's meaning are those of the form, and none is followed
 
@@ -72,6 +72,11 @@ handles-once {w} whole q = rows-once q w.rows (λ i j a b lt at there.
 pub one-less : (a b : Bool) → one (a && b) ≤ one a
 one-less x0 x1 = grind (arith, nat_tests)
 
+-- and an owner's once at most
+pub owned-once : {w : Core} → HandlesAreWhole w → (o : Owner) (q : ℕ) → times (λ h. is_handle q h && is_owned_by o h) w.rows ≤ 1
+owned-once {w} whole o q =
+    le_trans (sum-le (λ h. one (is_handle q h && is_owned_by o h)) (λ h. one (is_handle q h)) w.rows (λ h among. one-less (is_handle q h) (is_owned_by o h))) (handles-once whole q)
+
 -- what is so of each of both lists is so of each of the one, and of the other
 pub halves : {X : Type 0} {P : X → Type 0} (xs ys : List X) → ((x : X) → Among (xs ++ ys) x → P x) → ((x : X) → Among xs x → P x) × ((x : X) → Among ys x → P x)
 halves xs ys h = (λ x among. h x (among-left xs ys among.0 x among.1), λ x among. h x (among-right xs ys among.0 x among.1))
@@ -101,10 +106,7 @@ stands-leads f k h = search (number-leads, integer-leads, text-leads, pattern-le
 module _ {N E : Type 0} {v : Values N} {s : PagerState N E} {trees : ℕ → Tree} (represents : Represents v s trees) (whole : WellFormed v s) (settled : HoldsSettled v s)
     (reads : ReadsItsTypes v.types) (lawful : IsLawful v) where
   names-once : (n : ℕ) (x : N) (own : Meaning ArcRef) → s.values n ≡ Some x → v.means x own → (q : ℕ) → times (λ (r : ArcRef). r.handle.0 == q) (references_in own) ≤ 1
-  names-once n x own there means q =
-      let c = sum-le (λ (h : HandleRow). one (is_handle q h && is_owned_by (owner_value n) h)) (λ (h : HandleRow). one (is_handle q h)) s.core.rows
-      (λ h among. one-less (is_handle q h) (is_owned_by (owner_value n) h)) in
-      omega (arith, lawful.refers x own means (λ r. r.handle.0 == q), whole.inside n x q there, c, handles-once whole.whole.handles q)
+  names-once n x own there means q = omega (arith, lawful.refers x own means (λ r. r.handle.0 == q), whole.inside n x q there, owned-once whole.whole.handles (owner_value n) q)
 
   refers : (n : ℕ) (x : N) (r : ArcRef) → s.values n ≡ Some x → Among (v.references x) r
       → (r.node.0 ≤ s.core.last.node) × ((b : Meaning ⊥) → NodeStands v s r.node.0 (tree (type_of r.kind.0) b) → (trees r.node.0).meaning ≡ b)

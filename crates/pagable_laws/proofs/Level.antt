@@ -1,18 +1,18 @@
 -- A pager with few of each is whole, by facts about its first numbers that compute. So the chain of two levels is one of the machine, and meets the headline with all that it asks.
 use Rattle.pagable_laws.proofs.{Chains.headline_law, Existing.{and-false, within-self}, Goes.good, Trees.{new_whole, same_some, sum-zero}, Words.{Alike, Among, ArcRef, AreMoments, Beginning, Blob}}
-use Rattle.pagable_laws.proofs.Words.{Bool, CloneCall, Core, Event, EventReply, HandleRow, Happens, IsLawful, IsMachineWhole, IsReadable, IsWellAsked, KeepsOpen, LiesIn, List, LoadAnswer}
-use Rattle.pagable_laws.proofs.Words.{MachineState, Mode, None, Ok, OpenLoad, Option, Owner, PagerState, Reading, ReadsItsTypes, ReadsRoot, Shelf, Some, Todo, Tree, WalkDoes, Walking, WellFormed}
-use Rattle.pagable_laws.proofs.Words.{WorkerAnswer, Written, [], and_parts, ap, arith, blob_of, cases_lt, false, find_row, held, identity_of, if_there, inl, inr, is_handle, is_in, is_named_by}
-use Rattle.pagable_laws.proofs.Words.{is_owned_by, is_owner, is_some, length, nat_eq, nat_tests, not, of_cell, one, owner_value, owner_worker, pins, reference-form, references_fault, references_in}
-use Rattle.pagable_laws.proofs.Words.{refl, row_at, rules, state_after, subst, suc, sym, times, to_finish, to_item, to_pin, to_release, to_set, to_start, to_write, tree, true, updated, world_of, zero}
-use Rattle.pagable_laws.{proofs.Words.{ℕ, ◌&&◌, ◌++◌, ◌+◌, ◌<◌, ◌==◌, ◌∙◌, ◌∷◌, ◌≡◌, ◌≤◌, ◌⊎◌}, specs.{FallLaws.{no_work, outer}, TwoLevels.{ArePremised, Sample, TwoLevelsMeetTheHeadline, machine}}}
-use Rattle.{pagable_laws.specs.TwoLevels.{sample, value_at}, pagable_model.specs.{Blob.preimage, Form.nothing-form, Keyed.throughout-alone, Trees.{none-followed, rest_of}}}
-use Rattle.pagable_world.specs.{Calls.{CountCall, IsNext, StoreCall, UnpinCall, row_of, with_key, with_mode}, Cascade.{Falls, IsLeast, MustList, fallen, is_keyed, loses_value, nobody, owned_outside}}
-use Rattle.pagable_world.specs.{Events.{Ends, ReadingsAre, WorkStays, no_shelf, reading_at, steps_after}, Kinds.{is_at, is_loose, is_pin, is_share, is_shared, sharing}, LoadCalls.{BeginCall, EndCall}}
-use Rattle.pagable_world.specs.{LoadCalls.{Installs, LazyCall}, Loads.{ReadingDoes, answers_from}, Pager.{EventBrings, IsCellOf, IsHandleBefore, IsIdle, IsReadingWhole, MayOwnLoad, ReadingBrings}}
-use Rattle.pagable_world.specs.{Pager.{ReplyWrites, StandsFor, TookWrites}, Refusals.named_fault, Runs.{Does, HoldsSettled, IsPremised, ReadsAsType, TodoTakesWell}, Workers.{claim_fault, fresh}}
-use Rattle.pagable_world.specs.{Workers.{is_counted, is_workers, is_workers_at, without_worker}, World.{HasForm, Root, SameShelf, digest, is_here, of_key, to_publish, type_at}}
-use Rattle.std.{proofs.{Common.All, lemmas.{Bool.{agree_below, agree_below_at}, List.Kept.AllPairs-cons}}, specs.{List.{AllByRecursion as Each, AllPairs}, Prelude.{IfSome, is_none, nat_le, nat_lt}}}
+use Rattle.pagable_laws.proofs.Words.{Bool, CloneCall, Core, Event, EventReply, HandleRow, Happens, IsLawful, IsMachineWhole, IsReadable, IsWellAsked, KeepsOpen, LiesIn, List, LoadAnswer, Mode, None}
+use Rattle.pagable_laws.proofs.Words.{MachineState, Ok, OpenLoad, Option, Owner, PagerState, Reading, ReadsItsTypes, ReadsRoot, Shelf, Some, Todo, Tree, WalkDoes, Walking, WellFormed, WorkerAnswer}
+use Rattle.pagable_laws.proofs.Words.{Written, [], and_parts, ap, arith, blob_of, cases_lt, false, find_row, held, identity_of, if_there, inl, inr, is_handle, is_in, is_named_by, is_owned_by, length}
+use Rattle.pagable_laws.proofs.Words.{is_owner, is_some, nat_eq, nat_tests, not, of_cell, one, owner_value, owner_worker, pins, reference-form, references_fault, references_in, refl, row_at, rules}
+use Rattle.pagable_laws.proofs.Words.{state_after, subst, suc, sym, times, to_finish, to_item, to_pin, to_release, to_set, to_start, to_write, tree, true, updated, world_of, zero, ℕ, ◌&&◌, ◌++◌, ◌+◌}
+use Rattle.pagable_laws.{proofs.Words.{◌<◌, ◌==◌, ◌∙◌, ◌∷◌, ◌≡◌, ◌≤◌, ◌⊎◌}, specs.{FallLaws.{no_work, outer}, TwoLevels.{ArePremised, Sample, TwoLevelsMeetTheHeadline, machine, sample, value_at}}}
+use Rattle.{pagable_model.specs.{Blob.preimage, Form.nothing-form, Keyed.throughout-alone, Trees.{none-followed, rest_of}}, pagable_world.specs.Calls.{CountCall, IsNext, UnpinCall, row_of, with_key}}
+use Rattle.pagable_world.specs.{Calls.with_mode, Cascade.{Falls, IsLeast, MustList, fallen, is_keyed, loses_value, nobody, owned_outside}, Events.{Ends, ReadingsAre, WorkStays, no_shelf, reading_at}}
+use Rattle.pagable_world.specs.{Events.steps_after, Kinds.{is_at, is_loose, is_pin, is_share, is_shared, sharing}, LoadCalls.{BeginCall, EndCall, Installs, LazyCall}, Loads.ReadingDoes}
+use Rattle.pagable_world.specs.{Loads.answers_from, Pager.{EventBrings, IsCellOf, IsHandleBefore, IsIdle, IsReadingWhole, MayOwnLoad, ReadingBrings, ReplyWrites, StandsFor, TookWrites}}
+use Rattle.pagable_world.specs.{Refusals.named_fault, Runs.{Does, HoldsSettled, IsPremised, ReadsAsType, TodoTakesWell}, Workers.{claim_fault, fresh, is_counted, is_workers, is_workers_at}}
+use Rattle.{pagable_world.specs.{Workers.without_worker, World.{HasForm, Root, SameShelf, digest, is_here, of_key, to_publish, type_at}}, std.proofs.{Common.All, lemmas.Bool.agree_below}}
+use Rattle.std.{proofs.lemmas.{Bool.agree_below_at, List.Kept.AllPairs-cons}, specs.{List.{AllByRecursion as Each, AllPairs}, Prelude.{IfSome, is_none, nat_le, nat_lt}}}
 use Rattle.pagable_laws.specs.TwoLevels as two
 use Rattle.pagable_model.specs.Meaning as meanings
 use Rattle.pagable_model.specs.Reading as grammar
@@ -223,21 +223,14 @@ module _ (w : Core) (vs : List (Option Sample)) (few : Few w) (p : Passes w vs) 
         references = λ n x r is among. good w (owner_value n) [] (sample.references x) (value n x is).3 r among;
       }
 
--- the worker is at work exactly until it has answered; what is read is a load of the caller's
+-- the worker is at work exactly until it has answered
 abbrev pub FitsWalking : Core → Option Walking → Type 0
 FitsWalking w None = w.workers 1 ≡ false
 FitsWalking w (Some x) = (x.table ≡ 1) × (w.workers 1 ≡ is_none x.answer)
 
-abbrev pub FitsReading : Core → Option Reading → Type 0
-FitsReading w None = Unit {0}
-FitsReading w (Some r) = IsReadingWhole w r.load.0 r
-
 -- all that is asked of a pager with these values
 abbrev pub Good : Core → List (Option two.Sample) → Type 0
 Good w vs = Few w × Passes w vs
-
-pub few-fallen : (w : Core) (gone : ℕ → Bool) → Few w → Few (fallen w gone [])
-few-fallen w gone few = (λ n lt. let e = few.0 n lt in grind (arith, nat_tests), few.1, few.2, few.3)
 
 pub same-shelf : (s : Shelf) → SameShelf s s
 same-shelf s = record { slots = λ i. refl; waits = λ v. refl }
@@ -264,9 +257,6 @@ Asks w s (to_release r key height ∷ below) = AreAlone w w (is_workers_at w 1 r
 Asks w s (to_item written keys ∷ below) = CanStore w written keys
 Asks w s todo = ⊥
 
-stored-so : (w : Core) (blob : Blob) → w.closed ≡ false → w.stored (digest two.sample blob) ≡ None → StoreCall (digest two.sample) w blob (Ok (digest two.sample blob)) (two.with_blob w blob)
-stored-so w blob is_open free = grind (arith, nat_tests, alike-self)
-
 does-so : (w : Core) (s : Shelf) (todo : List Todo) → Asks w s todo → let a = two.next_step w s todo in
     WalkDoes two.sample_seen 1 (record { core = w; shelf = s; todo = todo }) a.0 (record { core = a.1; shelf = a.2; todo = a.3 })
 does-so w s (to_pin r place ∷ below) (live, clone_live, here, few) =
@@ -276,11 +266,11 @@ does-so w s (to_pin r place ∷ below) (live, clone_live, here, few) =
     grind (arith, nat_tests, cloned, alike-self, same-shelf)
 does-so w s (to_set r through key height ∷ below) (live, alone) = let f = falls-alone w (with_key w r.node key) nobody alone in grind (arith, nat_tests, f, same-shelf)
 does-so w s (to_release r key height ∷ below) alone = search (same-shelf, falls-alone w w (is_workers_at w 1 r.node.0) alone)
-does-so w s todo ok = grind (arith, nat_tests, alike-self, same-shelf, stored-so)
+does-so w s todo ok = grind (arith, nat_tests, alike-self, same-shelf)
 
 -- the pager has few of each after the step, and after its answer
 few-next : (w : Core) (s : Shelf) (todo : List Todo) (answer : Option WorkerAnswer) → Few w → let a = two.next_step w s todo in Few (two.ended answer a.1)
-few-next w s x2 x3 few = grind (arith, nat_tests, few-fallen, updated-past)
+few-next w s x2 x3 few = grind (arith, nat_tests, updated-past)
 
 writes-so : (w : Core) (s : Shelf) (work : _) (todo : List Todo) → Asks w s todo → let a = two.next_step w s todo in TookWrites two.sample (λ w. w) (two.machine w two.two_values work).pager a.0
 writes-so w s work (to_write r place through ∷ below) (held, kind) = record { x = two.value_of r.node; held = held; form = form-of (two.value_of r.node) kind; listed = refl }
@@ -322,7 +312,7 @@ moves-so x works asks counts ends = let d = does-so x.core x.shelf x.todo asks i
 does : (s : MachineState two.Sample (Unit {0})) (event : Event two.Sample Blob Written) (reply : EventReply two.Sample Blob Written) (w : Core) (vs : List (Option two.Sample)) (shelf : Shelf)
     (walking : Option Walking) (reading : Option Reading) → let s' = two.machine w vs (two.work_of shelf walking reading) in Happens two.sample_seen (world_of s) event reply (world_of s')
     → ((n : ℕ) (x : two.Sample) → value_at vs n ≡ Some x → (s.pager.values n ≡ Some x) ⊎ ((s.pager.values n ≡ None) × EventBrings two.sample (world_of s) event n x))
-    → ReplyWrites two.sample_seen s.pager reply → Good w vs → FitsWalking w walking → FitsReading w reading → Does two.sample_seen s event reply s'
+    → ReplyWrites two.sample_seen s.pager reply → Good w vs → FitsWalking w walking → IfSome reading (λ r. IsReadingWhole w r.load.0 r) → Does two.sample_seen s event reply s'
 does s event reply w vs shelf walking reading happens come writes (few, p) walks reads =
     let whole : IsMachineWhole two.sample (two.machine w vs (two.work_of shelf walking reading)) =
     record { pager = whole-so w vs few p; readings = grind (arith, nat_tests); walkings = grind (arith, nat_tests); all_there = grind (arith, nat_tests) } in

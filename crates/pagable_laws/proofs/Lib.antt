@@ -1,6 +1,7 @@
 mod Words
 pub mod Again
 pub mod Trees
+mod Merkle
 pub mod Related
 pub mod Existing
 pub mod Goes
@@ -19,4 +20,5 @@ mod Level
 mod Deeply
 pub mod SparingSteps
 mod Sound
+mod OnePiece
 mod Laws

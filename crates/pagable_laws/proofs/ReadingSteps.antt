@@ -1,19 +1,19 @@
 -- The row of a handle that a load has got: it is new, of its node, and its mode fits the kind.
 use Rattle.pagable_laws.proofs.Called.{adopts, adopts-known, asks, begins, begins-key, call-knows, calls-go, clones, closes, ends-load, gets-known as was-known, hands-over, noted, pins, schedules}
 use Rattle.pagable_laws.proofs.{Called.stores, Decoding.among-left, Effects.{Effect, IsApart, IsHeldFor, IsMine, Lasts, Spares, ended-free, entry, fell, held-fell, moves, no-one, none, none-named}}
-use Rattle.pagable_laws.proofs.{Effects.{one-then, released-free, spares-then, stays, stays-alike, stays-fell, then-alike, then-fell, with-key, worker-apart}, Goes.{AreUpTo, Goes, KnowsNext}}
-use Rattle.pagable_laws.proofs.Goes.{NotLoads, Quiet, alike, alike-away, at-updated, fell-anyhow, find-both, find-left, goes-quiet, good, le-self, low-changed, low-whole, next-above, none-in-new}
-use Rattle.pagable_laws.proofs.{Goes.{parts, quiet-then, rows-self, stands-new}, Standing.{AllWait, WaitsWell}, Trees.{same_some, self-number}, Words.{Alike, Among, ArcRef, Beginning, Blob, Bool}}
-use Rattle.pagable_laws.proofs.Words.{Change, Claim, CloneCall, Core, Does, Err, Error, Event, EventReply, Frame, GetsKnown, HandleNumber, HandleRow, HandlesAreWhole, Happens, IsMachineWhole}
-use Rattle.pagable_laws.proofs.Words.{KeepsOpen, Kind, Last, List, LoadAnswer, LoadNumber, MachineState, NodeNumber, None, Ok, OpenLoad, Option, OptionalDataKey, Owner, Reading, ReadingFeels, Result}
-use Rattle.pagable_laws.proofs.Words.{Seen, Site, Some, Task, Todo, Took, Values, Walking, WorkerAnswer, WorkerNumber, WorkerReply, WorkerSteps, World, [], adopted, answer_after, ap, arith}
-use Rattle.pagable_laws.proofs.Words.{bears_known, false, find_row, first_key, give, inl, inr, is_named_by, is_some, mode_of, moved, nat_tests, next_node, nothing_felt, owner_value, owner_worker}
-use Rattle.pagable_laws.proofs.Words.{refl, row_at, rules, step_of, subst, sym, to_fail, to_load, to_pin, to_release, to_set, to_start, true, updated, world_of, ℕ, ◌++◌, ◌+◌, ◌<◌, ◌∙◌, ◌∷◌, ◌≡◌, ◌≤◌}
-use Rattle.pagable_laws.{proofs.Words.◌⊎◌, specs.TreeSteps.{EventFeels, GetsRow, IsFresh, IsSteppedReading, KeepsReadings, Needs, NewNode, SameNode, StaysAway, StepsReading, by-call, by-key}}
-use Rattle.{pagable_laws.specs.TreeSteps.{by-nothing, by-reading, gets-known, gets-lazy, makes-known, makes-node, reading-ends, reads-blob, reads-root, sets_key}, pagable_world.specs.Calls.SetKeyCall}
-use Rattle.pagable_world.specs.{Calls.{StoreCall, row_of, with_cached_if_open, with_known}, Cascade.{FallsAnyhow, only_handle}, Events.{Ends, ReadingsAre, Starts, Stays, new_walking, reading_after}}
-use Rattle.pagable_world.specs.{Events.{reading_at, with_worker}, Kinds.is_loose, Loads.{MakesNode, ReadingDoes, gone_on, with_got}, OneWorker.LeavesCache, Pager.{EventBrings, IsNewNode, IsReadingOf}}
-use Rattle.pagable_world.specs.{Pager.{IsWhole, OwnersAreThere, TodoBrings, of_caller, of_worker}, Refusals.Owns, Workers.{fresh, give_known, next_start, without_worker}, World.{Cell, digest, usable}}
+use Rattle.pagable_laws.proofs.{Effects.{one-then, released-free, spares-then, stays, stays-alike, stays-fell, then-alike, then-fell, with-key, worker-apart}, Goes.{AreUpTo, Goes, KnowsNext, Quiet}}
+use Rattle.pagable_laws.proofs.Goes.{NotLoads, alike, alike-away, at-updated, fell-anyhow, find-both, find-left, goes-quiet, good, le-self, low-changed, low-whole, next-above, none-in-new, parts}
+use Rattle.pagable_laws.proofs.{Goes.{quiet-then, rows-self, stands-new}, Standing.{AllWait, WaitsWell}, Trees.{same_some, self-number}, Words.{Alike, Among, ArcRef, Beginning, Blob, Bool, Change}}
+use Rattle.pagable_laws.proofs.Words.{Claim, CloneCall, Core, Does, Err, Error, Event, EventReply, Frame, GetsKnown, HandleNumber, HandleRow, HandlesAreWhole, Happens, IsMachineWhole, KeepsOpen, Ok}
+use Rattle.pagable_laws.proofs.Words.{Kind, Last, List, LoadAnswer, LoadNumber, MachineState, NodeNumber, None, OpenLoad, Option, OptionalDataKey, Owner, Reading, ReadingFeels, Result, Seen, Site, ℕ}
+use Rattle.pagable_laws.proofs.Words.{Some, Task, Todo, Took, Values, Walking, WorkerAnswer, WorkerNumber, WorkerReply, WorkerSteps, World, [], adopted, answer_after, ap, arith, bears_known, false}
+use Rattle.pagable_laws.proofs.Words.{find_row, first_key, give, inl, inr, is_named_by, is_some, mode_of, moved, nat_tests, next_node, nothing_felt, owner_value, owner_worker, refl, row_at, rules}
+use Rattle.pagable_laws.proofs.Words.{step_of, subst, sym, to_fail, to_load, to_pin, to_release, to_set, to_start, true, updated, world_of, ◌++◌, ◌+◌, ◌<◌, ◌∙◌, ◌∷◌, ◌≡◌, ◌≤◌, ◌⊎◌}
+use Rattle.pagable_laws.specs.TreeSteps.{EventFeels, GetsRow, IsFresh, IsSteppedReading, KeepsReadings, Needs, NewNode, SameNode, StaysAway, StepsReading, by-call, by-key, by-nothing, by-reading}
+use Rattle.{pagable_laws.specs.TreeSteps.{gets-known, gets-lazy, makes-known, makes-node, reading-ends, reads-blob, reads-root, sets_key}, pagable_world.specs.Calls.{SetKeyCall, StoreCall, row_of}}
+use Rattle.pagable_world.specs.{Calls.{with_cached_if_open, with_known}, Cascade.{FallsAnyhow, only_handle}, Events.{Ends, ReadingsAre, Starts, Stays, new_walking, reading_after, reading_at}}
+use Rattle.pagable_world.specs.{Events.with_worker, Kinds.is_loose, Loads.{MakesNode, ReadingDoes, gone_on, with_got}, OneWorker.LeavesCache, Pager.{EventBrings, IsNewNode, IsReadingOf, IsWhole}}
+use Rattle.pagable_world.specs.{Pager.{OwnersAreThere, TodoBrings, of_caller, of_worker}, Refusals.Owns, Workers.{fresh, next_start, without_worker}, World.{Cell, digest, usable}}
 use Rattle.pagable_world.specs.declared.{answers.Pinning.Pinning, events.{PinStep.PinStep, TableNumber.TableNumber}}
 
 pub cached-rows : (w : Core) (kind : Kind) (key : ℕ) (n : NodeNumber) → ((with_cached_if_open w kind key n).rows ≡ w.rows) × ((with_cached_if_open w kind key n).last ≡ w.last)
@@ -195,6 +195,10 @@ reading-knows x0 = grind (arith, nat_tests)
 
 -- What a worker's step does to the plain world, as trees feel it, and which loads it begins.
 
+-- where a worker stands before its step
+abbrev pub site_of : World → Walking → Site
+site_of u w = record { core = u.core; shelf = u.work.shelves w.table; todo = w.todo }
+
 pub works-free : (v : ℕ) → NotLoads (owner_worker v)
 works-free v l is = absurd (cc)
 
@@ -209,9 +213,6 @@ started place x1 x below x4 = grind (arith, nat_tests)
 
 given : (r : ArcRef) (key height : ℕ) (below : List Todo) → AllWait below → front_reading (give r key height below) ≡ None
 given r key height x3 well = grind (arith, nat_tests, started)
-
-given-known : (r : ArcRef) (key height : ℕ) (below : List Todo) → AllWait below → front_reading (give_known r key height below) ≡ None
-given-known r key height x3 well = grind (arith, nat_tests, given r key height x3 well)
 
 -- A load makes its step; the key is set through the worker's own loose handle; or nothing is felt. But for the first, a load at the front afterwards has just begun.
 pub data WalkFeels {N B W : Type 0} (m : Seen N B W) (v : ℕ) (s s' : Site) (todo : List Todo) : Change → Type 0 where
@@ -300,7 +301,7 @@ module _ {N B W : Type 0} (m : Seen N B W) (v : ℕ) (s s' : Site) where
       let unmoved : Alike s.core s'.core → Effect (owner_worker v) false (Unit {0}) (Unit {0}) false nothing_felt s.core s'.core = stays in
       let stored : (blob : Blob) (r : Result ℕ Error) → StoreCall (digest m.values) s.core blob r s'.core → Effect (owner_worker v) false (Unit {0}) (Unit {0}) false nothing_felt s.core s'.core =
       λ blob r c. stores r c in
-      grind (arith, nat_tests, rests, unmoved, stored, given-known, loads-on, started)
+      grind (arith, nat_tests, rests, unmoved, stored, given, loads-on, started)
 
 -- What trees feel of each event that doesn't close the storage.
 
@@ -382,7 +383,7 @@ module _ {N B W : Type 0} (m : Seen N B W) (u u' : World) where
         keeps-but s.readings k.0 (record s.walking { todo = s.after.todo; steps = reply.steps; answer = reply.answer }) s.work.same_walkings
         (λ reading is. let a = anew reading is in let b = a.2 in (a.0, a.1, omega (arith, b, le)))
 
-    worker-feels : (c : Change) → WalkFeels m k.0 (record { core = u.core; shelf = u.work.shelves s.walking.table; todo = s.walking.todo }) s.after s.walking.todo c
+    worker-feels : (c : Change) → WalkFeels m k.0 (site_of u s.walking) s.after s.walking.todo c
         → IsWhole u.core → EventFeels {B = B} m.values u (Event.WorkerStep k) (EventReply.WorkerMoved (Ok reply)) u' c
     worker-feels c (walk-loads c2 r place through reading below todo t opens feels) whole =
         let none : reply.answer ≡ None = s.answers ∙ ap (λ x. answer_after x reply.took) todo in
@@ -397,7 +398,7 @@ module _ {N B W : Type 0} (m : Seen N B W) (u u' : World) where
 
     worker-steps : EventGoes m u (Event.WorkerStep k) (EventReply.WorkerMoved (Ok reply)) u'
     worker-steps =
-        let f = walk-goes m k.0 (record { core = u.core; shelf = u.work.shelves s.walking.table; todo = s.walking.todo }) s.after s.walking.todo reply.took s.does.does in
+        let f = walk-goes m k.0 (site_of u s.walking) s.after s.walking.todo reply.took s.does.does in
         record {
           change = f.change;
           goes = goes-quiet f.goes (ends-quiet reply.answer k.0 s.ends);

@@ -2,24 +2,23 @@
 -- An event leaves each handle of a worker as it is that doesn't make it, and what the cache gives for a kind and a key, where the node is held before and after. What a worker's step
 -- does leaves the handles of the list too, so that this gets no shorter.
 -- Two kinds or keys never get one identity through one cache, and one kind and key gets the same for as long as its node is held.
-use Rattle.pagable_laws.proofs.{Called.{gets-known as was-known, releases}, Decoding.{asks-by-kinds, decodes, kinds-pushed, kinds_of, read_stands}, Effects.{Effect, IsHeldFor, IsOther, can-use}}
-use Rattle.pagable_laws.proofs.{Effects.{list-apart, named, stays-alike, stays-fell}, Following.{given-of, handles-once, one-less}, Goes.{Goes, IsShut, KnowsNext, Stands, a-handle, adopts, alike}}
-use Rattle.pagable_laws.proofs.Goes.{among-found, fell-anyhow, found-number, goes-quiet, none-found, once, quiet-goes, quiet-then, same-owner, stands-changed, stands-fell, stands-whole}
+use Rattle.pagable_laws.specs.TreeSteps.{EventFeels, GetsRow, HandsOver, IsFresh, KeepsStored, Needs, gets-known, gets-lazy, makes-known, makes-node, reading-ends, reads-blob, reads-root}
 use Rattle.pagable_laws.proofs.ReadingSteps.{AllWaitWell, cached-rows, caller-free, ends-spare, event-goes, got-born, got-fallen, got-known, is-cached, reading-feels, reading-open, reading-stands}
-use Rattle.pagable_laws.proofs.{ReadingSteps.{readings-on, walk-goes}, Taking.{Going, adopted-over, asked, eager-nested, first-fits, frames-stay, given-nodes, going-of, root-key, row-held, was-open}}
-use Rattle.pagable_laws.proofs.{Trees.{at-most-sum, counted, one-true, same-number, same_some, self-number, sum-le}, Words.{Alike, Among, ArcRef, AreMoments, Blob, Bool, Call, Change, Core, Error}}
-use Rattle.pagable_laws.proofs.Words.{Event, EventReply, Frame, FramesFit, GetsKnown, HandleNumber, HandleRow, HandlesAreWhole, Happens, IsIdle, IsLawful, IsMachineWhole, IsReference, KeepsOpen, Kind}
-use Rattle.pagable_laws.proofs.Words.{Last, List, LoadAnswer, LoadNumber, MachineState, Moment, NodeNumber, None, Ok, OpenLoad, Option, OptionalDataKey, Owner, PagerState, Reading, ReadingFeels}
-use Rattle.pagable_laws.proofs.Words.{ReadsItsTypes, ReadsRoot, ReadsTree, Represents, Result, Seen, Site, Some, Took, Tree, Types, Values, WellFormed, WorkerAnswer, World, [], adopted, and_parts, ap}
-use Rattle.pagable_laws.proofs.Words.{arith, false, find_row, first_key, held, inl, inr, is_eager, is_handle, is_in, is_owned_by, length, mode_of, moved, nat_tests, next_in, next_node, not}
-use Rattle.pagable_laws.proofs.Words.{nothing_felt, one, owner_worker, refl, root_frame, rules, slice_get_within, state_after, step_of, subst, suc, sum_by-cons, sym, times, true, type_of, with_handle}
-use Rattle.pagable_laws.{proofs.Words.{world_of, zero, ℕ, ◌&&◌, ◌*◌, ◌++◌, ◌+◌, ◌<◌, ◌==◌, ◌∙◌, ◌∷◌, ◌≡◌, ◌≤◌, ◌⊎◌}, specs.TreeSteps.{EventFeels, GetsRow, HandsOver, IsFresh, KeepsStored, Needs}}
-use Rattle.{pagable_laws.specs.TreeSteps.{gets-known, gets-lazy, makes-known, makes-node, reading-ends, reads-blob, reads-root}, pagable_world.specs.{Calls.{ReleaseCall, with_node}, Events.Ends}}
-use Rattle.pagable_world.specs.{Events.LoadSteps, Headline.{LoadsHaveStepsLeft, ReadGives, ReadIsRight, StepIsWithin}, LoadCalls.{HandOverCall, is_owned_in, numbers_of}, Loads.Does as LoadDoes}
-use Rattle.pagable_world.specs.{Loads.{asks, gone_on, handles_of, need_of, needs_nested, nested_frame, to_adopt, with_got}, OneWorker.{GetsReference, IsFilledByReading, LeavesCache, OneIdentityLaw}}
-use Rattle.pagable_world.specs.{OneWorker.StaysAlive, Order.{IsWithinBound, Unfolds, UnfoldsFrom, after_kinds, unfolds}, Pager.{FrameFits, IsReadingOf, IsWhole, NodeStands, OwnersAreThere, SameTrees}}
-use Rattle.{pagable_world.specs.{Pager.StandsFor, Runs.Does, World.{type_at, usable}, declared.events.LoadReply.LoadReply}, std.proofs.{Common.get_or, lemmas.List.Edits.length-remove}}
-use Rattle.std.{proofs.lemmas.{List.Sums.sum_by-remove, Option.{get_or_from_slice_get, slice_get-get_or}}, specs.List.remove}
+use Rattle.pagable_laws.proofs.{ReadingSteps.{readings-on, walk-goes}, Words.{Alike, Among, ArcRef, AreMoments, Blob, Bool, Call, Change, Core, Error, Event, EventReply, Frame, FramesFit, GetsKnown}}
+use Rattle.pagable_laws.proofs.Words.{HandleNumber, HandleRow, HandlesAreWhole, Happens, IsLawful, IsMachineWhole, IsReference, KeepsOpen, Kind, Last, List, LoadAnswer, LoadNumber, MachineState, None}
+use Rattle.pagable_laws.proofs.Words.{Moment, NodeNumber, Ok, OpenLoad, Option, OptionalDataKey, Owner, PagerState, Reading, ReadingFeels, ReadsItsTypes, ReadsRoot, ReadsTree, Represents, Result, []}
+use Rattle.pagable_laws.proofs.Words.{Seen, Site, Some, Took, Tree, Types, Values, WellFormed, WorkerAnswer, World, adopted, and_parts, ap, arith, false, find_row, first_key, held, inl, inr, is_eager}
+use Rattle.pagable_laws.proofs.Words.{is_handle, is_in, is_owned_by, length, mode_of, moved, nat_tests, next_in, next_node, not, nothing_felt, one, owner_worker, refl, root_frame, rules, state_after}
+use Rattle.pagable_laws.proofs.Words.{slice_get_within, step_of, subst, suc, sum_by-cons, sym, times, true, type_of, with_handle, world_of, zero, ℕ, ◌&&◌, ◌*◌, ◌++◌, ◌+◌, ◌<◌, ◌==◌, ◌∙◌, ◌∷◌, ◌≡◌}
+use Rattle.pagable_laws.proofs.{Decoding.{asks-by-kinds, decodes, kinds-pushed, kinds_of, read_stands}, Trees.{at-most-sum, counted, one-true, same-number, same_some, self-number}, Words.{◌≤◌, ◌⊎◌}}
+use Rattle.pagable_laws.proofs.{Effects.{Effect, IsHeldFor, IsOther}, Taking.{Going, adopted-over, asked, eager-nested, first-fits, frames-stay, given-nodes, going-of, root-key, row-held, was-open}}
+use Rattle.pagable_laws.proofs.{Effects.{can-use, list-apart, named, stays-alike, stays-fell}, Following.{given-of, owned-once}, Goes.{Goes, IsShut, KnowsNext, Stands, a-handle, adopts, alike, once}}
+use Rattle.pagable_laws.proofs.{Called.releases, Goes.{among-found, fell-anyhow, found-number, goes-quiet, none-found, quiet-goes, quiet-then, same-owner, stands-changed, stands-fell, stands-whole}}
+use Rattle.{pagable_laws.proofs.Called.gets-known as was-known, std.proofs.{Common.get_or, lemmas.{List.{Edits.length-remove, Sums.sum_by-remove}, Option.{get_or_from_slice_get, slice_get-get_or}}}}
+use Rattle.{pagable_world.specs.{Loads.{Does as LoadDoes, asks, gone_on, handles_of, need_of, needs_nested, nested_frame, to_adopt, with_got}, Pager.FrameFits, Runs.Does}, std.specs.List.remove}
+use Rattle.pagable_world.specs.{Events.{Ends, LoadSteps}, OneWorker.GetsReference, Pager.{IsReadingOf, IsWhole, NodeStands, OwnersAreThere, SameTrees, StandsFor}, declared.events.LoadReply.LoadReply}
+use Rattle.pagable_world.specs.{Headline.{LoadsHaveStepsLeft, ReadGives, ReadIsRight, StepIsWithin}, OneWorker.{IsFilledByReading, LeavesCache, OneIdentityLaw, StaysAlive}, World.{type_at, usable}}
+use Rattle.pagable_world.specs.{Calls.{ReleaseCall, with_node}, LoadCalls.{HandOverCall, is_owned_in, numbers_of}, Order.{IsWithinBound, Unfolds, UnfoldsFrom, after_kinds, unfolds}}
 use Rattle.pagable_world.specs.Workers as workers
 pub use Rattle.pagable_laws.proofs.Effects.{IsEntered, Spares, both-none as neither, entered-of, named-among, spares-then}
 
@@ -237,9 +236,6 @@ module _ {N E B W : Type 0} (m : Seen N B W) (s s' : MachineState N E) (whole : 
       subst (λ (r : Reading). IsWithinBound m.values.types s.pager.core.stored r.node_type load.key reply) same (steps-within all h.moves load open_load)
   step-within stands event reply h = tt
 
-pub idle-bounded : {N E : Type 0} (types : Types) (s : MachineState N E) → IsIdle s → LoadsStand types (world_of s)
-idle-bounded types s idle = grind (arith, nat_tests)
-
 pub steps-left : {N E : Type 0} (v : Values N) (s : MachineState N E) → LoadsStand v.types (world_of s) → LoadsHaveStepsLeft v (world_of s)
 steps-left v s (inl shut) reading load is is_open = λ many longest under. absurd (nothing-unfolds shut.1 under)
 steps-left v s (inr all) reading load is is_open = let b = (all reading is).1 load is_open in λ many longest under. search (rules, owes-some)
@@ -301,10 +297,8 @@ none-shorter {w} {w'} whole whole' spares = fewer w.list w'.list (λ q. each q (
         let both = and_parts (is_handle q x.0) (is_owned_by Owner.List x.0) (one-true _ x.2) in
         let s = spares.each q x.0 (same-owner Owner.List x.0.owner both.1) (stands-whole whole.handles q x.0 (found whole.handles q x.0 x.1 (same-number _ _ both.0))) in
         let there = at-most-sum (λ h. one (own q h)) w'.rows x.0 (among-found q w'.rows x.0 s.live) in
-        let few = handles-once whole.handles q in
-        let le = sum-le (λ h. one (own q h)) (λ h. one (is_handle q h)) w.rows (λ h among. one-less (is_handle q h) (is_owned_by Owner.List h)) in
         let a = whole.owners_there.listed q in let b = whole'.owners_there.listed q in let c = x.2 in
-        omega (arith, there, few, le, a, b, c)
+        omega (arith, there, owned-once whole.handles Owner.List q, a, b, c)
 
 -- a reference that is got is of the node that the cache gives, and has as long as the node is held; or of the next one where it gives none
 data Got (w : Core) (kind : Kind) (key n : ℕ) (w' : Core) : Type 0 where

@@ -1,9 +1,9 @@
 -- What a worker's step does to the slots of its table: each grows, and only those of the worker change.
-use Rattle.pagable_laws.proofs.{Trees.same-number, Words.{Among, ArcRef, Bool, HandleNumber, Identity, IsPublished, List, None, Option, Shelf, Slot, Some, Task, Todo, Took, Walking, WorkerAnswer}}
-use Rattle.pagable_laws.proofs.Words.{Written, [], above, and_parts, ap, arith, cases_Bool, drop, false, give, identity_of, if_there, if◌then◌else◌, inl, inr, is_some, max, nat_eq, nat_tests}
-use Rattle.pagable_laws.proofs.Words.{no_result, of_entry, of_item, refl, rules, subst, suc, sym, to_fail, to_finish, to_item, to_load, to_pin, to_release, to_set, to_start, to_write, true, ℕ, ◌++◌}
-use Rattle.{pagable_laws.proofs.Words.{◌<◌, ◌==◌, ◌||◌, ◌∙◌, ◌∷◌, ◌≡◌, ◌≤◌, ◌⊎◌}, pagable_world.specs.{Headline.{Meets, meets-below, meets-entry, meets-of-item}, Order.Follows, Workers.first_todo}}
-use Rattle.pagable_world.specs.{Workers.{is_open_outcome, next_start, settle, with_changed_slot, with_failed, with_outcome, with_slot}, World.{Fault, Open, Outcome, SameShelf, failed, is_identity}}
+use Rattle.pagable_laws.proofs.{Trees.same-number, Words.{Among, ArcRef, Bool, HandleNumber, Identity, IsPublished, List, None, Option, Shelf, Slot, Some, Task, Todo, Took, Walking, WorkerAnswer, ℕ}}
+use Rattle.pagable_laws.proofs.Words.{Written, [], above, and_parts, arith, cases_Bool, drop, false, give, identity_of, if_there, if◌then◌else◌, inl, inr, is_some, max, nat_eq, nat_tests, no_result}
+use Rattle.pagable_laws.proofs.Words.{of_entry, of_item, refl, rules, subst, suc, sym, to_fail, to_finish, to_item, to_load, to_pin, to_release, to_set, to_start, to_write, true, ◌++◌, ◌<◌, ◌==◌}
+use Rattle.{pagable_laws.proofs.Words.{◌||◌, ◌∙◌, ◌∷◌, ◌≡◌, ◌≤◌, ◌⊎◌}, pagable_world.specs.{Headline.{Meets, meets-below, meets-entry, meets-of-item}, Order.Follows, Workers.{first_todo, settle}}}
+use Rattle.pagable_world.specs.{Workers.{is_open_outcome, next_start, with_changed_slot, with_failed, with_outcome, with_slot}, World.{Fault, Open, Outcome, SameShelf, failed, is_identity}}
 use Rattle.{pagable_world.specs.World.to_publish, std.proofs.lemmas.Bool.{or_cases, or_right}}
 
 -- the slot has the same worker, and what was written and the result stay
@@ -201,13 +201,10 @@ among-drop x0 x1 r among = grind (arith, nat_tests)
 
 module _ (v : ℕ) (task : Task) where
   module _ (shelf : Shelf) (i : Identity) where
-    of-claim : (j : Identity) {so : Option Written → Type 0} → HasClaim shelf v j so → is_identity i j ≡ true → (slot : Slot) × (shelf.slots i ≡ Some slot)
-    of-claim j c is = (c.slot, sym (ap shelf.slots (is-same i j is)) ∙ c.claimed)
-
     -- what is open has a slot
     pub open-slot : (todo : List Todo) → AllStand shelf v task todo → is_open_in i todo ≡ true → (slot : Slot) × (shelf.slots i ≡ Some slot)
     open-slot [] all is = absurd (cc)
-    open-slot (x ∷ below) (stands, apart, rest) is = elim (or_cases (is_open_of i x) (is_open_in i below) is) [ inl a ↦ (grind (arith, nat_tests, of-claim)) | inr b ↦ open-slot below rest b ]
+    open-slot (x ∷ below) (stands, apart, rest) is = elim (or_cases (is_open_of i x) (is_open_in i below) is) [ inl a ↦ (grind (arith, nat_tests, is-same)) | inr b ↦ open-slot below rest b ]
 
   -- each claim without a result is worked at
   abbrev pub CoversBy : Shelf → List Todo → Type 0

@@ -1,9 +1,9 @@
 -- What tables and to-do lists hold of trees goes on as long as what is stored and each node's tree stay; and what a change of a table comes to.
-use Rattle.pagable_laws.proofs.{Coming.{EventTurns, StandsIn, same-grow, turns-grow, turns-keep}, Following.{IdentityStands, key-stands, leads-on, wrote}, Standing.{AllStand, HasClaim, KeepsKeys}}
-use Rattle.pagable_laws.proofs.{Standing.{PutsSlot, ShelfGrows, among-drop, changes-slot, keys-grow, put-cases, puts-slot, some-same}, Trees.followed-all, Words.{Among, ArcRef, Blob, Bool, Claim}}
-use Rattle.pagable_laws.proofs.Words.{Does, Event, EventReply, FollowsTo, HandleNumber, HoldsSettled, Identity, IsLawful, IsMachineWhole, IsPublished, List, MachineState, None, Ok, Option}
-use Rattle.pagable_laws.proofs.Words.{ReadsItsTypes, Represents, Seen, Shelf, Site, Slot, Some, Task, Todo, Took, Tree, Values, WorkFits, Written, [], above, answer_after, ap, arith, blob_of, drop}
-use Rattle.pagable_laws.proofs.Words.{give, identity_of, if◌then◌else◌, inl, inr, is_eager, length, max, nat_eq, nat_tests, no_result, of_entry, of_item, refl, rules, subst, suc, sym, to_fail}
+use Rattle.pagable_laws.proofs.{Coming.{EventTurns, StandsIn, same-grow, turns-grow, turns-keep}, Following.{IdentityStands, key-stands, leads-on, wrote}, ReadingSteps.site_of, Standing.AllStand}
+use Rattle.pagable_laws.proofs.{Standing.{HasClaim, KeepsKeys, PutsSlot, ShelfGrows, among-drop, changes-slot, keys-grow, put-cases, puts-slot, some-same}, Trees.followed-all, Words.{Among, ArcRef}}
+use Rattle.pagable_laws.proofs.Words.{Blob, Bool, Claim, Does, Event, EventReply, FollowsTo, HandleNumber, HoldsSettled, Identity, IsLawful, IsMachineWhole, IsPublished, List, MachineState, None, Ok}
+use Rattle.pagable_laws.proofs.Words.{Option, ReadsItsTypes, Represents, Seen, Shelf, Site, Slot, Some, Task, Todo, Took, Tree, Values, WorkFits, Written, [], above, answer_after, ap, arith, blob_of}
+use Rattle.pagable_laws.proofs.Words.{drop, give, identity_of, if◌then◌else◌, inl, inr, is_eager, length, max, nat_eq, nat_tests, no_result, of_entry, of_item, refl, rules, subst, suc, sym, to_fail}
 use Rattle.pagable_laws.{proofs.Words.{to_finish, to_item, to_release, to_set, to_start, to_write, true, type_of, world_of, zero, ℕ, ◌++◌, ◌+◌, ◌==◌, ◌∙◌, ◌∷◌, ◌≡◌, ◌≤◌}, specs.TreeSteps.Above}
 use Rattle.pagable_laws.specs.TreeSteps.{AllLow, BlobStands, Expects, Ground, HasBlob, HasRoom, IsAttained, IsDone, IsLow, KeyStands, KeysSoFar, Placed, SlotFits, SlotsFit, Waits, Walks, WroteTree}
 use Rattle.{pagable_laws.specs.TreeSteps.ground_of, pagable_world.specs.{Calls.Stores, Events.Ends, Headline.AreKeysOf, Pager.{ReplyWrites, TookWrites}, Plain.longest_path, Workers.claim_fault}}
@@ -170,12 +170,11 @@ module _ {N B W : Type 0} (m : Seen N B W) (n : ℕ) {g g' : Ground} (task : Tas
   still r below above = above-on s.shelf s'.shelf more task r below above
 
   -- what one step of a worker leaves
-  record Fits : Type 0 where
-    slots : SlotsFit m.values g' s'.shelf
-    walks : Walks m.values g' s'.shelf task s'.todo
+  abbrev Fits : Type 0
+  Fits = SlotsFit m.values g' s'.shelf × Walks m.values g' s'.shelf task s'.todo
 
   did : SlotsFit m.values g' s'.shelf → {next : List Todo} → s'.todo ≡ next → Walks m.values g' s'.shelf task next → Fits
-  did slots e walks = record { slots = slots; walks = subst (λ t. Walks m.values g' s'.shelf task t) (sym e) walks }
+  did slots e walks = (slots, subst (λ t. Walks m.values g' s'.shelf task t) (sym e) walks)
 
   module _ (same : (i : Identity) → s'.shelf.slots i ≡ s.shelf.slots i) where
     kept : SlotsFit m.values g' s'.shelf
@@ -282,9 +281,8 @@ module _ {N B W E : Type 0} (m : Seen N B W) (s s' : MachineState N E) (trees tr
       (λ n shelf t task. starts-well shelf task) (λ k r w one more.
       let ends : answer_after w.walking.todo r.took ≡ None → (key : ℕ) (b : Blob) → w.after.core.stored key ≡ Some b → s'.pager.core.stored key ≡ Some b =
       λ none key b is. (let e = subst (λ a. Ends a k.0 w.after.core s'.pager.core) (w.answers ∙ none) w.ends in e.stored key ∙ is) in
-      let d = stepped m k.0 w.walking.task (record { core = s.pager.core; shelf = s.work.shelves w.walking.table; todo = w.walking.todo }) w.after goes more (fit.slots w.walking.table) claimable
+      stepped m k.0 w.walking.task (site_of (world_of s) w.walking) w.after goes more (fit.slots w.walking.table) claimable
       r.took (λ i out is. wrote represents whole.pager settled reads lawful i.node.0 (m.written_of out)
       (subst (λ (t : Took W). TookWrites m.values m.written_of s.pager t) is (grind (arith, nat_tests))))
-      ends w.walking.todo refl r.took refl w.does.does (work.workers k.0 w.walking w.at).all (fit.walks k.0 w.walking w.at) in
-      (d.slots, d.walks)) turns.own in
+      ends w.walking.todo refl r.took refl w.does.does (work.workers k.0 w.walking w.at).all (fit.walks k.0 w.walking w.at)) turns.own in
       record { slots = h.slots; walks = h.walks }

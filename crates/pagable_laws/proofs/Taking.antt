@@ -1,21 +1,20 @@
 -- What a load reads goes on fitting, whatever it gets, and fits after its step; and a node whose value is in memory gives its tree, as does what a load of a key answers.
 -- What each step brings fits some trees afterwards: where a pager stands for trees, each value and key leads to its node's tree by its own references alone, and from
 -- this it stands for them again, so that what is asked of a node is shown at each node by itself.
-use Rattle.pagable_laws.proofs.{Decoding.{FramesAsked, asks_next, decodes, meant-refs, none-got, one-got}, Following.{cell-of, given-of, halves, held-of, leads-on, one-node, stands-leads}}
+use Rattle.pagable_world.specs.{Headline.GivesTree, Loads.{Next, ReadsNode, asks, gone_on, need_at, need_of, needs_lazy, needs_nested, nested_frame, to_adopt, with_got}, Runs.{AsksWell, TakesWell}}
+use Rattle.pagable_world.specs.Pager.{CallBrings, FrameFits, IsCellOf, IsNewNode, IsReadingOf, KeyFits, MeaningStands, Moves, NodeStands, ReadingBrings, ReadsNodeTree, SameTrees, away, here}
+use Rattle.pagable_world.specs.{Pager.{followed-stands, integer-stands, none-stands, number-stands, pair-stands, pattern-stands, reference-stands, text-stands, variant-stands}, Plain.is_pinned_kind}
+use Rattle.{pagable_laws.proofs.Words.{Among, ArcRef, Blob, Bool, Call, Change, Core, Frame, FramesFit, HandleNumber, HandleRow, HandlesAreWhole, IsLawful}, pagable_world.specs.Kinds.{is_at, is_pin}}
+use Rattle.pagable_laws.proofs.Words.{HoldsSettled, IsReference, Kind, List, LoadAnswer, LoadNumber, MachineState, Meaning, None, OpenLoad, Option, OptionalDataKey, Owner, PagerState, Reading, Reply}
+use Rattle.pagable_laws.proofs.Words.{ReadingFeels, ReadingFits, ReadsItsTypes, ReadsRoot, ReadsTree, Represents, Some, Tree, Types, ValueStands, Values, WellFormed, [], ap, arith, bears_known, held}
+use Rattle.pagable_laws.proofs.Words.{cases_lt, false, first_key, followed, if◌then◌else◌, inl, inr, integer-leads, is_eager, is_pinning, is_some, key_at, length, length-append, nat_tests, next_in}
+use Rattle.pagable_laws.proofs.Words.{none, nothing_felt, one, pair, pins, reference, references_in, refl, root_frame, row_at, rules, slice_get, slice_get_within, subst, suc, sym, tree, true, zero}
+use Rattle.pagable_laws.proofs.{Following.{cell-of, given-of, halves, held-of, leads-on, one-node, stands-leads}, Words.{type_of, updated, variant, ℕ, ◌++◌, ◌+◌, ◌<◌, ◌==◌, ◌∙◌, ◌∷◌, ◌≡◌, ◌≤◌, ◌⊎◌}}
 use Rattle.pagable_laws.proofs.{Goes.{among-found, updated-at}, ReadingSteps.{new-node, old-node}, Related.along-rename, Trees.{at-most-sum, followed-all, one_tree, same_some, self-number, tree_is}}
-use Rattle.pagable_laws.proofs.Words.{Among, ArcRef, Blob, Bool, Call, Change, Core, Frame, FramesFit, HandleNumber, HandleRow, HandlesAreWhole, HoldsSettled, IsLawful, IsReference, Kind, List}
-use Rattle.pagable_laws.proofs.Words.{LoadAnswer, LoadNumber, MachineState, Meaning, None, OpenLoad, Option, OptionalDataKey, Owner, PagerState, Reading, ReadingFeels, ReadingFits, ReadsItsTypes}
-use Rattle.pagable_laws.proofs.Words.{ReadsRoot, ReadsTree, Reply, Represents, Some, Tree, Types, ValueStands, Values, WellFormed, [], ap, arith, bears_known, cases_lt, false, first_key, followed}
-use Rattle.pagable_laws.proofs.Words.{held, if◌then◌else◌, inl, inr, integer-leads, is_eager, is_pinning, is_some, key_at, length, length-append, nat_tests, next_in, none, nothing_felt, one, pair}
-use Rattle.pagable_laws.proofs.Words.{pins, reference, references_in, refl, root_frame, row_at, rules, slice_get, slice_get_within, subst, suc, sym, tree, true, type_of, updated, variant, zero, ℕ}
-use Rattle.pagable_laws.{proofs.Words.{◌++◌, ◌+◌, ◌<◌, ◌==◌, ◌∙◌, ◌∷◌, ◌≡◌, ◌≤◌, ◌⊎◌}, specs.TreeSteps.{CallFeels, ChangeFits, CoreGoes, Decoded, FramesHeld, GetsRow, GotStands, IsFresh, KeepsStored}}
-use Rattle.pagable_laws.specs.TreeSteps.{LeadsTo, Needs, NodeLeads, SameNode, StaysAway, ValueLeads, bears_node, feels-adopted, feels-away, feels-birth, feels-end, feels-key, feels-known, feels-lazy}
-use Rattle.pagable_laws.specs.TreeSteps.{feels-nothing, followed-leads, gets-known, gets-lazy, makes-known, makes-node, none-leads, number-leads, pair-leads, pattern-leads, reading-ends, reads-blob}
-use Rattle.{pagable_laws.specs.TreeSteps.{reads-root, reference-leads, sets_key, text-leads, variant-leads}, pagable_model.specs.Meaning.{integer, number, pattern, text}}
-use Rattle.pagable_world.specs.{Headline.GivesTree, Kinds.{is_at, is_pin}, Loads.{Next, ReadsNode, asks, gone_on, need_at, need_of, needs_lazy, needs_nested, nested_frame, to_adopt, with_got}}
-use Rattle.pagable_world.specs.Pager.{CallBrings, FrameFits, IsCellOf, IsNewNode, IsReadingOf, KeyFits, MeaningStands, Moves, NodeStands, ReadingBrings, ReadsNodeTree, SameTrees, away}
-use Rattle.pagable_world.specs.Pager.{followed-stands, here, integer-stands, none-stands, number-stands, pair-stands, pattern-stands, reference-stands, text-stands, variant-stands}
-use Rattle.pagable_world.specs.{Plain.is_pinned_kind, Runs.{AsksWell, TakesWell}}
+use Rattle.pagable_laws.{proofs.Decoding.{FramesAsked, asks_next, decodes, meant-refs, none-got, one-got}, specs.TreeSteps.{CallFeels, ChangeFits, CoreGoes, Decoded, FramesHeld, GetsRow, GotStands}}
+use Rattle.pagable_laws.specs.TreeSteps.{IsFresh, KeepsStored, LeadsTo, Needs, NodeLeads, SameNode, StaysAway, ValueLeads, bears_node, feels-adopted, feels-away, feels-birth, feels-end, feels-key}
+use Rattle.pagable_laws.specs.TreeSteps.{feels-known, feels-lazy, feels-nothing, followed-leads, gets-known, gets-lazy, makes-known, makes-node, none-leads, number-leads, pair-leads, pattern-leads}
+use Rattle.{pagable_laws.specs.TreeSteps.{reading-ends, reads-blob, reads-root, reference-leads, sets_key, text-leads, variant-leads}, pagable_model.specs.Meaning.{integer, number, pattern, text}}
 
 -- what holds of each reference that was got
 abbrev pub AllGot : (ArcRef → Type 0) → List Frame → Type 0
@@ -77,10 +76,6 @@ module _ (types : Types) (root_key root_type : ℕ) where
     unfolding FramesFit
     first-fits top x1 h = grind (arith, nat_tests)
 
-    pub first-typed : (top frame : Frame) (below : List Frame) → FramesFit types stored trees root_key root_type (top ∷ frame ∷ below) → top.node_type ≡ type_of top.kind.0
-    unfolding FramesFit
-    first-typed top frame below h = h.1
-
 module _ (P : ArcRef → Type 0) where
   pub all-none : (frames : List Frame) → frames ≡ [] → AllGot P frames
   all-none frames bare frame r among got = let there = subst (λ fs. Among fs frame) bare among in absurd (let e = there.1 in cc)
@@ -134,13 +129,10 @@ got-new : {w w' : Core} (l : LoadNumber) (kind : Kind) (n : ℕ) (row : HandleRo
 got-new {w' = w'} l kind n row whole g = let few = (whole.nodes_numbered row.node.0 (cell-of whole row.node.0 (row-held w' row.number row g.live))).1 in grind (arith, nat_tests)
 
 -- what was read fits, what was got names nodes as it should, and was asked for
-pub record FitAfter {N : Type 0} (v : Values N) (w : Core) (trees : ℕ → Tree) (l : LoadNumber) (root_key root_type : ℕ) (frames : List Frame) : Type 0 where
-  pub fit : FramesFit v.types w.stored trees root_key root_type frames
-  pub held : FramesHeld w l frames
+pub record FitAfter {N : Type 0} (v : Values N) (w : Core) (trees : ℕ → Tree) (reading : Reading) (load : OpenLoad) (frames : List Frame) : Type 0 where
+  pub fit : FramesFit v.types w.stored trees load.key reading.node_type frames
+  pub held : FramesHeld w reading.load frames
   pub asked : FramesAsked v.types frames
-
-abbrev pub FitOf : {N : Type 0} → Values N → Core → (ℕ → Tree) → Reading → OpenLoad → List Frame → Type 0
-FitOf v w trees reading load frames = FitAfter v w trees reading.load load.key reading.node_type frames
 
 pub given-nodes : {w : Core} {l : LoadNumber} (frames : List Frame) → FramesHeld w l frames → AllGot (λ r. r.node.0 ≤ w.last.node) frames
 given-nodes frames held frame r among got = (held frame r among got).node_given
@@ -167,35 +159,36 @@ pub was-open : {c : Change} {w w' : Core} → CoreGoes c w w' → (l : ℕ) (loa
 was-open goes l load within is = elim (goes.loads l load is) [ inl was ↦ was | inr (above, begins) ↦ absurd (omega (arith, within, above)) ]
 
 module _ {N E : Type 0} {v : Values N} {s s' : PagerState N E} {trees trees' : ℕ → Tree} (whole : WellFormed v s) (whole' : WellFormed v s') (stands : Represents v s trees) where
-  module _ (l : LoadNumber) (k t : ℕ) where
+  module _ (reading : Reading) (load : OpenLoad) where
     -- the blob of the reference that it needs is read
     fit-nested : (frames : List Frame) (kind : Kind) (key : ℕ) (blob : Blob) → need_of v.types frames ≡ needs_nested kind key → s'.core.stored key ≡ Some blob
-        → FitAfter v s'.core trees' l k t frames → FitAfter v s'.core trees' l k t (nested_frame kind key blob ∷ frames)
+        → FitAfter v s'.core trees' reading load frames → FitAfter v s'.core trees' reading load (nested_frame kind key blob ∷ frames)
     unfolding FramesFit FramesAsked
     fit-nested [] kind key blob needs is f = absurd (cc)
     fit-nested (top ∷ below) kind key blob needs is f =
         let next = asked below (next_in v.types top) kind key (inl needs) in
-        let held = all-new (GotStands s'.core l) (nested_frame kind key blob) (top ∷ below) refl f.held in
+        let held = all-new (GotStands s'.core reading.load) (nested_frame kind key blob) (top ∷ below) refl f.held in
         let asked = eager-nested below (next_in v.types top) kind key needs in
         record { fit = (new-fits (nested_frame kind key blob) refl is, refl, next, f.fit); held = held; asked = (none-got [] refl, asked, next, f.asked) }
 
     -- the innermost blob gets what it asks for next
     fit-grown : (top : Frame) (below : List Frame) (kind : Kind) (key n : ℕ) (row : HandleRow) → next_in v.types top ≡ asks kind key → GetsRow s.core s'.core kind n row
-        → ReadsNodeTree v.types s'.core.stored trees' key (type_of kind.0) n → FitAfter v s'.core trees' l k t (top ∷ below) → FitAfter v s'.core trees' l k t (with_got kind row (top ∷ below))
+        → ReadsNodeTree v.types s'.core.stored trees' key (type_of kind.0) n → FitAfter v s'.core trees' reading load (top ∷ below)
+        → FitAfter v s'.core trees' reading load (with_got kind row (top ∷ below))
     fit-grown top below kind key n row next got reads_n f =
         let read = subst (λ m. ReadsNodeTree v.types s'.core.stored trees' key (type_of kind.0) m) (sym got.at) reads_n in
-        let held = all-more (GotStands s'.core l) (top ∷ below) kind row (got-new l kind n row whole'.whole.handles got) f.held in
-        let both = grown v.types k t s'.core.stored trees' top below kind key row next read f.fit f.asked in search (both.0, held, both.1)
+        let held = all-more (GotStands s'.core reading.load) (top ∷ below) kind row (got-new reading.load kind n row whole'.whole.handles got) f.held in
+        let both = grown v.types load.key reading.node_type s'.core.stored trees' top below kind key row next read f.fit f.asked in search (both.0, held, both.1)
 
     fit-got : (frames : List Frame) (kind : Kind) (key n : ℕ) (row : HandleRow) → Needs v.types frames kind key → GetsRow s.core s'.core kind n row
-        → ReadsNodeTree v.types s'.core.stored trees' key (type_of kind.0) n → FitAfter v s'.core trees' l k t frames → FitAfter v s'.core trees' l k t (with_got kind row frames)
+        → ReadsNodeTree v.types s'.core.stored trees' key (type_of kind.0) n → FitAfter v s'.core trees' reading load frames → FitAfter v s'.core trees' reading load (with_got kind row frames)
     fit-got [] kind key n row needs got reads_n f = f
     fit-got (top ∷ below) kind key n row needs got reads_n f = fit-grown top below kind key n row (asked below (next_in v.types top) kind key needs) got reads_n f
 
     fit-made : (top : Frame) (below : List Frame) (n : ℕ) (row : HandleRow) → GetsRow s.core s'.core top.kind n row → ReadsNodeTree v.types s'.core.stored trees' top.key (type_of top.kind.0) n
-        → FitAfter v s'.core trees' l k t (top ∷ below) → FitAfter v s'.core trees' l k t (with_got top.kind row below)
+        → FitAfter v s'.core trees' reading load (top ∷ below) → FitAfter v s'.core trees' reading load (with_got top.kind row below)
     unfolding FramesFit FramesAsked
-    fit-made top [] n row got reads_n f = record { fit = tt; held = all-none (GotStands s'.core l) [] refl; asked = tt }
+    fit-made top [] n row got reads_n f = record { fit = tt; held = all-none (GotStands s'.core reading.load) [] refl; asked = tt }
     fit-made top (next ∷ below) n row got reads_n f = fit-grown next below top.kind top.key n row f.fit.2 got reads_n
         (record { fit = f.fit.3; held = λ frame r among there. f.held frame r (suc among.0, among.1) there; asked = f.asked.3 })
 
@@ -204,25 +197,26 @@ module _ {N E : Type 0} {v : Values N} {s s' : PagerState N E} {trees trees' : �
     known-reads kind key n known = node-stays goes.stored (fits.same n (whole.whole.cache kind.0 key n known).given) (stands.cache kind.0 key n known)
 
     -- what it had read fits still
-    fit-still : (l : LoadNumber) (k t : ℕ) (frames : List Frame) → FitAfter v s.core trees l k t frames → FitAfter v s'.core trees' l k t frames
-    fit-still l k t frames f = search (frames-stay, goes.stored, fits.same, given-nodes, f.held, f.fit, frames-on, goes, f.asked)
+    fit-still : (reading : Reading) (load : OpenLoad) (frames : List Frame) → FitAfter v s.core trees reading load frames → FitAfter v s'.core trees' reading load frames
+    fit-still reading load frames f = search (frames-stay, goes.stored, fits.same, given-nodes, f.held, f.fit, frames-on, goes, f.asked)
 
   felt-after : (reading : Reading) (load : OpenLoad) (frames : List Frame) {c : Change} {comes : ℕ → N → Type 0} → CoreGoes c s.core s'.core → ChangeFits v c comes s s' trees trees'
-      → s.core.loads reading.load.0 ≡ Some load → ReadingFeels v s.core reading None frames s'.core c → FitOf v s'.core trees' reading load reading.frames → FitOf v s'.core trees' reading load frames
+      → s.core.loads reading.load.0 ≡ Some load → ReadingFeels v s.core reading None frames s'.core c → FitAfter v s'.core trees' reading load reading.frames
+      → FitAfter v s'.core trees' reading load frames
   unfolding FramesFit FramesAsked
   felt-after reading load frames goes fits open_load (reads-root l blob none_read at stored answer is) g = grind (arith, nat_tests, same_some, root_frame, new-fits, none-got, held, all-new, all-none)
   felt-after reading load frames goes fits open_load (reads-blob kind key blob needs stored answer is) g =
-      subst (FitOf v s'.core trees' reading load) (sym is) (fit-nested reading.load load.key reading.node_type reading.frames kind key blob needs (goes.stored key blob stored) g)
-  felt-after reading load frames goes fits open_load (gets-known kind key n row needs known got answer is) g = subst (FitOf v s'.core trees' reading load) (sym is)
-      (fit-got reading.load load.key reading.node_type reading.frames kind key n row needs got (known-reads goes fits kind key n known) g)
-  felt-after reading load frames goes fits open_load (gets-lazy kind key row needs got answer is) g = subst (FitOf v s'.core trees' reading load) (sym is)
-      (fit-got reading.load load.key reading.node_type reading.frames kind key _ row (inr needs) got (fits.knows kind.0 key _ (refl, refl, refl)) g)
+      subst (FitAfter v s'.core trees' reading load) (sym is) (fit-nested reading load reading.frames kind key blob needs (goes.stored key blob stored) g)
+  felt-after reading load frames goes fits open_load (gets-known kind key n row needs known got answer is) g =
+      subst (FitAfter v s'.core trees' reading load) (sym is) (fit-got reading load reading.frames kind key n row needs got (known-reads goes fits kind key n known) g)
+  felt-after reading load frames goes fits open_load (gets-lazy kind key row needs got answer is) g =
+      subst (FitAfter v s'.core trees' reading load) (sym is) (fit-got reading load reading.frames kind key _ row (inr needs) got (fits.knows kind.0 key _ (refl, refl, refl)) g)
   felt-after reading load frames goes fits open_load (makes-known x made n row known got answer is) g =
-      subst (FitOf v s'.core trees' reading load) (sym is) (fit-made reading.load load.key reading.node_type made.top made.below n row got
-      (known-reads goes fits made.top.kind made.top.key n known) (subst (FitOf v s'.core trees' reading load) made.frames g))
+      let before = subst (FitAfter v s'.core trees' reading load) made.frames g in
+      subst (FitAfter v s'.core trees' reading load) (sym is) (fit-made reading load made.top made.below n row got (known-reads goes fits made.top.kind made.top.key n known) before)
   felt-after reading load frames goes fits open_load (makes-node x made row got answer is) g =
-      subst (FitOf v s'.core trees' reading load) (sym is) (fit-made reading.load load.key reading.node_type made.top made.below _ row got
-      (fits.knows made.top.kind.0 made.top.key _ (refl, refl, refl)) (subst (FitOf v s'.core trees' reading load) made.frames g))
+      let before = subst (FitAfter v s'.core trees' reading load) made.frames g in
+      subst (FitAfter v s'.core trees' reading load) (sym is) (fit-made reading load made.top made.below _ row got (fits.knows made.top.kind.0 made.top.key _ (refl, refl, refl)) before)
   felt-after reading load frames goes fits open_load (reading-ends end answer is) g = absurd (cc)
 
   module _ {c : Change} {comes : ℕ → N → Type 0} (goes : CoreGoes c s.core s'.core) (fits : ChangeFits v c comes s s' trees trees') where
@@ -232,14 +226,14 @@ module _ {N E : Type 0} {v : Values N} {s s' : PagerState N E} {trees trees' : �
     pub going-on : (reading : Reading) → Going v s trees reading → Going v s' trees' reading
     going-on reading g =
         let fit : ReadingFits v s' trees' reading = λ load is. let was = was-open goes reading.load.0 load g.within is in
-        (fit-still goes fits reading.load load.key reading.node_type reading.frames (record { fit = g.fits load was; held = g.held; asked = g.asked })).fit in
+        (fit-still goes fits reading load reading.frames (record { fit = g.fits load was; held = g.held; asked = g.asked })).fit in
         search (still-within reading.load.0 g.within, fit, frames-on goes reading.load reading.frames g.held, g.asked)
 
     -- and where the load makes a step and goes on
     pub going-step : (reading : Reading) (frames : List Frame) (load : OpenLoad) → s.core.loads reading.load.0 ≡ Some load → Going v s trees reading
         → ReadingFeels v s.core reading None frames s'.core c → Going v s' trees' (gone_on reading frames)
     going-step reading frames load opened g feels =
-        let before = fit-still goes fits reading.load load.key reading.node_type reading.frames (record { fit = g.fits load opened; held = g.held; asked = g.asked }) in
+        let before = fit-still goes fits reading load reading.frames (record { fit = g.fits load opened; held = g.held; asked = g.asked }) in
         let after = felt-after reading load frames goes fits opened feels before in
         let fit : ReadingFits v s' trees' (gone_on reading frames) = λ other at.
         subst (λ (z : OpenLoad). FramesFit v.types s'.core.stored trees' z.key reading.node_type frames) (same_some _ _ (sym opened ∙ was-open goes reading.load.0 other g.within at)) after.fit in
@@ -256,7 +250,8 @@ module _ {N : Type 0} {v : Values N} (lawful : IsLawful v) (readable : ReadsItsT
   -- what becomes a node leads to a tree of its kind's type, as which its key reads
   pub node-decoded : (stored : ℕ → Option Blob) (trees : ℕ → Tree) (k t : ℕ) (reading : Reading) (x : N) (r : ReadsNode v reading x) → FramesFit v.types stored trees k t reading.frames
       → Decoded v stored trees r.top x × (r.top.node_type ≡ type_of r.top.kind.0)
-  node-decoded stored trees k t reading x r fit = grind (arith, nat_tests, adopted-over, decodes, first-fits, first-typed)
+  unfolding FramesFit
+  node-decoded stored trees k t reading x r fit = grind (arith, nat_tests, adopted-over, decodes, first-fits)
 
 -- a meaning whose references' nodes have trees of their kinds' types leads to one
 pub led : {trees : ℕ → Tree} (x : Meaning ArcRef) → ((r : ArcRef) → Among (references_in x) r → (trees r.node.0).type ≡ type_of r.kind.0) → (a : Meaning ⊥) × LeadsTo trees x a
@@ -306,9 +301,6 @@ module _ {N E : Type 0} {v : Values N} {s : PagerState N E} {trees : ℕ → Tre
         grind (arith, nat_tests, key_at, same_some)
     node-leads (away n key t nothing_there keyed fits) e = grind (arith, nat_tests)
 
-    pub leads-all : (n : ℕ) → 0 < held n s.core.rows → NodeLeads v s trees n
-    leads-all n live = node-leads (stands.stands n live) refl
-
 abbrev pub AreLive : Core → Meaning ArcRef → Type 0
 AreLive w x = (r : ArcRef) → Among (references_in x) r → 0 < held r.node.0 w.rows
 
@@ -349,11 +341,11 @@ module _ {N E : Type 0} {v : Values N} {c : Change} {comes : ℕ → N → Type 
   moved-value n x is =
       let live = given-of well.whole.handles n (well.typed n x is) in
       subst (λ z. ValueLeads v trees' x z) (sym (fits.same n live.1)) (value-on lawful s.core.last.node fits.same
-      (λ r among. (given-of well.whole.handles r.node.0 (well.references n x r is among).typed).1) ((leads-all lawful settled well stands n live.0).valued x is))
+      (λ r among. (given-of well.whole.handles r.node.0 (well.references n x r is among).typed).1) ((node-leads lawful settled well stands (stands.stands n live.0) refl).valued x is))
 
   keyed-old : (n : ℕ) → n ≤ s.core.last.node → SameNode c s.core s'.core n → KeyFits v s' n (trees' n)
   keyed-old n within same key is = elim same.key [
-    | inl stays ↦ moved-tree n within (tree-stays goes.stored ((leads-all lawful settled well stands n (held-of well.whole.handles n same.was)).keyed key (sym stays ∙ is)))
+    | inl stays ↦ moved-tree n within (tree-stays goes.stored ((node-leads lawful settled well stands (stands.stands n (held-of well.whole.handles n same.was)) refl).keyed key (sym stays ∙ is)))
     | inr (k, sets, set) ↦ let e : k ≡ key = (cc) in subst (λ q. ReadsTree s'.core.stored v.types q (trees' n)) e (moved-tree n within (fits.sets n k sets))
   ]
 
@@ -370,7 +362,8 @@ module _ {N E : Type 0} {v : Values N} {c : Change} {comes : ℕ → N → Type 
           let b = begins node t h root in
           let live = given-of well.whole.handles node.0 b.0 in
           let typed : (trees node.0).type ≡ t = same_some _ _ (sym (stands.typed node.0 live.0) ∙ b.0) in
-          node-stays goes.stored {trees = trees} (fits.same node.0 live.1) (record { typed = typed; reads = (leads-all lawful settled well stands node.0 live.0).keyed load.key b.1 })
+          let reads = (node-leads lawful settled well stands (stands.stands node.0 live.0) refl).keyed load.key b.1 in
+          node-stays goes.stored {trees = trees} (fits.same node.0 live.1) (record { typed = typed; reads = reads })
     ];
     cache = λ kind key n is. elim (goes.cache kind key n is)
         [ inl stays ↦ node-stays goes.stored (fits.same n (well.whole.cache kind key n stays).given) (stands.cache kind key n stays) | inr knows ↦ fits.knows kind key n knows ];

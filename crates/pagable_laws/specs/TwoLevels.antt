@@ -16,12 +16,8 @@ use Rattle.pagable_model.specs.Shape as shapes
 abbrev pub Sample : Type 0
 Sample = Option ArcRef
 
-abbrev pub sample_shapes : ℕ → Option shapes.Shape
-sample_shapes zero = Some (shapes.reference 4)
-sample_shapes (suc n) = Some shapes.nothing
-
 abbrev pub sample_types : Types
-sample_types = record { nodes = sample_shapes; parts = λ n. shapes.nothing }
+sample_types = record { nodes = λ n. if n == 0 then Some (shapes.reference 4) else Some shapes.nothing; parts = λ n. shapes.nothing }
 
 -- the hash is how many bytes there are, which tells the three blobs apart
 abbrev pub sample : Values Sample
@@ -95,12 +91,9 @@ pub record Working : Type 0 where
 abbrev pub begun : Working
 begun = record { core = with_worker both_born; shelf = no_shelf; todo = first_todo (of_item item); steps = 0; answer = None }
 
--- a loose handle's clone for the worker, and its pin
+-- a loose handle's clone for the worker
 abbrev pub cloned : Core → NodeNumber → Core
 cloned w n = with_handle w n Mode.LoosePinned (owner_worker 1)
-
-abbrev pub pinned_at : Core → NodeNumber → Core
-pinned_at w n = with_handle (with_mode (cloned w n) (handle (w.last.handle + 1)) Mode.LoosePinned) n Mode.Pinned (owner_worker 1)
 
 abbrev pub with_blob : Core → Blob → Core
 with_blob w blob = record w { stored = λ q. if q == digest sample blob then Some blob else w.stored q }
@@ -114,7 +107,9 @@ abbrev pub next_step : Core → Shelf → List Todo → Took Written × Core × 
 next_step w s (to_start r place ∷ below) =
     let claimed = with_slot (with_wait s 1 None) (identity_of r) (Some (record { worker = 1; written = None; outcome = no_result })) in
     (Took.Claim (identity_of r) (Ok Claim.Claimed), w, claimed, to_pin r place ∷ below)
-next_step w s (to_pin r place ∷ below) = (Took.Pin (identity_of r) (Ok (PinStep.Held (handle (w.last.handle + 1 + 1)))), pinned_at w r.node, s, to_write r place (handle (w.last.handle + 1)) ∷ below)
+next_step w s (to_pin r place ∷ below) =
+    let through = handle (w.last.handle + 1) in let pinned = with_handle (with_mode (cloned w r.node) through Mode.LoosePinned) r.node Mode.Pinned (owner_worker 1) in
+    (Took.Pin (identity_of r) (Ok (PinStep.Held (handle (w.last.handle + 1 + 1)))), pinned, s, to_write r place through ∷ below)
 next_step w s (to_write r place through ∷ below) =
     let written = sample_written (value_of r.node) in
     (Took.Write (identity_of r) (Ok written), w, with_changed_slot s (identity_of r) (λ slot. record slot { written = Some written }), open_node r place through written below)
@@ -158,16 +153,15 @@ loading = with_load (with_handle evicted (node 2) Mode.LooseUnpinned (Owner.Load
 abbrev pub child_got : Core
 child_got = adopted loading (load_number 1) (record { 0 = 4 }) 8 (OptionalDataKey.Some 8) []
 
--- it ends with a pin by the caller's handle, its value gets what it refers to, and it gives up its own handle
-abbrev pub installed : Core → Core
-installed w = with_pin (record (without_load w (load_number 1)) { rows = moved (is_named_by (to_leaf 3 8 ∷ [])) (owner_value 2) w.rows }) (handle 2) (node 2) Owner.Caller
-
 -- what the load of this number owns and doesn't hand on
 abbrev pub left_over : Core → ℕ → (ℕ → Bool) → ℕ → Bool
 left_over w l handed q = is_owned_in w (Owner.Load (load_number l)) q && not (handed q)
 
+-- it ends with a pin by the caller's handle, its value gets what it refers to, and it gives up its own handle
 abbrev pub loaded : Core
-loaded = let w = child_got in fallen (installed w) (left_over w 1 (is_named_by (to_leaf 3 8 ∷ []))) []
+loaded =
+    let w = child_got in let named = is_named_by (to_leaf 3 8 ∷ []) in
+    fallen (with_pin (record (without_load w (load_number 1)) { rows = moved named (owner_value 2) w.rows }) (handle 2) (node 2) Owner.Caller) (left_over w 1 named) []
 
 -- the caller's load of the child's key, which ends with no handle
 abbrev pub key_loading : Core
