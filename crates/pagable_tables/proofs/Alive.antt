@@ -176,8 +176,7 @@ changed-known ss i row ordered at f = let p = at-place ss i row ordered at in sy
 pub sum-live-set : (f : HandleRow → ℕ) (ss : List Place) (i : ℕ) (row : HandleRow) (new : Place) → slice_get ss i ≡ Some (alive row)
     → sum_by f (live (set ss i new)) + f row ≡ sum_by f (live ss) + weigh f new
 sum-live-set f ss i row new at =
-    let is : weigh f (get_or ss i (alive row)) ≡ weigh f (alive row) = ap (weigh f) (get_or_from_slice_get ss i (alive row) (alive row) at) in
-    omega (arith, sum_by-set (weigh f) ss i new (alive row) (slice_get_within ss i (alive row) at), sum-live f ss, sum-live f (set ss i new))
+    grind (arith, get_or_from_slice_get ss i (alive row) (alive row) at, sum_by-set (weigh f) ss i new (alive row) (slice_get_within ss i (alive row) at), sum-live f)
 
 pub row-le-live : (f : HandleRow → ℕ) (ss : List Place) (i : ℕ) (row : HandleRow) → slice_get ss i ≡ Some (alive row) → f row ≤ sum_by f (live ss)
 row-le-live f ss i row at = omega (arith, sum-live-set f ss i row (record { row = row; is_live = false }) at)
@@ -190,9 +189,7 @@ row-got ss i p q ordered at is number = subst (λ n. find_row n (live ss) ≡ So
 
 pub next-set : (q : ℕ) (ss : List Place) (i : ℕ) (row : HandleRow) (new : Place) → slice_get ss i ≡ Some (alive row) → new.row.number.0 ≡ row.number.0 → IsNext q ss → IsNext q (set ss i new)
 next-set q ss i row new at same next =
-    let lt = slice_get_within ss i (alive row) at in
-    let is : (get_or ss i new).row.number.0 ≡ row.number.0 = ap (λ (x : Place). x.row.number.0) (get_or_from_slice_get ss i (alive row) new at) in
-    All-set (λ (s : Place). s.row.number.0 < q) ss i new (omega arith) next
+    All-set (λ (s : Place). s.row.number.0 < q) ss i new (grind (arith, slice_get_within ss i (alive row) at, get_or_from_slice_get ss i (alive row) new at, next i new)) next
 
 sum-without : (q : ℕ) (rows : List HandleRow) → sum_by (λ h. one (is_handle q h)) (left_rows (λ n. n == q) rows) ≡ 0
 sum-without q [] = refl

@@ -110,12 +110,10 @@ begin-whole {w} {w'} {l} {key} me h whole may call placed =
     let (away, keyed, next, left, rest) = begins in
     let (t, typed, leaves) = rest in
     let found = found-among h.0 w.rows row owns.live in
-    let few = whole.handles.numbered row found.0 in
     let old = whole.handles.nodes_numbered row.node.0 (there-then whole row found.0) in
-    let root : IsRootWhole w row.node t h = grind (arith, nat_tests, owns.live, owns.as_asked) in
-    let new : OpenLoad = record { owner = me; key = key; root = of_cell row.node t h } in
-    let named : (node : NodeNumber) (t2 : ℕ) (k : HandleNumber) → new.root ≡ of_cell node t2 k → IsRootWhole w node t2 k = λ node t2 k is. grind (arith, nat_tests) in
-    settles (beside (loaded-whole key new.root me whole may next.is_left named) row.node Mode.LooseUnpinned (Owner.Load l)
+    let root : IsRootWhole w row.node t h = grind (arith, nat_tests, owns.live, owns.as_asked, whole.handles.numbered row found.0) in
+    let named : (node : NodeNumber) (t2 : ℕ) (k : HandleNumber) → of_cell row.node t h ≡ of_cell node t2 k → IsRootWhole w node t2 k = λ node t2 k is. grind (arith, nat_tests) in
+    settles (beside (loaded-whole key (of_cell row.node t h) me whole may next.is_left named) row.node Mode.LooseUnpinned (Owner.Load l)
     (record { row = row; there = found.0; at = refl; same = loose-unshared row.mode owns.as_asked })
     (let above = next.above in grind (arith, nat_tests)) left).0 leaves placed
 
@@ -143,10 +141,9 @@ module _ (before m : Core) (whole : IsWhole (roomy m)) (on : GoesOn before m) (m
     (owns : Owns (roomy m) me h is_loose row) (left : m.last.handle < greatest) (given : ℕ → Bool)
     (gives : (x : HandleRow) → Among m.rows x → x.owner ≡ Owner.Load l → given x.number.0 ≡ true) where
   pinned-gives : (x : HandleRow) → Among (with_pin m h row.node me).rows x → x.owner ≡ Owner.Load l → given x.number.0 ≡ true
-  pinned-gives x among own = elim (among-both (with_mode m h Mode.LoosePinned).rows _ x among) [
-    | inl old ↦ let (z, there, is) = among-map (λ y. if is_handle h.0 y then record y { mode = Mode.LoosePinned } else y) m.rows x old in grind (arith, nat_tests, gives z there)
-    | inr new ↦ let is : me ≡ Owner.Load l = ap (λ (z : HandleRow). z.owner) (sym (among-one _ x new)) ∙ own in grind (arith, nat_tests, no-load m me l may)
-  ]
+  pinned-gives x among own =
+      let old = among-map (λ y. if is_handle h.0 y then record y { mode = Mode.LoosePinned } else y) m.rows x in
+      grind (arith, nat_tests, among-both (with_mode m h Mode.LoosePinned).rows _ x among, among-one, gives, no-load m me l may)
 
   pub ends-goes : {w' : Core} {r : Result (Unit {0}) Error} (node : NodeNumber) → row.node ≡ node → Falls before (without_load (with_pin m h node me) l) given r w' → Goes m w'
   ends-goes {w'} {r} node at falls =

@@ -84,15 +84,9 @@ module _ (at at' : ℕ → Option Counts) (refs refs' : ℕ → List ArcRef) (ro
   done-gone = grind (arith, nat_tests, first-waits at refs rows n ns owns_nothing fits, fits.right n)
 
   pub done-fits : Fits at' refs' rows c.next ns owns_nothing
-  done-fits = record {
-    pinned = λ m. grind (arith, nat_tests, cases_eq m n, pins-le-held n rows, fits.pinned m, fits.holding m, others m);
-    holding = λ m. grind (arith, nat_tests, cases_eq m n, fits.holding m, others m);
-    owned = λ m q. ap (λ r. named q r + 0) (same m) ∙ fits.owned m q;
-    chain = chain-frame at at' c.next ns (λ m within. ap next_in (others m (in-none n ns m once within))) (subst (λ t. Chain at t ns) (ap next_in is) fits.chain.1);
-    marked = λ m. grind (arith, nat_tests, cases_eq m n, fits.marked m, others m, once, sum_by-cons);
-    right = λ m. grind (arith, nat_tests, cases_eq m n, fits.right m, others m);
-    from_one = others 0 (λ e. one' (sym e)) ∙ fits.from_one;
-  }
+  done-fits =
+      let chain : Chain at' c.next ns = chain-frame at at' c.next ns (λ m within. ap next_in (others m (in-none n ns m once within))) (subst (λ t. Chain at t ns) (ap next_in is) fits.chain.1) in
+      grind (arith, nat_tests, cases_eq, named, pins-le-held n rows, once, sum_by-cons, chain)
 
 -- the last reference of the first node that waits is taken: its row is owned by that node's value
 module _ (at at' : ℕ → Option Counts) (refs refs' : ℕ → List ArcRef) (rows : List HandleRow) (n : ℕ) (ns : List ℕ) (p : ArcRef)

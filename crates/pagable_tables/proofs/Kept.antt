@@ -53,11 +53,7 @@ pub ordered-push : (rows : List HandleRow) (row : HandleRow) → ((h : HandleRow
 ordered-push rows row above ordered = all_pairs_push IsHandleBefore rows row ordered (λ k d lt. above (get_or rows k d) (k, slice_get-get_or rows k d lt))
 
 first-less : (x : HandleRow) (xs : List HandleRow) → AllPairs IsHandleBefore (x ∷ xs) → (y : HandleRow) → Among xs y → x.number.0 < y.number.0
-first-less x xs ordered y (j, at) =
-    let lt = slice_get_within xs j y at in
-    let k : (get_or xs j x).number.0 ≡ y.number.0 = ap (λ (h : HandleRow). h.number.0) (get_or_from_slice_get xs j y x at) in
-    let less : x.number.0 < (get_or xs j x).number.0 = ordered 0 (suc j) x (omega arith) (omega arith) in
-    omega arith
+first-less x xs ordered y (j, at) = grind (arith, slice_get_within xs j y at, get_or_from_slice_get xs j y x at, ordered 0 (suc j) x)
 
 -- two sums that are the same but at one row
 pub apart-sum : (f g : HandleRow → ℕ) (rows : List HandleRow) (row : HandleRow) → AllPairs IsHandleBefore rows → Among rows row → ((x : HandleRow) → (x.number.0 == row.number.0) ≡ false → f x ≡ g x)

@@ -1,24 +1,23 @@
 -- A load is closed or hands handles over, or a worker leaves, and what they still own is given up.
 use Rattle.{pagable_model.specs.declared.numbers.WorkerNumber.WorkerNumber, pagable_tables.proofs.Alive.{and-left, at-place, found-append, le_or_lt, of_list, there-is, times-left, whole-so}}
-use Rattle.pagable_tables.proofs.{Fitting.{begun, closed-is, is_owned, list-owner, no-value, none-came, owned-by-none, rows-told, unmixed}, Kept.{among-last, at-most-sum, found-among, once, sum-map}}
-use Rattle.pagable_tables.proofs.{Kept.sum-none, Next.{and_owned, no-entry, owned, passes-here, passes-left, passes-none, regiven, sheds-still}, Told.{Goes, IsNewer, OnlyNewer, alike-goes}}
-use Rattle.pagable_tables.proofs.{Told.{born-whole, named-mine, newer-handle, newer-moved, newer-then, not-list, owned-moved, settled}, Words.{Alike, AllPairs, Among, ArcRef, AreLater, ArePlaced}}
-use Rattle.pagable_tables.proofs.Words.{AwayBirthCall, Bears, Blob, Bool, Core, Error, Falls, Fits, Giving, HandleNumber, HandleRow, Handles, HandlesAreWhole, HasRoom, Holdings, InReach, IndexMap}
-use Rattle.pagable_tables.proofs.Words.{IsBefore, IsClosed, IsFalling, IsHandleBefore, IsLeast, IsNoLess, Last, List, LoadNumber, LoadRow, MayHold, MayOwnLoad, Mode, NodeNumber, NodeRow, None, Ok}
-use Rattle.pagable_tables.proofs.Words.{OnlyRoom, OpenLoad, Option, OptionalDataKey, Owner, Place, Places, Reach, Result, Sheds, SoFar, Some, Tables, TakeCall, [], alive, and_parts, ap, arith}
-use Rattle.pagable_tables.proofs.Words.{cases_Bool, cases_eq, changed, core_of, counts_at, false, find_row, get, get_or, get_or_default, gives_row, greatest, has_key, held, if_there, if◌then◌else◌}
-use Rattle.pagable_tables.proofs.Words.{inl, inr, is_at, is_handle, is_keyed, is_loose_kind, is_named_by, is_outside, is_owned_by, is_owned_in, is_owner, is_pin, is_pinning, is_plain_pin, is_shared}
-use Rattle.pagable_tables.proofs.Words.{is_some, is_valued, key_in, known_at, left_rows, length, live, load_at, load_in, loses_value, mode_of, moved, nat_eq, nat_lt, nat_tests, next_node, nobody, not}
-use Rattle.pagable_tables.proofs.Words.{one, only_handle, option_map, or_else, owner_value, owner_worker, owns_nothing, passes_in, pins, plain_of, reach_at, references_fault, refl, refs_at, row_of}
-use Rattle.pagable_tables.proofs.Words.{sharing, slice_get, slice_get-get_or, subst, suc, sum_by, sum_by-append, sum_by-cons, sum_by-le-sum_by, sum_by_push, sym, take, times, true, updated}
-use Rattle.pagable_tables.proofs.{Words.{with_handle, with_mode, with_node, with_tables, with_worker, ℕ, ◌&&◌, ◌++◌, ◌+◌, ◌-◌, ◌<◌, ◌==◌, ◌||◌, ◌∙◌, ◌∷◌, ◌≡◌, ◌≢◌, ◌≤◌, ◌⊎◌}, Worlds.born-past}
-use Rattle.pagable_tables.{proofs.Worlds.{found-map, moved-twice, named-none, named-take, next-past, owner-same, owner-self, room-alike, same-cache}, specs.Core.{Does, DoesShed, IsWhole, TakesWorker}}
-use Rattle.{pagable_tables.specs.{Core.gives, Falling.{Becomes, Widens}}, pagable_world.specs.Workers.is_load_of}
+use Rattle.pagable_tables.proofs.{Fitting.{begun, closed-is, is_owned, no-value, none-came, owned-by-none, rows-told, unmixed}, Kept.{among-last, at-most-sum, found-among, once, sum-map, sum-none}}
+use Rattle.pagable_tables.proofs.{Next.{and_owned, no-entry, owned, passes-here, passes-left, passes-none, regiven, sheds-still}, Told.{Goes, IsNewer, OnlyNewer, alike-goes, born-whole, named-mine}}
+use Rattle.pagable_tables.proofs.{Told.{newer-handle, newer-moved, newer-then, not-list, owned-moved, settled}, Words.{Alike, AllPairs, Among, ArcRef, AreLater, ArePlaced, AwayBirthCall, Bears, Blob}}
+use Rattle.pagable_tables.proofs.Words.{Bool, Core, Error, Falls, Fits, Giving, HandleNumber, HandleRow, Handles, HandlesAreWhole, HasRoom, Holdings, InReach, IndexMap, IsBefore, IsClosed, IsFalling}
+use Rattle.pagable_tables.proofs.Words.{IsHandleBefore, IsLeast, IsNoLess, Last, List, LoadNumber, LoadRow, MayHold, MayOwnLoad, Mode, NodeNumber, NodeRow, None, Ok, OnlyRoom, OpenLoad, Option}
+use Rattle.pagable_tables.proofs.Words.{OptionalDataKey, Owner, Place, Places, Reach, Result, Sheds, SoFar, Some, Tables, TakeCall, [], alive, and_parts, ap, arith, cases_Bool, cases_eq, changed}
+use Rattle.pagable_tables.proofs.Words.{core_of, counts_at, false, find_row, get, get_or, get_or_default, gives_row, greatest, has_key, held, if_there, if◌then◌else◌, inl, inr, is_at, is_handle}
+use Rattle.pagable_tables.proofs.Words.{is_keyed, is_loose_kind, is_named_by, is_outside, is_owned_by, is_owned_in, is_owner, is_pin, is_pinning, is_plain_pin, is_shared, is_some, is_valued, key_in}
+use Rattle.pagable_tables.proofs.Words.{known_at, left_rows, length, live, load_at, load_in, loses_value, mode_of, moved, nat_eq, nat_lt, nat_tests, next_node, nobody, not, one, only_handle}
+use Rattle.pagable_tables.proofs.Words.{option_map, or_else, owner_value, owner_worker, owns_nothing, passes_in, pins, plain_of, reach_at, references_fault, refl, refs_at, row_of, sharing, slice_get}
+use Rattle.pagable_tables.proofs.Words.{slice_get-get_or, subst, suc, sum_by, sum_by-append, sum_by-le-sum_by, sum_by_push, sym, take, times, true, updated, with_handle, with_mode, with_node}
+use Rattle.pagable_tables.proofs.{Words.{with_tables, with_worker, ℕ, ◌&&◌, ◌++◌, ◌+◌, ◌-◌, ◌<◌, ◌==◌, ◌||◌, ◌∙◌, ◌∷◌, ◌≡◌, ◌≢◌, ◌≤◌, ◌⊎◌}, Worlds.{born-past, found-map, moved-twice, named-none}}
+use Rattle.pagable_tables.{proofs.Worlds.{named-take, next-past, owner-same, owner-self, room-alike, same-cache}, specs.{Core.{Does, DoesShed, IsWhole, TakesWorker, gives}, Falling.{Becomes, Widens}}}
+use Rattle.pagable_world.specs.Workers.{is_load_of}
 use Rattle.pagable_world.specs.Pager as pager
 
 pub moved-times : (f : HandleRow → Bool) (s : ℕ → Bool) (o : Owner) (rows : List HandleRow) → ((x : HandleRow) → f (record x { owner = o }) ≡ f x) → times f (moved s o rows) ≡ times f rows
-moved-times f s o [] same = refl
-moved-times f s o (x ∷ xs) same = let here = same x in grind (arith, nat_tests, moved-times f s o xs same, sum_by-cons (λ h. one (f h)))
+moved-times f s o rows same = sum-map (λ x. one (f x)) (λ x. one (f x)) (λ x. if s x.number.0 then record x { owner = o } else x) rows (λ x there. grind (arith, nat_tests, same x))
 
 pub no-load : (w : Core) (o : Owner) (l : LoadNumber) → MayOwnLoad w o → is_owner (Owner.Load l) o ≡ false
 no-load w o l may = grind (arith, nat_tests)
@@ -136,11 +135,10 @@ module _ (t : Tables) (later : AreLater t) (s : ℕ → Bool) (me : Owner) (othe
   pub later-handed : {t' : Tables} (l : LoadNumber) (row : LoadRow) → load_at t.loads l.0 ≡ Some row → is_owner me row.owner ≡ true → ((q : ℕ) → s q ≡ true → is_owned_in (plain_of t) (Owner.Load l) q ≡ true)
       → IsNewer rows (plain_of t').rows t.holdings.last_handle t'.holdings.last_handle → ((m : ℕ) (load : LoadRow) → load_at t'.loads m ≡ Some load → load_at t.loads m ≡ Some load) → t'.workers ≡ t.workers → AreLater t'
   later-handed {t'} l row here mine its newer loads same =
+      let after : (v q : ℕ) → is_owner (owner_worker v) me ≡ true → s q ≡ true → InReach (reach_at t'.workers v) q = λ v q is gone. subst (λ u. InReach (reach_at u v) q) (sym same)
+      (grind (arith, nat_tests, later.since l.0 row q here (its q gone), later.loads v l.0 row here (ap (is_owner (owner_worker v)) (owner-same me row.owner mine) ∙ is), owner-same)) in
       later-by later newer.last loads (still-reaches same) (λ m q own. elim (newer.kept (Owner.Load (record { 0 = m })) q refl own) [ inl had ↦ inl (load-kept m q had) | inr past ↦ inr past ])
       (λ (v q : ℕ) (own : owned (owner_worker v) q (plain_of t').rows ≡ true). let k = newer.kept (owner_worker v) q refl own in let a = after v q in let b = worker-kept v q in grind (arith, nat_tests))
-    where
-      after : (v q : ℕ) → is_owner (owner_worker v) me ≡ true → s q ≡ true → InReach (reach_at t'.workers v) q
-      after v q is gone = subst (λ u. InReach (reach_at u v) q) (sym same) (grind (arith, nat_tests, later.since l.0 row q here (its q gone), later.loads v l.0 row here (ap (is_owner (owner_worker v)) (owner-same me row.owner mine) ∙ is), owner-same))
 
 -- ---- a handle that comes stays, while others that are given go with all that follows
 
@@ -241,25 +239,9 @@ bears-goes {w} me node_type key rs mode k whole holder fit left unkeyed b =
 
 -- ---- handles are given up together, those that pass a test or that references name
 
--- a world of these loads alone
-abbrev pub bare : (ℕ → Option OpenLoad) → Core
-bare loads = record {
-  rows = [];
-  cells = λ n. None;
-  list = [];
-  cache = λ kind key. None;
-  stored = λ key. None;
-  closed = false;
-  failures = 0;
-  loads = loads;
-  workers = λ v. false;
-  last = record { node = 0; handle = 0; load = 0; worker = 0 };
-  places = record { handles = 0; entries = 0 };
-}
-
--- neither a value's handle is given up so, nor the list's where others are
-pub given-plain : (w : Core) (giving : Giving) (o : Owner) (node : NodeNumber) → gives w giving o node ≡ true → (is_valued o ≡ false) × ((is_owner Owner.List o ≡ false) ⊎ (giving ≡ Giving.Listed))
-given-plain w x2 o node is = grind (arith, nat_tests, list-owner)
+-- the list's handle isn't given up where others are
+pub given-plain : (w : Core) (giving : Giving) (o : Owner) (node : NodeNumber) → gives w giving o node ≡ true → (is_owner Owner.List o ≡ false) ⊎ (giving ≡ Giving.Listed)
+given-plain w x2 o node is = grind (arith, nat_tests)
 
 -- what has been given, while those up to a number are left
 abbrev pub past_of : Core → Core → Giving → ℕ → ℕ → Bool

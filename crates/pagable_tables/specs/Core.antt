@@ -2,11 +2,11 @@
 use Rattle.std.specs.{Option.option_map, Prelude.{Bool, IfErr, IfOk, List, None, Option, Result, Some, [], false, get_or, if◌then◌else◌, is_some, length, nat_eq, not, slice_get, suc, true}}
 use Rattle.std.specs.Prelude.{vec_capacity, zero, ℕ, ◌&&◌, ◌+◌, ◌<◌, ◌==◌, ◌||◌, ◌∷◌, ◌≡◌, ◌≤◌, ◌⊎◌}
 use Rattle.{indexmap.specs.IndexMap.{IndexMap, get, spare}, pagable_model.specs.declared.{error.Error.Error, numbers.{ArcRef.ArcRef, HandleNumber.HandleNumber, NodeNumber.NodeNumber}}}
-use Rattle.{pagable_model.specs.declared.numbers.WorkerNumber.WorkerNumber, pagable_tables.specs.Falling.{IsFalling, Sheds, cell_in, counts_at, key_in, known_at, live, load_at, owns_nothing}}
-use Rattle.pagable_tables.specs.{Falling.{reach_at, room, worker_at}, declared.{giving.Giving.Giving, tables.{LoadRoot.LoadRoot, LoadRow.LoadRow, Reach.Reach, Tables.Tables}}}
-use Rattle.pagable_world.specs.{Calls.{IsNext, next_node, with_handle, with_mode, with_node}, Events.{with_entry_taken, with_worker}, Kinds.{find_row, is_owner, is_shared, owner_worker}}
-use Rattle.pagable_world.specs.{LoadCalls.is_owned_in, Plain.{Among, Blob, if_there}, Refusals.{AreHandlesFull, Refused, spent}, Workers.is_load_of, World.{Alike, Core, HasRoom, OpenLoad, Root}}
-use Rattle.pagable_world.specs.{World.{greatest, of_cell, of_key}, declared.{handles.{HandleRow.HandleRow, Owner.Owner}, rows.Mode.Mode}}
+use Rattle.{pagable_model.specs.declared.numbers.WorkerNumber.WorkerNumber, pagable_world.specs.{Calls.{IsNext, next_node, with_handle, with_mode, with_node}, Events.{with_entry_taken, with_worker}}}
+use Rattle.pagable_world.specs.{Kinds.{find_row, is_owner, is_shared, owner_worker}, LoadCalls.is_owned_in, Plain.{Among, Blob, if_there}, Refusals.{AreHandlesFull, Refused, spent}}
+use Rattle.pagable_world.specs.{Workers.is_load_of, World.{Alike, Core, HasRoom, OpenLoad, Root, greatest, of_cell, of_key}, declared.{handles.{HandleRow.HandleRow, Owner.Owner}, rows.Mode.Mode}}
+use Rattle.pagable_tables.specs.Falling.{IsFalling, Sheds, alive, cell_in, counts_at, is_valued, key_in, known_at, live, load_at, owns_nothing, reach_at, room, worker_at}
+use Rattle.pagable_tables.specs.declared.{giving.Giving.Giving, tables.{HandleAt.HandleAt, LoadRoot.LoadRoot, LoadRow.LoadRow, Place.Place, Reach.Reach, Tables.Tables}}
 use Rattle.pagable_world.specs.Pager as pager
 
 abbrev pub root_in : LoadRoot → Root
@@ -89,6 +89,15 @@ InReach reach q = (0 < q) × ((reach.since < q) ⊎ (q ≡ reach.beside))
 -- the open loads of a world are these
 abbrev pub LoadsAre : {S : Type 0} → IndexMap ℕ LoadRow S → Core → Type 0
 LoadsAre loads w = (l : ℕ) → w.loads l ≡ option_map load_in (load_at loads l)
+
+-- the last live row that is given up, of a number that is asked for and not above this one, with its place
+pub record IsLast {S : Type 0} (places : List Place) (loads : IndexMap ℕ LoadRow S) (giving : Giving) (IsAsked : ℕ → Type 0) (left : ℕ) (at : HandleAt) : Type 0 where
+  pub place : slice_get places at.place ≡ Some (alive at.row)
+  pub found : find_row at.row.number.0 (live places) ≡ Some at.row
+  pub between : IsAsked at.row.number.0 × (at.row.number.0 ≤ left)
+  pub gives : (w : Core) → LoadsAre loads w → gives_row w giving at.row ≡ true
+  pub plain : is_valued at.row.owner ≡ false
+  pub last : (w : Core) (q : ℕ) → LoadsAre loads w → IsAsked q → at.row.number.0 < q → q ≤ left → passes_in (gives_row w giving) (live places) q ≡ false
 
 -- the rows of loads, but for those of the worker
 abbrev pub left_load : ℕ → Option LoadRow → Option LoadRow

@@ -1,16 +1,16 @@
 //! Handles that are given up: one, or together all that a load owns, a worker, or the list. Loose ones that let their pins go, or whose cells get keys. Page-out workers: they begin, give up what they
 //! have at a node, and end. And the list of cells that wait for page-out: entries come and are taken.
 
-ghost use Rattle.pagable_tables.specs.{Core.{IsWhole, LoadsAre, MayHold, TakesWorker, core_of, gives_row, left_load, passes_in, plain_of}, Falling.{AreSound, IsFalling, Sheds, SoFar, alive}};
-ghost use Rattle.pagable_tables.specs.{Falling.{counts_at, is_valued, live, load_at, owns_nothing, reach_at, with_tables, worker_at}, declared.giving.Giving.Giving};
+ghost use Rattle.{indexmap.specs.IndexMap.get, pagable_model.specs.declared.numbers.LoadNumber.LoadNumber, pagable_tables.specs.Core.{AreLater, BeginsWorker, Does, DoesShed, InReach, IsLast}};
+ghost use Rattle.pagable_tables.specs.{Core.{IsNoLess, IsWhole, LoadsAre, MayHold, TakesWorker, core_of, gives_row, left_load, passes_in, plain_of}, Falling.{AreSound, IsFalling, Sheds, SoFar}};
+ghost use Rattle.pagable_tables.specs.{Falling.{alive, counts_at, is_valued, live, load_at, owns_nothing, reach_at, with_tables, worker_at}, declared.giving.Giving.Giving};
+ghost use Rattle.pagable_world.specs.{Calls.{CloseCall, ReleaseCall, ScheduleCall, SetKeyCall, TakeCall, UnpinCall}, Cascade.{Falls, FallsAnyhow, nobody, only_handle}, Kinds.{is_owner, owner_worker}};
+ghost use Rattle.pagable_world.specs.{LoadCalls.{DropCall, HandOverCall, hand_over_fault, is_owned_in}, Plain.{Blob, updated}, Workers.{WorkerEnds, is_workers_at}, World.Core};
 ghost use Rattle.pagable_world.specs.declared.handles.Owner.{Owner};
-ghost use Rattle.pagable_world.specs.{Calls.{CloseCall, ReleaseCall, ScheduleCall, SetKeyCall, TakeCall, UnpinCall}, Cascade.{Falls, FallsAnyhow, nobody, only_handle}, Kinds.{find_row, is_owner}};
-ghost use Rattle.pagable_world.specs.{Kinds.owner_worker, LoadCalls.{DropCall, HandOverCall, hand_over_fault, is_owned_in}, Plain.{Blob, updated}, Workers.{WorkerEnds, is_workers_at}, World.Core};
 ghost use Rattle.std.specs.Prelude.{Bool, IfNone, IfOk, IfSome, List, None, Ok, Option, Some, [], false, is_some, length, nat_eq, not, slice_get, true, ℕ, ◌&&◌, ◌+◌, ◌<◌, ◌==◌, ◌||◌, ◌≡◌, ◌≤◌};
-ghost use Rattle.{indexmap.specs.IndexMap.get, pagable_model.specs.declared.numbers.LoadNumber.LoadNumber, pagable_tables.specs.Core.{AreLater, BeginsWorker, Does, DoesShed, InReach, IsNoLess}};
 
 use crate::handles::{self, Handles};
-use crate::holdings::{Holdings, fall, give_up, make_place, shed, top_after};
+use crate::holdings::{Holdings, fall, give_up, shed, top_after};
 use crate::loading::load_row;
 use crate::lookups::{cell_fault, earlier, is_loose_mode, is_unpinned, load_fault, named_fault};
 use crate::making::{is_owner, own};
@@ -34,7 +34,8 @@ pub enum Giving {
 
 /// Whether the handle of this row is given up.
 fn gives(loads: &Loads, giving: Giving, row: HandleRow) -> bool
-    ensures { (w : Core) → LoadsAre loads.now w → result ≡ gives_row w giving row }
+    ensures gives { (w : Core) → LoadsAre loads.now w → result ≡ gives_row w giving row }
+    ensures plain { result ≡ true → is_valued row.owner ≡ false }
 {
     match giving {
         Giving::Load(load) => is_owner(Owner::Load(load), row.owner),
@@ -56,11 +57,7 @@ fn gives(loads: &Loads, giving: Giving, row: HandleRow) -> bool
 #[tactic(auto, using(crate::proofs::Newer::places))]
 fn last(handles: &Handles, loads: &Loads, giving: Giving, since: u64, left: u64) -> Option<HandleAt>
     requires { AreSound handles.now }
-    ensures place { IfSome result (λ at. slice_get handles.now.places.items at.place ≡ Some (alive at.row)) }
-    ensures found { IfSome result (λ at. find_row at.row.number.0 (live handles.now.places.items) ≡ Some at.row) }
-    ensures between { IfSome result (λ at. (since < at.row.number.0) × (at.row.number.0 ≤ left)) }
-    ensures gives { IfSome result (λ at. (w : Core) → LoadsAre loads.now w → gives_row w giving at.row ≡ true) }
-    ensures last { IfSome result (λ at. (w : Core) (q : ℕ) → LoadsAre loads.now w → at.row.number.0 < q → q ≤ left → passes_in (gives_row w giving) (live handles.now.places.items) q ≡ false) }
+    ensures last { IfSome result (IsLast handles.now.places.items loads.now giving (λ q. since < q) left) }
     ensures none { IfNone result ((w : Core) (q : ℕ) → LoadsAre loads.now w → since < q → q ≤ left → passes_in (gives_row w giving) (live handles.now.places.items) q ≡ false) }
 {
     let mut place = handles::up_to(&handles.places, left);
@@ -87,11 +84,7 @@ fn last_given(
     left: u64,
 ) -> Option<HandleAt>
     requires { AreSound handles.now }
-    ensures place { IfSome result (λ at. slice_get handles.now.places.items at.place ≡ Some (alive at.row)) }
-    ensures found { IfSome result (λ at. find_row at.row.number.0 (live handles.now.places.items) ≡ Some at.row) }
-    ensures between { IfSome result (λ at. (0 < at.row.number.0) × (at.row.number.0 ≤ left)) }
-    ensures gives { IfSome result (λ at. (w : Core) → LoadsAre loads.now w → gives_row w giving at.row ≡ true) }
-    ensures last { IfSome result (λ at. (w : Core) (q : ℕ) → LoadsAre loads.now w → InReach reach q → at.row.number.0 < q → q ≤ left → passes_in (gives_row w giving) (live handles.now.places.items) q ≡ false) }
+    ensures last { IfSome result (IsLast handles.now.places.items loads.now giving (InReach reach) left) }
     ensures none { IfNone result ((w : Core) (q : ℕ) → LoadsAre loads.now w → InReach reach q → q ≤ left → passes_in (gives_row w giving) (live handles.now.places.items) q ≡ false) }
 {
     if let Some(at) = last(handles, loads, giving, reach.since, left) {
@@ -424,7 +417,7 @@ pub fn schedule_for_paging<N: Drop>(
         let _ = give_back(&mut t.holdings, values, at, lists);
         return Ok(());
     }
-    make_place(&mut t.holdings.list)?;
+    t.holdings.list.reserve(1)?;
     t.holdings.list.push(handle).unwrap();
     handles::hand_over(&mut t.holdings.handles, at, Owner::List);
     Ok(())

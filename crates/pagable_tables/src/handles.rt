@@ -141,9 +141,6 @@ fn make_room(handles: &mut Handles) -> Result<(), AllocError>
     ensures ok { OnOk result (vec_len handles.new.places < vec_capacity handles.new.places) }
     ensures full { OnErr result (vec_capacity handles.old.places ≤ length (live handles.old.places.items)) }
 {
-    if handles.places.len() < handles.places.capacity() {
-        return Ok(());
-    }
     if handles.places.reserve(1).is_err() {
         if handles.dead == 0 {
             return Err(AllocError);

@@ -1,16 +1,15 @@
 //! Who holds what: handles, nodes with what their values refer to, and the list of cells that wait for page-out. Handles are given up here, with all that goes with them.
 
-ghost use Rattle.std.specs.Prelude.{Bool, IfErr, List, None, OnErr, OnOk, Some, [], false, if◌then◌else◌, length, nat_eq, not, slice_get, true, ◌&&◌, ◌+◌, ◌<◌, ◌==◌, ◌^◌, ◌||◌, ◌≡◌, ◌≢◌, ◌≤◌, ◌⊎◌};
+ghost use Rattle.std.specs.Prelude.{Bool, IfErr, List, None, Some, [], false, if◌then◌else◌, length, nat_eq, not, slice_get, true, ◌&&◌, ◌+◌, ◌<◌, ◌==◌, ◌^◌, ◌||◌, ◌≡◌, ◌≢◌, ◌≤◌, ◌⊎◌};
 ghost use Rattle.{indexmap.specs.IndexMap.get, pagable_tables.specs.Falling.{AreSound, Comes, GivesUp, IsApart, IsFalling, IsNext, IsUnlisted, Leaves, MayList, Sheds, SoFar, Steps, after, alive}};
 ghost use Rattle.{pagable_tables.specs.Falling.{counts_at, is_listing, is_node, is_valued, landed, live, owns, owns_nothing, refs_at, told_by, with_tables}, pagable_world.specs.Cascade.Falls};
-ghost use Rattle.{pagable_world.specs.{Kinds.{is_owner, is_pinning}, Plain.one, World.Core, declared.handles.Owner.Owner}, std.specs.{Prelude.{vec_capacity, vec_len, ℕ}, Result.is_ok}};
+ghost use Rattle.{pagable_world.specs.{Kinds.{is_owner, is_pinning}, Plain.one, World.Core, declared.handles.Owner.Owner}, std.specs.{Prelude.ℕ, Result.is_ok}};
 
 use crate::handles::{self, Handles};
 use crate::tables::{self, Arcs, Counts, HandleAt, Nodes};
 use pagable_model::{Error, HandleNumber, NodeNumber};
 use pagable_world::Mode;
 use pagable_world::handles::{HandleRow, Owner};
-use std::alloc::AllocError;
 
 /// Handles, nodes and list, with no fact that is true of them all.
 #[derive(Drop)]
@@ -33,19 +32,6 @@ pub fn pins(mode: Mode) -> bool
     !matches!(mode, Mode::LooseUnpinned)
 }
 
-/// A place for one more entry of the list. It is refused only where there is none.
-pub fn make_place(list: &mut Vec<HandleNumber>) -> Result<(), AllocError>
-    ensures items { list.new.items ≡ list.old.items }
-    ensures ok { OnOk result (vec_len list.new < vec_capacity list.new) }
-    ensures full { OnErr result (vec_capacity list.old ≤ vec_len list.old) }
-    ensures capacity { vec_capacity list.old ≤ vec_capacity list.new }
-{
-    if list.len() < list.capacity() {
-        return Ok(());
-    }
-    list.reserve(1)
-}
-
 /// A new entry of the list for this node's cell. NumbersSpent or OutOfMemory where it can't come.
 fn enlist(t: &mut Holdings, node: NodeNumber) -> Result<(), Error>
     requires sound { AreSound t.old.handles }
@@ -57,7 +43,7 @@ fn enlist(t: &mut Holdings, node: NodeNumber) -> Result<(), Error>
     if t.last_handle == u64::MAX {
         return Err(Error::NumbersSpent);
     }
-    make_place(&mut t.list)?;
+    t.list.reserve(1)?;
     let number = HandleNumber(t.last_handle + 1);
     let row = HandleRow {
         number,

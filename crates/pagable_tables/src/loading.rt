@@ -7,7 +7,6 @@ ghost use Rattle.pagable_world.specs.{Refusals.references_fault, World.{Alike, C
 ghost use Rattle.std.specs.Prelude.{Bool, IfErr, IfNone, IfOk, IfSome, IsSome, None, OnOk, Option, Some, [], false, length, nat_eq, not, true, ℕ, ◌<◌, ◌≡◌, ◌≢◌, ◌≤◌, ◌⊎◌};
 ghost use Rattle.{indexmap.specs.IndexMap.{get, spare}, pagable_tables.specs.{Core.{AreLater, Does, IsReady, IsWhole, MayHold, OnlyRoom, core_of, load_in, plain_of}, Falling.{AreSound, Becomes}}};
 ghost use Rattle.{pagable_tables.specs.Ready.{IsReady as IsEndReady, ShedsBeside, Unends, early_fault}, pagable_world.specs.{Calls.{IsNext, birth_fault, is_named_by, moved}, Cascade.FallsAnyhow}};
-ghost use Rattle.pagable_model.specs.declared.error.Error.TheVariants as errors;
 ghost use Rattle.pagable_world.specs.declared.handles.Owner.TheVariants as owners;
 
 use crate::giving::{Giving, give_all, give_next};
@@ -17,7 +16,7 @@ use crate::lookups::{
     self, cache_get, earlier, is_here, is_loose_kind, is_loose_mode, is_pinned_kind, load_fault,
     mode_of, references_fault,
 };
-use crate::making::{bear, come, is_owner, make, own, pin_here};
+use crate::making::{add, bear, is_owner, make, own, pin_here};
 use crate::tables::{self, Arcs, LoadRoot, LoadRow, Reach, Tables};
 use pagable_model::{ArcRef, DataKey, Error, HandleNumber, Kind, LoadNumber, NodeNumber};
 use pagable_world::handles::{HandleRow, Owner};
@@ -67,7 +66,7 @@ pub fn load_begin(t: &mut Tables, me: Owner, handle: HandleNumber) -> Result<Beg
     };
     tables::open(&mut t.loads, load.0, row)?;
     let mode = Mode::LooseUnpinned;
-    if let Err(e) = come(&mut t.holdings, at.row.node, mode, Owner::Load(load)) {
+    if let Err(e) = add(&mut t.holdings, at.row.node, mode, Owner::Load(load)) {
         tables::close(&mut t.loads, load.0);
         return Err(e);
     }
@@ -128,9 +127,10 @@ pub fn make_ready_to_learn(t: &mut Tables) -> Result<(), Error>
     if t.last_node == u64::MAX || t.holdings.last_handle == u64::MAX {
         return Err(Error::NumbersSpent);
     }
-    handles::reserve(&mut t.holdings.handles, 1)?;
-    t.holdings.nodes.reserve(1)?;
-    t.cache.reserve(1)?;
+    let handles = handles::reserve(&mut t.holdings.handles, 1);
+    let nodes = t.holdings.nodes.reserve(1);
+    let cache = t.cache.reserve(1);
+    handles.and(nodes).and(cache)?;
     Ok(())
 }
 

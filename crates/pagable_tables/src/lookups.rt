@@ -437,7 +437,7 @@ pub fn offer<N: Drop>(
         return Ok(None);
     };
     let known = make(t, node, mode_of(kind), me)?;
-    let Some(at) = handles::look(&t.holdings.handles, handle) else {
+    let Ok(at) = own(t, me, handle) else {
         unreachable!();
     };
     let _ = give_back(&mut t.holdings, values, at, true);

@@ -31,16 +31,11 @@ pub fn counts_more(counts: Counts, pinning: bool) -> Counts
 
 /// A handle of a live node comes under the next number. NumbersSpent where none is left, OutOfMemory where there is no place.
 #[tactic(auto, using(crate::proofs::Fitting::counting))]
-pub fn come(
-    t: &mut Holdings,
-    node: NodeNumber,
-    mode: Mode,
-    owner: Owner,
-) -> Result<HandleNumber, Error>
+pub fn add(t: &mut Holdings, node: NodeNumber, mode: Mode, me: Owner) -> Result<HandleNumber, Error>
     requires steady { IsFalling t.old [] owns_nothing }
     requires live { IsSome (counts_at t.old.nodes node.0) }
-    requires owner { is_valued owner ≡ false }
-    ensures made { (w : Core) → Makes (with_tables w t.old) node mode owner result (with_tables w t.new) }
+    requires owner { is_valued me ≡ false }
+    ensures made { (w : Core) → Makes (with_tables w t.old) node mode me result (with_tables w t.new) }
     ensures values { (n : ℕ) → (n ≡ node.0 → is_pinning mode ≡ true → has_value (counts_at t.old.nodes n) ≡ true) → ValueStays (counts_at t.old.nodes n) (counts_at t.new.nodes n) }
     ensures steady { IsFalling t.new [] owns_nothing }
 {
@@ -54,7 +49,7 @@ pub fn come(
         number,
         node,
         mode,
-        owner,
+        owner: me,
     };
     handles::push(&mut t.handles, row)?;
     t.last_handle = number.0;
@@ -72,7 +67,7 @@ pub fn make(t: &mut Tables, node: NodeNumber, mode: Mode, me: Owner) -> Result<H
     ensures values { (n : ℕ) → (n ≡ node.0 → is_pinning mode ≡ true → has_value (counts_at t.old.holdings.nodes n) ≡ true) → ValueStays (counts_at t.old.holdings.nodes n) (counts_at t.new.holdings.nodes n) }
     ensures same { t.new ≡ record t.old { holdings = t.new.holdings } }
 {
-    come(&mut t.holdings, node, mode, me)
+    add(&mut t.holdings, node, mode, me)
 }
 
 /// A second handle of the same mode, of any live handle.
@@ -141,7 +136,7 @@ pub fn bear(
         unreachable!();
     };
     let value = NodeRow { counts, references };
-    let Ok(()) = tables::add(&mut t.holdings.nodes, node.0, value) else {
+    let Ok(_) = t.holdings.nodes.insert(node.0, value) else {
         unreachable!();
     };
     t.holdings.last_handle = number.0;

@@ -1,8 +1,8 @@
 //! What the tables keep of handles and nodes, rows of nodes, loads and workers by their numbers, and the tables together, with room for handles and for entries of the list. Nodes are seen as two
 //! functions of a number: what is counted of each, and what its value refers to.
 
-ghost use Rattle.std.specs.{Option.option_to_list, Prelude.{IfNone, IsOk, IsSome, None, OnErr, OnOk, Option, Some, [], nat_eq, ℕ, ◌++◌, ◌<◌, ◌≡◌, ◌≢◌}};
-ghost use Rattle.{indexmap.specs.IndexMap.{get, spare}, pagable_tables.specs.{Core.{AreLater, Does, IsWhole, plain_of}, Falling.{counts_at, known_at, load_at, refs_at, worker_at}}};
+ghost use Rattle.std.specs.{Option.option_to_list, Prelude.{IfNone, IsSome, None, OnErr, OnOk, Option, Some, [], nat_eq, ℕ, ◌++◌, ◌<◌, ◌≡◌, ◌≢◌}};
+ghost use Rattle.{indexmap.specs.IndexMap.get, pagable_tables.specs.{Core.{AreLater, Does, IsWhole, plain_of}, Falling.{counts_at, known_at, load_at, refs_at, worker_at}}};
 ghost use Rattle.pagable_world.specs.Calls.{ClearCall, ReserveCall, room_of};
 
 use crate::handles::{self, Handles};
@@ -219,21 +219,6 @@ pub fn pop_reference(nodes: &mut Nodes, node: u64) -> Option<ArcRef>
     ensures none { IfNone result (refs_at nodes.new node ≡ []) }
 {
     nodes.get_mut(&node)?.references.pop()
-}
-
-/// A node comes, under a number that is free.
-pub fn add(nodes: &mut Nodes, node: u64, row: NodeRow) -> Result<(), AllocError>
-    requires { counts_at nodes.old node ≡ None }
-    ensures here { OnOk result (counts_at nodes.new node ≡ Some row.counts) }
-    ensures refs { OnOk result (refs_at nodes.new node ≡ row.references.items) }
-    ensures others { OnOk result ((q : ℕ) → q ≢ node → counts_at nodes.new q ≡ counts_at nodes.old q) }
-    ensures other_refs { OnOk result ((q : ℕ) → q ≢ node → refs_at nodes.new q ≡ refs_at nodes.old q) }
-    ensures err { OnErr result ((q : ℕ) → counts_at nodes.new q ≡ counts_at nodes.old q) }
-    ensures err_refs { OnErr result ((q : ℕ) → refs_at nodes.new q ≡ refs_at nodes.old q) }
-    ensures succeeds { 0 < spare nodes.old → IsOk result }
-{
-    nodes.insert(node, row)?;
-    Ok(())
 }
 
 /// What the value of a node refers to from now on.

@@ -1,5 +1,5 @@
-use Rattle.pagable_tables.proofs.{Fitting.{aside, entry-apart}, Newer.{bare, given-plain, one-past, onto, past_of}, Next.{regiven, sheds-still, sheds-then}, Words.{None, [], arith, inl, inr, load_at}}
-use Rattle.pagable_tables.proofs.Words.{gives_row, load_in, nat_tests, nobody, option_map, owns_nothing, passes_in, refl, ◌∙◌}
+use Rattle.pagable_tables.proofs.{Fitting.{aside, entry-apart}, Newer.{given-plain, one-past, onto, past_of}, Next.{regiven, sheds-still, sheds-then}, Words.{None, [], arith, gives_row, inl, inr}}
+use Rattle.pagable_tables.proofs.Words.{nat_tests, nobody, owns_nothing, passes_in, refl, ◌∙◌}
 use Rattle.pagable_tables.proofs.giving.give_all.Goals as goal
 
 pub loop-at-init : goal.loop-at-init
@@ -12,22 +12,18 @@ loop-at-init g c = (
   λ none. refl,
 )
 
-pub shed-requires-clause-plain : goal.shed-requires-clause-plain
-shed-requires-clause-plain g c =
-    let w = bare (λ l. option_map load_in (load_at c.args.loads.now l)) in
-    (given-plain w c.args.giving c.in-Some.at.row.owner c.in-Some.at.row.node (c.in-Some.ensures.gives w (λ l. refl))).0
-
 pub loop-at-preserved : goal.loop-at-preserved
 loop-at-preserved g c =
     let i = c.loop-at.invariant in
     let x = c.in-Some.at.row in
-    let b = c.in-Some.ensures.between in (
+    let b = c.in-Some.ensures.last.between in (
       c.shed.ensures.steady,
       omega arith,
       λ before u w loads f few between.
-          one-past before u w c.args.lists c.args.giving (λ is. (c.requires.listed is).0) c.args.reach (λ q e. (between q e).0) c.loop-at.t c.shed.new.t c.loop-at.left x b.0 b.1 c.in-Some.ensures.found (c.in-Some.ensures.gives w loads)
-          (λ q in-reach above below. c.in-Some.ensures.last w q loads in-reach above below)
-          (λ given s. c.shed.ensures.so_far before u given s (omega arith) (elim (given-plain w c.args.giving x.owner x.node (c.in-Some.ensures.gives w loads)).1 [
+          one-past before u w c.args.lists c.args.giving (λ is. (c.requires.listed is).0) c.args.reach (λ q e. (between q e).0) c.loop-at.t c.shed.new.t
+          c.loop-at.left x b.0.0 b.1 c.in-Some.ensures.last.found (c.in-Some.ensures.last.gives w loads)
+          (λ q in-reach above below. c.in-Some.ensures.last.last w q loads in-reach above below)
+          (λ given s. c.shed.ensures.so_far before u given s (omega arith) (elim (given-plain w c.args.giving x.owner x.node (c.in-Some.ensures.last.gives w loads)) [
             | inl free ↦ inl free
             | inr is ↦ let l = c.requires.listed is in inr (entry-apart s l.0 x.number.0 (i.4 l.0 ∙ l.1))
           ])) (i.2 before u w loads f few between),

@@ -1,4 +1,4 @@
-use Rattle.pagable_tables.proofs.{Calls.{closes, owned-in}, Fitting.begun-less, Newer.{bare, closed-still, does-as, later-less, lazily-by, listing, loads-anew, nothing-shed, owned-given, sheds-with}}
+use Rattle.pagable_tables.proofs.{Calls.{closes, owned-in}, Fitting.begun-less, Newer.{closed-still, does-as, later-less, lazily-by, listing, loads-anew, nothing-shed, owned-given, sheds-with}}
 use Rattle.pagable_tables.proofs.{Newer.{still-reaches, updated-by}, Told.{newer-falls, roomy-whole, stays-on}, Words.{LoadCloses, None, Owner, arith, core_of, inl, inr, is_owned_in, load_at}}
 use Rattle.pagable_tables.proofs.{Words.{load_in, option_map, plain_of, refl, with_tables, without_load}, Worlds.{failed, still}}
 use Rattle.pagable_tables.proofs.giving.load_drop.Goals as goal
@@ -14,7 +14,8 @@ returns g c =
     (λ stored closed failures e.
     let w = core_of t stored closed failures in
     let u = without_load w l in
-    let falls = c.give_all.ensures.falls w u (bare (λ m. option_map load_in (load_at c.close.new.rows m))) (λ m. refl) (begun-less t u.loads w.workers stored closed c.args.lists failures c.requires.whole e) (omega arith)
+    let falls = c.give_all.ensures.falls w u (record u { loads = λ m. option_map load_in (load_at c.close.new.rows m) }) (λ m. refl)
+    (begun-less t u.loads w.workers stored closed c.args.lists failures c.requires.whole e) (omega arith)
     (λ q own. let after = c.requires.later.since l.0 c.in_ok-row.row q c.in_ok-row.ensures.row own in ((omega arith, inl after), owned-given (plain_of t) (Owner.Load l) q c.requires.whole.core.handles own)) in
     loads-anew w u (with_tables u c.give_all.new.t) (is_owned_in w (Owner.Load l)) c.give_all.result _
     (updated-by (option_map load_in) (load_at t.loads) (load_at c.close.new.rows) l.0 None c.close.ensures.gone c.close.ensures.others) falls)

@@ -1,4 +1,4 @@
-use Rattle.pagable_tables.proofs.{Alive.and-left, Calls.{MayHand, hand-over-whole, handed-mine, handed-own, handed-whole, may-hand, may-hold}, Fitting.{begun, unmixed}, Newer.{bare, closed-still}}
+use Rattle.pagable_tables.proofs.{Alive.and-left, Calls.{MayHand, hand-over-whole, handed-mine, handed-own, handed-whole, may-hand, may-hold}, Fitting.{begun, unmixed}, Newer.{closed-still}}
 use Rattle.pagable_tables.proofs.{Newer.{later-handed, lazily-by, loads-anew, moved-stands, moved-times, no-load, owned-given, sheds-with, updated-by}, Told.{newer-falls, not-a-value, owned-moved}}
 use Rattle.pagable_tables.proofs.Words.{Core, Falls, None, Owner, Some, [], ap, arith, core_of, false, inl, is_in, is_owned_in, is_valued, length, load_at, load_in, moved, nat_tests, not, numbers_of}
 use Rattle.pagable_tables.proofs.Words.{option_map, plain_of, refl, subst, sym, with_tables, without_load, ℕ, ◌&&◌, ◌∙◌, ◌≡◌}
@@ -37,7 +37,7 @@ returns g c =
     let so-far = begun w u c.args.lists (record t.holdings { handles = c.hand_each.new.handles; unlisted = None }) e (λ p own. moved-times p s me w.rows (λ x. own x me)) (unmixed t c.requires.whole)
     (λ q. let a = (handed-whole c.requires.whole.core me l hs can).owners_there.listed q in omega arith) c.hand_each.ensures.rows refl refl c.requires.whole.core.handles.within.0
     (record { handles = let a = c.hand_each.ensures.capacity in omega arith; entries = omega arith }) (λ n. refl) refl in
-    let falls = c.give_all.ensures.falls w u (bare (λ m. option_map load_in (load_at c.close.new.rows m))) (λ m. refl) so-far (let a = ap length c.hand_each.ensures.rows in omega arith)
+    let falls = c.give_all.ensures.falls w u (record u { loads = λ m. option_map load_in (load_at c.close.new.rows m) }) (λ m. refl) so-far (let a = ap length c.hand_each.ensures.rows in omega arith)
     (λ q own. let mine = and-left (is_owned_in w (Owner.Load l) q) (not (s q)) (sym (left q) ∙ own) in let g = owned-given p (Owner.Load l) q c.requires.whole.core.handles mine in
     let after = c.requires.later.since l.0 c.unwrap-row.result q row mine in ((omega arith, inl after), omega arith)) in
     record {

@@ -33,10 +33,13 @@ returns g c =
     steady (schedule-goes c.args.me c.args.handle c.requires.whole.core c.requires.holder) refl refl)
     (sheds-still c.args.t.now.holdings _ c.requires.whole.steady)
 
-pub returns-in_err-make_place : goal.returns-in_err-make_place
-returns-in_err-make_place g c =
+pub returns-in_err-reserve : goal.returns-in_err-reserve
+returns-in_err-reserve g c =
+    let t = c.args.t.now in
     let w = c.requires.whole.steady in
-    rw (failed c.from_residual-in_err-make_place.result c.from_residual-in_err-make_place.ensures.1) (sheds-with (lazily-so {lists = c.args.lists} {old = c.args.t.now} {new = record c.args.t.now { holdings = record c.args.t.now.holdings { list = c.make_place.new.list } }} {step = λ w w'. ScheduleCall w c.args.me c.args.handle (Err Error.OutOfMemory) w'}
-    (λ stored closed failures e.
-    grind (arith, nat_tests, closed-is, alike-listed, c.in_ok-at.ensures.found, c.in_ok-at.ensures.owner, c.if-not-lists.false, c.make_place.ensures.items, c.make_place.ensures.full, c.make_place.ensures.capacity))
-    (record { sound = w.sound; next = w.next; fits = w.fits }) (λ call. alike-goes c.requires.whole.core call.refused.stays) refl refl) (sheds-still c.args.t.now.holdings _ w))
+    let e = c.reserve.ensures in
+    let new = record t { holdings = record t.holdings { list = c.reserve.new.self } } in
+    rw (failed c.from_residual-in_err-reserve.result c.from_residual-in_err-reserve.ensures.1) (sheds-with
+    (lazily-so {lists = c.args.lists} {old = t} {new = new} {step = λ w w'. ScheduleCall w c.args.me c.args.handle (Err Error.OutOfMemory) w'}
+    (λ stored closed failures e1. grind (arith, nat_tests, closed-is, alike-listed, c.in_ok-at.ensures.found, c.in_ok-at.ensures.owner, c.if-not-lists.false, e.items, e.full, e.capacity))
+    (record { sound = w.sound; next = w.next; fits = w.fits }) (λ call. alike-goes c.requires.whole.core call.refused.stays) refl refl) (sheds-still t.holdings _ w))

@@ -1,5 +1,5 @@
 use Rattle.pagable_tables.proofs.{Alive.not-so, Calls.{installs-goes, may-hold}, Fitting.{fits-same, pins-le-held, rows-told, some-held, turned}, Installed.{ended, has-come, joined-fits, pins-here}}
-use Rattle.pagable_tables.proofs.{Installed.{ready-owner, so-then}, Newer.{bare, closed-still, later-less, lazily-by, not-named, still-reaches}, Told.{none-named, not-a-value}, Words.{ArcRef, Bool}}
+use Rattle.pagable_tables.proofs.{Installed.{ready-owner, so-then}, Newer.{closed-still, later-less, lazily-by, not-named, still-reaches}, Told.{none-named, not-a-value}, Words.{ArcRef, Bool}}
 use Rattle.pagable_tables.proofs.Words.{Core, Error, Falls, FallsAnyhow, HandleRow, Holdings, IsFalling, List, LoadNumber, Mode, None, Owner, Result, Tables, [], and-true, ap, arith, cases_Bool}
 use Rattle.pagable_tables.proofs.Words.{cell_in, changed, core_of, counts_at, false, has_value, inl, inr, is_handle, is_here, is_named_by, is_owned_in, is_pin, live, load_at, load_in, moved}
 use Rattle.pagable_tables.proofs.Words.{nat_tests, not, one, option_map, owner_value, owns, owns_nothing, plain_of, references_fault, refl, refs_at, row_of, subst, sum_by, sym, true, with_pin}
@@ -99,7 +99,9 @@ returns-clause-does g c =
           (ended t t1 stored closed c.args.lists failures c.requires.whole c.in-Ok.ensures.does.whole e row p.owned.live me (ready-owner t me l c.args.node_type rs c.args.ending c.requires.whole p) l (coming b rs)
           good (c.in-Ok.ensures.does.does stored closed failures).pinned.1 same c.join.new.t j.handles.rows (ap (λ (h : Holdings). h.list) j.same) (ap (λ (h : Holdings). h.last_handle) j.same)
           j.handles.capacity (λ m. ap cell_in (j.counts m)) c.args.ending.load.since c.give_all.new.t (load_at c.close.new.rows)
-          c.give_all.result (λ before v f few between. c.give_all.ensures.falls before v (bare (λ m. option_map load_in (load_at c.close.new.rows m))) (λ m. refl) f few (λ q own. let b = between q own in let after = b.0 in ((omega arith, inl after), b.1))) (λ q own. c.requires.later.since l.0 c.args.ending.load q c.requires.place.load own) c.close.ensures.gone c.close.ensures.others);
+          c.give_all.result (λ before v f few between. c.give_all.ensures.falls before v (record v { loads = λ m. option_map load_in (load_at c.close.new.rows m) }) (λ m. refl) f few
+          (λ q own. let b = between q own in let after = b.0 in ((omega arith, inl after), b.1)))
+          (λ q own. c.requires.later.since l.0 c.args.ending.load q c.requires.place.load own) c.close.ensures.gone c.close.ensures.others);
     })
     c.give_all.ensures.steady
     (λ i. (installs-goes me l row.node row.number c.in-Ok.handle c.args.node_type rs c.requires.whole.core may i).whole)

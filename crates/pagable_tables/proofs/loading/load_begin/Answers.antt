@@ -31,10 +31,10 @@ returns-in-Err c =
     let memory : c.in-Err.e ≡ Error.OutOfMemory = (let why = (c.in-Err.ensures.made (plain_of t)).refused.why in grind (arith, nat_tests, left)) in
     rw memory (does-by
     (λ stored closed failures.
-    let a = (c.in-Err.ensures.made (core_of (record t { holdings = c.come.new.t; loads = c.close.new.rows }) stored closed failures)).refused.stays in
+    let a = (c.in-Err.ensures.made (core_of (record t { holdings = c.add.new.t; loads = c.close.new.rows }) stored closed failures)).refused.stays in
     unbegun c.args.me c.args.handle c.in_ok-at.at.row c.in_ok-at.ensures.found c.in_ok-at.ensures.owner (search rules) (search rules) (omega arith) left
     (grind (arith, nat_tests, none-yet, c.requires.whole.core.loads.numbered, c.in_ok-open.ensures.others, c.close.ensures.gone, c.close.ensures.others)))
-    c.come.ensures.steady (λ begins. settles (roomy-whole c.requires.whole.core) begins.refused.stays)
+    c.add.ensures.steady (λ begins. settles (roomy-whole c.requires.whole.core) begins.refused.stays)
     (λ begins later. later-less later (newer-alike begins.refused.stays)
     (closed-still (load_at t.loads) (load_at c.close.new.rows) (t.last_load + 1) c.close.ensures.gone (λ q other. c.close.ensures.others q other ∙ c.in_ok-open.ensures.others q other)) (still-reaches refl)))
 
@@ -46,7 +46,7 @@ returns c =
     does-by
     (λ stored closed failures.
     let w = core_of t stored closed failures in
-    let w' = core_of (record t { holdings = c.come.new.t; loads = c.open.new.rows; last_load = l }) stored closed failures in
+    let w' = core_of (record t { holdings = c.add.new.t; loads = c.open.new.rows; last_load = l }) stored closed failures in
     let own : Owns w c.args.me c.args.handle is_loose row = record { live = c.in_ok-at.ensures.found; own = owner-same c.args.me row.owner c.in_ok-at.ensures.owner; as_asked = search rules } in
     let away : is_here w row.node.0 ≡ false = search rules in
     let key : key_at w row.node.0 ≡ OptionalDataKey.Some c.unwrap-key.result = grind (arith, nat_tests, c.key_in.ensures, c.unwrap-key.ensures) in
@@ -55,7 +55,7 @@ returns c =
     let opened : Alike (with_load (with_handle w row.node Mode.LooseUnpinned (Owner.Load (record { 0 = l }))) c.unwrap-key.result
     (of_cell row.node c.unwrap.result.node_type row.number) c.args.me) w' = grind (arith, nat_tests, c.in_ok-open.ensures.here, c.in_ok-open.ensures.others) in
     record { begins = (row, own, (away, key, record { above = refl; is_left = omega arith }, omega arith, (c.unwrap.result.node_type, typed, rw c.in_ok-at.ensures.number at opened))); refused = tt })
-    c.come.ensures.steady (begin-whole c.args.me c.args.handle c.requires.whole.core c.requires.owner)
+    c.add.ensures.steady (begin-whole c.args.me c.args.handle c.requires.whole.core c.requires.owner)
     (λ begins later. let n = newer-then (newer-handle (plain_of t) begins.begins.0.node Mode.LooseUnpinned (Owner.Load (record { 0 = l }))) (newer-alike begins.begins.2.4.2) in
     later-opened c.requires.whole.core later n l _ (none-yet (load_at t.loads l) t.last_load (λ some. (c.requires.whole.core.loads.numbered l some).1))
     c.in_ok-open.ensures.here refl c.in_ok-open.ensures.others refl)

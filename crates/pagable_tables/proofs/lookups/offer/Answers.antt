@@ -1,7 +1,7 @@
 use Rattle.pagable_tables.proofs.{Alive.whole-so, Calls.{known-suits, learns-whole}, Fitting.{begun-whole, closed-is}, Kept.found-among, Newer.{begun-made, falls-made, found-again, later-on}}
-use Rattle.pagable_tables.proofs.{Next.{sheds-still, stays-first}, Told.{lone-falling, not-a-value, not-list, told-whole}, Words.{Alike, NodeNumber, None, Owns, Some, ap, arith, core_of}}
-use Rattle.pagable_tables.proofs.Words.{counts_at, false, fits_mode, has_value, inl, inr, is_pinning, length, mode_of, nat_tests, not, offer_fault, only_handle, option_map, plain_of, recall_fault}
-use Rattle.pagable_tables.proofs.{Words.{refl, sym, true, with_cached, with_known, ℕ, ◌+◌, ◌∙◌, ◌≡◌}, Worlds.{failed, not-recalled, same-cache}}
+use Rattle.pagable_tables.proofs.{Next.{sheds-still, stays-first}, Told.{lone-falling, not-a-value, not-list, told-whole}, Words.{Alike, NodeNumber, None, Owner, Owns, any_mode, ap, arith, core_of}}
+use Rattle.pagable_tables.proofs.Words.{counts_at, false, fits_mode, has_value, inl, inr, is_owner, is_pinning, is_valued, length, mode_of, nat_tests, not, offer_fault, only_handle, option_map}
+use Rattle.pagable_tables.proofs.{Words.{plain_of, recall_fault, refl, sym, true, with_cached, with_known, ℕ, ◌+◌, ◌∙◌, ◌≡◌}, Worlds.{failed, not-recalled, owner-same, owner-self, same-cache}}
 use Rattle.pagable_tables.proofs.lookups.offer.Goals as goal
 
 pub make-requires-clause-suits : goal.make-requires-clause-suits
@@ -10,20 +10,14 @@ make-requires-clause-suits g c = rw c.mode_of.ensures (known-suits c.requires.wh
 pub unreachable-requires : goal.unreachable-requires
 unreachable-requires g c =
     let came = (c.in_ok-known.ensures.does.does (λ key. None) false 0).made.1.rows in
-    let again = found-again c.args.handle.0 _ _ _ c.in_ok-row.row None c.in_ok-row.ensures.owns.live came c.in_default-look.ensures.none in
-    absurd (cc)
+    let again = found-again c.args.handle.0 _ _ _ c.in_ok-row.row _ c.in_ok-row.ensures.owns.live came refl in
+    grind (arith, nat_tests, again, owner-self, c.in_ok-row.ensures.owns.own, c.in_default-own.ensures.fault (λ key. None) false 0 any_mode)
 
 pub give_back-requires-clause-plain : goal.give_back-requires-clause-plain
-give_back-requires-clause-plain g c =
-    let came = (c.in_ok-known.ensures.does.does (λ key. None) false 0).made.1.rows in
-    let again = found-again c.args.handle.0 _ _ _ c.in_ok-row.row (Some c.in-Some-look.at.row) c.in_ok-row.ensures.owns.live came c.in-Some-look.ensures.found in
-    grind (arith, nat_tests, not-a-value (plain_of c.args.t.now) c.args.me c.requires.holder, c.in_ok-row.ensures.owns.own)
+give_back-requires-clause-plain g c = ap is_valued (owner-same c.args.me c.in-Ok.at.row.owner c.in-Ok.ensures.owner) ∙ not-a-value (plain_of c.args.t.now) c.args.me c.requires.holder
 
 pub give_back-requires-clause-free : goal.give_back-requires-clause-free
-give_back-requires-clause-free g c =
-    let came = (c.in_ok-known.ensures.does.does (λ key. None) false 0).made.1.rows in
-    let again = found-again c.args.handle.0 _ _ _ c.in_ok-row.row (Some c.in-Some-look.at.row) c.in_ok-row.ensures.owns.live came c.in-Some-look.ensures.found in
-    grind (arith, nat_tests, not-list (plain_of c.args.t.now) c.args.me c.requires.holder, c.in_ok-row.ensures.owns.own)
+give_back-requires-clause-free g c = ap (is_owner Owner.List) (owner-same c.args.me c.in-Ok.at.row.owner c.in-Ok.ensures.owner) ∙ not-list (plain_of c.args.t.now) c.args.me c.requires.holder
 
 pub returns : goal.returns
 returns g c =
@@ -44,7 +38,7 @@ returns g c =
           let spared : only_handle c.args.handle (w.last.handle + 1) ≡ false =
           let a = (c.requires.whole.core.handles.numbered c.in_ok-row.row given.0).1 in let b = given.1 in grind (arith, nat_tests) in
           let falls = falls-made t t1 stored false failures node (mode_of c.args.kind.0) c.args.me made.whole alike c.in_ok-known.ensures.same (not-a-value (plain_of t) c.args.me c.requires.holder)
-          c.give_back.new.t (rw c.in-Some-look.ensures.number at (c.give_back.ensures.falls u u begun (let a = ap length alike.rows in omega arith))) spared in
+          c.give_back.new.t (rw c.in-Ok.ensures.number at (c.give_back.ensures.falls u u begun (let a = ap length alike.rows in omega arith))) spared in
           let is = sym (c.in-Some.ensures stored false failures) in
           rw (closed-is c.args.lists closed e ∙ ap not c.if-not-lists.false)
           (record { answers = (c.in_ok-row.row, owns, c.in_ok-row.ensures.typed, inr (refl, (node.0, is, m.0, record { told = c.give_back.result; falls = falls }))); refused = tt }));

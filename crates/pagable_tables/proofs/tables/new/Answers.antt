@@ -1,5 +1,5 @@
-use Rattle.pagable_tables.proofs.Words.{worker_at, AreLater, ◌≡◌, ℕ, [], ap, refl, subst, arith, None, nat_eq, get, HandleRow, Among, nat_tests, NodeRow, Tables, live, AreSound, counts_at}
-use Rattle.pagable_tables.{proofs.{Next.passes-none, Words.{IsFalling, known_at, load_at, option_map, owns_nothing}}, specs.Core.IsWhole}
+use Rattle.pagable_tables.proofs.{Next.passes-none, Words.{Among, AreLater, HandleRow, NodeRow, None, Tables, [], ap, arith, counts_at, get, known_at, live, load_at, nat_eq, nat_tests, option_map}}
+use Rattle.pagable_tables.{proofs.Words.{refl, subst, worker_at, ℕ, ◌≡◌}, specs.Core.IsWhole}
 use Rattle.pagable_tables.proofs.tables.new.Goals as goal
 
 nothing-whole : (t : Tables) → t.holdings.handles.dead ≡ 0 → t.holdings.handles.places.items ≡ [] → ((n : ℕ) → get nat_eq t.holdings.nodes n ≡ None) → t.holdings.list.items ≡ []
@@ -8,10 +8,8 @@ nothing-whole : (t : Tables) → t.holdings.handles.dead ≡ 0 → t.holdings.ha
 nothing-whole t dead rows found list cache loads workers last =
     let none : (n : ℕ) → counts_at t.holdings.nodes n ≡ None = λ n. ap (option_map (λ (r : NodeRow). r.counts)) (found n) in
     let empty : live t.holdings.handles.places.items ≡ [] = ap live rows in
-    let sound : AreSound t.holdings.handles = grind (arith, nat_tests, empty) in
-    let steady : IsFalling t.holdings [] owns_nothing = grind (arith, nat_tests, none, empty, sound) in
     let nobody : (h : HandleRow) → Among (live t.holdings.handles.places.items) h → ⊥ = λ h among. let a = subst (λ rs. Among rs h) empty among in absurd (cc) in
-    grind (arith, nat_tests, steady, empty, nobody, none)
+    grind (arith, nat_tests, none, empty, nobody)
 
 nothing-later : (t : Tables) → live t.holdings.handles.places.items ≡ [] → ((l : ℕ) → load_at t.loads l ≡ None) → ((v : ℕ) → worker_at t.workers v ≡ None) → AreLater t
 nothing-later t none loads workers = grind (arith, nat_tests, passes-none)

@@ -1,13 +1,13 @@
 use Rattle.pagable_tables.proofs.{Fitting.{come-fits, rows-told}, Words.{HandleRow, Some, ap, arith, cases_Bool, cases_eq, counts_at, is_pinning, nat_tests, one, refl, rules, sym, ◌+◌, ◌∙◌, ◌≡◌}}
 use Rattle.pagable_tables.proofs.Worlds.{alike}
-use Rattle.pagable_tables.proofs.making.come.Goals as goal
+use Rattle.pagable_tables.proofs.making.add.Goals as goal
 
 pub returns : goal.returns
 returns c =
     let t = c.args.t.now in
     let m = c.args.node.0 in
     let y = c.unwrap-counts.result in
-    let x : HandleRow = record { number = record { 0 = t.last_handle + 1 }; node = c.args.node; mode = c.args.mode; owner = c.args.owner } in
+    let x : HandleRow = record { number = record { 0 = t.last_handle + 1 }; node = c.args.node; mode = c.args.mode; owner = c.args.me } in
     let is : counts_at t.nodes m ≡ Some y = sym c.counts_of.ensures ∙ c.unwrap-counts.ensures in
     let e = c.set_counts.ensures in
     let fits = c.requires.steady.fits in
