@@ -1,8 +1,8 @@
 //! Types that refer to each other, and their environment: links refer to links, and a bundle to links of both sorts by each
 //! sort of references.
 
-ghost use Rattle.std.specs.{Arc.arc_value, Prelude.{IfErr, OnOk, Some, refl, ◌++◌, ◌≡◌}};
-ghost use Rattle.{pagable.specs.model.{References.references_in, Writing.{Grows, Refused, WritesSome, nesting}}, pagable_examples.specs.Linked.{arc_link_in, bundle_in, holds_arc_link, holds_bundle}};
+ghost use Rattle.std.specs.{Arc.arc_value, Prelude.{OnOk, Some, refl, ◌++◌, ◌≡◌}};
+ghost use Rattle.{pagable.specs.{model.References.references_in, traits.JsonSteps.{Wrote, value as form}}, pagable_examples.specs.Linked.{arc_link_in, bundle_in, holds_arc_link, holds_bundle}};
 ghost use Rattle.pagable_examples.specs.Linked.{holds_link, link_in, no_parts, numbers_are_small};
 
 pub mod bundle;
@@ -38,14 +38,8 @@ pub fn write_listed<E: Env, T: Refers<E> + PagableSerialize<E>, S: PagableSerial
     value: &T,
     serializer: &mut S,
 ) -> Result<(), Error>
-    ensures ok { OnOk result (WritesSome (T.means.of value.now) (nesting (S.levels serializer.old) (E.parts (S.environment serializer.old))) (T.shape (S.environment serializer.old))
-        (S.out serializer.old) (S.out serializer.new)) }
+    ensures wrote { Wrote E.Env S.PagableSerializer (form (T.means.of value.now) (T.shape (S.environment serializer.old))) T.write_causes.are serializer.old serializer.new result }
     ensures listed { OnOk result ((S.out serializer.new).refs ≡ (S.out serializer.old).refs ++ references_in (T.means.meaning value.now)) }
-    ensures refused { IfErr result (Refused (T.means.of value.now) (nesting (S.levels serializer.old) (E.parts (S.environment serializer.old))) (T.shape (S.environment serializer.old))) }
-    ensures only { IfErr result T.write_causes.are }
-    ensures err { Grows (S.out serializer.old) (S.out serializer.new) }
-    ensures same_env { S.environment serializer.new ≡ S.environment serializer.old }
-    ensures same_levels { S.levels serializer.new ≡ S.levels serializer.old }
 {
     value.pagable_serialize(serializer)
 }

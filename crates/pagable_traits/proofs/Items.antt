@@ -1,15 +1,15 @@
 -- Items one after another, as the loops write and read them, and without their count.
 -- Items that are put in one after another as they are read.
 -- Items that a walk yields: what writing each, after their count, makes of the whole that holds them.
-use Rattle.{pagable_codec.proofs.Writing.out_is, pagable_model.specs.Form.{Form, array-form}}
-use Rattle.{pagable_model.specs.{Form.run-form, Shape.{array, run}}, pagable_traits.proofs.{Parts.{err_along, ok_along, only-count, only-part}, Words.{ArcRef, Bor, Collected, Err, Error}}}
-use Rattle.pagable_traits.proofs.Words.{FormAt, Forms, FormsAt, Gave, Gets, GivesSome, IfErr, List, MeanAll, Meaning, Meanings, MeansList, MeansPair, Nesting, NoForm, NoFormOfSome, NoForms}
-use Rattle.pagable_traits.proofs.Words.{NoFormsOfSome, Ok, Option, Out, PutInTurn, Refused, RefusedAll, RefusedAmong, RefusedCounted, Rest, Result, Shape, Some, SomeMeaning}
-use Rattle.pagable_traits.proofs.Words.{WritesEach, WritesSome, WritesSomeAll, [], added, ap, append-nil, append_assoc, arith, get_or, grows_trans, inl, items, items_have_meanings}
-use Rattle.pagable_traits.proofs.Words.{kind_of_arc, length, length_form, list, list-form, long_or, longest, map, mean-more, mean-none, memory_or, memory_refuses, more-forms, moves_trans, no-forms}
-use Rattle.{pagable_traits.proofs.Words.{put_all, read, refl, seen, sequence, some, subst, suc, sym, take, then, zero, ℕ, ◌++◌, ◌+◌, ◌-◌, ◌<◌, ◌>>=◌, ◌∙◌, ◌∷◌, ◌≡◌, ◌≤◌, ◌⊎◌}, std.proofs.Common.drop}
-use Rattle.std.{proofs.{Math.Seq.split_at, lemmas.{Iterator.{Consumers.YieldsList-from_rest, YieldsList, YieldsList-from_slice, items_from_drains}, List.take_more}}, specs.Iterator.AlwaysYields}
-use Rattle.std.specs.{Iterator.Yields, Map.Iter.{TakesFirst, deref, deref_pair}, Prelude.{vec_len, ◌≢◌}, Result.{IsOk, MatchResult}, Slice.Iter.{iter_rest, iter_steps}, declared.vec.Vec.Vec}
+use Rattle.{pagable_codec.proofs.Writing.out_is, pagable_model.specs.{Form.{Form, array-form, run-form}, Shape.{array, run}}, pagable_traits.proofs.Parts.{err_along, ok_along, only-count, only-part}}
+use Rattle.pagable_traits.proofs.Words.{ArcRef, Bor, Collected, Context, Err, Error, FormAt, Forms, FormsAt, Gave, Gets, GivesSome, IfErr, List, MeanAll, Meaning, Meanings, MeansList, MeansPair}
+use Rattle.pagable_traits.proofs.Words.{Nesting, NoForm, NoFormOfSome, NoForms, NoFormsOfSome, Ok, Option, Out, PutInTurn, Refused, RefusedAll, RefusedAmong, RefusedCounted, Rest, Result, Shape, Some}
+use Rattle.pagable_traits.proofs.Words.{SomeMeaning, WritesEach, WritesSome, WritesSomeAll, [], added, ap, append-nil, append_assoc, arith, counted, get_or, grows_trans, inl, items}
+use Rattle.pagable_traits.proofs.Words.{items_have_meanings, kind_of_arc, length, length_form, list, list-form, long_or, longest, map, mean-more, mean-none, memory_or, memory_refuses, more-forms}
+use Rattle.pagable_traits.proofs.Words.{moves_trans, no-forms, put_all, read, read_with, refl, sequence, some, subst, suc, sym, take, then, zero, ℕ, ◌++◌, ◌+◌, ◌-◌, ◌<◌, ◌>>=◌, ◌∙◌, ◌∷◌, ◌≡◌, ◌≤◌}
+use Rattle.{pagable_traits.proofs.Words.◌⊎◌, std.proofs.{Common.drop, Math.Seq.split_at, lemmas.Iterator.{Consumers.YieldsList-from_rest, YieldsList, YieldsList-from_slice, items_from_drains}}}
+use Rattle.std.{proofs.lemmas.List.take_more, specs.{Iterator.{AlwaysYields, Yields}, Map.Iter.{TakesFirst, deref, deref_pair}, Prelude.{vec_len, ◌≢◌}, Result.{IsOk, MatchResult}}}
+use Rattle.std.specs.{Slice.Iter.{iter_rest, iter_steps}, declared.vec.Vec.Vec}
 
 -- ---- what items mean
 
@@ -184,6 +184,13 @@ collected_list M now ms c = rw (put-in-turn (λ ys y. ys ++ y ∷ []) [] c.xs no
 pub gives-seen : {X Y Z R : Type 0} (own : Error → Type 0) (P : X → Y → Type 0) (Q : X → Z → Type 0) (view : Y → Z) (last : R) (r : Result X Error) (part : Result (Y × R) Error)
     → ((x : X) (y : Y) → P x y → Q x (view y)) → GivesSome own P last r part → GivesSome own Q last r (part >>= λ y. Ok (view y.0, y.1))
 gives-seen own P Q view last r part f g = grind arith
+
+-- items that were collected in their order are a list
+pub reads_list : {X T A : Type 0} (own : Error → Type 0) (M : T → Meaning ArcRef → Type 0) (r : Result X Error) (held : X → List T) (context : Context A ArcRef) (s : Shape) (rest last : Rest A)
+    → GivesSome own (λ x. Collected M (λ ys y zs. zs ≡ ys ++ y ∷ []) (held x)) last r (counted (read context s) rest) → GivesSome own (λ x. MeansList M (held x)) last r (read context (list s) rest)
+unfolding read read_with
+reads_list own M r held context s rest last h = gives-seen own (λ x. Collected M (λ ys y zs. zs ≡ ys ++ y ∷ []) (held x)) (λ x. MeansList M (held x)) sequence last r (counted (read context s) rest)
+    (λ x ms c. record { ms = ms; each = collected_list M (held x) ms c; is = refl }) h
 
 -- there are as many as were asked for
 items-length : {A X : Type 0} (get : Gets A X) (n : ℕ) (rest after : Rest A) (xs : List X) → items get n rest ≡ Ok (xs, after) → length xs ≡ n

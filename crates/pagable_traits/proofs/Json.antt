@@ -1,20 +1,20 @@
 -- What writing a JSON value adds: its case, and a form of its part; and which values have no form.
 -- What reading a JSON value gives: its case, and then its part.
-use Rattle.pagable_codec.specs.declared.{env.Env.Ghosts as Environments, serializer.PagableSerializer.Ghosts as Serializers}
-use Rattle.pagable_model.specs.Form.{json-array-form, json-flag-form, json-null-form, json-number-form, json-object-form, json-text-form}
-use Rattle.{pagable_model.specs.{Keyed.text_is_ordered, Lifted.{list_single, pair_single}, Numbers.{IsSigned, unsigned_form, varint}, Reading.{below, json_case}}, pagable_traits.proofs.Items.Wraps}
-use Rattle.pagable_traits.proofs.{Items.{gives-seen, refuses-items, refuses-long, wraps_list, writes-counted}, JsonSteps.{below as one_down, deeper, wrote-err}, Maps.{IsOrderOf, Written, key_like}}
-use Rattle.pagable_traits.proofs.{Maps.{reads-entries, sorted-map-put, viewed, wraps_sorted_map}, Parts.{err_along, ok_along, refuses_whole, writes_whole}, Words.{Answer, ArcRef, Bool, Context}}
-use Rattle.pagable_traits.proofs.Words.{Entry, Err, Error, FormAt, Gave, GivesSome, Global, Grows, IfErr, Is, IsStrictlySortedBy, List, MeanAll, Meaning, MeansList, MeansPair, Nesting}
-use Rattle.pagable_traits.proofs.Words.{NoForm, None, Ok, OnOk, Option, Out, Piece, Refused, Rest, Result, Shape, Some, SomeMeaning, String, Value, Vec, WritesSome, Wrote, [], added, all, ap}
-use Rattle.pagable_traits.proofs.Words.{arith, array_case, as_i64, bool_form, both, bytes, bytes_of, deepest, entry, false, flag, flag-form, grows_refl, grows_trans, handles_at, inl, inr, integer}
-use Rattle.pagable_traits.proofs.Words.{items, items_have_meanings, json, json_causes, keys_of, length, length_at, length_form, list, list-form, long_or, long_or_memory, longest, map, memory}
-use Rattle.pagable_traits.proofs.Words.{memory_refuses, moves_trans, none, number_view, object_case, of_data, of_entries, of_key, of_value, ordered, ordering_reverse, pair, pair_has_meaning, pos}
-use Rattle.pagable_traits.proofs.Words.{put_all, put_sorted, read, read_with, refl, refused_memory, rules, seen, sequence, signed, signed-form, sorted-map-form, sorted_map, string_bytes, string_cmp}
-use Rattle.pagable_traits.proofs.Words.{subst, suc, sym, text, text-form, text_form, text_order, then, to_z-of_z, true, unsigned_at, variant, view, w64, ℕ, ℤ, ◌++◌, ◌+◌, ◌-◌, ◌<◌, ◌^◌, ◌∙◌, ◌∷◌, ◌≡◌}
-use Rattle.{pagable_traits.{proofs.Words.◌≤◌, specs.{JsonData.long_or_no_memory, JsonSteps.{ObjectOf, front, part_of, value as form}}}, serde_json.proofs.Views.{view-Array, view-Object}}
-use Rattle.serde_json.specs.{Data.{Data, Num, array, boolean, null, number, object, string}, Find.of_integer, View.{items_view, members_view}, declared.number.Number.Number}
-use Rattle.{serde_json.specs.declared.value.Value.the_lemmas, std.{proofs.{Common.BTreeMap, lemmas.Bool.{lt-ltb, ne_eqb}}, specs.{Prelude.{nat_lt, negsuc}, String.string_cmp_total}}}
+use Rattle.{pagable_codec.specs.declared.{env.Env.Ghosts as Environments, serializer.PagableSerializer.Ghosts as Serializers}, pagable_model.specs.Form.{json-array-form, json-flag-form}}
+use Rattle.pagable_model.specs.{Form.{json-null-form, json-number-form, json-object-form, json-text-form}, Keyed.text_is_ordered, Lifted.{list_single, pair_single}, Numbers.{IsSigned, unsigned_form}}
+use Rattle.{pagable_model.specs.{Numbers.varint, Reading.{below, json_case}}, pagable_traits.proofs.Items.{Wraps, gives-seen, refuses-items, refuses-long, wraps_list, writes-counted}}
+use Rattle.pagable_traits.proofs.{JsonSteps.{below as one_down, deeper, wrote-err}, Maps.{IsOrderOf, Written, key_like, reads-entries, sorted-map-put, viewed, wraps_sorted_map}, Parts.err_along}
+use Rattle.pagable_traits.proofs.{Parts.{ok_along, refuses_whole, writes_whole}, Words.{Answer, ArcRef, Bool, Context, Entry, Err, Error, FormAt, Gave, GivesSome, Global, Grows, IfErr, Is}}
+use Rattle.pagable_traits.proofs.Words.{IsStrictlySortedBy, List, MeanAll, Meaning, MeansList, MeansPair, Nesting, NoForm, None, Ok, OnOk, Option, Out, Piece, Refused, Rest, Result, Shape, Some}
+use Rattle.pagable_traits.proofs.Words.{SomeMeaning, String, Value, Vec, WritesSome, Wrote, [], added, all, ap, arith, array_case, as_i64, bool_form, both, bytes, bytes_of, deepest, entry, false}
+use Rattle.pagable_traits.proofs.Words.{flag, flag-form, grows_refl, grows_trans, handles_at, inl, inr, integer, items, items_have_meanings, json, json_causes, keys_of, length, length_at, length_form}
+use Rattle.pagable_traits.proofs.Words.{list, list-form, long_or, long_or_memory, longest, map, memory, memory_refuses, moves_trans, none, number_view, object_case, of_data, of_entries, of_key}
+use Rattle.pagable_traits.proofs.Words.{of_value, ordered, ordering_reverse, pair, pair_has_meaning, pos, put_all, put_sorted, read, read_with, refl, refused_memory, rules, seen, sequence, signed}
+use Rattle.pagable_traits.proofs.Words.{signed-form, sorted-map-form, sorted_map, string_bytes, string_cmp, subst, suc, sym, text, text-form, text_order, then, to_z-of_z, true, unsigned_at, variant}
+use Rattle.pagable_traits.{proofs.Words.{view, w64, ℕ, ℤ, ◌+◌, ◌-◌, ◌<◌, ◌^◌, ◌∙◌, ◌∷◌, ◌≡◌, ◌≤◌}, specs.{JsonData.long_or_no_memory, JsonSteps.{ObjectOf, front, part_of, value as form}}}
+use Rattle.serde_json.{proofs.Views.{view-Array, view-Object}, specs.{Data.{Data, Num, array, boolean, null, number, object, string}, Find.of_integer, View.{items_view, members_view}}}
+use Rattle.{serde_json.specs.declared.{number.Number.Number, value.Value.the_lemmas}, std.{proofs.{Common.BTreeMap, lemmas.Bool.{lt-ltb, ne_eqb}}, specs.Prelude.{nat_lt, negsuc}}}
+use Rattle.std.specs.String.{string_cmp_total}
 use Rattle.serde_json.specs.Data as kit
 use Rattle.serde_json.specs.declared.value.Value as values
 use Rattle.pagable_model.specs.Meaning as meanings
@@ -43,39 +43,14 @@ module _ (n : Nesting) where
   object-up lt (sorted-map-form l o s t es b k le up f) = json-object-form _ _ es b k (omega arith) le up f
 
   no-text : (m : Meaning ArcRef) → NoForm n text m → NoForm n json (variant 3 m)
-  no-text m lack b k f = go f refl
-    where
-      go : {x : Meaning ArcRef} {b : List ℕ} {k : List ArcRef} → FormAt n json x b k → x ≡ variant 3 m → ⊥
-      go (json-text-form l t u le) e = let same : meanings.text t ≡ m = cc in let P : Meaning ArcRef → Type 0 = λ x. FormAt n text x (text_form t) [] in lack _ [] (subst P same (text-form _ t u le))
-      go f e = absurd cc
+  no-text m lack b k (json-text-form l t u le) = lack _ [] (text-form _ t u le)
 
   no-array : (m : Meaning ArcRef) → NoForm (deeper n) (list json) m → NoForm n json (variant 4 m)
-  no-array m lack b k f = go f refl
-    where
-      go : {x : Meaning ArcRef} {b : List ℕ} {k : List ArcRef} → FormAt n json x b k → x ≡ variant 4 m → ⊥
-      go (json-array-form l less ms c j p le f) e =
-          let same : sequence ms ≡ m = cc in
-          let here : less ≡ deepest - (n.levels + 1) = omega arith in
-          let P : Meaning ArcRef → Type 0 = λ x. FormAt (deeper n) (list json) x (length_form (length ms) ++ c) j in
-          lack _ j (subst P same (list-form _ json ms c j le (rw here at f)))
-      go f e = absurd cc
+  no-array m lack b k (json-array-form l less ms c j p le f) = let here : less ≡ deepest - (n.levels + 1) = omega arith in lack _ j (list-form _ json ms c j le (rw here at f))
 
   no-object : (m : Meaning ArcRef) → NoForm (deeper n) (sorted_map text_order text json) m → NoForm n json (variant 5 m)
-  no-object m lack b k f = go f refl
-    where
-      go : {x : Meaning ArcRef} {b : List ℕ} {k : List ArcRef} → FormAt n json x b k → x ≡ variant 5 m → ⊥
-      go (json-object-form l less es c j p le up f) e =
-          let same : of_entries es ≡ m = cc in
-          let here : less ≡ deepest - (n.levels + 1) = omega arith in
-          let P : Meaning ArcRef → Type 0 = λ x. FormAt (deeper n) (sorted_map text_order text json) x (length_form (length es) ++ c) j in
-          lack _ j (subst P same (sorted-map-form _ text_order text json es c j le up (rw here at f)))
-      go f e = absurd cc
-
-  no-deep-array : (m : Meaning ArcRef) → deepest ≤ n.levels → NoForm n json (variant 4 m)
-  no-deep-array m le b k f = grind arith
-
-  no-deep-object : (m : Meaning ArcRef) → deepest ≤ n.levels → NoForm n json (variant 5 m)
-  no-deep-object m le b k f = grind arith
+  no-object m lack b k (json-object-form l less es c j p le up f) =
+      let here : less ≡ deepest - (n.levels + 1) = omega arith in lack _ j (sorted-map-form _ text_order text json es c j le up (rw here at f))
 
 -- ---- numbers
 
@@ -192,13 +167,13 @@ module _ {X : Type 0} (M : X → Meaning ArcRef → Type 0) (has : (x : X) → S
 
 pub arrays : (vs : List Value) (count : ℕ) → count ≡ length vs → HoldsBelow 4 count (all (MeanAll (Is of_value) vs) json) (array (items_view vs))
 arrays vs count counted = holds-below (Is of_value) value-has vs 4 count (list json) json (array (items_view vs)) (items-are vs) refl counted (λ n. wraps_list (Is of_value) vs n json)
-    (λ n lt m b k f. array-up n lt f) no-array no-deep-array
+    (λ n lt m b k f. array-up n lt f) no-array (λ n m le b k f. grind arith)
 
 pub objects : (es : List (String Global × Value)) (count : ℕ) → count ≡ length es → IsStrictlySortedBy string_cmp (keys_of es)
     → HoldsBelow 5 count (all (MeanAll (MeansPair (Is of_key) (Is of_value)) es) (both text json)) (object (members_view es))
 objects es count counted sorted =
     holds-below (MeansPair (Is of_key) (Is of_value)) member-has es 5 count (sorted_map text_order text json) (both text json) (object (members_view es)) (members-are es) refl counted
-    (λ n. wraps_sorted_map (Is of_key) (Is of_value) string_cmp text_order keys-in-order es n text json sorted) (λ n lt m b k f. object-up n lt f) no-object no-deep-object
+    (λ n. wraps_sorted_map (Is of_key) (Is of_value) string_cmp text_order keys-in-order es n text json sorted) (λ n lt m b k f. object-up n lt f) no-object (λ n m le b k f. grind arith)
 
 -- ---- a case, and then a value of another shape
 

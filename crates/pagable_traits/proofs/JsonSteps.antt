@@ -1,10 +1,11 @@
 -- One step after another: what each of two functions that write or read owes, both owe.
-use Rattle.pagable_traits.proofs.Words.{◌≡◌, ℕ, ◌<◌, ◌≤◌, ◌+◌, ◌-◌, [], ◌∷◌, ◌++◌, List, arith, refl, ◌∙◌, Result, Ok, Err, inl, inr, err_from_is_err_and, OnOk, IfErr, ◌⊎◌, IsErrAnd, Error, ArcRef}
-use Rattle.pagable_traits.proofs.Words.{memory, memory_or, subst, read, GivesSome, Meaning, Context, Gets, Rest, deepest, items, Shape, Answer, MovesOn, Out, Nesting, nesting, WritesSome, Refused, Grows, grows_refl}
-use Rattle.pagable_traits.proofs.{Words.{grows_trans, moves_trans, Piece, Wrote, Reads, nested_in, context_in}, Maps.viewed}
-use Rattle.pagable_traits.proofs.Items.{Shows, Wraps, each-written, ends, goes_on, is_done, refused_counted, starts, with_front, writes-counted}
-use Rattle.pagable_traits.{proofs.{Parts.{err_along, ok_along}, Words.{Option, SomeMeaning, added, length, length_form}}, specs.{JsonSteps.value, Walks.counted as walked}}
-use Rattle.pagable_codec.specs.{declared.env.Env.Ghosts as Environments, declared.serializer.PagableSerializer.Ghosts as Serializers, declared.deserializer.PagableDeserializer.Ghosts as Deserializers}
+use Rattle.pagable_codec.specs.declared.{deserializer.PagableDeserializer.Ghosts as Deserializers, env.Env.Ghosts as Environments, serializer.PagableSerializer.Ghosts as Serializers}
+use Rattle.pagable_traits.proofs.{Items.{Shows, Wraps, each-written, ends, goes_on, is_done, refused_counted, starts, with_front, writes-counted}, Maps.viewed, Parts.{err_along, no-failure}}
+use Rattle.pagable_traits.proofs.{Parts.{no-success, ok_along, refused_second, refuses_first, refuses_whole, writes_pair, writes_whole}, Words.{Answer, ArcRef, Context, Err, Error, FormAt, Gets}}
+use Rattle.pagable_traits.proofs.Words.{GivesSome, IsErrAnd, List, Meaning, Meanings, MeansPair, MeansResult, MovesOn, Nesting, NoForm, Ok, Option, Out, Piece, Reads, Rest, Result, Shape, SomeMeaning}
+use Rattle.pagable_traits.proofs.Words.{Wrote, [], added, arith, bool_form, both, bytes, context_in, deepest, err-form, err_from_is_err_and, failure, false, grows_refl, grows_trans, inl, inr, items}
+use Rattle.pagable_traits.proofs.Words.{length, length_form, means-err, means-ok, memory, memory_or, moves_trans, nested_in, nesting, ok-form, outcome, read, refl, some, subst, success, true, ℕ, ◌++◌}
+use Rattle.pagable_traits.{proofs.Words.{◌+◌, ◌-◌, ◌<◌, ◌∙◌, ◌∷◌, ◌≡◌, ◌≤◌, ◌⊎◌}, specs.{JsonSteps.value, Walks.counted as walked}}
 
 -- one level further down, where a level is left
 abbrev pub deeper : Nesting → Nesting
@@ -14,27 +15,10 @@ abbrev pub below : Piece → Piece
 below p = record { wrote = λ n old new. (n.levels < deepest) × p.wrote (deeper n) old new; lacks = λ n e. (n.levels < deepest) × p.lacks (deeper n) e }
 
 module _ {S E N H K V : Type 0} (env : Environments E N H K V) (s : Serializers S E N H K V) where
-  -- the clauses of PagableSerialize
-  abbrev pub Owes : {X : Type 0} → (Meaning ArcRef → Type 0) → Shape → (Error → Type 0) → S → S → Result X Error → Type 0
-  Owes M shape causes old new r = record {
-    ok : OnOk r (WritesSome M (nested_in env s old) shape (s.out old) (s.out new));
-    refused : IfErr r (Refused M (nested_in env s old) shape);
-    only : IfErr r causes;
-    err : Grows (s.out old) (s.out new);
-    same_env : s.environment new ≡ s.environment old;
-    same_levels : s.levels new ≡ s.levels old;
-  }
-
-  pub clauses : {X : Type 0} {M : Meaning ArcRef → Type 0} {shape : Shape} {causes : Error → Type 0} {old new : S} {r : Result X Error}
-      → Wrote env s (value M shape) causes old new r → Owes M shape causes old new r
-  clauses p = record { ok = p.ok; refused = p.refused; only = p.only; err = p.err; same_env = p.same_env; same_levels = p.same_levels }
-
-  -- a value, as the functions write it that have these clauses, by its shape in an environment that is the same
+  -- a value, by its shape in an environment that is the same
   pub as-form : {X : Type 0} {old new : S} (M : Meaning ArcRef → Type 0) (shape : E → Shape) (causes : Error → Type 0) (r : Result X Error) {e : E} → s.environment old ≡ e
-      → Owes M (shape (s.environment old)) causes old new r → Wrote env s (value M (shape e)) causes old new r
-  as-form {old = old} {new = new} M shape causes r same told =
-      let P : E → Type 0 = λ e. Wrote env s (value M (shape e)) causes old new r in
-      subst P same (record { ok = told.ok; refused = told.refused; only = told.only; err = told.err; same_env = told.same_env; same_levels = told.same_levels })
+      → Wrote env s (value M (shape (s.environment old))) causes old new r → Wrote env s (value M (shape e)) causes old new r
+  as-form {old = old} {new = new} M shape causes r same told = let P : E → Type 0 = λ e. Wrote env s (value M (shape e)) causes old new r in subst P same told
 
   -- the second after the first
   pub wrote-then : {X Y : Type 0} {P Q W : Piece} {first second causes : Error → Type 0} {a b c : S} {x : X} (r : Result Y Error) → Wrote env s P first a b (Ok x) → Wrote env s Q second b c r
@@ -76,6 +60,38 @@ module _ {S E N H K V : Type 0} (env : Environments E N H K V) (s : Serializers 
       → (first e → causes e) → Wrote env s W causes a b r
   wrote-err r is p lacks only = let q = err_from_is_err_and r is in rw (q.1, q.2) (record { ok = tt; refused = lacks _ p.refused p.only; only = only p.only; err = p.err; same_env = p.same_env; same_levels = p.same_levels })
 
+  -- bytes, and then a value of which the whole is made
+  pub whole-wrote : {X Y : Type 0} {p q causes : Error → Type 0} {a b c : S} {u : X} (r : Result Y Error) (whole : Meaning ArcRef → Meaning ArcRef) (front : List ℕ) (part all_of : Shape)
+      (M N : Meaning ArcRef → Type 0) → ((m : Meaning ArcRef) → M m → N (whole m))
+      → ((n : Nesting) (m : Meaning ArcRef) (b : List ℕ) (k : List ArcRef) → FormAt n part m b k → FormAt n all_of (whole m) (front ++ b) k)
+      → ((n : Nesting) (m : Meaning ArcRef) → NoForm n part m → NoForm n all_of (whole m))
+      → Wrote env s (bytes front) p a b (Ok u) → Wrote env s (value M part) q b c r → ((e : Error) → q e → causes e) → Wrote env s (value N all_of) causes a c r
+  whole-wrote r whole front part all_of M N is up lack f v only =
+      wrote-then r f v (λ n old mid new e w. writes_whole n n whole part all_of M N is front old mid new (up n) e w) (λ n e l h. refuses_whole n n whole part all_of M N is e (lack n) l) only
+
+  module _ {X Y T F : Type 0} {p q causes : Error → Type 0} {a b c : S} {u : X} (r : Result Y Error) (M : T → Meaning ArcRef → Type 0) (L : F → Meaning ArcRef → Type 0)
+      (part other : Shape) where
+    pub success-wrote : (y : Result T F) (x : T) → y ≡ Ok x → Wrote env s (bytes (bool_form true)) p a b (Ok u)
+        → Wrote env s (value (M x) part) q b c r → ((e : Error) → q e → causes e) → Wrote env s (value (MeansResult M L y) (outcome part other)) causes a c r
+    success-wrote y x here f v only = rw here (whole-wrote r success (bool_form true) part (outcome part other) (M x) (MeansResult M L (Ok x))
+        (λ m is. means-ok x m is) (λ n m b k f. ok-form _ _ _ m b k f) (λ n. no-success n part other) f v only)
+
+    pub failure-wrote : (y : Result T F) (x : F) → y ≡ Err x → Wrote env s (bytes (bool_form false)) p a b (Ok u)
+        → Wrote env s (value (L x) other) q b c r → ((e : Error) → q e → causes e) → Wrote env s (value (MeansResult M L y) (outcome part other)) causes a c r
+    failure-wrote y x here f v only = rw here (whole-wrote r failure (bool_form false) other (outcome part other) (L x) (MeansResult M L (Err x))
+        (λ m is. means-err x m is) (λ n m b k f. err-form _ _ _ m b k f) (λ n. no-failure n part other) f v only)
+
+  -- two values, one after the other
+  module _ {A B : Type 0} (M : Meanings A) (L : Meanings B) (x : A) (y : B) (first second : Shape) where
+    pub pair-wrote : {X Y : Type 0} {p q causes : Error → Type 0} {a b c : S} {u : X} (r : Result Y Error) → Wrote env s (value (M.of x) first) p a b (Ok u)
+        → Wrote env s (value (L.of y) second) q b c r → ((e : Error) → q e → causes e) → Wrote env s (value (MeansPair M.of L.of (x, y)) (both first second)) causes a c r
+    pair-wrote r v w only = wrote-then r v w (λ n old mid new f g. writes_pair M.of L.of (x, y) n first second old mid new f g)
+        (λ n e l h. refused_second {X = Unit {0}} (Err e) M.of L.of (some M) (x, y) n first second l) only
+
+    pub pair-refused : {X Y : Type 0} {p causes : Error → Type 0} {a b : S} {e : Error} (r : Result Y Error) → IsErrAnd r (λ f. f ≡ e)
+        → Wrote env s (value (M.of x) first) p a b (let q : Result X Error = Err e in q) → (p e → causes e) → Wrote env s (value (MeansPair M.of L.of (x, y)) (both first second)) causes a b r
+    pair-refused r is v only = wrote-err r is v (λ n l h. refuses_first M.of L.of (some L) (x, y) n first second _ l) only
+
   -- a level was entered, the piece was written, and the level was left
   pub wrote-below : {X : Type 0} {P : Piece} {causes : Error → Type 0} {a b c d : S} (r : Result X Error) → (s.levels b ≡ s.levels a + 1) × (s.levels a < deepest) → s.out b ≡ s.out a → s.environment b ≡ s.environment a → Wrote env s P causes b c r
       → s.levels d ≡ s.levels c - 1 → s.out d ≡ s.out c → s.environment d ≡ s.environment c → Wrote env s (below P) causes a d r
@@ -106,13 +122,16 @@ module _ {D E R N H K V : Type 0} (env : Environments E N H K V) (d : Deserializ
       → Reads env d (memory_or own) L whole a b r
   read-no-room r is lack moves same_env same_levels = let q = err_from_is_err_and r is in rw (q.1, q.2) (record { gives = inr (inl lack); moves = moves; same_env = same_env; same_levels = same_levels })
 
-  -- a value, as its reader has these clauses, by its shape in an environment that is the same
+  -- a value, by its shape in an environment that is the same
   pub as-read : {X : Type 0} (own : Error → Type 0) (M : X → Meaning ArcRef → Type 0) (r : Result X Error) {b c : D} (shape : E → Shape) {e : E} → d.environment b ≡ e
-      → record { gives : GivesSome own M (d.rest c) r (read (context_in env d b) (shape (d.environment b)) (d.rest b)); moves : MovesOn (d.standing b) (d.standing c); same_env : d.environment c ≡ d.environment b; same_levels : d.levels c ≡ d.levels b }
-      → Reads env d own M (λ x. read x (shape e)) b c r
-  as-read own M r {b} {c} shape same told =
-      let P : E → Type 0 = λ e. GivesSome own M (d.rest c) r (read (context_in env d b) (shape e) (d.rest b)) in
-      record { gives = subst P same told.gives; moves = told.moves; same_env = told.same_env; same_levels = told.same_levels }
+      → Reads env d own M (λ x. read x (shape (d.environment b))) b c r → Reads env d own M (λ x. read x (shape e)) b c r
+  as-read own M r {b} {c} shape same told = let P : E → Type 0 = λ e. Reads env d own M (λ x. read x (shape e)) b c r in subst P same told
+
+  -- what is given is given as another whole
+  pub reads-as : {X Y Z : Type 0} {own : Error → Type 0} {M : X → Y → Type 0} {N : X → Z → Type 0} {part : Context Answer ArcRef → Gets Answer Y} {whole : Context Answer ArcRef → Gets Answer Z}
+      {a b : D} (r : Result X Error) → Reads env d own M part a b r
+      → (GivesSome own M (d.rest b) r (part (context_in env d a) (d.rest a)) → GivesSome own N (d.rest b) r (whole (context_in env d a) (d.rest a))) → Reads env d own N whole a b r
+  reads-as r told f = record { gives = f told.gives; moves = told.moves; same_env = told.same_env; same_levels = told.same_levels }
 
   -- no level was left
   pub read-deep : {Z W : Type 0} {causes : Error → Type 0} {a b c : D} {e : Error} (r : Result Z Error) {L : Z → W → Type 0} {whole : Context Answer ArcRef → Gets Answer W} → IsErrAnd r (λ f. f ≡ e) → MovesOn (d.standing a) (d.standing b) → d.environment b ≡ d.environment a → d.levels b ≡ d.levels a

@@ -1,6 +1,6 @@
 -- The references of values that hold others, one after the other; and that a value that was made of a reference means what the reference means.
 use Rattle.pagable_model.specs.{Meaning.{Meaning, pair, reference, sequence}, References.references_in, Shape.Shape, Standing.{Gave, Is}, Writing.{Nesting, Out}}
-use Rattle.{pagable_model.specs.{Writing.WritesSome, declared.{error.Error.Error, numbers.ArcRef.ArcRef}}, pagable_traits.specs.Refers.ListsInOrder, std.proofs.Common.{Err, List, Ok, Result, []}}
+use Rattle.{pagable_model.specs.{Writing.WritesSome, declared.{error.Error.Error, numbers.ArcRef.ArcRef}}, pagable_traits.specs.Refers.ListsInOrder, std.proofs.Common.{Err, List, Ok, Result}}
 use Rattle.std.{proofs.{Common.{ap, append_assoc, length, slice_index_or, sym, ℕ, ◌++◌, ◌+◌, ◌<◌, ◌∙◌, ◌∷◌, ◌≡◌, ◌≤◌}, lemmas.List.{append-nil, drop_all, drop_more}}, specs.Prelude.{OnOk, drop, map}}
 
 pub pair_listed : (m n : Meaning ArcRef) (old mid new : List ArcRef) → mid ≡ old ++ references_in m → new ≡ mid ++ references_in n → new ≡ old ++ references_in (pair m n)

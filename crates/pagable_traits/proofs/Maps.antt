@@ -1,13 +1,13 @@
 -- Entries of maps, sorted or in order of arrival: what they mean as pairs, and what putting in, writing and reading them gives.
 -- Sets: what putting in, writing and reading their items gives.
-use Rattle.pagable_model.specs.Form.{no-entries, placed-map-form}
-use Rattle.pagable_model.specs.{Form.{placed-set-form, sorted-set-form}, Keys.{Ascends, put_placed, put_placed_item, put_sorted_item}, Reading.two, Shape.{placed_map, placed_set, sorted_set}}
-use Rattle.pagable_traits.proofs.{Items.{Wraps, gives-seen, put-in-turn, refuses-among, split-same, wraps-sequence, writes-next, writes_no_items}, Words.{AllAfter, AllByRecursion}}
-use Rattle.pagable_traits.proofs.Words.{Apart, ArcRef, Bool, Collected, Context, Differ, Entries, Entry, Error, FormAt, Forms, FormsAt, Gets, GivesSome, IsDistinct, IsStrictlySortedBy, KeyOrder}
-use Rattle.pagable_traits.proofs.Words.{List, MeanAll, Meaning, MeansList, MeansPair, Nesting, Ok, Ordering, Out, Refused, RefusedAll, Rest, Result, Shape, SomeMeaning, WritesSome, WritesSomeAll, []}
-use Rattle.pagable_traits.proofs.Words.{ap, append-nil, append_assoc, arith, both, both-form, counted, deepest, entry, false, insert_entry, items, keys_of, kind_of_arc, length, length-map, longest}
-use Rattle.pagable_traits.proofs.Words.{map, mean-more, mean-none, more-entries, more-forms, no-forms, of_entries, ordered, ordering_reverse, pair, put_all, put_sorted, read, read_with, refl}
-use Rattle.{pagable_traits.proofs.Words.{same_key, seen, sequence, sorted-map-form, sorted_map, subst, suc, sym, zero, ℕ, ◌++◌, ◌-◌, ◌<◌, ◌>>=◌, ◌∙◌, ◌∷◌, ◌≡◌, ◌≤◌}, std.specs.BTreeSet.insert_key}
+use Rattle.pagable_model.specs.{Form.{no-entries, placed-map-form, placed-set-form, sorted-set-form}, Keys.{put_placed, put_placed_item, put_sorted_item}, Reading.two, Shape.{placed_map, placed_set}}
+use Rattle.{pagable_model.specs.Shape.sorted_set, pagable_traits.proofs.Items.{Wraps, gives-seen, put-in-turn, refuses-among, split-same, wraps-sequence, writes-next, writes_no_items}}
+use Rattle.pagable_traits.proofs.Words.{AllAfter, AllByRecursion, Apart, ArcRef, Bool, Collected, Context, Differ, Entries, Entry, Error, FormAt, Forms, FormsAt, Gets, GivesSome, IsDistinct}
+use Rattle.pagable_traits.proofs.Words.{IsStrictlySortedBy, KeyOrder, List, MeanAll, Meaning, MeansList, MeansPair, Nesting, Ok, Ordering, Out, Refused, RefusedAll, Rest, Result, Shape, SomeMeaning}
+use Rattle.pagable_traits.proofs.Words.{WritesSome, WritesSomeAll, [], ap, append-nil, append_assoc, arith, both, both-form, counted, deepest, entry, false, insert_entry, items, keys_of, kind_of_arc}
+use Rattle.pagable_traits.proofs.Words.{length, length-map, longest, map, mean-more, mean-none, more-entries, more-forms, no-forms, of_entries, ordered, ordering_reverse, pair, put_all, put_sorted}
+use Rattle.pagable_traits.proofs.Words.{read, read_with, refl, same_key, seen, sequence, sorted-map-form, sorted_map, subst, suc, sym, zero, ℕ, ◌++◌, ◌-◌, ◌<◌, ◌>>=◌, ◌∙◌, ◌∷◌, ◌≡◌, ◌≤◌}
+use Rattle.std.specs.BTreeSet.{insert_key}
 use Rattle.indexmap.specs.IndexMap as placed_maps
 use Rattle.indexmap.specs.IndexSet as placed
 
@@ -194,15 +194,13 @@ put-in-order : {K V : Type 0} (M : K → Meaning ArcRef → Type 0) (N : V → M
 put-in-order M N cmp order is x e first second alike-none = entry-more M N x e [] [] first second alike-none
 put-in-order M N cmp order is x e first second (alike-more y f xs es g t) = grind (arith, entry-more M N, put-in-order M N cmp order is x e first second t)
 
-ascends : {K V : Type 0} (M : K → Meaning ArcRef → Type 0) (N : V → Meaning ArcRef → Type 0) (cmp : K → K → Ordering) (order : KeyOrder) → IsOrderOf M cmp order → {xs : List (K × V)} {es : List (Entry ArcRef)} → EntriesMean M N xs es → IsStrictlySortedBy cmp (keys_of xs) → Ascends order es
-unfolding IsStrictlySortedBy
-ascends {K} {V} M N cmp order is all sorted = apart-alike is Ordering.Less (EntryMeans M N) (λ (x : K × V). x.0) keys_of (λ x xs. refl) (λ (e : Entry ArcRef). e.0) (λ x e h. h.0) (IsStrictlySortedBy cmp) (λ k ks h. h) all sorted
-
 pub wraps_sorted_map : {K V : Type 0} (M : K → Meaning ArcRef → Type 0) (N : V → Meaning ArcRef → Type 0) (cmp : K → K → Ordering) (order : KeyOrder) → IsOrderOf M cmp order → (xs : List (K × V)) (n : Nesting) (s t : Shape) → IsStrictlySortedBy cmp (keys_of xs)
     → Wraps (MeansPair M N) xs (MeansList (MeansPair M N) xs) n (sorted_map order s t) (both s t)
-wraps_sorted_map M N cmp order is xs n s t sorted = wraps-sequence (MeansPair M N) xs n (sorted_map order s t) (both s t) (λ ms b k f. sorted-map-parts n ms f refl) (λ ms b k each le f.
+unfolding IsStrictlySortedBy
+wraps_sorted_map {K} {V} M N cmp order is xs n s t sorted = wraps-sequence (MeansPair M N) xs n (sorted_map order s t) (both s t) (λ ms b k f. sorted-map-parts n ms f refl) (λ ms b k each le f.
     let w = entries-written M N each f in
-    rw (w.is, length-map w.es entry) (sorted-map-form _ order s t w.es b k (rw (← w.long) le) (ascends M N cmp order is w.mean sorted) w.form))
+    let up = apart-alike is Ordering.Less (EntryMeans M N) (λ (x : K × V). x.0) keys_of (λ x xs. refl) (λ (e : Entry ArcRef). e.0) (λ x e h. h.0) (IsStrictlySortedBy cmp) (λ k _ h. h) w.mean sorted in
+    rw (w.is, length-map w.es entry) (sorted-map-form _ order s t w.es b k (rw (← w.long) le) up w.form))
 
 pub sorted-map-put : {K V : Type 0} (M : K → Meaning ArcRef → Type 0) (N : V → Meaning ArcRef → Type 0) (cmp : K → K → Ordering) (order : KeyOrder) → IsOrderOf M cmp order
     → (now : List (K × V)) (es : List (Entry ArcRef))

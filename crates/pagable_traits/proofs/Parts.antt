@@ -1,16 +1,17 @@
 -- What values, and their parts one after another, are written and read as: basic values, texts and patterns, what may be absent, successes and failures, tuples and
 -- cells. All that a reader and a writer owe, from what those of the bytes or of the parts tell.
-use Rattle.pagable_codec.proofs.Writing.{writes_flag, writes_letter, writes_signed, writes_unsigned}
-use Rattle.{pagable_flavors.specs.Calls.Appends, pagable_model.specs.{Basic.{char_form, duration_at, duration_form, length_at, nanos_of_second, text_at}, Carried.{nanos_of, of_duration, of_span}}}
-use Rattle.pagable_model.specs.{Carried.seconds_of, Form.{duration-form, none-form, pattern-form}, Lifted.MeansOnce, Meaning.pattern, Numbers.{IsSigned, bound, signed_form, unsigned_form, varint_at}}
-use Rattle.{pagable_model.specs.{Refusals.is_reading_fault, Shape.{duration, flag as flag_shape, letter, unsigned}, Track.{Track, left}}, pagable_traits.proofs.Words.{Answer, ArcRef, Bool, Context}}
-use Rattle.pagable_traits.proofs.Words.{Err, Error, Extends, FormAt, Gives, GivesSome, Grows, IfErr, Is, List, Meaning, Meanings, MeansOption, MeansPair, MeansResult, Nesting, NoForm, None, Ok, OnOk}
-use Rattle.pagable_traits.proofs.Words.{Option, Out, Read, Refused, Rest, Result, Shape, Some, SomeMeaning, String, WritesSome, [], absent, added, ap, arith, bool_at, bool_form, both, both-form}
-use Rattle.pagable_traits.proofs.Words.{bytes_of, char_at, err-form, failure, false, grows_bytes, grows_trans, inr, integer, length, long_or, long_or_memory, longest, means-err, means-none, means-ok}
-use Rattle.pagable_traits.proofs.Words.{means-some, memory, memory_or, memory_refuses, moves_trans, never, number, ok-form, optional, outcome, pair, present, read, read_with, refl, refused_memory}
-use Rattle.pagable_traits.proofs.Words.{signed, signed_at, some, some-form, string_bytes, success, text-form, text_form, then, to_z-of_z, true, unsigned_at, w32, w64, writes_bytes, writes_is}
-use Rattle.{pagable_traits.proofs.Words.{ℕ, ℤ, ◌*◌, ◌++◌, ◌+◌, ◌^◌, ◌∙◌, ◌∷◌, ◌≡◌, ◌≤◌}, std.proofs.{Common.{FitsSigned, of_z, rules, suc, to_z, zero, ◌/◌, ◌<◌}, lemmas.Bool.Decides.nat_tests}}
-use Rattle.std.{proofs.lemmas.{Bool.le-ltb, Nat.mod_below}, specs.{Borrow.Bor, Char.IsScalar, Duration.as_nanos, Int.{Width, w8}, Prelude.◌≢◌, Str.IsUtf8, declared.time.Duration.Duration}}
+use Rattle.pagable_codec.{proofs.Writing.{writes_flag, writes_letter, writes_signed, writes_unsigned}, specs.declared.env.Env.Ghosts as Environments}
+use Rattle.{pagable_codec.specs.declared.serializer.PagableSerializer.Ghosts as Serializers, pagable_flavors.specs.Calls.Appends, pagable_model.specs.Basic.{char_form, duration_at, duration_form}}
+use Rattle.pagable_model.specs.{Basic.{length_at, nanos_of_second, text_at}, Carried.{nanos_of, of_duration, of_span, seconds_of}, Form.{duration-form, none-form, pattern-form}, Lifted.MeansOnce}
+use Rattle.pagable_model.specs.{Meaning.pattern, Numbers.{IsSigned, bound, signed_form, unsigned_form, varint_at}, Refusals.is_reading_fault, Shape.{duration, flag as flag_shape, letter, unsigned}}
+use Rattle.{pagable_model.specs.Track.{Track, left}, pagable_traits.proofs.Words.{Answer, ArcRef, Bool, Context, Err, Error, FormAt, Gives, GivesSome, IfErr, Is, List, Meaning, MeansOption}}
+use Rattle.pagable_traits.proofs.Words.{MeansPair, Nesting, NoForm, None, Ok, OnOk, Option, Out, Read, Refused, Rest, Result, Shape, Some, SomeMeaning, String, WritesSome, Wrote, [], absent, added}
+use Rattle.pagable_traits.proofs.Words.{ap, arith, bool_at, bool_form, both, both-form, bytes_of, char_at, err-form, failure, false, grows_bytes, grows_trans, inr, integer, length, long_or}
+use Rattle.pagable_traits.proofs.Words.{long_or_memory, longest, means-err, means-none, means-ok, means-some, memory, memory_or, memory_refuses, moves_trans, nested_in, never, number, ok-form}
+use Rattle.pagable_traits.proofs.Words.{optional, outcome, pair, present, read, read_with, refl, refused_memory, signed, signed_at, some-form, string_bytes, success, text-form, text_form, then}
+use Rattle.pagable_traits.{proofs.Words.{to_z-of_z, true, unsigned_at, w32, w64, writes_bytes, writes_is, ℕ, ℤ, ◌*◌, ◌++◌, ◌+◌, ◌^◌, ◌∙◌, ◌∷◌, ◌≡◌, ◌≤◌}, specs.JsonSteps.value}
+use Rattle.std.{proofs.{Common.{FitsSigned, of_z, rules, suc, to_z, zero, ◌/◌, ◌<◌}, lemmas.{Bool.{Decides.nat_tests, le-ltb}, Nat.mod_below}}, specs.{Borrow.Bor, Char.IsScalar, Duration.as_nanos}}
+use Rattle.std.specs.{Int.{Width, w8}, Prelude.◌≢◌, Str.IsUtf8, declared.time.Duration.Duration}
 use Rattle.pagable_model.specs.Meaning as meanings
 use Rattle.pagable_model.specs.Shape as shapes
 
@@ -76,11 +77,6 @@ writes_pair M N p n s t old mid new v w = record {
   };
 }
 
--- the same of two values by themselves
-pub writes_both : {A B : Type 0} (M : A → Meaning ArcRef → Type 0) (N : B → Meaning ArcRef → Type 0) (x : A) (y : B) (n : Nesting) (s t : Shape) (old mid new : Out)
-    → WritesSome (M x) n s old mid → WritesSome (N y) n t mid new → WritesSome (MeansPair M N (x, y)) n (both s t) old new
-writes_both M N x y n s t old mid new v w = writes_pair M N (x, y) n s t old mid new v w
-
 no-first : (n : Nesting) (s t : Shape) (x y : Meaning ArcRef) → NoForm n s x → NoForm n (both s t) (pair x y)
 no-first n s t x y h b k (both-form l s' t' x' y' c d j i f g) = h c j f
 
@@ -99,11 +95,6 @@ refused_second r M N has p n s t h = err_along r h (λ e k fault.
     let no = k fault in
     let other = has p.0 in
     record { m = pair other.0 no.m; is = record { first = other.0; second = no.m; is_first = other.1; is_second = no.is; is = refl }; no_form = no-second n s t other.0 no.m no.no_form })
-
--- the same by what else the other value means
-pub first_refused : {X A B : Type 0} (r : Result X Error) (M : A → Meaning ArcRef → Type 0) (N : Meanings B) (x : A) (y : B) (n : Nesting) (s t : Shape) → IfErr r (Refused (M x) n s)
-    → IfErr r (Refused (MeansPair M N.of (x, y)) n (both s t))
-first_refused r M N x y n s t h = err_along r h (λ e k. refuses_first M N.of (some N) (x, y) n s t e k)
 
 -- ---- a text that is lent
 
@@ -131,23 +122,6 @@ module _ {T : Type 0} (M : T → Meaning ArcRef → Type 0) (y : Option T) (x : 
   pub refused_present : {Z : Type 0} (r : Result Z Error) → IfErr r (Refused (M x) n s) → IfErr r (Refused (MeansOption M y) n (optional s))
   refused_present r h = rw here (err_along r h (λ e k. refuses_whole n n present s (optional s) (M x) (MeansOption M (Some x)) (λ m is. means-some x m is) e (no-some n s) k))
 
-module _ {T X : Type 0} (M : T → Meaning ArcRef → Type 0) (N : X → Meaning ArcRef → Type 0) (y : Result T X) (n : Nesting) (s t : Shape) where
-  pub writes_success : (x : T) (flag : Bool) (old mid new : Out) → y ≡ Ok x → flag ≡ true → mid ≡ added old (bool_form flag) [] → WritesSome (M x) n s mid new
-      → WritesSome (MeansResult M N y) n (outcome s t) old new
-  writes_success x flag old mid new here is e w = rw here
-      (writes_whole n n success s (outcome s t) (M x) (MeansResult M N (Ok x)) (λ m is. means-ok x m is) (bool_form true) old mid new (λ m b k f. ok-form _ s t m b k f) (rw is at e) w)
-
-  pub writes_failure : (x : X) (flag : Bool) (old mid new : Out) → y ≡ Err x → flag ≡ false → mid ≡ added old (bool_form flag) [] → WritesSome (N x) n t mid new
-      → WritesSome (MeansResult M N y) n (outcome s t) old new
-  writes_failure x flag old mid new here is e w = rw here
-      (writes_whole n n failure t (outcome s t) (N x) (MeansResult M N (Err x)) (λ m is. means-err x m is) (bool_form false) old mid new (λ m b k f. err-form _ s t m b k f) (rw is at e) w)
-
-  pub refused_success : {Z : Type 0} (r : Result Z Error) (x : T) → y ≡ Ok x → IfErr r (Refused (M x) n s) → IfErr r (Refused (MeansResult M N y) n (outcome s t))
-  refused_success r x here h = rw here (err_along r h (λ e k. refuses_whole n n success s (outcome s t) (M x) (MeansResult M N (Ok x)) (λ m is. means-ok x m is) e (no-success n s t) k))
-
-  pub refused_failure : {Z : Type 0} (r : Result Z Error) (x : X) → y ≡ Err x → IfErr r (Refused (N x) n t) → IfErr r (Refused (MeansResult M N y) n (outcome s t))
-  refused_failure r x here h = rw here (err_along r h (λ e k. refuses_whole n n failure t (outcome s t) (N x) (MeansResult M N (Err x)) (λ m is. means-err x m is) e (no-failure n s t) k))
-
 -- ---- tuples
 
 -- what one thing means, another means too
@@ -166,11 +140,7 @@ pub ruleset steps = (ok_along, err_along, grows_trans, memory_refuses, refused_m
 
 pub ruleset writes_option = (steps, writes_absent, writes_present, refused_present)
 
-pub ruleset writes_result = (steps, writes_success, writes_failure, refused_success, refused_failure)
-
 pub ruleset alike = (ok_along, err_along, some_along, refused_along, pair_along)
-
-pub ruleset pairs = (ok_along, err_along, grows_trans, writes_both, first_refused, refused_second, some)
 
 pub ruleset reads = (means-none, means-some, means-ok, means-err, moves_trans)
 
@@ -211,24 +181,20 @@ pub ruleset read_steps = (reads_unsigned, reads_signed, reads_flag, reads_letter
 
 -- ---- writing
 
-pub wrote_on : (old new : Out) (given bytes : List ℕ) → given ≡ old.bytes → new ≡ record old { bytes = bytes } → Extends given bytes → Grows old new
-wrote_on old new given bytes e f h = rw f (grows_bytes old bytes (rw e at h))
-
 wrote_form : {X Y : Type 0} (r : Result Y Error) (n : Nesting) (s : Shape) (meaning : X → Meaning ArcRef) (x : X) (form : List ℕ) (old new : Out) (given bytes : List ℕ) → FormAt n s (meaning x) form [] → given ≡ old.bytes → new ≡ record old { bytes = bytes }
     → OnOk r (bytes ≡ given ++ form) → OnOk r (WritesSome (Is meaning x) n s old new)
 wrote_form r n s meaning x form old new given bytes is e f h = grind (arith, writes_is, writes_bytes, is)
 
 -- by what a serializer says of itself with other bytes
-pub basic_written : {X Y E : Type 0} (r : Result Y Error) (n : Nesting) (s : Shape) (meaning : X → Meaning ArcRef) (x : X) (form : List ℕ)
-    {old new : Out} {env env_after : E} {levels levels_after : ℕ} {given bytes : List ℕ} → FormAt n s (meaning x) form []
-    → given ≡ old.bytes → new ≡ record old { bytes = bytes } → env_after ≡ env → levels_after ≡ levels
-    → Appends form r given bytes
-    → record { ok : OnOk r (WritesSome (Is meaning x) n s old new); refused : IfErr r (Refused (Is meaning x) n s); only : IfErr r memory; err : Grows old new; same_env : env_after ≡ env; same_levels : levels_after ≡ levels }
-basic_written r n s meaning x form {old = old} {new = new} {given = given} {bytes = bytes} is e f same_env same_levels told = record {
-  ok = wrote_form r n s meaning x form old new given bytes is e f told.ok;
-  refused = refused_memory r (Is meaning x) n s told.only;
+pub basic_written : {S E N H K V X Y : Type 0} (env : Environments E N H K V) (s : Serializers S E N H K V) (r : Result Y Error) (shape : Shape) (meaning : X → Meaning ArcRef) (x : X) (form : List ℕ)
+    {old new : S} {given bytes : List ℕ} → FormAt (nested_in env s old) shape (meaning x) form []
+    → given ≡ (s.out old).bytes → s.out new ≡ record (s.out old) { bytes = bytes } → s.environment new ≡ s.environment old → s.levels new ≡ s.levels old
+    → Appends form r given bytes → Wrote env s (value (Is meaning x) shape) memory old new r
+basic_written env s r shape meaning x form {old} {new} {given} {bytes} is e f same_env same_levels told = record {
+  ok = wrote_form r (nested_in env s old) shape meaning x form (s.out old) (s.out new) given bytes is e f told.ok;
+  refused = refused_memory r (Is meaning x) (nested_in env s old) shape told.only;
   only = told.only;
-  err = wrote_on old new given bytes e f told.err;
+  err = rw f (grows_bytes (s.out old) bytes (rw e at told.err));
   same_env = same_env;
   same_levels = same_levels;
 }

@@ -1,14 +1,14 @@
 -- Values in a registry, by their index.
 -- Tagged values: what writing a tag and a body adds, and what reading by the registered reader gives.
-use Rattle.pagable_codec.specs.declared.deserializer.PagableDeserializer.{Ghosts as Deserializers}
-use Rattle.{pagable_codec.specs.declared.env.Env.Ghosts as Environments, pagable_model.specs.Canonical.{HasNoCase, IsReadable, LiesIn, Throughout, Within}}
-use Rattle.pagable_model.specs.{Carried.{body_of, is_registered, of_tagged, tagged_by}, Form.{static-form, tagged-form}, Meaning.lifted, Numbers.{bound, unsigned_form}, Reading.registered}
-use Rattle.pagable_model.specs.{Shape.{cases, static_value, tagged}, Statics.{HasEqual, NoEqualBelow}, Tagged.{HasDistinctTags, IsLastFor, MeansTagged, NoneFor, ReadsWhatIsWritten, grammars}}
-use Rattle.pagable_traits.proofs.{Parts.{err_along, ok_along}, Words.{Answer, ArcRef, Bool, Context, Err, Error, Gives, GivesSome, IfErr, Is, List, Meaning, Meanings, MovesOn, Nesting, NoForm}}
-use Rattle.pagable_traits.proofs.Words.{Ok, Out, Refused, Rest, Result, Shape, Some, SomeMeaning, WritesSome, [], added, ap, arith, bytes_of, context_in, false, get_or, inl, inr, length, length-map}
-use Rattle.pagable_traits.proofs.Words.{long_or_memory, longest, map, memory, memory_or, memory_refuses, moves_trans, read, read_with, refl, subst, suc, sym, text_at, text_form, then, true}
-use Rattle.{pagable_traits.proofs.Words.{w32, writes_bytes, zero, ℕ, ◌++◌, ◌+◌, ◌<◌, ◌>>=◌, ◌∙◌, ◌∷◌, ◌≡◌, ◌≤◌}, std.proofs.lemmas.{Bool.Decides.nat_tests, List.map-id, Option.get_or_from_slice_get}}
-use Rattle.std.{proofs.lemmas.{Option.{slice_get-map, slice_get_read, slice_get_within}, Slice.Eq.bytes_eq-Decides}, specs.{List.slice_get, Prelude.{IfOk, IsTrue}, Str.{IsUtf8, bytes_eq}}}
+use Rattle.{pagable_codec.specs.declared.{deserializer.PagableDeserializer.Ghosts as Deserializers, env.Env.Ghosts as Environments}, pagable_model.specs.Canonical.{HasNoCase, IsReadable, LiesIn}}
+use Rattle.pagable_model.specs.{Canonical.{Throughout, Within}, Carried.{body_of, is_registered, of_tagged, tagged_by}, Form.{static-form, tagged-form}, Meaning.lifted, Numbers.{bound, unsigned_form}}
+use Rattle.pagable_model.specs.{Reading.registered, Shape.{cases, static_value, tagged}, Statics.{HasEqual, NoEqualBelow}, Tagged.{HasDistinctTags, IsLastFor, MeansTagged, NoneFor}}
+use Rattle.{pagable_model.specs.Tagged.{ReadsWhatIsWritten, grammars}, pagable_traits.proofs.{Parts.{err_along, ok_along}, Words.{Answer, ArcRef, Bool, Context, Err, Error, Gets, Gives, GivesSome}}}
+use Rattle.pagable_traits.proofs.Words.{IfErr, Is, List, Meaning, Meanings, MovesOn, Nesting, NoForm, Ok, Out, Reads, Refused, Rest, Result, Shape, Some, SomeMeaning, WritesSome, [], added, ap, arith}
+use Rattle.pagable_traits.proofs.Words.{bytes_of, context_in, false, get_or, inl, inr, length, length-map, long_or_memory, longest, map, memory, memory_or, memory_refuses, moves_trans, read}
+use Rattle.pagable_traits.proofs.Words.{read_with, refl, subst, suc, sym, text_at, text_form, then, true, w32, writes_bytes, zero, ℕ, ◌++◌, ◌+◌, ◌<◌, ◌>>=◌, ◌∙◌, ◌∷◌, ◌≡◌, ◌≤◌}
+use Rattle.std.{proofs.lemmas.{Bool.Decides.nat_tests, List.map-id, Option.{get_or_from_slice_get, slice_get-map, slice_get_read, slice_get_within}, Slice.Eq.bytes_eq-Decides}, specs.List.slice_get}
+use Rattle.std.specs.{Prelude.{IfOk, IsTrue}, Str.{IsUtf8, bytes_eq}}
 
 pub ruleset lengths = (length-map)
 
@@ -149,42 +149,41 @@ module _ {D E R N H K V : Type 0} (d : Deserializers D E R N H K V) where
 module _ {D E R N H K V T F : Type 0} (env : Environments E N H K V) (d : Deserializers D E R N H K V) (own : Error → Type 0) (tag_of : T → List ℕ) (M : T → Meaning ArcRef → Type 0) (grammar : F → E → Shape) where
   -- what a reader of a tagged value owes
   abbrev pub TellsTagged : List (List ℕ × F) → D → D → Result T Error → Type 0
-  TellsTagged readers a b r = Tells d ((written : List ℕ → Shape) → GivesSome (memory_or own) (λ x. MeansTagged (tag_of x) (M x)) (d.rest b) r (read (context_in env d a) (tagged_by written (grammars grammar (d.environment a) readers)) (d.rest a))) a b
+  TellsTagged readers a b r =
+      (written : List ℕ → Shape) → Reads env d (memory_or own) (λ x. MeansTagged (tag_of x) (M x)) (λ c. read c (tagged_by written (grammars grammar (d.environment a) readers))) a b r
 
   -- no reader is registered
   pub unknown_read : {a b : D} {tag : List ℕ} (readers known : List (List ℕ × F)) (named : List ℕ) → Tells d (bytes_of text_at (λ t. t) (d.rest a) ≡ Ok (tag, d.rest b)) a b → named ≡ tag
       → known ≡ readers → NoneFor named known → TellsTagged readers a b (Err Error.UnknownTag)
-  unknown_read {a} {b} {tag} readers known named told same all none = record {
-    gives = λ written. inl (read-unknown _ written grammar (d.environment a) readers tag _ _ told.gives (rw (same, all) at none));
+  unknown_read {a} {b} {tag} readers known named told same all none written = record {
+    gives = inl (read-unknown _ written grammar (d.environment a) readers tag _ _ told.gives (rw (same, all) at none));
     moves = told.moves;
     same_env = told.same_env;
     same_levels = told.same_levels;
   }
 
-  -- what the reader of a body tells, after the tag
-  abbrev pub TellsBody : (gives of_tag : Type 0) → D → D → Type 0
-  TellsBody gives of_tag old new = record { gives : gives; of_tag : of_tag; moves : MovesOn (d.standing old) (d.standing new); same_env : d.environment new ≡ d.environment old; same_levels : d.levels new ≡ d.levels old }
-
-  after-tag : {P Q X Y : Type 0} {a b c : D} → Tells d P a b → TellsBody X Y b c → (X → Q) → Tells d Q a c
-  after-tag first told f =
+  after-tag : {P : Type 0} {N : T → Meaning ArcRef → Type 0} {get whole : Context Answer ArcRef → Gets Answer (Meaning ArcRef)} {causes : Error → Type 0} {a b c : D}
+      (r : Result T Error) → Tells d P a b → Reads env d own M get b c r
+      → (GivesSome own M (d.rest c) r (get (context_in env d b) (d.rest b)) → GivesSome causes N (d.rest c) r (whole (context_in env d a) (d.rest a))) → Reads env d causes N whole a c r
+  after-tag r first told f =
       record { gives = f told.gives; moves = moves_trans _ _ _ first.moves told.moves; same_env = told.same_env ∙ first.same_env; same_levels = told.same_levels ∙ first.same_levels }
 
   -- the body is read, or refused
   pub body_read : {a b c : D} {tag : List ℕ} (readers known : List (List ℕ × F)) (named its : List ℕ) (f : F) (r : Result T Error) → Tells d (bytes_of text_at (λ t. t) (d.rest a) ≡ Ok (tag, d.rest b)) a b
       → named ≡ tag → known ≡ readers → IsLastFor named known f → its ≡ named
-      → TellsBody (GivesSome own M (d.rest c) r (read (context_in env d b) (grammar f (d.environment b)) (d.rest b))) (IfOk r (λ x. tag_of x ≡ its)) b c → TellsTagged readers a c r
-  body_read {a = a} {tag = tag} readers known named its f (Ok x) first same all last its_own told =
+      → Reads env d own M (λ x. read x (grammar f (d.environment b))) b c r → IfOk r (λ x. tag_of x ≡ its) → TellsTagged readers a c r
+  body_read {a = a} {tag = tag} readers known named its f (Ok x) first same all last its_own told of_tag written =
       let known_last = rw (same, all) at last in
-      after-tag first told
-      (λ h written. let g = rw (first.same_levels, first.same_env) at h in record {
+      after-tag (Ok x) first told
+      (λ h. let g = rw (first.same_levels, first.same_env) at h in record {
         m = of_tagged tag g.m;
-        is = record { body = g.m; is_body = g.is; is = ap (λ (t : List ℕ). of_tagged t g.m) (sym (told.of_tag ∙ its_own ∙ same)) };
+        is = record { body = g.m; is_body = g.is; is = ap (λ (t : List ℕ). of_tagged t g.m) (sym (of_tag ∙ its_own ∙ same)) };
         gave = read-known _ written grammar (d.environment a) readers tag f _ _ first.gives known_last ∙ rw g.gave refl;
       })
-  body_read {a = a} {tag = tag} readers known named its f (Err e) first same all last its_own told =
+  body_read {a = a} {tag = tag} readers known named its f (Err e) first same all last its_own told of_tag written =
       let known_last = rw (same, all) at last in
-      after-tag first told
-      (λ h written. elim (rw (first.same_levels, first.same_env) at h) [
+      after-tag (Err e) first told
+      (λ h. elim (rw (first.same_levels, first.same_env) at h) [
         | inl none ↦ inl (read-known _ written grammar (d.environment a) readers tag f _ _ first.gives known_last ∙ rw none refl)
         | inr why ↦ inr (inr why)
       ])

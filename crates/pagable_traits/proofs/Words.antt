@@ -1,21 +1,18 @@
 -- The names that most proofs here cite, passed on from one place. Declares nothing.
-pub use Rattle.pagable_codec.proofs.{Writing.{writes_is, writes_bytes, grows_bytes, refused_memory, grows_trans, then, memory_refuses, grows_refl, writes_nothing}, Reading.moves_trans}
-pub use Rattle.pagable_model.specs.{Basic.{bool_at, char_at, text_at, length_at, longest, length_form, bool_form, text_form}, Carried.of_entries, Collected.Collected, Form.{Entries, more-entries}}
-pub use Rattle.pagable_model.specs.Form.{Forms, list-form, no-forms, more-forms, text-form, err-form, ok-form, sorted-map-form, signed-form, flag-form, both-form, some-form, unsigned-form}
-pub use Rattle.pagable_model.specs.{Gives.{Gives, Extends, memory, never, either, memory_or, long_or, json_causes}, Keys.{Entry, ordered, same_key, put_sorted, Differ, text_order, KeyOrder}}
-pub use Rattle.pagable_model.specs.{Lengths.long_or_memory, Lifted.{MeansOption, means-none, means-some, MeanAll, mean-none, MeansList, MeansPair, mean-more, items_have_meanings, MeansResult}}
-pub use Rattle.pagable_model.specs.{Lifted.{means-ok, means-err, pair_has_meaning}, Meaning.{Meaning, number, integer, entry, absent, present, sequence, none, success, failure, variant, pair}}
-pub use Rattle.pagable_model.specs.{Numbers.{Read, unsigned_at, signed_at}, Reading.{Rest, Context, bytes_of, Gets, counted, seen, flag_case, number_case, text_case, array_case, object_case}}
-pub use Rattle.pagable_model.specs.{Reading.deepest, Shape.{Shape, signed, text, flag, list, both, optional, outcome, json, sorted_map}, Standing.{Answer, MovesOn, GivesSome, Is, Gave, SomeMeaning}}
-pub use Rattle.pagable_model.specs.{Standing.handles_at, Steps.◌>>=◌, Writing.{Out, Nesting, FormAt, WritesSome, Refused, Grows, FormsAt, kind_of_arc, added, WritesSomeAll, NoForm, NoForms}}
-pub use Rattle.pagable_model.specs.{Writing.{NoFormOfSome, NoFormsOfSome, RefusedAll, nesting}, declared.error.Error.Error, declared.numbers.ArcRef.ArcRef}
-pub use Rattle.pagable_traits.specs.{JsonSteps.{nested_in, context_in, Reads, Piece, bytes, Wrote, all}, JsonData.{of_data, of_value, of_key}, Walks.{WritesEach, WritesCounted, RefusedAmong}}
-pub use Rattle.pagable_traits.specs.{Walks.RefusedCounted, Meanings.{Meanings, pairs, some}}
-pub use Rattle.serde_json.specs.{Find.as_i64, View.{view, number_view}, declared.value.Value.Value}
-pub use Rattle.std.proofs.Common.{◌≡◌, Bool, true, false, List, [], ◌∷◌, refl, sym, ap, subst, ◌∙◌, is_some, arith, ℕ, ◌++◌, Result, Ok, Err, inl, inr, Option, Some, None, length, append_assoc, zero}
-pub use Rattle.std.proofs.{Common.{suc, Vec, ◌≤◌, map, IsPermutation, ◌+◌, ◌-◌, ◌<◌, take, get_or, String, Global, ◌^◌, rules, ◌*◌}, lemmas.Int.to_z-of_z, lemmas.List.{append-nil, length-map}}
-pub use Rattle.std.proofs.lemmas.Result.{err_from_is_err_and}
-pub use Rattle.std.specs.{BTreeMap.insert_entry, Borrow.Bor, Cmp.IsTotalOrder, Int.{w64, w32, w128, w16, w8}, List.AllByRecursion, Map.{set_value, lookup, keys_of}, Ordering.match_ordering}
-pub use Rattle.std.specs.{Ordering.{ordering_reverse, is_eq}, Prelude.{OnOk, IfErr, ◌⊎◌, ℤ, pos}, Result.IsErrAnd, String.{string_bytes, string_cmp}, declared.cmp.Ordering.Ordering}
-unfoldable pub use Rattle.pagable_model.specs.{Collected.PutInTurn, Keys.{put_all, AllAfter, Apart}, Reading.{read, read_with, items}}
-unfoldable pub use Rattle.std.specs.{List.IsDistinct, List.Sorted.IsStrictlySortedBy}
+pub use Rattle.pagable_codec.proofs.{Reading.moves_trans, Writing.{grows_bytes, grows_refl, grows_trans, memory_refuses, refused_memory, then, writes_bytes, writes_is, writes_nothing}}
+pub use Rattle.pagable_model.specs.{Basic.{bool_at, bool_form, char_at, length_at, length_form, longest, text_at, text_form}, Carried.of_entries, Collected.Collected, Form.{Entries, Forms, both-form}}
+pub use Rattle.pagable_model.specs.{Form.{err-form, flag-form, list-form, more-entries, more-forms, no-forms, ok-form, signed-form, some-form, sorted-map-form, text-form}, Gives.{Extends, Gives}}
+pub use Rattle.pagable_model.specs.{Gives.{json_causes, long_or, memory, memory_or, never}, Keys.{Differ, Entry, KeyOrder, ordered, put_sorted, same_key, text_order}, Lengths.long_or_memory}
+pub use Rattle.pagable_model.specs.Lifted.{MeanAll, MeansList, MeansOption, MeansPair, MeansResult, items_have_meanings, mean-more, mean-none, means-err, means-none, means-ok, means-some}
+pub use Rattle.pagable_model.specs.{Lifted.pair_has_meaning, Meaning.{Meaning, absent, entry, failure, integer, none, number, pair, present, sequence, success, variant}, Numbers.{Read, signed_at}}
+pub use Rattle.pagable_model.specs.{Numbers.unsigned_at, Reading.{Context, Gets, Rest, array_case, bytes_of, counted, deepest, object_case, seen}, Shape.{Shape, both, flag, json, list, optional}}
+pub use Rattle.pagable_model.specs.{Shape.{outcome, signed, sorted_map, text}, Standing.{Answer, Gave, GivesSome, Is, MovesOn, SomeMeaning, handles_at}, Steps.◌>>=◌, Writing.{FormAt, FormsAt, Grows}}
+pub use Rattle.pagable_model.specs.Writing.{Nesting, NoForm, NoFormOfSome, NoForms, NoFormsOfSome, Out, Refused, RefusedAll, WritesSome, WritesSomeAll, added, kind_of_arc, nesting}
+pub use Rattle.{pagable_model.specs.declared.{error.Error.Error, numbers.ArcRef.ArcRef}, pagable_traits.specs.{JsonData.{of_data, of_key, of_value}, JsonSteps.{Piece, Reads, Wrote, all, bytes}}}
+pub use Rattle.{pagable_traits.specs.{JsonSteps.{context_in, nested_in}, Meanings.{Meanings, pairs, some}, Walks.{RefusedAmong, RefusedCounted, WritesEach}}, serde_json.specs.Find.as_i64}
+pub use Rattle.{serde_json.specs.{View.{number_view, view}, declared.value.Value.Value}, std.proofs.Common.{Bool, Err, Global, IsPermutation, List, None, Ok, Option, Result, Some, String, Vec, []}}
+pub use Rattle.std.proofs.Common.{ap, append_assoc, arith, false, get_or, inl, inr, is_some, length, map, refl, rules, subst, suc, sym, take, true, zero, ℕ, ◌*◌, ◌++◌, ◌+◌, ◌-◌, ◌<◌, ◌^◌, ◌∙◌, ◌∷◌}
+pub use Rattle.std.{proofs.{Common.{◌≡◌, ◌≤◌}, lemmas.{Int.to_z-of_z, List.{append-nil, length-map}, Result.err_from_is_err_and}}, specs.{BTreeMap.insert_entry, Borrow.Bor, Cmp.IsTotalOrder, Int.w32}}
+pub use Rattle.std.specs.{Int.w64, List.AllByRecursion, Map.{keys_of, lookup, set_value}, Ordering.{is_eq, match_ordering, ordering_reverse}, Prelude.{IfErr, OnOk, pos, ℤ, ◌⊎◌}, Result.IsErrAnd}
+pub use Rattle.std.specs.{String.{string_bytes, string_cmp}, declared.cmp.Ordering.Ordering}
+unfoldable pub use Rattle.{pagable_model.specs.{Collected.PutInTurn, Keys.{AllAfter, Apart, put_all}, Reading.{items, read, read_with}}, std.specs.List.{IsDistinct, Sorted.IsStrictlySortedBy}}

@@ -2,7 +2,7 @@
 use Rattle.std.specs.Prelude.{◌≡◌, refl, List, Option, Result, map}
 use Rattle.pagable_model.specs.{declared.numbers.ArcRef.ArcRef, Meaning.{Meaning, pair, sequence}, Carried.{of_hash_map, of_option, of_result}, Standing.{Is, SomeMeaning}}
 use Rattle.pagable_model.specs.Lifted.{MeansList, MeansOption, MeansPair, MeansResult, list_is_meaning, list_single, option_is_meaning, option_single, pair_is_meaning, pair_single}
-use Rattle.pagable_model.specs.{Lifted.{result_is_meaning, result_single}, Hashed.{MeansHashMap, hash_map_is_meaning, hash_map_single}}
+use Rattle.pagable_model.specs.{Lifted.result_is_meaning, Hashed.{MeansHashMap, hash_map_is_meaning}}
 
 -- what each value may mean, and one thing that it means: the only one, or any where its content isn't known
 pub record Meanings (X : Type 0) : Type 1 where
@@ -44,14 +44,8 @@ hash_maps M N = record { of = MeansHashMap M.of N.of; meaning = λ xs. of_hash_m
 pub options_single : {T : Type 0} (M : Meanings T) → AreSingle M → AreSingle (options M)
 options_single M s = option_single M.of M.meaning s
 
-pub results_single : {T X : Type 0} (M : Meanings T) (N : Meanings X) → AreSingle M → AreSingle N → AreSingle (results M N)
-results_single M N s t = result_single M.of N.of M.meaning N.meaning s t
-
 pub lists_single : {T : Type 0} (M : Meanings T) → AreSingle M → AreSingle (lists M)
 lists_single M s = list_single M.of M.meaning s
 
 pub pairs_single : {A B : Type 0} (M : Meanings A) (N : Meanings B) → AreSingle M → AreSingle N → AreSingle (pairs M N)
 pairs_single M N s t = pair_single M.of N.of M.meaning N.meaning s t
-
-pub hash_maps_single : {K V : Type 0} (M : Meanings K) (N : Meanings V) → AreSingle M → AreSingle N → AreSingle (hash_maps M N)
-hash_maps_single M N s t = hash_map_single M.of N.of M.meaning N.meaning s t

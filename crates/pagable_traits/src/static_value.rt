@@ -1,12 +1,11 @@
 //! Static values: they stand in a registry that the environment holds, and are written as their index there. `T` is the
 //! reference to what is static, as `&'static str`: nothing is proved yet of a `&'static T` with a type parameter `T`.
 
-ghost use Rattle.std.specs.List.Sorted.{IsPermutation};
-ghost use Rattle.std.specs.{List.{Sorted.{IsSorted, IsStable}, slice_get}, Prelude.{Err, IfErr, IfNone, IfOk, IfSome, IsTrue, List, Option, Some, length, map, vec_len, ⊤, ◌<◌, ◌↔◌, ◌≡◌, ◌≤◌}};
-ghost use Rattle.pagable_model.specs.{Basic.longest, Canonical.HasNoReference};
-ghost use Rattle.pagable_model.specs.{Gives.{Gives, memory_or, never}, Lengths.long_or_memory, Meaning.{Meaning, lifted}, Reading.{read, registered}, Shape.static_value};
-ghost use Rattle.{pagable_model.specs.{Standing.Is, Statics.{HasEqual, NoEqualBelow, StandsAt, meanings_of, unregistered}}, pagable_traits.specs.JsonSteps.{Reads, Wrote, value as form}};
-ghost use Rattle.pagable_traits.specs.{Meanings.exactly, OwnCauses.writes_memory_or, StaticValues.{static_is_same, static_refers_to_nothing, writes_unregistered}};
+ghost use Rattle.std.specs.{List.{Sorted.{IsPermutation, IsSorted, IsStable}, slice_get}, Prelude.{Err, IfErr, IfNone, IfOk, IfSome, IsTrue, List, Option, Some, length, map, vec_len, ◌<◌, ◌↔◌, ◌≡◌}};
+ghost use Rattle.std.specs.Prelude.{◌≤◌};
+ghost use Rattle.pagable_model.specs.{Basic.longest, Canonical.HasNoReference, Gives.{Gives, memory_or, never}, Lengths.long_or_memory, Meaning.{Meaning, lifted}, Reading.{read, registered}};
+ghost use Rattle.{pagable_model.specs.{Shape.static_value, Standing.Is, Statics.{HasEqual, NoEqualBelow, StandsAt, meanings_of, unregistered}}, pagable_traits.specs.JsonSteps.{Reads, Wrote}};
+ghost use Rattle.pagable_traits.specs.{JsonSteps.value as form, Meanings.exactly, OwnCauses.writes_memory_or, StaticValues.{static_is_same, static_refers_to_nothing, writes_unregistered}};
 
 use crate::keys::PagableKey;
 use crate::traits::{Carried, OneMeaning, PagableDeserialize, PagableSerialize};
@@ -23,23 +22,12 @@ const MOST_ENTRIES: usize = 4_294_967_295;
 
 /// A value, and its index in the registry that it stands in. Two entries are equal where their values are.
 #[derive_where(PartialEq, Eq, Hash; T)]
+#[derive_where(Clone, Copy; T: Copy)]
 pub struct StaticValueEntry<T> {
     pub value: T,
     #[derive_where(skip)]
     pub index: u32,
 }
-
-impl<T: Copy> Clone for StaticValueEntry<T> {
-    ghost is_clone = { λ x y. y ≡ x };
-
-    ghost is_infallible = { λ _. ⊤ };
-
-    fn clone(&self) -> Result<Self, AllocError> {
-        Ok(*self)
-    }
-}
-
-impl<T: Copy> Copy for StaticValueEntry<T> {}
 
 /// A value that is written as its index. Two are equal where their values are, whatever their indices.
 #[derive(PartialEq, Eq, Hash)]
@@ -220,10 +208,7 @@ pub fn registered_value<E: Env, T: HasStaticValueRegistry<E>>(
     ensures gives { Gives never (λ v. T.plain v.0.value) result (registered (meanings_of T.plain (T.known env.now)) index) }
     ensures same_index { IfOk result (λ v. v.0.index ≡ index) }
 {
-    match T::registry(env).get(index) {
-        None => Err(Error::BadStaticIndex),
-        Some(value) => Ok(value),
-    }
+    T::registry(env).get(index).ok_or(Error::BadStaticIndex)
 }
 
 /// Whether the environment's registry has an equal value under the value's own index. An equal value under another

@@ -1,8 +1,8 @@
 //! The types that can be written and read, also into a box, eagerly, and as the values of nodes.
 
-ghost use Rattle.std.specs.Prelude.{◌≡◌, OnOk, IfErr, Some};
-ghost use Rattle.pagable_model.specs.{Gives.memory_or, Shape.Shape, Writing.{nesting, WritesSome, Refused, Grows}, Reading.read, Standing.{handles_at, MovesOn, GivesSome}, declared.error.Error.Error as Refusal};
-ghost use Rattle.pagable_traits.specs.{InNodes.Holds, Meanings.{Meanings, AreSingle}, OwnCauses.{ReadCauses, WriteCauses, reads_never, reads_memory_or, writes_memory}};
+ghost use Rattle.std.specs.Prelude.{Some, ◌≡◌};
+ghost use Rattle.{pagable_model.specs.{Gives.memory_or, Reading.read, Shape.Shape, declared.error.Error.Error as Refusal}, pagable_traits.specs.{InNodes.Holds, JsonSteps.{Reads, Wrote}}};
+ghost use Rattle.pagable_traits.specs.{JsonSteps.value as form, Meanings.{AreSingle, Meanings}, OwnCauses.{ReadCauses, WriteCauses, reads_memory_or, reads_never, writes_memory}};
 
 use pagable_codec::{Env, NodeSet, OfNode, PagableDeserializer, PagableSerializer};
 use pagable_flavors::Error;
@@ -25,12 +25,7 @@ pub trait PagableSerialize<E: Env>: Carried<E> {
     /// with TooLong, TooDeep or JsonNumber only where the value has no form; then what stood before still stands, and as
     /// many levels are entered as before.
     fn pagable_serialize<S: PagableSerializer<E>>(&self, serializer: &mut S) -> Result<(), Error>
-        ensures ok { OnOk result (WritesSome (Self.means.of self.now) (nesting (S.levels serializer.old) (E.parts (S.environment serializer.old))) (Self.shape (S.environment serializer.old)) (S.out serializer.old) (S.out serializer.new)) }
-        ensures refused { IfErr result (Refused (Self.means.of self.now) (nesting (S.levels serializer.old) (E.parts (S.environment serializer.old))) (Self.shape (S.environment serializer.old))) }
-        ensures only { IfErr result write_causes.are }
-        ensures err { Grows (S.out serializer.old) (S.out serializer.new) }
-        ensures same_env { S.environment serializer.new ≡ S.environment serializer.old }
-        ensures same_levels { S.levels serializer.new ≡ S.levels serializer.old };
+        ensures { Wrote E.Env S.PagableSerializer (form (Self.means.of self.now) (Self.shape (S.environment serializer.old))) write_causes.are serializer.old serializer.new result };
 }
 
 /// A type whose values can be read.
@@ -45,11 +40,7 @@ pub trait PagableDeserialize<'de, E: Env>: Carried<E> + Sized {
         alloc: Global,
         deserializer: &mut D,
     ) -> Result<Self, Error>
-        ensures gives { GivesSome read_causes.are Self.means.of (D.rest deserializer.new) result
-            (read (handles_at (D.levels deserializer.old) (E.parts (D.environment deserializer.old))) (Self.shape (D.environment deserializer.old)) (D.rest deserializer.old)) }
-        ensures moves { MovesOn (D.standing deserializer.old) (D.standing deserializer.new) }
-        ensures same_env { D.environment deserializer.new ≡ D.environment deserializer.old }
-        ensures same_levels { D.levels deserializer.new ≡ D.levels deserializer.old };
+        ensures { Reads E.Env D.PagableDeserializer read_causes.are Self.means.of (λ c. read c (Self.shape (D.environment deserializer.old))) deserializer.old deserializer.new result };
 }
 
 /// A type of which each value has exactly one meaning.
@@ -87,11 +78,7 @@ pub trait PagableBoxDeserialize<'de, E: Env>: Carried<E> + Sized {
         alloc: Global,
         deserializer: &mut D,
     ) -> Result<Box<Self>, Error>
-        ensures gives { GivesSome box_causes.are (λ b. Self.means.of b.value) (D.rest deserializer.new) result
-            (read (handles_at (D.levels deserializer.old) (E.parts (D.environment deserializer.old))) (Self.shape (D.environment deserializer.old)) (D.rest deserializer.old)) }
-        ensures moves { MovesOn (D.standing deserializer.old) (D.standing deserializer.new) }
-        ensures same_env { D.environment deserializer.new ≡ D.environment deserializer.old }
-        ensures same_levels { D.levels deserializer.new ≡ D.levels deserializer.old };
+        ensures { Reads E.Env D.PagableDeserializer box_causes.are (λ b. Self.means.of b.value) (λ c. read c (Self.shape (D.environment deserializer.old))) deserializer.old deserializer.new result };
 }
 
 /// Want of memory for the box is a cause beside those of the value.
@@ -127,13 +114,9 @@ pub trait PagableEagerSerialize<E: Env>: EagerlyCarried<E> {
         &self,
         serializer: &mut S,
     ) -> Result<(), Error>
-        ensures ok { OnOk result (WritesSome (Self.eager_means.of self.now) (nesting (S.levels serializer.old) (E.parts (S.environment serializer.old))) (Self.eager_shape (S.environment serializer.old)) (S.out serializer.old) (S.out serializer.new)) }
-        ensures no_references { (S.out serializer.new).refs ≡ (S.out serializer.old).refs }
-        ensures refused { IfErr result (Refused (Self.eager_means.of self.now) (nesting (S.levels serializer.old) (E.parts (S.environment serializer.old))) (Self.eager_shape (S.environment serializer.old))) }
-        ensures only { IfErr result eager_write_causes.are }
-        ensures err { Grows (S.out serializer.old) (S.out serializer.new) }
-        ensures same_env { S.environment serializer.new ≡ S.environment serializer.old }
-        ensures same_levels { S.levels serializer.new ≡ S.levels serializer.old };
+        ensures wrote { Wrote E.Env S.PagableSerializer (form (Self.eager_means.of self.now) (Self.eager_shape (S.environment serializer.old))) eager_write_causes.are
+            serializer.old serializer.new result }
+        ensures no_references { (S.out serializer.new).refs ≡ (S.out serializer.old).refs };
 }
 
 /// A type whose values can be read eagerly.
@@ -147,12 +130,9 @@ pub trait PagableEagerDeserialize<'de, E: Env>: EagerlyCarried<E> + Sized {
         alloc: Global,
         deserializer: &mut D,
     ) -> Result<Self, Error>
-        ensures gives { GivesSome eager_read_causes.are Self.eager_means.of (D.rest deserializer.new) result
-            (read (handles_at (D.levels deserializer.old) (E.parts (D.environment deserializer.old))) (Self.eager_shape (D.environment deserializer.old)) (D.rest deserializer.old)) }
-        ensures no_references { (D.rest deserializer.new).refs ≡ (D.rest deserializer.old).refs }
-        ensures moves { MovesOn (D.standing deserializer.old) (D.standing deserializer.new) }
-        ensures same_env { D.environment deserializer.new ≡ D.environment deserializer.old }
-        ensures same_levels { D.levels deserializer.new ≡ D.levels deserializer.old };
+        ensures reads { Reads E.Env D.PagableDeserializer eager_read_causes.are Self.eager_means.of (λ c. read c (Self.eager_shape (D.environment deserializer.old)))
+            deserializer.old deserializer.new result }
+        ensures no_references { (D.rest deserializer.new).refs ≡ (D.rest deserializer.old).refs };
 }
 
 /// A value type of an environment whose nodes are spelled, and mean, as its values are: it is read without borrowing from

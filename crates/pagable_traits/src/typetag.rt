@@ -3,8 +3,8 @@
 
 ghost use Rattle.std.specs.{Prelude.{Bool, IfErr, IfNone, IfOk, IfSome, List, None, OnOk, Option, Some, [], length, map, ℕ, ◌≡◌, ◌≤◌}, Str.IsUtf8, String.string_bytes};
 ghost use Rattle.pagable_model.specs.{Basic.{longest, text_at, text_form}, Carried.tagged_by, Gives.{Gives, long_or, memory, memory_or}, Lengths.long_or_memory, Reading.{bytes_of, read}};
-ghost use Rattle.pagable_model.specs.{Shape.{Shape, tagged}, Standing.{GivesSome, MovesOn, handles_at}, Tagged.{HasDistinctTags, IsLastFor, MeansTagged, NoneFor, ReadsWhatIsWritten, grammars}};
-ghost use Rattle.{pagable_model.specs.Writing.{Grows, Refused, WritesSome, added, nesting}, pagable_traits.specs.{Meanings.Meanings, OwnCauses.{ReadCauses, WriteCauses}, ReadBack.IsReadThroughout}};
+ghost use Rattle.pagable_model.specs.{Shape.{Shape, tagged}, Standing.MovesOn, Tagged.{HasDistinctTags, IsLastFor, MeansTagged, NoneFor, ReadsWhatIsWritten, grammars}, Writing.{Grows, added}};
+ghost use Rattle.pagable_traits.specs.{JsonSteps.{Reads, Wrote, value as form}, Meanings.Meanings, OwnCauses.{ReadCauses, WriteCauses}, ReadBack.IsReadThroughout};
 
 use pagable_codec::{Env, PagableDeserializer, PagableSerializer, Reader};
 use pagable_flavors::Error;
@@ -34,12 +34,7 @@ pub trait PagableTagged<E: Env>: Sized {
         &self,
         serializer: &mut S,
     ) -> Result<(), Error>
-        ensures ok { OnOk result (WritesSome (body_means.of self.now) (nesting (S.levels serializer.old) (E.parts (S.environment serializer.old))) (bodies (S.environment serializer.old) (tag self.now)) (S.out serializer.old) (S.out serializer.new)) }
-        ensures refused { IfErr result (Refused (body_means.of self.now) (nesting (S.levels serializer.old) (E.parts (S.environment serializer.old))) (bodies (S.environment serializer.old) (tag self.now))) }
-        ensures only { IfErr result body_causes.are }
-        ensures err { Grows (S.out serializer.old) (S.out serializer.new) }
-        ensures same_env { S.environment serializer.new ≡ S.environment serializer.old }
-        ensures same_levels { S.levels serializer.new ≡ S.levels serializer.old };
+        ensures { Wrote E.Env S.PagableSerializer (form (body_means.of self.now) (bodies (S.environment serializer.old) (tag self.now))) body_causes.are serializer.old serializer.new result };
 
     /// Writes the tag and then the body, whichever tags are registered. TooLong for a tag above 4,294,967,295 bytes.
     #[tactic(auto, using(crate::proofs::Items::writes, crate::proofs::Parts::only_parts, pagable_codec::proofs::Writing::grows_trans, crate::proofs::Registered::writes))]
@@ -47,12 +42,9 @@ pub trait PagableTagged<E: Env>: Sized {
         &self,
         serializer: &mut S,
     ) -> Result<(), Error>
-        ensures ok { (known : List ℕ → Bool) (read : List ℕ → Shape) → OnOk result (WritesSome (MeansTagged (tag self.now) (body_means.of self.now)) (nesting (S.levels serializer.old) (E.parts (S.environment serializer.old))) (tagged (bodies (S.environment serializer.old)) known read) (S.out serializer.old) (S.out serializer.new)) }
-        ensures refused { (known : List ℕ → Bool) (read : List ℕ → Shape) → IfErr result (Refused (MeansTagged (tag self.now) (body_means.of self.now)) (nesting (S.levels serializer.old) (E.parts (S.environment serializer.old))) (tagged (bodies (S.environment serializer.old)) known read)) }
-        ensures only { IfErr result (long_or (memory_or body_causes.are)) }
-        ensures err { Grows (S.out serializer.old) (S.out serializer.new) }
-        ensures same_env { S.environment serializer.new ≡ S.environment serializer.old }
-        ensures same_levels { S.levels serializer.new ≡ S.levels serializer.old }
+        ensures { (known : List ℕ → Bool) (read : List ℕ → Shape) → Wrote E.Env S.PagableSerializer
+            (form (MeansTagged (tag self.now) (body_means.of self.now)) (tagged (bodies (S.environment serializer.old)) known read)) (long_or (memory_or body_causes.are))
+            serializer.old serializer.new result }
     {
         write_tag(self.pagable_type_tag(), serializer)?;
         self.pagable_serialize_body(serializer)
@@ -95,12 +87,8 @@ pub trait TagReader<E: Env, T: PagableTagged<E>>: ForTag {
         alloc: Global,
         deserializer: &mut D,
     ) -> Result<T, Error>
-        ensures gives { GivesSome read_causes.are T.body_means.of (D.rest deserializer.new) result
-            (read (handles_at (D.levels deserializer.old) (E.parts (D.environment deserializer.old))) (grammar self.now (D.environment deserializer.old)) (D.rest deserializer.old)) }
-        ensures of_tag { IfOk result (λ x. T.tag x ≡ Self.own_tag self.now) }
-        ensures moves { MovesOn (D.standing deserializer.old) (D.standing deserializer.new) }
-        ensures same_env { D.environment deserializer.new ≡ D.environment deserializer.old }
-        ensures same_levels { D.levels deserializer.new ≡ D.levels deserializer.old };
+        ensures reads { Reads E.Env D.PagableDeserializer read_causes.are T.body_means.of (λ c. read c (grammar self.now (D.environment deserializer.old))) deserializer.old deserializer.new result }
+        ensures of_tag { IfOk result (λ x. T.tag x ≡ Self.own_tag self.now) };
 }
 
 /// A tag, and the reader of the bodies under it, which gives values of this tag.
@@ -168,11 +156,8 @@ impl<T, F: ForTag> TypetagRegistry<T, F> {
     where
         T: PagableTagged<E>,
         F: TagReader<E, T>,
-        ensures gives { (written : List ℕ → Shape) → GivesSome (memory_or F.read_causes.are) (λ x. MeansTagged (T.tag x) (T.body_means.of x)) (D.rest deserializer.new) result
-            (read (handles_at (D.levels deserializer.old) (E.parts (D.environment deserializer.old))) (tagged_by written (grammars F.grammar (D.environment deserializer.old) self.now)) (D.rest deserializer.old)) }
-        ensures moves { MovesOn (D.standing deserializer.old) (D.standing deserializer.new) }
-        ensures same_env { D.environment deserializer.new ≡ D.environment deserializer.old }
-        ensures same_levels { D.levels deserializer.new ≡ D.levels deserializer.old }
+        ensures { (written : List ℕ → Shape) → Reads E.Env D.PagableDeserializer (memory_or F.read_causes.are) (λ x. MeansTagged (T.tag x) (T.body_means.of x))
+            (λ c. read c (tagged_by written (grammars F.grammar (D.environment deserializer.old) self.now))) deserializer.old deserializer.new result }
     {
         let tag = read_tag(alloc, deserializer)?;
         let found = self.reader_of(tag.as_str());
@@ -244,11 +229,8 @@ pub fn deserialize_tagged<E: Env, T: HasTypetagRegistry<E>, D: PagableDeserializ
     alloc: Global,
     deserializer: &mut D,
 ) -> Result<T, Error>
-    ensures gives { (written : List ℕ → Shape) → GivesSome (memory_or T.Reader.read_causes.are) (λ x. MeansTagged (T.tag x) (T.body_means.of x)) (D.rest deserializer.new) result
-        (read (handles_at (D.levels deserializer.old) (E.parts (D.environment deserializer.old))) (tagged_by written (grammars T.Reader.grammar (D.environment deserializer.old) (T.readers (D.environment deserializer.old)))) (D.rest deserializer.old)) }
-    ensures moves { MovesOn (D.standing deserializer.old) (D.standing deserializer.new) }
-    ensures same_env { D.environment deserializer.new ≡ D.environment deserializer.old }
-    ensures same_levels { D.levels deserializer.new ≡ D.levels deserializer.old }
+    ensures { (written : List ℕ → Shape) → Reads E.Env D.PagableDeserializer (memory_or T.Reader.read_causes.are) (λ x. MeansTagged (T.tag x) (T.body_means.of x))
+        (λ c. read c (tagged_by written (grammars T.Reader.grammar (D.environment deserializer.old) (T.readers (D.environment deserializer.old))))) deserializer.old deserializer.new result }
 {
     let tag = read_tag(alloc, deserializer)?;
     let found = registered_reader::<E, T>(tag.as_str(), deserializer.env());

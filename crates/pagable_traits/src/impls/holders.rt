@@ -2,8 +2,8 @@
 //! as their first value and the tuple of the others; values that are lent; a header with a list behind it; marks of a
 //! type, of which there is nothing to write; and cells.
 
-ghost use Rattle.pagable_model.specs.{Carried.{atomic_i64, once_lock, thin}, Lifted.{MeansAtomic, MeansOnce, atomic_has_meaning, once_has_meaning}, Shape.{optional, outcome, both}};
-ghost use Rattle.pagable_traits.specs.Meanings.{lists, options, results, pairs, seen_by, lists_single, options_single, results_single, pairs_single};
+ghost use Rattle.pagable_model.specs.{Carried.{atomic_i64, once_lock, thin}, Lifted.{MeansAtomic, MeansOnce, atomic_has_meaning, once_has_meaning, result_single}, Shape.{optional, outcome, both}};
+ghost use Rattle.pagable_traits.specs.Meanings.{lists, options, results, pairs, seen_by, lists_single, options_single, pairs_single};
 ghost use Rattle.pagable_traits.specs.OwnCauses.{reads_memory_or, reads_either, writes_memory_or, writes_either, writes_long_or, writes_never};
 
 use crate::alike::{CarriedAs, ReadAs};
@@ -129,13 +129,13 @@ impl<E: Env, T: Carried<E>, X: Carried<E>> Carried<E> for Result<T, X> {
 }
 
 impl<E: Env, T: OneMeaning<E>, X: OneMeaning<E>> OneMeaning<E> for Result<T, X> {
-    ghost single = { results_single T.Carried.means X.Carried.means T.single X.single };
+    ghost single = { result_single T.Carried.means.of X.Carried.means.of T.Carried.means.meaning X.Carried.means.meaning T.single X.single };
 }
 
 impl<E: Env, T: PagableSerialize<E>, X: PagableSerialize<E>> PagableSerialize<E> for Result<T, X> {
     ghost write_causes = { writes_memory_or (writes_either T.write_causes X.write_causes) };
 
-    #[tactic(auto, using(crate::proofs::Parts::writes_result))]
+    #[tactic(auto, using(crate::proofs::Parts::steps))]
     fn pagable_serialize<S: PagableSerializer<E>>(&self, serializer: &mut S) -> Result<(), Error> {
         write_flag(self.is_ok(), serializer)?;
         match self {

@@ -74,7 +74,6 @@ impl<E: Env, T: PagableSerialize<E>> PagableSerialize<E> for Vec<T> {
 impl<'de, E: Env, T: PagableDeserialize<'de, E> + Drop> PagableDeserialize<'de, E> for Vec<T> {
     ghost read_causes = { reads_memory_or T.read_causes };
 
-    #[tactic(auto, unfolding(pagable_model::specs::Reading::read, pagable_model::specs::Reading::read_with), using(crate::proofs::Items::lists))]
     fn pagable_deserialize<D: PagableDeserializer<E>>(
         alloc: Global,
         deserializer: &mut D,
@@ -125,7 +124,6 @@ impl<
 > PagableDeserialize<'de, E> for SmallVec<T, N> {
     ghost read_causes = { reads_memory_or T.read_causes };
 
-    #[tactic(auto, unfolding(pagable_model::specs::Reading::read, pagable_model::specs::Reading::read_with), using(crate::proofs::Items::lists))]
     fn pagable_deserialize<D: PagableDeserializer<E>>(
         alloc: Global,
         deserializer: &mut D,

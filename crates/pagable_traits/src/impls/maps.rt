@@ -1,12 +1,11 @@
 //! Maps and sets: in order of their keys, in order of arrival, and in no order.
 
-ghost use Rattle.std.specs.{Prelude.{◌≡◌, ◌≤◌, OnOk, IfErr}, BTreeMap.insert_entry, BTreeSet.insert_key, HashMap.spare};
+ghost use Rattle.std.specs.{BTreeMap.insert_entry, BTreeSet.insert_key, HashMap.spare, Prelude.{◌≡◌, ◌≤◌}};
+ghost use Rattle.pagable_model.specs.{Gives.either, Hashed.{PutsAnywhere, hash_map_single}, Lifted.MeansPair, Shape.{both, hash_map, placed_map, placed_set, sorted_map, sorted_set}};
+ghost use Rattle.pagable_traits.specs.{JsonSteps.{Wrote, value as form}, Meanings.{hash_maps, lists, lists_single, pairs, pairs_single, seen_by}, OwnCauses.{reads_either, reads_memory_or}};
+ghost use Rattle.pagable_traits.specs.OwnCauses.{writes_either, writes_long_or, writes_memory_or};
 ghost use Rattle.indexmap.specs.IndexMap as placed_maps;
 ghost use Rattle.indexmap.specs.IndexSet as placed_sets;
-ghost use Rattle.pagable_model.specs.{Lifted.MeansPair, Gives.either, Hashed.PutsAnywhere, Writing.{nesting, WritesSome, Refused, Grows}};
-ghost use Rattle.pagable_model.specs.Shape.{both, hash_map, placed_map, placed_set, sorted_map, sorted_set};
-ghost use Rattle.pagable_traits.specs.Meanings.{seen_by, lists, pairs, hash_maps, lists_single, pairs_single, hash_maps_single};
-ghost use Rattle.pagable_traits.specs.OwnCauses.{reads_memory_or, reads_either, writes_memory_or, writes_either, writes_long_or};
 
 use crate::impls::collecting::{Collects, read_collected, write_counted};
 use crate::keys::{PagableKey, PagableOrdKey};
@@ -19,18 +18,14 @@ use std::collections::{BTreeMap, BTreeSet, HashMap};
 use std::hash::Hash;
 
 /// Writes a key and its value, one after the other. A refusal is the key's, or else the value's.
-#[tactic(auto, using(crate::proofs::Parts::pairs))]
 pub fn write_entry<E: Env, K: PagableSerialize<E>, V: PagableSerialize<E>, S: PagableSerializer<E>>(
     key: &K,
     value: &V,
     serializer: &mut S,
 ) -> Result<(), Error>
-    ensures ok { OnOk result (WritesSome (MeansPair K.means.of V.means.of (key.now, value.now)) (nesting (S.levels serializer.old) (E.parts (S.environment serializer.old))) (both (K.shape (S.environment serializer.old)) (V.shape (S.environment serializer.old))) (S.out serializer.old) (S.out serializer.new)) }
-    ensures refused { IfErr result (Refused (MeansPair K.means.of V.means.of (key.now, value.now)) (nesting (S.levels serializer.old) (E.parts (S.environment serializer.old))) (both (K.shape (S.environment serializer.old)) (V.shape (S.environment serializer.old)))) }
-    ensures only { IfErr result (either K.write_causes.are V.write_causes.are) }
-    ensures err { Grows (S.out serializer.old) (S.out serializer.new) }
-    ensures same_env { S.environment serializer.new ≡ S.environment serializer.old }
-    ensures same_levels { S.levels serializer.new ≡ S.levels serializer.old }
+    ensures { Wrote E.Env S.PagableSerializer (form (MeansPair K.means.of V.means.of (key.now, value.now))
+        (both (K.shape (S.environment serializer.old)) (V.shape (S.environment serializer.old)))) (either K.write_causes.are V.write_causes.are)
+        serializer.old serializer.new result }
 {
     key.pagable_serialize(serializer)?;
     value.pagable_serialize(serializer)
@@ -269,7 +264,7 @@ impl<E: Env, K: PagableKey<E> + Hash, V: Carried<E>> Carried<E> for HashMap<K, V
 }
 
 impl<E: Env, K: PagableKey<E> + Hash, V: OneMeaning<E>> OneMeaning<E> for HashMap<K, V> {
-    ghost single = { λ m. hash_maps_single K.Carried.means V.Carried.means K.single V.single m.entries };
+    ghost single = { λ m. hash_map_single K.Carried.means.of V.Carried.means.of K.Carried.means.meaning V.Carried.means.meaning K.single V.single m.entries };
 }
 
 impl<

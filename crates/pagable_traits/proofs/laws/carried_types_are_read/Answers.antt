@@ -1,5 +1,4 @@
-use Rattle.std.specs.Prelude.{refl}
-use Rattle.pagable_traits.specs.ReadBack.{basic_is_read, hash_map_is_read, over_is_read, two_is_read}
+use Rattle.{pagable_traits.specs.ReadBack.{basic_is_read, hash_map_is_read, over_is_read, two_is_read}, std.specs.Prelude.refl}
 use Rattle.pagable_traits.proofs.laws.carried_types_are_read.Goals as goal
 
 pub returns-clause-numbers : goal.returns-clause-numbers

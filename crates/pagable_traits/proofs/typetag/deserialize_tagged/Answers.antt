@@ -7,4 +7,5 @@ returns-in_default g c = unknown_read g.E.Env g.D.PagableDeserializer g.T.Reader
 
 pub returns : goal.returns
 returns g c = body_read g.E.Env g.D.PagableDeserializer g.T.Reader.TagReader.read_causes.are g.T.PagableTagged.tag g.T.PagableTagged.body_means.of g.T.Reader.TagReader.grammar _ _ _ _ _ c.read.result
-    c.in_ok-tag.ensures c.as_str.ensures.value (ap g.T.HasTypetagRegistry.readers (c.env.ensures ∙ c.in_ok-tag.ensures.same_env)) c.in-Some.ensures.found c.in-Some.ensures.own c.read.ensures
+    c.in_ok-tag.ensures c.as_str.ensures.value (ap g.T.HasTypetagRegistry.readers (c.env.ensures ∙ c.in_ok-tag.ensures.same_env))
+    c.in-Some.ensures.found c.in-Some.ensures.own c.read.ensures.reads c.read.ensures.of_tag

@@ -1,7 +1,7 @@
-use Rattle.pagable_traits.proofs.{Words.{refl, sym, rules, ◌∙◌, Result, Ok, Err, Error, memory, long_or, MeansPair, both, json, text, Is, of_key, of_value}, Maps.{written-fewer, written-none}}
-use Rattle.pagable_traits.proofs.{Maps.{written-more, written-all, written-refused}, JsonSteps.{as-form, wrote-then, wrote-err, wrote-nothing, wrote-more, wrote-is, wrote-then-err, wrote-below}}
-use Rattle.pagable_traits.proofs.{Items.writes_no_items, Json.{arrays, as-value, json-deep, json-long, json-text, member-has, objects, seen-object, value-has}, JsonSteps.wrote-deep}
-use Rattle.pagable_traits.{proofs.{Items.{refuses_item, writes_item}, Parts.{first_refused, refused_second, writes_pair}}, specs.Meanings.exactly}
+use Rattle.pagable_traits.proofs.{Items.{refuses_item, writes_item, writes_no_items}, Json.{arrays, as-value, json-deep, json-long, json-text, member-has, objects, seen-object, value-has}}
+use Rattle.pagable_traits.proofs.{JsonSteps.{pair-refused, pair-wrote, wrote-below, wrote-deep, wrote-err, wrote-is, wrote-more, wrote-nothing, wrote-then, wrote-then-err}, Maps.written-all}
+use Rattle.pagable_traits.proofs.{Maps.{written-fewer, written-more, written-none, written-refused}, Words.{Is, MeansPair, both, json, of_key, of_value, refl, rules, sym, text, ◌∙◌}}
+use Rattle.pagable_traits.specs.Meanings.{exactly}
 use Rattle.pagable_traits.proofs.impls.json_writing.+writing_json.Goals as goal
 
 pub write_value-returns-in-Object : goal.write_value-returns-in-Object
@@ -72,16 +72,9 @@ pub write_members-returns : goal.write_members-returns
 write_members-returns g t c = wrote-is g.E.Env g.S.PagableSerializer c.loop-key.invariant (λ n old new v. written-all _ _ _ _ _ _ _ v c.in-None.ensures.steps.0)
 
 pub write_member-returns-in_err-pagable_serialize : goal.write_member-returns-in_err-pagable_serialize
-write_member-returns-in_err-pagable_serialize g t c =
-    let r : Result (Unit {0}) Error = Err c.in_err-pagable_serialize.field-0.0 in
-    wrote-err g.E.Env g.S.PagableSerializer c.from_residual.result c.from_residual.ensures.1
-    (as-form g.E.Env g.S.PagableSerializer (Is of_key c.args.key.now) (λ e. text) (long_or memory) r refl c.in_err-pagable_serialize.ensures)
-    (λ n l h. first_refused {X = Unit {0}} (Err _) (Is of_key) (exactly of_value) c.args.key.now c.args.value.now n text json l) (λ h. json-text _ h)
+write_member-returns-in_err-pagable_serialize g t c = pair-refused g.E.Env g.S.PagableSerializer (exactly of_key) (exactly of_value) c.args.key.now c.args.value.now text json
+    c.from_residual.result c.from_residual.ensures.1 c.in_err-pagable_serialize.ensures (λ h. json-text _ h)
 
 pub write_member-returns : goal.write_member-returns
-write_member-returns g t c =
-    let r : Result (Unit {0}) Error = Ok tt in
-    wrote-then g.E.Env g.S.PagableSerializer c.write_value.result
-    (as-form g.E.Env g.S.PagableSerializer (Is of_key c.args.key.now) (λ e. text) (long_or memory) r refl c.in_ok-pagable_serialize.ensures) c.write_value.ensures
-    (λ n old mid new v u. writes_pair (Is of_key) (Is of_value) (c.args.key.now, c.args.value.now) n text json old mid new v u)
-    (λ n e l h. refused_second {X = Unit {0}} (Err e) (Is of_key) (Is of_value) (λ k. (of_key k, refl)) (c.args.key.now, c.args.value.now) n text json l) (λ e h. h)
+write_member-returns g t c = pair-wrote g.E.Env g.S.PagableSerializer (exactly of_key) (exactly of_value) c.args.key.now c.args.value.now text json
+    c.write_value.result c.in_ok-pagable_serialize.ensures c.write_value.ensures (λ e h. h)

@@ -7,4 +7,4 @@ returns-in_default g c = unknown_read g.E.Env g.D.PagableDeserializer g.F.TagRea
 
 pub returns : goal.returns
 returns g c = body_read g.E.Env g.D.PagableDeserializer g.F.TagReader.read_causes.are g.T.PagableTagged.tag g.T.PagableTagged.body_means.of g.F.TagReader.grammar _ _ _ _ _ c.read.result
-    c.in_ok-tag.ensures c.as_str.ensures.value refl c.in-Some.ensures.found c.in-Some.ensures.own c.read.ensures
+    c.in_ok-tag.ensures c.as_str.ensures.value refl c.in-Some.ensures.found c.in-Some.ensures.own c.read.ensures.reads c.read.ensures.of_tag

@@ -1,8 +1,7 @@
-use Rattle.pagable_traits.proofs.Parts.{err_along, held_means, ok_along, refused_along, some_along}
+use Rattle.pagable_traits.proofs.{JsonSteps.wrote-as, Parts.{held_means, refused_along, some_along}}
 use Rattle.pagable_traits.proofs.impls.holders.OnceLockPagableSerialize.pagable_serialize.Goals as goal
 
-pub returns-clause-ok : goal.returns-clause-ok
-returns-clause-ok g c = ok_along _ c.pagable_serialize.ensures.ok (λ w. some_along _ _ _ _ w (held_means g.T.Carried.means.of c.get-held.result))
-
-pub returns-clause-refused : goal.returns-clause-refused
-returns-clause-refused g c = err_along _ c.pagable_serialize.ensures.refused (λ e h. refused_along _ _ e h (held_means g.T.Carried.means.of c.get-held.result))
+pub returns : goal.returns
+returns g c =
+    let means = held_means g.T.Carried.means.of c.get-held.result in
+    wrote-as g.E.Env g.S.PagableSerializer c.pagable_serialize.result c.pagable_serialize.ensures (λ n old new w. some_along n _ old new w means) (λ n e h. refused_along n _ e h means)

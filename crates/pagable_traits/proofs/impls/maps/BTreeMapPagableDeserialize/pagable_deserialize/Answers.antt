@@ -1,7 +1,8 @@
-use Rattle.pagable_traits.proofs.{Words.{ordered, ordering_reverse}, Maps.key_like, Maps.reads_sorted_map}
+use Rattle.pagable_traits.proofs.{JsonSteps.reads-as, Words.{ordered, ordering_reverse}, Maps.key_like, Maps.reads_sorted_map}
 use Rattle.pagable_traits.proofs.impls.maps.BTreeMapPagableDeserialize.pagable_deserialize.Goals as goal
 
-pub returns-clause-gives : goal.returns-clause-gives
-returns-clause-gives g c =
+pub returns : goal.returns
+returns g c =
     let same = key_like g.K.Carried.means.of g.K.Carried.means.meaning g.met.K.OneMeaning.single g.K.Ord.cmp (ordered g.K.PagableOrdKey.order) ordering_reverse g.met.K.PagableOrdKey.is_order g.met.K.Ord.total.antisymm in
-    reads_sorted_map _ g.K.Carried.means.of g.V.Carried.means.of g.K.Ord.cmp g.K.PagableOrdKey.order same c.read_collected.result (λ x. x.entries) _ _ _ _ _ c.read_collected.ensures.gives
+    reads-as g.E.Env g.D.PagableDeserializer c.read_collected.result c.read_collected.ensures
+    (λ h. reads_sorted_map _ g.K.Carried.means.of g.V.Carried.means.of g.K.Ord.cmp g.K.PagableOrdKey.order same c.read_collected.result (λ x. x.entries) _ _ _ _ _ h)

@@ -1,7 +1,8 @@
-use Rattle.pagable_traits.proofs.{Maps.{key_like, reads_placed_set}, Words.same_key}
+use Rattle.pagable_traits.proofs.{JsonSteps.reads-as, Maps.{key_like, reads_placed_set}, Words.same_key}
 use Rattle.pagable_traits.proofs.impls.maps.IndexSetPagableDeserialize.pagable_deserialize.Goals as goal
 
-pub returns-clause-gives : goal.returns-clause-gives
-returns-clause-gives g c =
+pub returns : goal.returns
+returns g c =
     let same = key_like g.T.Carried.means.of g.T.Carried.means.meaning g.met.T.OneMeaning.single g.T.PartialEq.eq same_key (λ b. b) g.met.T.PagableKey.key.same g.met.T.Eq.laws.symm in
-    reads_placed_set _ g.T.Carried.means.of g.T.PartialEq.eq same c.read_collected.result (λ x. x.keys) _ _ _ _ c.read_collected.ensures.gives
+    reads-as g.E.Env g.D.PagableDeserializer c.read_collected.result c.read_collected.ensures
+    (λ h. reads_placed_set _ g.T.Carried.means.of g.T.PartialEq.eq same c.read_collected.result (λ x. x.keys) _ _ _ _ h)

@@ -1,5 +1,5 @@
-use Rattle.pagable_traits.proofs.Words.{writes_nothing}
+use Rattle.pagable_traits.proofs.{JsonSteps.wrote-nothing, Words.writes_nothing}
 use Rattle.pagable_traits.proofs.impls.numbers.UnitPagableSerialize.pagable_serialize.Goals as goal
 
-pub returns-clause-ok : goal.returns-clause-ok
-returns-clause-ok g c = writes_nothing _ _
+pub returns : goal.returns
+returns g c = wrote-nothing g.E.Env g.S.PagableSerializer (writes_nothing _ _)
