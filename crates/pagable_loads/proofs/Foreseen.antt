@@ -2,10 +2,10 @@
 use Rattle.pagable_laws.proofs.{Related.{Out, SameRest, Sober, both-faulty, both-given, both-refused, first-refused, typed_par}, Trees.{Along, reference-along}}
 use Rattle.pagable_loads.specs.{Decoding.{AsksNext, Foresees, GotMore, IsAhead, Kept, RowTells, kinds_of}, Ending.{LeadsOn, left_behind, left_in, many, to_do, weight, weight_on}}
 use Rattle.pagable_model.specs.{Blob.Blob, Deep.is_eager, Meaning.Meaning, Reading.{Rest, reference_at}, Standing.{Answer, answer_at}, Steps.◌>>=◌, declared.{error.Error.Error, numbers.ArcRef.ArcRef}}
-use Rattle.std.proofs.lemmas.{Bool.{cases_Bool, eqb-true}, Option.slice_get_within}
+use Rattle.std.proofs.lemmas.{Bool.{cases_Bool, eqb-true}, Grind.common_steps, Option.slice_get_within}
 use Rattle.std.proofs.lemmas.{Bool.Decides.nat_tests, List.{append_assoc, at_drop_all, at_drop_more, length-append, length-map, map-append}, Option.{slice_get-get_or, slice_get_cases}}
-use Rattle.std.proofs.{Common.{if◌then◌else◌, inl, inr, length, refl, slice_get, subst, suc, sym, zero, ℕ, ◌*◌, ◌++◌, ◌+◌, ◌-◌, ◌<◌, ◌==◌, ◌^◌, ◌∙◌, ◌∷◌, ◌≡◌, ◌≤◌, ◌⊎◌}, Math.Nat.mul-le-mul_right}
-use Rattle.{pagable_model.specs.declared.numbers.Kind.Kind, pagable_world.specs.Loads.{Need, answer_of, answers_from, asks, need_at, need_of, needs_lazy, needs_nested, next_by, next_of}}
+use Rattle.std.proofs.{Common.{inl, inr, length, refl, slice_get, subst, suc, sym, zero, ℕ, ◌*◌, ◌++◌, ◌+◌, ◌-◌, ◌<◌, ◌==◌, ◌^◌, ◌∙◌, ◌∷◌, ◌≡◌, ◌≤◌, ◌⊎◌}, Math.Nat.mul-le-mul_right}
+use Rattle.{pagable_model.specs.declared.numbers.Kind.Kind, pagable_world.specs.Loads.{Need, answer_of, answers_from, asks, need_of, needs_lazy, needs_nested, next_by, next_of}}
 use Rattle.{pagable_world.specs.{Loads.read_with as read_blob, Plain.Types, World.Frame}, std.proofs.Common.{Bool, Err, List, None, Ok, Option, Result, Some, [], ap, arith, drop, false}}
 use Rattle.pagable_model.specs.Meaning as meanings
 
@@ -20,10 +20,7 @@ headed None rest = []
 headed (Some x) rest = x.kind.0 ∷ rest
 
 from : (xs : List ArcRef) (place : ℕ) → kinds_of (drop place xs) ≡ headed (slice_get xs place) (kinds_of (drop (place + 1) xs))
-from xs place = elim (slice_get_cases xs place).1 [
-  | inl (x, less, at, is) ↦ rw at (at_drop_more kinds_of xs place x less ∙ ap (λ (z : ArcRef). z.kind.0 ∷ kinds_of (drop (place + 1) xs)) is)
-  | inr (past, none) ↦ rw none (at_drop_all kinds_of xs place past)
-]
+from xs place = grind (arith, nat_tests, common_steps, slice_get_cases, at_drop_more, at_drop_all)
 
 -- ---- two readings side by side: of what was got, after which one of the kind k comes, and of a row, which begins alike and after which one of this kind is asked for
 
@@ -119,18 +116,7 @@ still_ahead types f row r s h at same = grind (arith, nat_tests, append_assoc, k
 -- what a row tells of the innermost blob
 pub row_tells : (types : Types) (top : Frame) (fs frames : List Frame) (row : List ArcRef) (r : ArcRef) (key place : ℕ) → frames ≡ top ∷ fs → place ≡ length top.got → slice_get row place ≡ Some r
     → slice_get top.blob.keys place ≡ Some key → is_eager r.kind.0 ≡ false → IsAhead types frames row → RowTells types frames row r.kind key
-row_tells types top fs frames row r key place is count at_row at_key later h = elim h.is [
-  | inl none ↦ absurd (let e : slice_get [] place ≡ Some r = subst (λ (rs : List ArcRef). slice_get rs place ≡ Some r) none at_row in cc)
-  | inr (f, gs, same, foresees) ↦
-      let one : f ≡ top = let e : f ∷ gs ≡ top ∷ fs = sym same ∙ is in cc in
-      let at : slice_get row (length f.got) ≡ Some r = rw (one, sym count) at_row in
-      let there : slice_get f.blob.keys (length f.got) ≡ Some key = rw (one, sym count) at_key in
-      let n = next_in_row row f.got r foresees.ahead foresees.split at in
-      let a = foresees.each f.got r.kind.0 n.0 (foresees.split ∙ ap (λ ks. kinds_of f.got ++ ks) n.1) in
-      let own : a.key ≡ key = let k : Some a.key ≡ Some key = sym a.there ∙ there in cc in
-      let need = ap (need_of types) same ∙ ap (need_at gs) (a.next ∙ ap (asks r.kind) own) ∙ ap (λ b. if b then needs_nested r.kind key else needs_lazy r.kind key) later in
-      record { f = f; fs = gs; there = same; foresees = foresees; r = r; at = at; of_kind = refl; need = need }
-]
+row_tells types top fs frames row r key place is count at_row at_k later h = grind (arith, nat_tests, common_steps, next_in_row)
 
 -- and it does so of what is left, where the reference is of the kind
 pub row_goes_on : (types : Types) (old new : List Frame) (row after : List ArcRef) (kind : Kind) (key : ℕ) (s : ArcRef) → RowTells types old row kind key → GotMore old new s → Kept kind s row after → IsAhead types new after

@@ -39,9 +39,6 @@ unfolding onto
 length_onto below [] = omega arith
 length_onto below (f ∷ fs) = let e = length_onto (frame_of f ∷ below) fs in omega (arith, e)
 
-pub below_short : (fs : List Held) → length fs < longest_path → length (onto [] fs) < 128
-below_short fs short = let l = length_onto [] fs in omega (arith, l, short)
-
 pub onto_more : (below : List Frame) (fs : List Held) (f : Held) → onto below (fs ++ f ∷ []) ≡ frame_of f ∷ onto below fs
 unfolding onto
 onto_more below [] f = refl

@@ -31,10 +31,7 @@ pub enum PinStart {
 
 /// The calls of a pager for one owner: the caller, or a page-out worker. Where the pager's plain state is told, each call says what it does to it; behind a lock nothing is told. No call exchanges for whom
 /// it acts, nor where.
-pub trait Access<E: Env>
-where
-    E::Node: NodeSet<E>,
-{
+pub trait Access<E: Env<Node: NodeSet<E>>> {
     // The pager's plain state, if it is told.
     ghost told: { Self → Option (PagerState E.Node E) };
 
@@ -144,10 +141,7 @@ pub enum Taken {
 }
 
 /// The calls of a pager for one worker.
-pub trait WorkerAccess<E: Env>: Access<E>
-where
-    E::Node: NodeSet<E>,
-{
+pub trait WorkerAccess<E: Env<Node: NodeSet<E>>>: Access<E> {
     /// Whether a reference can be claimed, whoever owns its handle. Refused with NoSuchHandle where the handle isn't live or isn't at the reference's node, and with
     /// WrongMode and WrongKind where mode or type don't fit the kind.
     fn check_reference(&self, reference: ArcRef) -> Result<(), Error>

@@ -102,7 +102,7 @@ pub enum Decoded<N: Drop> {
 }
 
 // Reads the blob, in a session of its own, and gives back what was noted besides.
-fn read_got<E: Env>(
+fn read_got<E: Env<Node: NodeSet<E>>>(
     env: &E,
     alloc: Global,
     blob: &PagableData,
@@ -111,8 +111,6 @@ fn read_got<E: Env>(
     lent: &[Option<Arc<E::Node>>],
     noted: Option<Vec<ArcRef>>,
 ) -> (Result<E::Node, Error>, Option<Vec<ArcRef>>)
-where
-    E::Node: NodeSet<E>,
     ensures asked { IfOk result.0 (λ x. E.Node.type_of x ≡ node_type) }
     ensures reads { noted ≡ None → ReadsWith (values_at E.Node.NodeSet E.Env E.Hash.KeyHash env.now) node_type (blob_of blob.now) got.now result.0 }
 {
@@ -136,7 +134,7 @@ where
 
 /// Reads a blob from its front as a value of this type, with the references that were got for it so far, whose values are lent by their places. Nothing that
 /// its reader did on an earlier way is trusted: what it asks for next is told by the blob alone.
-pub fn decode<E: Env>(
+pub fn decode<E: Env<Node: NodeSet<E>>>(
     env: &E,
     alloc: Global,
     blob: &PagableData,
@@ -144,8 +142,6 @@ pub fn decode<E: Env>(
     got: &[ArcRef],
     lent: &[Option<Arc<E::Node>>],
 ) -> Decoded<E::Node>
-where
-    E::Node: NodeSet<E>,
     ensures decodes { Decodes (values_at E.Node.NodeSet E.Env E.Hash.KeyHash env.now) node_type (blob_of blob.now) got.now result }
 {
     let (read, _) = read_got(env, alloc, blob, node_type, got, lent, None);
@@ -176,48 +172,45 @@ pub(crate) fn keep_if(row: &mut Vec<ArcRef>, kind: Kind, reference: ArcRef)
 
 impl Reading {
     // Finds the row that is ahead of the innermost blob, with these values of what it has got.
-    fn foresee<E: Env>(&self, env: &E, alloc: Global, lent: &[Option<Arc<E::Node>>]) -> Vec<ArcRef>
-    where
-        E::Node: NodeSet<E>,
-        ensures { IsAhead (values_at E.Node.NodeSet E.Env E.Hash.KeyHash env.now).types (frames_of self.now.top self.now.below.items) result.items }
+    fn foresee<E: Env<Node: NodeSet<E>>>(
+        &self,
+        env: &E,
+        alloc: Global,
+        lent: &[Option<Arc<E::Node>>],
+    ) -> Option<Vec<ArcRef>>
+        ensures { IfSome result (λ row. IsAhead (values_at E.Node.NodeSet E.Env E.Hash.KeyHash env.now).types (frames_of self.now.top self.now.below.items) row.items) }
     {
-        let mut row = Vec::new(alloc);
         let Some(top) = &self.top else {
-            return row;
+            return None;
         };
         let blob = top.blob.as_ref();
         let got = top.got.as_slice();
         // The blob's reader may ask otherwise than the blob is spelled: none of what it notes is trusted.
         let noting = Some(Vec::new(alloc));
         let (_read, noted) = read_got(env, alloc, blob, top.node_type, got, lent, noting);
-        let Some(noted) = noted else {
-            return row;
-        };
+        let noted = noted?;
+        let mut row = Vec::new(alloc);
         if row.extend_from_slice(got).is_err() || row.extend_from_slice(noted.as_slice()).is_err() {
-            return Vec::new(alloc);
+            return None;
         }
-        let Some(last) = row.pop() else {
-            return Vec::new(alloc);
-        };
+        let last = row.pop()?;
         let next = decode(env, alloc, blob, top.node_type, row.as_slice(), lent);
         let Decoded::Wants(kind, _) = next else {
-            return Vec::new(alloc);
+            return None;
         };
         if kind.0 == last.kind.0 && row.push(last).is_ok() {
-            return row;
+            return Some(row);
         }
-        Vec::new(alloc)
+        None
     }
 
     /// Finds the row that is ahead, if none is known and one is likely.
-    pub(crate) fn look_ahead<E: Env, A: Access<E>>(
+    pub(crate) fn look_ahead<E: Env<Node: NodeSet<E>>, A: Access<E>>(
         &self,
         access: &A,
         alloc: Global,
         row: &mut Vec<ArcRef>,
     )
-    where
-        E::Node: NodeSet<E>,
         requires { IsAhead (values_at E.Node.NodeSet E.Env E.Hash.KeyHash (A.acting access.now).environment).types (frames_of self.now.top self.now.below.items) row.old.items }
         ensures { IsAhead (values_at E.Node.NodeSet E.Env E.Hash.KeyHash (A.acting access.now).environment).types (frames_of self.now.top self.now.below.items) row.new.items }
     {
@@ -230,8 +223,11 @@ impl Reading {
         if !row.is_empty() || left < 4 || got.last().map_or(false, |r| is_read_at_once(r.kind)) {
             return;
         }
-        if let Ok(lent) = lend::<E, A>(access, alloc, got) {
-            *row = self.foresee(access.env(), alloc, lent.as_slice());
+        let Ok(lent) = lend::<E, A>(access, alloc, got) else {
+            return;
+        };
+        if let Some(found) = self.foresee(access.env(), alloc, lent.as_slice()) {
+            *row = found;
         }
     }
 

@@ -88,12 +88,10 @@ impl Reading {
 
 // The value of a reference that is read together with it. What its handle doesn't share isn't lent, and its reader refuses it. Refused with OutOfMemory.
 #[tactic(auto, using(crate::proofs::Stepped::sharing))]
-fn value_of<E: Env, A: Access<E>>(
+fn value_of<E: Env<Node: NodeSet<E>>, A: Access<E>>(
     access: &A,
     reference: ArcRef,
 ) -> Result<Option<Arc<E::Node>>, Error>
-where
-    E::Node: NodeSet<E>,
     ensures lends { Tells (A.told access.now) (λ s. IfOk result (λ found. Lends s reference (option_map arc_value found))) }
     ensures only { IfErr result (λ e. e ≡ Error.OutOfMemory) }
 {
@@ -114,13 +112,11 @@ fn is_any_read_at_once(got: &[ArcRef]) -> bool
 }
 
 // The values of these references, each at its reference's place; no list is made where none of them is read together with its value. Refused with OutOfMemory.
-pub(crate) fn lend<E: Env, A: Access<E>>(
+pub(crate) fn lend<E: Env<Node: NodeSet<E>>, A: Access<E>>(
     access: &A,
     alloc: Global,
     got: &[ArcRef],
 ) -> Result<Vec<Option<Arc<E::Node>>>, Error>
-where
-    E::Node: NodeSet<E>,
     ensures lends { Tells (A.told access.now) (λ s. IfOk result (λ lent. LendsEach arc_value s got.now lent.items)) }
     ensures only { IfErr result (λ e. e ≡ Error.OutOfMemory) }
 {
@@ -139,9 +135,11 @@ impl Reading {
     /// What the load needs next. The innermost blob is read from its front for it, with the values of the references that it has got, and nothing else is touched. Want of memory for these refuses the
     /// blob.
     #[tactic(auto, using(crate::proofs::Stepped::needing))]
-    pub fn next<E: Env, A: Access<E>>(&self, access: &A, alloc: Global) -> Need<E::Node>
-    where
-        E::Node: NodeSet<E>,
+    pub fn next<E: Env<Node: NodeSet<E>>, A: Access<E>>(
+        &self,
+        access: &A,
+        alloc: Global,
+    ) -> Need<E::Node>
         ensures needs { Needs (values_at E.Node.NodeSet E.Env E.Hash.KeyHash (A.acting access.now).environment) self.now result }
     {
         let Some(top) = &self.top else {

@@ -17,15 +17,13 @@ use std::sync::Arc;
 
 impl Reading {
     /// Takes a reference that is read later, by a step that isn't counted yet, and answers it.
-    pub(crate) fn take_lazy<E: Env, A: Access<E>>(
+    pub(crate) fn take_lazy<E: Env<Node: NodeSet<E>>, A: Access<E>>(
         &mut self,
         access: &mut A,
         alloc: Global,
         kind: Kind,
         key: DataKey,
     ) -> Result<ArcRef, Error>
-    where
-        E::Node: NodeSet<E>,
         requires top { IsSome self.old.top }
         requires need { need_of (values_at E.Node.NodeSet E.Env E.Hash.KeyHash (A.acting access.old).environment).types (frames_of self.old.top self.old.below.items) ≡ needs_lazy kind key }
         ensures acts { Acts A.told A.acting access.old access.new (λ a s t. Tries (values_at E.Node.NodeSet E.Env E.Hash.KeyHash a.environment) a.me self.old s (goes_on_with result) (frames_of self.new.top self.new.below.items) t) }
@@ -42,14 +40,12 @@ impl Reading {
 
     // What the innermost blob was read as becomes a node for the blob below it.
     #[tactic(auto, using(crate::proofs::Foreseen::node_leads))]
-    fn step_adopt<E: Env, A: Access<E>>(
+    fn step_adopt<E: Env<Node: NodeSet<E>>, A: Access<E>>(
         &mut self,
         access: &mut A,
         alloc: Global,
         value: E::Node,
     ) -> Result<Option<LoadAnswer<E::Node>>, Error>
-    where
-        E::Node: NodeSet<E>,
         requires top { IsSome self.old.top }
         requires below { 0 < length self.old.below.items }
         requires node { ReadsNode (values_at E.Node.NodeSet E.Env E.Hash.KeyHash (A.acting access.old).environment) (reading_of self.old) value }
@@ -70,14 +66,12 @@ impl Reading {
 
     // The root was read: its cell gets the value, and is pinned; or the caller gets it, with its handles.
     #[tactic(auto, using(crate::proofs::Stepped::acts_map, crate::proofs::Stepped::hands_over))]
-    fn finish<E: Env, A: Access<E>>(
+    fn finish<E: Env<Node: NodeSet<E>>, A: Access<E>>(
         &mut self,
         access: &mut A,
         alloc: Global,
         value: E::Node,
     ) -> Result<Option<LoadAnswer<E::Node>>, Error>
-    where
-        E::Node: NodeSet<E>,
         requires root { ReadsRoot (values_at E.Node.NodeSet E.Env E.Hash.KeyHash (A.acting access.old).environment) (reading_of self.old) value }
         ensures acts { Acts A.told A.acting access.old access.new
             (λ a s t. Tries (values_at E.Node.NodeSet E.Env E.Hash.KeyHash a.environment) a.me self.old s result (frames_of self.new.top self.new.below.items) t) }
@@ -107,14 +101,12 @@ impl Reading {
     }
 
     // Meets what the load needs, by one call of the access at most.
-    fn meet<E: Env, A: Access<E>>(
+    fn meet<E: Env<Node: NodeSet<E>>, A: Access<E>>(
         &mut self,
         access: &mut A,
         alloc: Global,
         need: Need<E::Node>,
     ) -> Result<Option<LoadAnswer<E::Node>>, Error>
-    where
-        E::Node: NodeSet<E>,
         requires need { Needs (values_at E.Node.NodeSet E.Env E.Hash.KeyHash (A.acting access.old).environment) self.old need }
         ensures acts { Acts A.told A.acting access.old access.new (λ a s t. Tries (values_at E.Node.NodeSet E.Env E.Hash.KeyHash a.environment) a.me self.old s result (frames_of self.new.top self.new.below.items) t) }
         ensures leads { LeadsOn self.old.for_cell (frames_of self.old.top self.old.below.items) (frames_of self.new.top self.new.below.items) result }
@@ -154,9 +146,7 @@ impl Reading {
     }
 
     // A refusal was met: the load is given up, with all that it owns.
-    pub(crate) fn give_up<E: Env, A: Access<E>>(&mut self, access: &mut A)
-    where
-        E::Node: NodeSet<E>,
+    pub(crate) fn give_up<E: Env<Node: NodeSet<E>>, A: Access<E>>(&mut self, access: &mut A)
         ensures acts { Acts A.told A.acting access.old access.new (λ a s t. Drops (values_at E.Node.NodeSet E.Env E.Hash.KeyHash a.environment) a.me self.old.load s t) }
         ensures none { frames_of self.new.top self.new.below.items ≡ [] }
         ensures same { IsSameLoad self.old self.new self.old.steps }
@@ -169,13 +159,11 @@ impl Reading {
     /// shared for it. Answers what ended the load, or None while there is more. A step that is refused gives the load up, with all that it owns. That the load
     /// is open, and is the one that this reading began with, is what the clause asks of a state that is told.
     #[tactic(auto, using(crate::proofs::Stepped::giving_up))]
-    pub fn step<E: Env, A: Access<E>>(
+    pub fn step<E: Env<Node: NodeSet<E>>, A: Access<E>>(
         &mut self,
         access: &mut A,
         alloc: Global,
     ) -> Option<LoadAnswer<E::Node>>
-    where
-        E::Node: NodeSet<E>,
         ensures acts { Acts A.told A.acting access.old access.new (λ a s t. Tries (values_at E.Node.NodeSet E.Env E.Hash.KeyHash a.environment) a.me self.old s (Ok result) (frames_of self.new.top self.new.below.items) t) }
         ensures leads { LeadsOn self.old.for_cell (frames_of self.old.top self.old.below.items) (frames_of self.new.top self.new.below.items) (Ok result) }
         ensures same { IsSameLoad self.old self.new (one_more self.old.steps) }
@@ -196,14 +184,12 @@ impl Reading {
 
     // Makes the load's next step, as `step` does, and reads the innermost blob for it only where no row that is ahead tells what is needed.
     #[tactic(auto, using(crate::proofs::Stepped::giving_up))]
-    fn step_on<E: Env, A: Access<E>>(
+    fn step_on<E: Env<Node: NodeSet<E>>, A: Access<E>>(
         &mut self,
         access: &mut A,
         alloc: Global,
         row: &mut Vec<ArcRef>,
     ) -> Option<LoadAnswer<E::Node>>
-    where
-        E::Node: NodeSet<E>,
         requires ahead { IsAhead (values_at E.Node.NodeSet E.Env E.Hash.KeyHash (A.acting access.old).environment).types (frames_of self.old.top self.old.below.items) row.old.items }
         ensures acts { Acts A.told A.acting access.old access.new (λ a s t. Tries (values_at E.Node.NodeSet E.Env E.Hash.KeyHash a.environment) a.me self.old s (Ok result) (frames_of self.new.top self.new.below.items) t) }
         ensures leads { LeadsOn self.old.for_cell (frames_of self.old.top self.old.below.items) (frames_of self.new.top self.new.below.items) (Ok result) }
@@ -233,13 +219,11 @@ impl Reading {
     /// Makes the load's steps up to its end, and answers what ended it. A load of a cell ends with a pin, one of a key with its value; either may be refused.
     /// A row of references that are read later is taken without reading its blob in between.
     #[tactic(auto, using(crate::proofs::Stepped::driving))]
-    pub fn run<E: Env, A: Access<E>>(
+    pub fn run<E: Env<Node: NodeSet<E>>, A: Access<E>>(
         &mut self,
         access: &mut A,
         alloc: Global,
     ) -> LoadAnswer<E::Node>
-    where
-        E::Node: NodeSet<E>,
         ensures acts { Acts A.told A.acting access.old access.new (λ a s t. Runs (values_at E.Node.NodeSet E.Env E.Hash.KeyHash a.environment) a.me self.old s result t) }
         ensures ends { LeadsOn self.old.for_cell [] [] (Ok (Some result)) }
     {
@@ -256,13 +240,11 @@ impl Reading {
 
 // Pins a loose handle's cell, and says whether the handle pinned nothing before.
 #[tactic(auto, using(crate::proofs::Stepped::acts_map, crate::proofs::Stepped::start_refused))]
-fn pin_first<E: Env, A: Access<E>>(
+fn pin_first<E: Env<Node: NodeSet<E>>, A: Access<E>>(
     access: &mut A,
     alloc: Global,
     handle: HandleNumber,
 ) -> Result<(HandleNumber, bool), Error>
-where
-    E::Node: NodeSet<E>,
     requires caller { (A.acting access.old).me ≡ Owner.Caller }
     ensures { Acts A.told A.acting access.old access.new (λ a s t. PinsFirst (values_at E.Node.NodeSet E.Env E.Hash.KeyHash a.environment) s handle result t) }
 {
@@ -280,9 +262,11 @@ where
 }
 
 // A loose handle lets its pin go, if it pinned nothing before. What can't be listed then is let go all the same.
-fn unpin_again<E: Env, A: Access<E>>(access: &mut A, handle: HandleNumber, was_unpinned: bool)
-where
-    E::Node: NodeSet<E>,
+fn unpin_again<E: Env<Node: NodeSet<E>>, A: Access<E>>(
+    access: &mut A,
+    handle: HandleNumber,
+    was_unpinned: bool,
+)
     requires caller { (A.acting access.old).me ≡ Owner.Caller }
     ensures { Acts A.told A.acting access.old access.new (λ a s t. Unpins (values_at E.Node.NodeSet E.Env E.Hash.KeyHash a.environment) was_unpinned handle s t) }
 {
@@ -293,13 +277,11 @@ where
 
 /// Pins a loose handle's cell, reading its value from the storage where it isn't in memory, and answers the new Pinned handle and the value, shared. The access
 /// is the caller's. Refused as `begin_pin` and as a load's steps refuse it, and handles and counts are as before; and with OutOfMemory where the value can't be shared.
-pub fn pin_over<E: Env, A: Access<E>>(
+pub fn pin_over<E: Env<Node: NodeSet<E>>, A: Access<E>>(
     access: &mut A,
     alloc: Global,
     handle: HandleNumber,
 ) -> Result<(HandleNumber, Arc<E::Node>), Error>
-where
-    E::Node: NodeSet<E>,
     requires caller { (A.acting access.old).me ≡ Owner.Caller }
     ensures { Acts A.told A.acting access.old access.new (λ a s t. PinsOver (values_at E.Node.NodeSet E.Env E.Hash.KeyHash a.environment) s handle (seen_as (λ a. (a.0, arc_value a.1)) result) t) }
 {
@@ -315,14 +297,12 @@ where
 /// Reads a key as a value of this type, with all that it refers to and that is read together with it; the handles of its references are the caller's, as the
 /// access is. Refused as the begin of a load and its steps refuse it, and then nothing is left of it.
 #[tactic(auto, using(crate::proofs::Stepped::acts_map, crate::proofs::Stepped::key_refused))]
-pub fn read_over<E: Env, A: Access<E>>(
+pub fn read_over<E: Env<Node: NodeSet<E>>, A: Access<E>>(
     access: &mut A,
     alloc: Global,
     key: DataKey,
     node_type: u32,
 ) -> Result<E::Node, Error>
-where
-    E::Node: NodeSet<E>,
     requires caller { (A.acting access.old).me ≡ Owner.Caller }
     ensures { Acts A.told A.acting access.old access.new (λ a s t. ReadsOver (values_at E.Node.NodeSet E.Env E.Hash.KeyHash a.environment) s key node_type result t) }
 {

@@ -41,10 +41,7 @@ one-more refs xs x r at = let a = length-append xs (x ∷ []) in let b = slice_g
 -- what waits for a reference takes its result
 pub takes-next : (node : Option Node) (written : Written) (keys : List ℕ) (below : List Todo) (r : ArcRef) (h : ℕ) → AwaitsLow (waits_as node written keys ∷ below) r h → TakesNext node written keys r h
 unfolding Awaits
-takes-next None written keys below r h up = record { next = up.1.0; near = λ n is. absurd (none-some n is) }
-takes-next (Some m) written keys below r h up =
-    let a = node-awaits (record { reference = m.reference; place = m.place; through = m.through; written = written; keys = keys; height = m.height }) below r h up in
-    record { next = a.0; near = λ n is. subst (λ (k : Node). k.place + max k.height (above r.kind.0 h) ≤ longest_path) (same_some _ _ is) a.1 }
+takes-next given written keys below r h up = grind (arith, nat_tests, node-awaits, none-some, same_some)
 
 -- a reference is done
 pub give-way : (below : List Todo) (r : ArcRef) (key h : ℕ) → AwaitsLow below r h → IsWay (give r key h below)

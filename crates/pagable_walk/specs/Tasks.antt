@@ -130,3 +130,8 @@ module _ {X : Type 0} {g : Ghosts X} where
 
   abbrev pub LeadsOn : List Todo → Turn X g → List Todo → Type 0
   LeadsOn todo turn after = IfGoes turn (Leads todo after)
+
+  -- the list is in order, and less is left to do
+  pub record GoesOn (todo : List Todo) (turn : Turn X g) (after : List Todo) : Type 0 where
+    pub way : IsWay after
+    pub leads : LeadsOn todo turn after

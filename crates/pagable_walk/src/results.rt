@@ -17,10 +17,7 @@ pub trait Trees {
     ghost has_result: { Named → ℕ → Type 0 };
 }
 
-impl<E: Env> Trees for E
-where
-    E::Node: NodeSet<E>,
-{
+impl<E: Env<Node: NodeSet<E>>> Trees for E {
     ghost has_form = { λ i written. HasFormOf (values_at E.Node.NodeSet E.Env E.Hash.KeyHash) i written };
 
     ghost has_result = { λ i key. ResultStands E.Hash.digest (values_at E.Node.NodeSet E.Env E.Hash.KeyHash) i key };

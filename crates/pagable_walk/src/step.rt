@@ -2,7 +2,7 @@
 //! access, each by workers of its own.
 
 ghost use Rattle.std.specs.{Arc.arc_value, Prelude.{◌*◌, ◌+◌, ◌<◌, ◌∷◌, ◌≡◌, ◌≤◌}};
-ghost use Rattle.{pagable_loads.specs.Telling.{Acts, ActsThen, as_caller, values_at}, pagable_walk.specs.{Over.{answer_of, PagesAt, PagesEntry, PagesItem}, Tasks.{due, far, IfGoes, LeadsOn}}};
+ghost use Rattle.{pagable_loads.specs.Telling.{Acts, ActsThen, as_caller, values_at}, pagable_walk.specs.{Over.{answer_of, PagesAt, PagesEntry, PagesItem}, Tasks.{due, far, GoesOn, IfGoes, LeadsOn}}};
 ghost use Rattle.pagable_walk.specs.{Over.PagesList, Slots.written_of, Table.shelf_of, Tasks.{IsWay, todo_of, todos}, Turns.{acting_then, Closes, plan, RunsTo, StepsTo, TurnsTo}};
 ghost use Rattle.pagable_world.specs.declared.handles.Owner.{Owner};
 
@@ -22,7 +22,7 @@ use std::sync::Arc;
 
 // Does what is to be done next: one task, by one step of the access at most.
 #[tactic(auto, using(crate::proofs::Turning::turning))]
-fn turn<E: Env, A: WorkerAccess<E>>(
+fn turn<E: Env<Node: NodeSet<E>>, A: WorkerAccess<E>>(
     access: &mut A,
     alloc: Global,
     table: &mut SlotTable<E>,
@@ -30,11 +30,8 @@ fn turn<E: Env, A: WorkerAccess<E>>(
     path: &mut Vec<Waiting<E>>,
     task: Task<E>,
 ) -> Moved<E>
-where
-    E::Node: NodeSet<E>,
     requires { IsWay (todo_of task ∷ todos path.old.items) }
-    ensures way { IsWay (plan result.turn path.new.items) }
-    ensures leads { LeadsOn (todo_of task ∷ todos path.old.items) result.turn (plan result.turn path.new.items) }
+    ensures goes { GoesOn (todo_of task ∷ todos path.old.items) result.turn (plan result.turn path.new.items) }
     ensures acts { Acts A.told A.acting access.old access.new (λ a. TurnsTo (values_at E.Node.NodeSet E.Env E.Hash.KeyHash a.environment) a.me worker.0 (shelf_of table.old) task (todos path.old.items) (shelf_of table.new) result (plan result.turn path.new.items)) }
 {
     match task {
@@ -79,9 +76,11 @@ where
 }
 
 // With its answer the worker ends.
-fn end_answered<E: Env, A: WorkerAccess<E>>(access: &mut A, worker: WorkerNumber, turn: &Turn<E>)
-where
-    E::Node: NodeSet<E>,
+fn end_answered<E: Env<Node: NodeSet<E>>, A: WorkerAccess<E>>(
+    access: &mut A,
+    worker: WorkerNumber,
+    turn: &Turn<E>,
+)
     ensures { ActsThen A.told A.acting access.old access.new (acting_then turn.now) (λ a. Closes (values_at E.Node.NodeSet E.Env E.Hash.KeyHash a.environment) worker.0 turn.now) }
 {
     let Turn::Answers(_) = turn else {
@@ -92,7 +91,7 @@ where
 
 /// A worker's next step, by its task and its path, on the pager and its table: what it was, and what is to be done after it, or its answer. With its answer the worker
 /// gives up all that it still has, and the calls are the caller's again.
-pub fn step<E: Env, A: WorkerAccess<E>>(
+pub fn step<E: Env<Node: NodeSet<E>>, A: WorkerAccess<E>>(
     access: &mut A,
     alloc: Global,
     table: &mut SlotTable<E>,
@@ -100,8 +99,6 @@ pub fn step<E: Env, A: WorkerAccess<E>>(
     path: &mut Vec<Waiting<E>>,
     task: Task<E>,
 ) -> Moved<E>
-where
-    E::Node: NodeSet<E>,
     requires { IsWay (todo_of task ∷ todos path.old.items) }
     ensures way { IsWay (plan result.turn path.new.items) }
     ensures leads { LeadsOn (todo_of task ∷ todos path.old.items) result.turn (plan result.turn path.new.items) }
@@ -125,7 +122,7 @@ fn left_after(left: u64, took: &Took<Arc<SerializedData>>) -> u64
 
 // A step of a walk to which so many claims are left. Where none is, a claim is refused as one for which memory is wanting.
 #[tactic(auto, using(crate::proofs::Stacks::dues))]
-fn step_within<E: Env, A: WorkerAccess<E>>(
+fn step_within<E: Env<Node: NodeSet<E>>, A: WorkerAccess<E>>(
     access: &mut A,
     alloc: Global,
     table: &mut SlotTable<E>,
@@ -134,8 +131,6 @@ fn step_within<E: Env, A: WorkerAccess<E>>(
     left: &mut u64,
     task: Task<E>,
 ) -> Moved<E>
-where
-    E::Node: NodeSet<E>,
     requires { IsWay (todo_of task ∷ todos path.old.items) }
     ensures way { IsWay (plan result.turn path.new.items) }
     ensures falls { IfGoes result.turn (left.new * far + due (plan result.turn path.new.items) < left.old * far + due (todo_of task ∷ todos path.old.items)) }
@@ -165,7 +160,7 @@ where
 /// Makes a worker's steps from its task and its path on, up to its answer. It waits for no other worker, and makes no more claims than there are numbers: a claim that would
 /// have to wait, or that is one too many, is refused as one for which memory is wanting.
 #[tactic(auto, using(crate::proofs::Turning::joining))]
-pub fn run<E: Env, A: WorkerAccess<E>>(
+pub fn run<E: Env<Node: NodeSet<E>>, A: WorkerAccess<E>>(
     access: &mut A,
     alloc: Global,
     table: &mut SlotTable<E>,
@@ -173,8 +168,6 @@ pub fn run<E: Env, A: WorkerAccess<E>>(
     path: &mut Vec<Waiting<E>>,
     first: Task<E>,
 ) -> WorkerAnswer
-where
-    E::Node: NodeSet<E>,
     requires { IsWay (todo_of first ∷ todos path.old.items) }
     ensures { ActsThen A.told A.acting access.old access.new as_caller (λ a. RunsTo (values_at E.Node.NodeSet E.Env E.Hash.KeyHash a.environment) a.me worker.0 (shelf_of table.old) first (todos path.old.items) (shelf_of table.new) result) }
 {
@@ -209,14 +202,12 @@ fn told(answer: WorkerAnswer) -> Result<DataKey, PageOutError>
 /// Pages an item out on a table, by a worker of its own, up to the worker's answer: the item's key, or why it fails. The access is the caller's, before and
 /// after. A failure leaves what was stored and set so far, and no claim without a result.
 #[tactic(auto, using(crate::proofs::Pages::items))]
-pub fn page_out_item_over<E: Env, A: WorkerAccess<E>>(
+pub fn page_out_item_over<E: Env<Node: NodeSet<E>>, A: WorkerAccess<E>>(
     access: &mut A,
     alloc: Global,
     table: &mut SlotTable<E>,
     item: Arc<SerializedData>,
 ) -> Result<DataKey, PageOutError>
-where
-    E::Node: NodeSet<E>,
     requires caller { (A.acting access.old).me ≡ Owner.Caller }
     ensures { Acts A.told A.acting access.old access.new (λ a. PagesItem (values_at E.Node.NodeSet E.Env E.Hash.KeyHash a.environment) (shelf_of table.old) (written_of (arc_value item)) (shelf_of table.new) (answer_of result)) }
 {
@@ -231,13 +222,11 @@ where
 }
 
 // Pages out the entry at a place of the list, on a table of its own, up to its worker's answer.
-fn page_out_entry<E: Env, A: WorkerAccess<E>>(
+fn page_out_entry<E: Env<Node: NodeSet<E>>, A: WorkerAccess<E>>(
     access: &mut A,
     alloc: Global,
     place: usize,
 ) -> Result<DataKey, PageOutError>
-where
-    E::Node: NodeSet<E>,
     requires caller { (A.acting access.old).me ≡ Owner.Caller }
     ensures { Acts A.told A.acting access.old access.new (λ a. PagesEntry (values_at E.Node.NodeSet E.Env E.Hash.KeyHash a.environment) place (answer_of result)) }
 {
@@ -252,13 +241,11 @@ where
 
 // Pages out the entry at a place of the list, or releases it where its cell has a key.
 #[tactic(auto, using(crate::proofs::Pages::places))]
-fn page_out_at<E: Env, A: WorkerAccess<E>>(
+fn page_out_at<E: Env<Node: NodeSet<E>>, A: WorkerAccess<E>>(
     access: &mut A,
     alloc: Global,
     place: usize,
 ) -> Result<(), PageOutError>
-where
-    E::Node: NodeSet<E>,
     requires caller { (A.acting access.old).me ≡ Owner.Caller }
     ensures { Acts A.told A.acting access.old access.new (λ a. PagesAt (values_at E.Node.NodeSet E.Env E.Hash.KeyHash a.environment) place result) }
 {
@@ -281,12 +268,10 @@ where
 /// Pages out the entries that stand in the list at the call, from the last to the first, each on a table of its own, up to the first failure, which is answered. What is
 /// listed meanwhile stays. An entry whose cell has a key is only released. The access is the caller's, before and after.
 #[tactic(auto, using(crate::proofs::Pages::listed))]
-pub fn page_out_pending_over<E: Env, A: WorkerAccess<E>>(
+pub fn page_out_pending_over<E: Env<Node: NodeSet<E>>, A: WorkerAccess<E>>(
     access: &mut A,
     alloc: Global,
 ) -> Result<(), PageOutError>
-where
-    E::Node: NodeSet<E>,
     requires caller { (A.acting access.old).me ≡ Owner.Caller }
     ensures { Acts A.told A.acting access.old access.new (λ a. PagesList (values_at E.Node.NodeSet E.Env E.Hash.KeyHash a.environment) result) }
 {

@@ -3,7 +3,7 @@
 
 ghost use Rattle.std.specs.{Arc.arc_value, Prelude.{IfErr, IfOk, length, List, OnOk, vec_capacity, vec_len, ℕ, ◌*◌, ◌+◌, ◌<◌, ◌∷◌, ◌≡◌, ◌≤◌}};
 ghost use Rattle.{pagable_core.specs.Data.blob_of, pagable_loads.specs.{Frames.reading_of, Telling.{Acts, Tells, values_at}, Working.fault_in}, pagable_model.specs.Blob.key_of};
-ghost use Rattle.{pagable_model.specs.Merkle.blob_of as blob_over, pagable_walk.specs.{Results.HasFormOf, Tasks.{due, LeadsOn, most}, Slots.{keys_of, written_of}, Table.{found_as, shelf_of}}};
+ghost use Rattle.{pagable_model.specs.Merkle.blob_of as blob_over, pagable_walk.specs.{Results.HasFormOf, Tasks.{due, GoesOn, most}, Slots.{keys_of, written_of}, Table.{found_as, shelf_of}}};
 ghost use Rattle.pagable_walk.specs.{Tasks.{Awaits, AwaitsLow, fault_of, IsWay, todo_of, todos, waiting_todo}, Turns.{claim_todo, ClaimFits, ClaimLeaves, Forms, plan, site, TurnsTo}};
 ghost use Rattle.{pagable_walk.specs.Turns.{GoesBack, IsForm, IsStored, just_open, named_by, Stores, WriteRefused}, pagable_world.specs.{Kinds.identity_of, Plain.longest_path, Workers.claim_fault}};
 ghost use Rattle.pagable_world.specs.{Workers.{Claims, is_counted_claim}, World.{answer_of_fault, Core, seen_as, Shelf, to_finish, to_load, to_pin, to_release, to_set, to_start, to_write, Todo}};
@@ -88,18 +88,15 @@ pub fn after_claim<E: Trees>(
 
 /// Pins what was claimed, or begins a load of it.
 #[tactic(auto, using(crate::proofs::Turning::pinning))]
-pub fn pin<E: Env, A: WorkerAccess<E>>(
+pub fn pin<E: Env<Node: NodeSet<E>>, A: WorkerAccess<E>>(
     access: &mut A,
     alloc: Global,
     path: &mut Vec<Waiting<E>>,
     reference: ArcRef,
     place: u64,
 ) -> Moved<E>
-where
-    E::Node: NodeSet<E>,
     requires { IsWay (to_pin reference place ∷ todos path.old.items) }
-    ensures way { IsWay (plan result.turn path.new.items) }
-    ensures leads { LeadsOn (to_pin reference place ∷ todos path.old.items) result.turn (plan result.turn path.new.items) }
+    ensures goes { GoesOn (to_pin reference place ∷ todos path.old.items) result.turn (plan result.turn path.new.items) }
     ensures acts { (n : ℕ) (shelf : Shelf) → Acts A.told A.acting access.old access.new (λ a. TurnsTo (values_at E.Node.NodeSet E.Env E.Hash.KeyHash a.environment) a.me n shelf (Task.Pin reference place) (todos path.old.items) shelf result (plan result.turn path.new.items)) }
 {
     let identity = named(reference);
@@ -129,7 +126,7 @@ where
 
 /// Makes the next step of the load of what was claimed.
 #[tactic(auto, using(crate::proofs::Turning::pinning))]
-pub fn load<E: Env, A: WorkerAccess<E>>(
+pub fn load<E: Env<Node: NodeSet<E>>, A: WorkerAccess<E>>(
     access: &mut A,
     alloc: Global,
     path: &mut Vec<Waiting<E>>,
@@ -138,11 +135,8 @@ pub fn load<E: Env, A: WorkerAccess<E>>(
     through: HandleNumber,
     mut reading: Reading,
 ) -> Moved<E>
-where
-    E::Node: NodeSet<E>,
     requires { IsWay (to_load reference place through (reading_of reading) ∷ todos path.old.items) }
-    ensures way { IsWay (plan result.turn path.new.items) }
-    ensures leads { LeadsOn (to_load reference place through (reading_of reading) ∷ todos path.old.items) result.turn (plan result.turn path.new.items) }
+    ensures goes { GoesOn (to_load reference place through (reading_of reading) ∷ todos path.old.items) result.turn (plan result.turn path.new.items) }
     ensures acts { (n : ℕ) (shelf : Shelf) → Acts A.told A.acting access.old access.new (λ a. TurnsTo (values_at E.Node.NodeSet E.Env E.Hash.KeyHash a.environment) a.me n shelf (Task.Load reference place through reading) (todos path.old.items) shelf result (plan result.turn path.new.items)) }
 {
     let identity = named(reference);
@@ -171,9 +165,11 @@ where
 }
 
 // Writes a value, in a session of its own.
-fn written<E: Env>(env: &E, alloc: Global, node: &E::Node) -> Result<SerializedData, Error>
-where
-    E::Node: NodeSet<E>,
+fn written<E: Env<Node: NodeSet<E>>>(
+    env: &E,
+    alloc: Global,
+    node: &E::Node,
+) -> Result<SerializedData, Error>
     ensures form { IfOk result (λ d. IsForm (values_at E.Node.NodeSet E.Env E.Hash.KeyHash env.now) node.now (written_of d)) }
     ensures refused { IfErr result (λ e. WriteRefused (values_at E.Node.NodeSet E.Env E.Hash.KeyHash env.now) node.now e) }
 {
@@ -185,14 +181,12 @@ where
 }
 
 // A form of the value that a handle pins, of this kind's type.
-fn form<E: Env, A: WorkerAccess<E>>(
+fn form<E: Env<Node: NodeSet<E>>, A: WorkerAccess<E>>(
     access: &A,
     alloc: Global,
     reference: ArcRef,
     pin: HandleNumber,
 ) -> Result<SerializedData, Error>
-where
-    E::Node: NodeSet<E>,
     ensures form { IfOk result (λ d. ∥ HasFormOf (values_at E.Node.NodeSet E.Env E.Hash.KeyHash) (identity_of reference) (written_of d) ∥₁) }
     ensures step { Tells (A.told access.now) (λ s. Forms (values_at E.Node.NodeSet E.Env E.Hash.KeyHash (A.acting access.now).environment) s reference pin (seen_as written_of result)) }
 {
@@ -210,7 +204,7 @@ where
 
 // The written node, with places for the results of its references, and what was written of it twice more; for a path that has room for it then.
 #[tactic(auto, using(crate::proofs::Turning::forming))]
-fn prepare<E: Env, A: WorkerAccess<E>>(
+fn prepare<E: Env<Node: NodeSet<E>>, A: WorkerAccess<E>>(
     access: &A,
     alloc: Global,
     path: &mut Vec<Waiting<E>>,
@@ -219,8 +213,6 @@ fn prepare<E: Env, A: WorkerAccess<E>>(
     through: HandleNumber,
     pin: HandleNumber,
 ) -> Result<(Waiting<E>, Arc<SerializedData>, Arc<SerializedData>), Error>
-where
-    E::Node: NodeSet<E>,
     requires near { place ≤ longest_path }
     ensures path { path.new.items ≡ path.old.items }
     ensures room { OnOk result (vec_len path.new < vec_capacity path.new) }
@@ -251,7 +243,7 @@ where
 }
 
 /// Writes the value that is pinned, and comes to its references.
-pub fn write<E: Env, A: WorkerAccess<E>>(
+pub fn write<E: Env<Node: NodeSet<E>>, A: WorkerAccess<E>>(
     access: &A,
     alloc: Global,
     table: &mut SlotTable<E>,
@@ -261,11 +253,8 @@ pub fn write<E: Env, A: WorkerAccess<E>>(
     through: HandleNumber,
     pin: HandleNumber,
 ) -> Moved<E>
-where
-    E::Node: NodeSet<E>,
     requires { IsWay (to_write reference place through ∷ todos path.old.items) }
-    ensures way { IsWay (plan result.turn path.new.items) }
-    ensures leads { LeadsOn (to_write reference place through ∷ todos path.old.items) result.turn (plan result.turn path.new.items) }
+    ensures goes { GoesOn (to_write reference place through ∷ todos path.old.items) result.turn (plan result.turn path.new.items) }
     ensures step { (n : ℕ) → Tells (A.told access.now) (λ s. TurnsTo (values_at E.Node.NodeSet E.Env E.Hash.KeyHash (A.acting access.now).environment) (A.acting access.now).me n (shelf_of table.old) (Task.Write reference place through pin) (todos path.old.items) (shelf_of table.new) result (plan result.turn path.new.items) s s) }
 {
     let identity = named(reference);
@@ -300,13 +289,11 @@ fn blob<E: Trees>(alloc: Global, waiting: &Waiting<E>) -> Result<PagableData, Er
 }
 
 // Stores the blob of what was written over the results of its references.
-fn store<E: Env, A: WorkerAccess<E>>(
+fn store<E: Env<Node: NodeSet<E>>, A: WorkerAccess<E>>(
     access: &mut A,
     alloc: Global,
     waiting: &Waiting<E>,
 ) -> Result<DataKey, Error>
-where
-    E::Node: NodeSet<E>,
     ensures key { IfOk result (λ key. key ≡ key_of E.Hash.digest (blob_over (written_of (arc_value waiting.now.written)).bytes (keys_of waiting.now.children.items))) }
     ensures acts { Acts A.told A.acting access.old access.new (λ a s t. Stores (values_at E.Node.NodeSet E.Env E.Hash.KeyHash a.environment) s
         (blob_over (written_of (arc_value waiting.now.written)).bytes (keys_of waiting.now.children.items)) result t) }
@@ -323,9 +310,7 @@ fn named_by(node: &Option<Node>) -> Option<Identity>
 }
 
 // The result of a node whose blob was stored is known: its key is set next. That of an item is answered.
-fn stored<E: Env>(waiting: Waiting<E>, key: DataKey) -> Turn<E>
-where
-    E::Node: NodeSet<E>,
+fn stored<E: Env<Node: NodeSet<E>>>(waiting: Waiting<E>, key: DataKey) -> Turn<E>
     requires all { length (keys_of waiting.children.items) ≡ length (written_of (arc_value waiting.written)).references }
     requires key { key ≡ key_of E.Hash.digest (blob_over (written_of (arc_value waiting.written)).bytes (keys_of waiting.children.items)) }
     ensures { IsStored waiting.node key result }
@@ -345,17 +330,14 @@ where
 
 /// Stores the blob of a node or an item whose references are all done.
 #[tactic(auto, using(crate::proofs::Turning::finishing))]
-pub fn finish<E: Env, A: WorkerAccess<E>>(
+pub fn finish<E: Env<Node: NodeSet<E>>, A: WorkerAccess<E>>(
     access: &mut A,
     alloc: Global,
     path: &mut Vec<Waiting<E>>,
     waiting: Waiting<E>,
 ) -> Moved<E>
-where
-    E::Node: NodeSet<E>,
     requires { IsWay (waiting_todo waiting ∷ todos path.old.items) }
-    ensures way { IsWay (plan result.turn path.new.items) }
-    ensures leads { LeadsOn (waiting_todo waiting ∷ todos path.old.items) result.turn (plan result.turn path.new.items) }
+    ensures goes { GoesOn (waiting_todo waiting ∷ todos path.old.items) result.turn (plan result.turn path.new.items) }
     ensures acts { (n : ℕ) (shelf : Shelf) → Acts A.told A.acting access.old access.new (λ a. TurnsTo (values_at E.Node.NodeSet E.Env E.Hash.KeyHash a.environment) a.me n shelf (Task.Finish waiting) (todos path.old.items) shelf result (plan result.turn path.new.items)) }
 {
     let identity = named_by(&waiting.node);
@@ -375,17 +357,14 @@ where
 
 /// Sets the key of a node whose blob was stored.
 #[tactic(auto, using(crate::proofs::Turning::releasing))]
-pub fn set_key<E: Env, A: WorkerAccess<E>>(
+pub fn set_key<E: Env<Node: NodeSet<E>>, A: WorkerAccess<E>>(
     access: &mut A,
     path: &mut Vec<Waiting<E>>,
     done: Done<E>,
     through: HandleNumber,
 ) -> Moved<E>
-where
-    E::Node: NodeSet<E>,
     requires { AwaitsLow (todos path.old.items) done.reference done.found.height }
-    ensures way { IsWay (plan result.turn path.new.items) }
-    ensures leads { LeadsOn (to_set done.reference through done.found.key done.found.height ∷ todos path.old.items) result.turn (plan result.turn path.new.items) }
+    ensures goes { GoesOn (to_set done.reference through done.found.key done.found.height ∷ todos path.old.items) result.turn (plan result.turn path.new.items) }
     ensures acts { (n : ℕ) (shelf : Shelf) → Acts A.told A.acting access.old access.new (λ a. TurnsTo (values_at E.Node.NodeSet E.Env E.Hash.KeyHash a.environment) a.me n shelf (Task.SetKey done through) (todos path.old.items) shelf result (plan result.turn path.new.items)) }
 {
     let identity = named(done.reference);
@@ -405,17 +384,14 @@ where
 
 /// Gives up the worker's handles of a node that is done. Its result goes to what waits for it; where nothing does, its key is answered.
 #[tactic(auto, using(crate::proofs::Turning::releasing, crate::proofs::Stacks::ways))]
-pub fn release<E: Env, A: WorkerAccess<E>>(
+pub fn release<E: Env<Node: NodeSet<E>>, A: WorkerAccess<E>>(
     access: &mut A,
     worker: WorkerNumber,
     path: &mut Vec<Waiting<E>>,
     done: Done<E>,
 ) -> Moved<E>
-where
-    E::Node: NodeSet<E>,
     requires { AwaitsLow (todos path.old.items) done.reference done.found.height }
-    ensures way { IsWay (plan result.turn path.new.items) }
-    ensures leads { LeadsOn (to_release done.reference done.found.key done.found.height ∷ todos path.old.items) result.turn (plan result.turn path.new.items) }
+    ensures goes { GoesOn (to_release done.reference done.found.key done.found.height ∷ todos path.old.items) result.turn (plan result.turn path.new.items) }
     ensures acts { (shelf : Shelf) → Acts A.told A.acting access.old access.new (λ a. TurnsTo (values_at E.Node.NodeSet E.Env E.Hash.KeyHash a.environment) a.me worker.0 shelf (Task.Release done) (todos path.old.items) shelf result (plan result.turn path.new.items)) }
 {
     let identity = named(done.reference);
@@ -436,9 +412,10 @@ where
 
 /// An entry goes back to the list, as far as the list can take it.
 #[tactic(auto, using(crate::proofs::Turning::backs))]
-pub fn give_back<E: Env, A: WorkerAccess<E>>(access: &mut A, back: Option<HandleNumber>)
-where
-    E::Node: NodeSet<E>,
+pub fn give_back<E: Env<Node: NodeSet<E>>, A: WorkerAccess<E>>(
+    access: &mut A,
+    back: Option<HandleNumber>,
+)
     ensures { Acts A.told A.acting access.old access.new (λ a s t. GoesBack (values_at E.Node.NodeSet E.Env E.Hash.KeyHash a.environment) a.me back s t) }
 {
     let Some(entry) = back else {

@@ -1,5 +1,5 @@
 use Rattle.{pagable_core.specs.Data.blob_of, pagable_world.specs.Loads.{nested_frame, root_frame}, pagable_loads.{specs.Frames.{frame_of, onto}, proofs.Foreseen.{got_leads, blob_leads, root_leads}}}
-use Rattle.{pagable_loads.proofs.Stepped.{nested_deep, nested_blob, fails, met, acts_map, nested_known, root_comes, below_short}, std.{specs.Arc.arc_value, proofs.Common.{refl, [], inl, inr}}}
+use Rattle.{pagable_loads.proofs.Stepped.{acts_map, fails, length_onto, met, nested_blob, nested_deep, nested_known, root_comes}, std.{specs.Arc.arc_value, proofs.Common.{[], arith, inl, inr, refl}}}
 use Rattle.pagable_loads.proofs.reading.Reading.meet.Goals as goal
 
 -- ---- the root's blob
@@ -50,5 +50,6 @@ returns-in-Ok-Left-clause-leads g c =
 pub returns-in-Ok-put_blob-clause-leads : goal.returns-in-Ok-put_blob-clause-leads
 returns-in-Ok-put_blob-clause-leads g c =
     let e = c.in-Ok-put_blob.ensures in
+    let l = length_onto [] c.take_top.new.self.below.items in
     blob_leads _ (nested_frame c.in-Nested.kind c.in-Nested.key (blob_of (arc_value c.in-Ok-Right.blob))) (frame_of c.in_ok-top-in-Nested.top) (onto [] c.take_top.new.self.below.items)
-    c.in-Nested.kind c.in-Nested.key refl e.few (below_short _ e.short) (inl (rw c.in-Nested.is at c.requires.need).is) c.in_ok-top-in-Nested.ensures.ok.frames e.ok
+    c.in-Nested.kind c.in-Nested.key refl e.few (omega (arith, l, e.short)) (inl (rw c.in-Nested.is at c.requires.need).is) c.in_ok-top-in-Nested.ensures.ok.frames e.ok
