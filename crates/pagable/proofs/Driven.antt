@@ -1,11 +1,11 @@
 -- Each event of the machine, by what the pager and what is kept of loads, tables and workers say of it.
-use Rattle.pagable.specs.{Walking.{IsWalkKept, IsIn, shelf_at, has_task, walking_of, IsBegun}, declared.held.{Held.Held, Walk.Walk}, Paged.{value-is-read, node-comes-back, reading-is-refused}}
-use Rattle.pagable.specs.{Driving.{Drives, Given, kept_at, IsInStep, holding, Answer, over, ByNumber}, Serving.{Serves, plainly, plain_reply}, Keeping.{Forgets, machine_of, IsPrepared, Kept}}
-use Rattle.pagable.{specs.Keeping.{ReadsFor, rest_after, IsServing, Stepped, IsTaken, Holding, Makes, KeepsOne, readings_in, IsKept}, proofs.Keeping.{call-leaves, at-one, nothing-done, drives}}
-use Rattle.pagable.proofs.Keeping.{event-passes, kept-one, makes-with, one-serves, like, still-kept, are-these, kept-on, as-before, makes, not-same, same-work, leaves-so, updated-at, by-call, refused}
-use Rattle.{pagable.proofs.Keeping.Leaves, pagable_world.specs.{LoadCalls.{LoadCloses, DropCall}, declared.{calls.{Call.Call, Reply.Reply}, handles.Owner.Owner, events.EventReply.EventReply}}}
+use Rattle.pagable.specs.{Driving.{IsWalkKept, IsIn, shelf_at, has_task, walking_of, IsBegun}, declared.workers.{Held.Held, Walk.Walk}, Paged.{value-is-read, node-comes-back, reading-is-refused}}
+use Rattle.pagable.specs.Driving.{Drives, Given, kept_at, IsInStep, holding, Answer, ByNumber, Serves, plainly, plain_reply, Forgets, machine_of, IsPrepared, Kept, ReadsFor, rest_after}
+use Rattle.pagable.{specs.Driving.{IsServing, Stepped, IsTaken, Holding, Makes, KeepsOne, readings_in, IsKept}, proofs.Keeping.{Leaves, call-leaves, at-one, nothing-done, drives}}
+use Rattle.pagable.proofs.Keeping.{event-passes, kept-one, makes-with, one-serves, like, still-kept, are-these, kept-on, as-before, makes, not-same, same-work, leaves-so, by-call, refused}
+use Rattle.{pagable_laws.proofs.Goes.updated-at, pagable_world.specs.{LoadCalls.{LoadCloses, DropCall}, declared.{calls.{Call.Call, Reply.Reply}, handles.Owner.Owner, events.EventReply.EventReply}}}
 use Rattle.pagable_world.specs.{declared.{events.{LoadReply.LoadReply, TableNumber.TableNumber, Event.Event, LoadAnswer.LoadAnswer}, answers.Beginning.Beginning}, World.{Reading, one_more, Alike}}
-use Rattle.pagable_world.specs.{World.{OpenLoad, of_cell, Written, of_item, of_key, Frame, of_entry, Seen, Last, Walking, Core, Root, Values, SameShelf}, Plain.{if_there, updated, or_else}}
+use Rattle.pagable_world.specs.{World.{OpenLoad, Written, of_item, of_key, Frame, of_entry, Seen, Last, Walking, Core, Root, Values, SameShelf}, Plain.{if_there, updated, or_else}}
 use Rattle.pagable_world.specs.{Access.{WorkerStarts, ReadingStep}, Pager.{Moves, CallBrings, PagerState, world_of, FitsRoot, WellFormed}, Events.{reading_at, Happens, entry_task, reading_after}}
 use Rattle.pagable_world.specs.{Events.{Starts, with_entry_taken, step_fault, IsTable, reading_of_root, with_worker, no_shelf, Does}, Kinds.{identity_of, is_owner}, Workers.fresh, Refusals.OwnsLoad}
 use Rattle.{pagable_world.specs.Order.step_of, std.specs.{declared.{vec.Vec.Vec, sync.Arc.Arc, alloc.Global.Global}, Prelude.{is_none, is_some, Result, slice_get}, Option.option_map}}
@@ -25,8 +25,7 @@ module _ {X : Type 0} {g : Ghosts X} {N E : Type 0} (s : PagerState N E) (h : Ho
 -- what a load of a cell reads
 of_root : (root : Root) (type : ℕ) → type_of_root root ≡ Some type
     → (is_cell root ≡ true) × ((r : Reading) → r.node_type ≡ type → FitsRoot root r) × ((l : LoadNumber) → reading_of_root l root ≡ Some (fresh l type))
-of_root (of_cell node t h) type is = let e : t ≡ type = same_some _ _ is in (refl, (λ r typed. typed ∙ sym e), λ l. ap (λ n. Some (fresh l n)) e)
-of_root of_key type is = absurd (cc)
+of_root root type is = grind (arith, nat_tests, same_some)
 
 module _ {X : Type 0} {g : Ghosts X} {N E : Type 0} (s : PagerState N E) {h : Holding g} (serving : IsServing s.core h) where
   -- what is taken is of the load
@@ -140,7 +139,7 @@ pub no-task : {X : Type 0} {g : Ghosts X} {w : Core} {h : Holding g} → IsServi
     → if_there (λ (walking : Walking). is_some walking.answer) true (option_map walking_of found) ≡ true
 no-task serving n found is none = grind (arith, nat_tests, answered)
 
-module _ {X : Type 0} {g : Ghosts X} {N S E : Type 0} (v : E → Values N) (tells : Telling S) (old new : PagerView N S E) (held : Held X g) (serving : IsInStep tells (over old held))
+module _ {X : Type 0} {g : Ghosts X} {N S E : Type 0} (v : E → Values N) (tells : Telling S) (old new : PagerView N S E) (held : Held X g) (serving : IsInStep tells old held)
     (was : WellFormed (v old.environment) (state_in tells old)) where
   abbrev m : Seen N PagableData Written
   m = plainly (v old.environment)
@@ -155,7 +154,7 @@ module _ {X : Type 0} {g : Ghosts X} {N S E : Type 0} (v : E → Values N) (tell
   h = holding held
 
   abbrev Takes : Given N → Answer N → PagerView N S E → Held X g → Type 0
-  Takes event reply now left = Drives (v old.environment) tells (over old held) event reply (over now left)
+  Takes event reply now left = Drives (v old.environment) tells old held event reply now left
 
   whole-still : {comes : ℕ → N → Type 0} → Moves comes s s' → WellFormed (v new.environment) s' → WellFormed (v old.environment) s'
   whole-still moves formed = subst (λ e. WellFormed (v e) s') moves.environment formed

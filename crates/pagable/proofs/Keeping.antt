@@ -1,15 +1,15 @@
 -- What a machine keeps of loads and workers stays in step with its pager, whatever event happens: by what each call, each step and each begin and end leaves, and what it leaves to others' workers.
-use Rattle.pagable.specs.{Driving.{Answer, Drives, Given, Over, holding}, Keeping.{AllKept, Forgets, Holding, IsKept, IsServing, KeepsOne, Kept, Makes, machine_of, readings_in, work_of}}
-use Rattle.{pagable.specs.{Serving.{plain_answer, plain_event, plainly}, Walking.{IsWalkKept, walking_of}, declared.held.Walk.Walk}, pagable_laws.proofs.{Called.calls-go, Effects.{Effect, Spares}}}
-use Rattle.pagable_laws.proofs.{Effects.{listed-free, then-fell, worker-apart}, Goes.{Goes, RowsGo, fell-anyhow, quiet-goes, stands-whole}, ReadingSteps.{caller-free, event-goes}}
-use Rattle.pagable_laws.{proofs.{SparingSteps.event-spares, Trees.{counted, one-true, same-number, same_some, self-number}}, specs.TreeSteps.{Change, nothing_felt}}
-use Rattle.{pagable_loads.specs.{Frames.reading_of, declared.reading.Reading.Reading as Own}, pagable_model.specs.declared.numbers.{ArcRef.ArcRef, HandleNumber.HandleNumber}}
+use Rattle.pagable.specs.Driving.{AllKept, Answer, Drives, Forgets, Given, Holding, IsKept, IsServing, IsWalkKept, KeepsOne, Kept, Makes, holding, machine_of, plain_answer, plain_event, plainly}
+use Rattle.{pagable.specs.{Driving.{readings_in, walking_of, work_of}, declared.workers.{Held.Held, Walk.Walk}}, pagable_laws.proofs.{Called.calls-go, Effects.{Effect, Spares, listed-free}}}
+use Rattle.pagable_laws.proofs.{Effects.{then-fell, worker-apart}, Goes.{Goes, RowsGo, fell-anyhow, quiet-goes, stands-whole}, ReadingSteps.{caller-free, event-goes}, SparingSteps.event-spares}
+use Rattle.{pagable_laws.{proofs.Trees.{counted, one-true, same-number, same_some, self-number}, specs.TreeSteps.{Change, nothing_felt}}, pagable_loads.specs.Frames.reading_of}
+use Rattle.{pagable_loads.specs.declared.reading.Reading.Reading as Own, pagable_model.specs.declared.numbers.{ArcRef.ArcRef, HandleNumber.HandleNumber}, pagable_pager.specs.View.PagerView}
 use Rattle.{pagable_pager.specs.View.{Telling, state_in}, pagable_tables.proofs.Worlds.still, pagable_walk.specs.{Turns.{IsOfKind, TaskFits}, declared.{results.Trees.Ghosts, tasks.Task.Task}}}
 use Rattle.pagable_world.specs.{Access.Called, Calls.{CloseCall, is_listed, shut}, Cascade.fallen, Events.{CallStep, Does, Ends, Happens, ReadingsAre, Stays, WorkStays}, Kinds.is_owner}
 use Rattle.pagable_world.specs.{Kinds.owner_worker, Order.step_of, Pager.{EventBrings, HandlesAreWhole, IsMachineWhole, IsReadingWhole, IsWalkingWhole, IsWhole, Moves, OwnersAreThere, PagerState}}
 use Rattle.pagable_world.specs.{Pager.{ReplyWrites, WellFormed, world_of}, Plain.{SameAt, if_there, one, times, updated}, World.{Alike, Cell, Core, OpenLoad, Reading, Seen, Values, Walking, World}}
 use Rattle.{pagable_world.specs.declared.{calls.{Call.Call, Reply.Reply}, events.{Event.Event, EventReply.EventReply, WorkerAnswer.WorkerAnswer}, handles.Owner.Owner}, std.proofs.Common.{Bool, None}}
-use Rattle.std.proofs.Common.{Option, Some, [], ap, arith, false, if◌then◌else◌, inl, inr, length, refl, rules, subst, sym, true, ℕ, ◌<◌, ◌==◌, ◌∙◌, ◌≡◌, ◌≢◌, ◌≤◌, ◌⊎◌}
+use Rattle.std.proofs.Common.{Option, Some, [], ap, arith, false, inl, inr, length, refl, rules, subst, sym, true, ℕ, ◌<◌, ◌==◌, ◌∙◌, ◌≡◌, ◌≢◌, ◌≤◌, ◌⊎◌}
 use Rattle.std.{proofs.lemmas.{Bool.{Decides.nat_tests, false_from_ne_true}, Grind.common_steps}, specs.{Option.option_map, Prelude.{Result, is_some}}}
 
 -- of loads and workers, as far as the machine sees them
@@ -129,9 +129,6 @@ module _ {v : ℕ} {w w' : Core} (whole : HandlesAreWhole w) (passes : Passes v 
   pub walk-on : {X : Type 0} {g : Ghosts X} {last last' : ℕ} {k : Walk X g} → last ≤ last' → w'.workers v ≡ w.workers v → IsWalkKept w last v k → IsWalkKept w' last' v k
   walk-on more same k = first_of (grind (arith, common_steps, nat_tests), grind (arith, nat_tests, fits-on), search (rules, fits-on))
 
-pub updated-at : {X : Type 0} (n : ℕ) (x : X) (f : ℕ → X) → updated n x f n ≡ x
-updated-at n x f = ap (λ b. if b then x else f n) (self-number n)
-
 -- the machine reads what is kept of open loads
 pub are-these : (w' : Core) (kept' : Kept) (target : ℕ → Option Reading) → ((l : ℕ) (load : OpenLoad) → w'.loads l ≡ Some load → option_map reading_of (kept' l) ≡ target l)
     → (l : ℕ) → readings_in kept' w' l ≡ if_there (λ load. target l) None (w'.loads l)
@@ -209,12 +206,8 @@ one-serves {X} {g} {w} {w'} {h} {h'} serving whole v k keeps more readings passe
     | inl (other, was) ↦ walk-on whole (passes q other) more (works q other) (serving.walks q x was)
     | inr (at, same) ↦ subst (λ n. IsWalkKept w' (length h'.tables) n x) (sym at) (subst (λ y. IsWalkKept w' (length h'.tables) v y) (same_some _ _ same) new)
   ];
-  all_there = λ q is. there q is (q == v) refl;
+  all_there = λ q is. grind (arith, nat_tests, same-number, not-same, serving.all_there, keeps.others, works);
 }
-  where
-    there : (q : ℕ) → w'.workers q ≡ true → (b : Bool) → (q == v) ≡ b → is_some (h'.walks q) ≡ true
-    there q is true e = ap is_some (ap h'.walks (same-number q v e) ∙ keeps.here)
-    there q is false e = let other = not-same q v e in ap is_some (keeps.others q other) ∙ serving.all_there q (sym (works q other) ∙ is)
 
 -- no worker steps, and nothing else is kept of any
 module _ {X : Type 0} {g : Ghosts X} {N B W E : Type 0} (m : Seen N B W) (s s' : PagerState N E) {h h' : Holding g} (serving : IsServing s.core h) (was : WellFormed m.values s)
@@ -272,6 +265,6 @@ pub nothing-done : {N E : Type 0} {v : Values N} (s : PagerState N E) → WellFo
 nothing-done s was = record { step = still s.core; moves = record { each = λ n x is. inl is; environment = refl }; whole = was }
 
 -- a machine over a pager does what is made of both
-pub drives : {X : Type 0} {g : Ghosts X} {N S E : Type 0} {v : Values N} {tells : Telling S} {old new : Over N S E g} {event : Given N} {reply : Answer N}
-    → Makes (plainly v) (state_in tells old.pager) (holding old.held) (plain_event event) (plain_answer reply) (state_in tells new.pager) (holding new.held) → Drives v tells old event reply new
+pub drives : {X : Type 0} {g : Ghosts X} {N S E : Type 0} {v : Values N} {tells : Telling S} {old new : PagerView N S E} {held held' : Held X g} {event : Given N} {reply : Answer N}
+    → Makes (plainly v) (state_in tells old) (holding held) (plain_event event) (plain_answer reply) (state_in tells new) (holding held') → Drives v tells old held event reply new held'
 drives makes = record { makes = makes }

@@ -1,29 +1,25 @@
 -- A worker's step, and the table that it writes in its place. And a run goes on by one event more, and the headline holds of it after whatever came before.
-use Rattle.{pagable_core.specs.declared.{storage.data.PagableData.PagableData, context.writing.SerializedData.SerializedData}, pagable_model.specs.declared.numbers.WorkerNumber.WorkerNumber}
-use Rattle.pagable.proofs.Keeping.{at-one, as-before, Leaves, kept-on, end-leaves, are-these, leaves-so, one-serves, works_after, not-same, updated-at, event-passes, makes-with}
-use Rattle.pagable.specs.{Walking.{todo_left, task_in, WalksOn, SetsTable, IsWalkKept, walking_of, shelf_at}, Serving.{plain_event, plainly, plain_moved, plain_answer}, Keeping.readings_in}
-use Rattle.pagable.specs.{Keeping.{IsServing, Holding, Makes, machine_of, KeepsOne}, Driving.{claims_at, Given, Runs, Answer, MachineView, Drives, machine_in, Over, view_of, IsInStep, claims_of}}
-use Rattle.{pagable.specs.{Driving.{table_view, holding}, declared.held.Walk.Walk}, pagable_pager.specs.View.{Telling, state_in}, pagable_laws.proofs.{Chains.headline_law, Trees.same-number}}
-use Rattle.{pagable_laws.proofs.{Trees.chains_join, ReadingSteps.{FrontMine, walk-goes}, Effects.owned-mine}, pagable_walk.specs.{Slots.{is_same, slot_of}, declared.table.SlotTable.SlotTable}}
-use Rattle.pagable_walk.specs.{declared.{tasks.{Turn.Turn, Waiting.Waiting, Task.Task}, results.Trees.Ghosts}, Turns.{plan, plain, TaskFits, plain_took, Stepped, answer_in}, Table.shelf_of}
-use Rattle.{pagable_walk.specs.Tasks.{todo_of, todos}, std.specs.{Prelude.{slice_get, nat_eq, is_some, is_none}, Option.option_map, declared.{sync.Arc.Arc, alloc.Global.Global}, Map.lookup}}
-use Rattle.std.proofs.{Math.{Path.fun_ext, ListN.set}, Common.{[], ◌∙◌, arith, ◌≡◌, Option, ◌≢◌, map, suc, ℕ, subst, ◌++◌, ap, None, if◌then◌else◌, inr, Bool, zero, ◌==◌, List, Some, refl, false}}
-use Rattle.std.proofs.{Common.{◌∷◌, sym, ◌<◌, length, true, rules, ◌≤◌, inl, Ok}, lemmas.{Option.{slice_get-map, slice_get_read, slice_get_cases, slice_get_past}, List.{get_or-set_other, map-append}}}
-use Rattle.std.proofs.lemmas.{List.{nil_from_length, append-nil, get_or-set_same, length-set, length-map, append_assoc}, Bool.Decides.nat_tests, Grind.common_steps, Map.Made.lookup-map_values}
-use Rattle.pagable_world.specs.{Workers.{is_counted, answer_after, Site}, Runs.{state_after, Moment, HasRun, AreMoments, Does}, Events.{no_shelf, steps_after, WorkerSteps, Happens, Ends}}
-use Rattle.pagable_world.specs.{Pager.{MachineState, TodoBrings, world_of, PagerState, WellFormed}, Kinds.{is_owner, owner_worker}, declared.events.{WorkerReply.WorkerReply, Event.Event}}
-use Rattle.pagable_world.specs.{declared.events.{EventReply.EventReply, Took.Took, WorkerAnswer.WorkerAnswer}, Plain.{updated, if_there}, World.{Shelf, Seen, Core, SameShelf, Values, Todo, Written}}
+use Rattle.{pagable.proofs.Keeping.{Leaves, are-these, as-before, at-one, end-leaves, event-passes, kept-on, leaves-so, makes-with, not-same, one-serves, works_after}, std.specs.Prelude.slice_get}
+use Rattle.{pagable.specs.Driving.{Answer, Drives, plain_answer, plain_event, plain_moved, plainly, readings_in, shelf_at, table_view, task_in, todo_left, view_of, walking_of}, std.specs.Map.lookup}
+use Rattle.pagable.specs.Driving.{Given, Holding, IsInStep, IsServing, IsWalkKept, KeepsOne, MachineView, Makes, Runs, SetsTable, WalksOn, claims_at, claims_of, holding, machine_in, machine_of}
+use Rattle.{pagable.specs.declared.workers.{Held.Held, Walk.Walk}, pagable_core.specs.declared.{context.writing.SerializedData.SerializedData, storage.data.PagableData.PagableData}}
+use Rattle.{pagable_laws.proofs.{Chains.headline_law, Effects.owned-mine, Goes.updated-at, ReadingSteps.{FrontMine, walk-goes}, Trees.{chains_join, same-number}}, std.specs.Option.option_map}
+use Rattle.{pagable_model.specs.declared.numbers.WorkerNumber.WorkerNumber, pagable_pager.specs.View.{PagerView, Telling, state_in}, pagable_walk.specs.{Slots.{is_same, slot_of}, Table.shelf_of}}
+use Rattle.pagable_walk.specs.{Tasks.{todo_of, todos}, Turns.{Stepped, TaskFits, answer_in, plain, plain_took, plan}, declared.{results.Trees.Ghosts, table.SlotTable.SlotTable, tasks.Task.Task}}
+use Rattle.{pagable_walk.specs.declared.tasks.{Turn.Turn, Waiting.Waiting}, pagable_world.specs.{Events.{Ends, Happens, WorkerSteps, no_shelf, steps_after}, Kinds.{is_owner, owner_worker}}}
+use Rattle.pagable_world.specs.{Pager.{MachineState, PagerState, TodoBrings, WellFormed, world_of}, Plain.{if_there, updated}, Runs.{AreMoments, Does, HasRun, Moment, state_after}}
+use Rattle.pagable_world.specs.{Workers.{Site, answer_after, is_counted}, World.{Core, SameShelf, Seen, Shelf, Todo, Values, Written}, declared.events.{Event.Event, EventReply.EventReply, Took.Took}}
+use Rattle.{pagable_world.specs.declared.events.{WorkerAnswer.WorkerAnswer, WorkerReply.WorkerReply}, std.proofs.Common.{Bool, List, None, Ok, Option, Some, [], ap, arith, false, if◌then◌else◌, inl}}
+use Rattle.std.proofs.{Common.{inr, length, map, refl, rules, subst, suc, sym, true, zero, ℕ, ◌++◌, ◌<◌, ◌==◌, ◌∙◌, ◌∷◌, ◌≡◌, ◌≢◌, ◌≤◌}, Math.{ListN.set, Path.fun_ext}, lemmas.Bool.Decides.nat_tests}
+use Rattle.std.proofs.lemmas.{Grind.common_steps, List.{append-nil, append_assoc, get_or-set_other, get_or-set_same, length-map, length-set, map-append, nil_from_length}, Map.Made.lookup-map_values}
+use Rattle.std.{proofs.lemmas.Option.{slice_get-map, slice_get_cases, slice_get_past, slice_get_read}, specs.{Prelude.{is_none, is_some, nat_eq}, declared.{alloc.Global.Global, sync.Arc.Arc}}}
 use Rattle.pagable_world.specs.Workers as workers
 
 -- ---- a table of a list is written in its place
 
 pub set-at : {X : Type 0} {g : Ghosts X} (tables tables' : List (SlotTable X g)) (place : ℕ) (table : SlotTable X g) → place < length tables → tables' ≡ set tables place table
     → SetsTable tables place table tables'
-set-at {X} {g} tables tables' place table within is = subst (λ (list : List (SlotTable X g)). SetsTable tables place table list) (sym is) (record {
-  len = length-set tables place table;
-  here = slice_get_read (set tables place table) _ place table refl (subst (λ n. place < n) (sym (length-set tables place table)) within) (sym (get_or-set_same tables place table table within));
-  others = λ q other. grind (arith, nat_tests, get_or-set_other, length-set, set, slice_get_cases, slice_get_past, slice_get_read);
-})
+set-at {X} {g} tables tables' place table within is = grind (arith, nat_tests, get_or-set_other, get_or-set_same, length-set, set, slice_get_cases, slice_get_past, slice_get_read)
 
 -- a worker's step sees no blob
 as-does : {N : Type 0} (v : Values N) (n : ℕ) (s s' : Site) (todo : List Todo) (step : Took Written) → workers.Does (plain v) n s todo step s' → workers.Does (plainly v) n s todo step s'
@@ -156,24 +152,19 @@ module _ {X : Type 0} {g : Ghosts X} where
       by None = refl
       by (Some t) = claims-are t
 
-  module _ {N S E : Type 0} (tells : Telling S) (s : Over N S E g) where
+  module _ {N S E : Type 0} (tells : Telling S) (p : PagerView N S E) (h : Held X g) where
     -- the machine by what it keeps
     abbrev pub raw_in : MachineState N E
-    raw_in = machine_of (state_in tells s.pager) (holding s.held)
+    raw_in = machine_of (state_in tells p) (holding h)
 
-    pub view-is : machine_in tells (view_of s.pager s.held) ≡ raw_in
+    pub view-is : machine_in tells (view_of p h) ≡ raw_in
     view-is =
-        let shelves = fun_ext (shelves-are s.held.tables.items) in
-        let last = length-map s.held.tables.items table_view in
-        let walks = fun_ext (λ v. lookup-map_values walking_of (nat_eq v) s.held.walks.entries) in
+        let shelves = fun_ext (shelves-are h.tables.items) in
+        let last = length-map h.tables.items table_view in
+        let walks = fun_ext (λ v. lookup-map_values walking_of (nat_eq v) h.walks.entries) in
         cc
 
 module _ {N E B W : Type 0} (m : Seen N B W) where
-  -- no event at all
-  pub no-run : (s : MachineState N E) → HasRun m s [] [] s
-  unfolding state_after
-  no-run s = record { moments = []; events_are = refl; replies_are = refl; ends = refl; chain = tt }
-
   -- one event more
   pub run-more : (old mid new : MachineState N E) (happened : List (Event N B W)) (replied : List (EventReply N B W)) (event : Event N B W) (reply : EventReply N B W)
       → HasRun m old happened replied mid → Does m mid event reply new
@@ -191,26 +182,28 @@ module _ {N E B W : Type 0} (m : Seen N B W) where
 
 module _ {N S E X : Type 0} {t : Ghosts X} (tells : Telling S) (v : E → Values N) (old : MachineView N S E) where
   -- the events so far have happened, and the others are left
-  pub record SoFar (all rest : List (Given N)) (replies : List (Answer N)) (now : Over N S E t) : Type 0 where
+  pub record SoFar (all rest : List (Given N)) (replies : List (Answer N)) (p : PagerView N S E) (h : Held X t) : Type 0 where
     pub done : List (Given N)
     pub left : done ++ rest ≡ all
-    pub run : HasRun (plainly (v old.pager.environment)) (machine_in tells old) (map plain_event done) (map plain_answer replies) (raw_in tells now)
-    pub environment : now.pager.environment ≡ old.pager.environment
-    pub in_step : IsInStep tells now
+    pub run : HasRun (plainly (v old.pager.environment)) (machine_in tells old) (map plain_event done) (map plain_answer replies) (raw_in tells p h)
+    pub environment : p.environment ≡ old.pager.environment
+    pub in_step : IsInStep tells p h
 
-  pub at-first : (all : List (Given N)) (now : Over N S E t) → old ≡ view_of now.pager now.held → IsInStep tells now → SoFar all all [] now
-  at-first all now is in_step = record {
+  pub at-first : (all : List (Given N)) (p : PagerView N S E) (h : Held X t) → old ≡ view_of p h → IsInStep tells p h → SoFar all all [] p h
+  unfolding state_after
+  at-first all p h is in_step = record {
     done = [];
     left = refl;
-    run = subst (λ x. HasRun (plainly (v old.pager.environment)) (machine_in tells old) [] [] x) (ap (machine_in tells) is ∙ view-is tells now) (no-run _ _);
+    run = subst (λ x. HasRun (plainly (v old.pager.environment)) (machine_in tells old) [] [] x) (ap (machine_in tells) is ∙ view-is tells p h)
+        (record { moments = []; events_are = refl; replies_are = refl; ends = refl; chain = tt });
     environment = ap (λ (x : MachineView N S E). x.pager.environment) (sym is);
     in_step = in_step;
   }
 
-  pub one-more : (all rest : List (Given N)) (event : Given N) (replies : List (Answer N)) (reply : Answer N) (mid new : Over N S E t)
-      → SoFar all (event ∷ rest) replies mid → Drives (v mid.pager.environment) tells mid event reply new → SoFar all rest (replies ++ reply ∷ []) new
-  one-more all rest event replies reply mid new so made =
-      let does = subst (λ e. Does (plainly (v e)) (raw_in tells mid) (plain_event event) (plain_answer reply) (raw_in tells new)) so.environment made.makes.does in
+  pub one-more : (all rest : List (Given N)) (event : Given N) (replies : List (Answer N)) (reply : Answer N) (p q : PagerView N S E) (h h' : Held X t)
+      → SoFar all (event ∷ rest) replies p h → Drives (v p.environment) tells p h event reply q h' → SoFar all rest (replies ++ reply ∷ []) q h'
+  one-more all rest event replies reply p q h h' so made =
+      let does = subst (λ e. Does (plainly (v e)) (raw_in tells p h) (plain_event event) (plain_answer reply) (raw_in tells q h')) so.environment made.makes.does in
       let more = run-more _ _ _ _ _ _ (plain_event event) (plain_answer reply) so.run does in
       record {
         done = so.done ++ event ∷ [];
@@ -220,13 +213,13 @@ module _ {N S E X : Type 0} {t : Ghosts X} (tells : Telling S) (v : E → Values
         in_step = made.makes.serving;
       }
 
-  pub all-ran : (all rest : List (Given N)) (replies : List (Answer N)) (new : Over N S E t)
-      → length rest ≡ 0 → SoFar all rest replies new → Runs (v old.pager.environment) tells old all replies (view_of new.pager new.held)
-  all-ran all rest replies new none so =
+  pub all-ran : (all rest : List (Given N)) (replies : List (Answer N)) (p : PagerView N S E) (h : Held X t)
+      → length rest ≡ 0 → SoFar all rest replies p h → Runs (v old.pager.environment) tells old all replies (view_of p h)
+  all-ran all rest replies p h none so =
       let is : so.done ≡ all = sym (append-nil so.done) ∙ ap (λ xs. so.done ++ xs) (sym (nil_from_length rest none)) ∙ so.left in
       let m = plainly (v old.pager.environment) in
-      let run = subst (λ xs. HasRun m (machine_in tells old) (map plain_event xs) (map plain_answer replies) (machine_in tells (view_of new.pager new.held))) is
-      (subst (λ x. HasRun m (machine_in tells old) (map plain_event so.done) (map plain_answer replies) x) (sym (view-is tells new)) so.run) in
+      let run = subst (λ xs. HasRun m (machine_in tells old) (map plain_event xs) (map plain_answer replies) (machine_in tells (view_of p h))) is
+      (subst (λ x. HasRun m (machine_in tells old) (map plain_event so.done) (map plain_answer replies) x) (sym (view-is tells p h)) so.run) in
       record {
         run = run;
         right = λ start before whole idle chain ends.

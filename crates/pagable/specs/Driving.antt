@@ -1,11 +1,233 @@
--- A machine over a pager, as a state of the plain world; and what its events and runs are.
-use Rattle.std.specs.{HashMap.{HashMap, get}, Map.lookup, Prelude.{ℕ, ◌≡◌, ◌++◌, zero, suc, List, length, map, Option, nat_eq, slice_get}, declared.alloc.Global.Global}
-use Rattle.std.specs.declared.{hash.{BuildHasherDefault.BuildHasherDefault, FoldHasher.FoldHasher}, sync.Arc.Arc}
-use Rattle.{pagable_core.specs.declared.{context.writing.SerializedData.SerializedData, storage.data.PagableData.PagableData}, pagable_loads.specs.declared.reading.Reading.Reading as Own}
-use Rattle.pagable.specs.{Keeping.{Holding, IsServing, Makes, readings_in}, Serving.{plain_answer, plain_event, plainly}, Walking.walking_of, declared.held.Held.Held}
-use Rattle.{pagable_pager.specs.View.{PagerView, Telling, core_in, state_in}, pagable_walk.specs.{Slots.{is_same, slot_of}, declared.{results.Trees.Ghosts, table.SlotTable.SlotTable}}}
-use Rattle.pagable_world.specs.{Events.no_shelf, Headline.Headline, Pager.{IsIdle, IsMachineWhole, MachineState}, Plain.{Identity, if_there}, Runs.{AreMoments, HasRun, Moment, state_after}}
-use Rattle.pagable_world.specs.{World.{Shelf, Slot, Values, Walking, Written}, declared.events.{Event.Event, EventReply.EventReply}}
+-- What a machine keeps of loads, tables and workers, as the plain world knows it, and when it is in step with its pager; what its calls, events and runs are.
+use Rattle.std.specs.{Arc.arc_value, HashMap.{HashMap, get}, Map.lookup, Option.option_map, Prelude.{Bool, List, None, Option, Some, [], false, is_none, is_some, length, map, nat_eq, slice_get, suc}}
+use Rattle.std.specs.{Prelude.{true, zero, ℕ, ◌++◌, ◌<◌, ◌∷◌, ◌≡◌, ◌≢◌, ◌≤◌, ◌⊎◌}, declared.{alloc.Global.Global, hash.{BuildHasherDefault.BuildHasherDefault, FoldHasher.FoldHasher}, sync.Arc.Arc}}
+use Rattle.{pagable.specs.declared.workers.{Begun.Begun, Held.Held, Walk.Walk}, pagable_core.specs.Data.blob_of, pagable_loads.specs.{Frames.{IsLoadOf, is_cell, reading_of}, Stepping.IsSameLoad}}
+use Rattle.{pagable_core.specs.declared.{context.writing.SerializedData.SerializedData, storage.data.PagableData.PagableData}, pagable_world.specs.declared.handles.Owner.Owner}
+use Rattle.{pagable_loads.specs.declared.reading.Reading.Reading as Own, pagable_model.specs.declared.numbers.LoadNumber.LoadNumber, pagable_pager.specs.View.{PagerView, Telling, core_in, state_in}}
+use Rattle.pagable_walk.specs.{Slots.{is_same, slot_of, written_of}, Table.shelf_of, Tasks.{IsPlain, IsWay, todo_of, todos}, Turns.{StepsTo, TaskFits, answer_in, plain_took, plan}}
+use Rattle.pagable_walk.specs.declared.{results.Trees.Ghosts, table.SlotTable.SlotTable, tasks.{Moved.Moved, Task.Task, Turn.Turn, Waiting.Waiting}}
+use Rattle.pagable_world.specs.{Access.ReadingStep, declared.events.{Event.Event, EventReply.EventReply, LoadAnswer.LoadAnswer, LoadReply.LoadReply, TableNumber.TableNumber, WorkerReply.WorkerReply}}
+use Rattle.pagable_world.specs.{Events.{CallStep, new_walking, no_shelf, steps_after}, Headline.Headline, Kinds.owner_worker, Pager.{CallBrings, FitsRoot, IsIdle, IsMachineWhole, MachineState}}
+use Rattle.pagable_world.specs.{Pager.{Moves, PagerState}, Plain.{Identity, if_there}, Runs.{AreMoments, Does, HasRun, Moment, state_after}, Workers.fresh, World.{Core, OpenLoad, Seen}}
+use Rattle.pagable_world.specs.{World.{Reading, Shelf, Slot, Todo, Values, Walking, Work, Written, of_entry, of_item, one_more, seen_as}, declared.calls.{Call.Call, Found.Found, Reply.Reply}}
+use Rattle.pagable_world.specs.World as world
+
+abbrev pub task_of : Begun → world.Task
+task_of (Begun.Item item) = of_item (written_of (arc_value item))
+task_of (Begun.Entry h i) = of_entry h i
+
+module _ {X : Type 0} {g : Ghosts X} where
+  -- tables, the first of number 1
+  abbrev pub shelf_at : List (SlotTable X g) → ℕ → Shelf
+  shelf_at tables zero = no_shelf
+  shelf_at tables (suc t) = if_there shelf_of no_shelf (slice_get tables t)
+
+  abbrev pub todo_left : Option (Task X g) → List (Waiting X g) → List Todo
+  todo_left None path = []
+  todo_left (Some task) path = todo_of task ∷ todos path
+
+  abbrev pub walking_of : Walk X g → Walking
+  walking_of k = record { table = k.table; task = task_of k.begun; todo = todo_left k.task k.path.items; steps = k.steps; answer = k.answer }
+
+  -- Its table is there; it is at work, and has a task, until it has answered; its list is in order, and its task fits.
+  pub record IsWalkKept (w : Core) (last v : ℕ) (k : Walk X g) : Type 0 where
+    pub table : (0 < k.table) × (k.table ≤ last)
+    pub at_work : w.workers v ≡ is_none k.answer
+    pub either : is_some k.task ≡ is_none k.answer
+    pub way : IsWay (todo_left k.task k.path.items)
+    pub fits : (task : Task X g) → k.task ≡ Some task → TaskFits v w task
+
+  -- a worker that has just begun on this table
+  pub record IsBegun (t : TableNumber) (task : world.Task) (k : Walk X g) : Type 0 where
+    pub walking : walking_of k ≡ new_walking t task
+    pub way : IsWay (todo_left k.task k.path.items)
+    pub has : is_some k.task ≡ true
+    pub plain : (x : Task X g) → k.task ≡ Some x → IsPlain x
+
+  abbrev pub task_in : Turn X g → Option (Task X g)
+  task_in (Turn.Goes task) = Some task
+  task_in (Turn.Answers answer) = None
+
+  -- the worker after a step
+  pub record IsAfter (k : Walk X g) (moved : Moved X g) (k' : Walk X g) : Type 0 where
+    pub table : k'.table ≡ k.table
+    pub begun : k'.begun ≡ k.begun
+    pub steps : k'.steps ≡ steps_after k.steps moved.counted
+    pub task : k'.task ≡ task_in moved.turn
+    pub answer : k'.answer ≡ answer_in moved.turn
+
+  -- the table at this place is another now
+  pub record SetsTable (tables : List (SlotTable X g)) (place : ℕ) (table : SlotTable X g) (tables' : List (SlotTable X g)) : Type 0 where
+    pub len : length tables' ≡ length tables
+    pub here : slice_get tables' place ≡ Some table
+    pub others : (q : ℕ) → q ≢ place → slice_get tables' q ≡ slice_get tables q
+
+  -- A worker that hasn't answered makes a step on its table.
+  pub record WalksOn {N E : Type 0} (v : Values N) (n : ℕ) (tables : List (SlotTable X g)) (k : Walk X g) (s : PagerState N E) (reply : WorkerReply (Arc SerializedData Global))
+      (tables' : List (SlotTable X g)) (k' : Walk X g)
+      (s' : PagerState N E) : Type 0 where
+    pub task : Task X g
+    pub table : SlotTable X g
+    pub table' : SlotTable X g
+    pub moved : Moved X g
+    pub place : ℕ
+    pub had : k.task ≡ Some task
+    pub on : k.table ≡ suc place
+    pub there : slice_get tables place ≡ Some table
+    pub sets : SetsTable tables place table' tables'
+    pub steps : StepsTo v (owner_worker n) n (shelf_of table) task (todos k.path.items) (shelf_of table') moved (plan moved.turn k'.path.items) s s'
+    pub way : IsWay (plan moved.turn k'.path.items)
+    pub after : IsAfter k moved k'
+    pub replies : reply ≡ record { took = moved.took; answer = answer_in moved.turn; steps = k'.steps }
+
+  -- there is such a table
+  abbrev pub IsIn : ℕ → List (SlotTable X g) → Type 0
+  IsIn t tables = (0 < t) × (t ≤ length tables)
+
+  -- whether there is a worker that hasn't answered
+  abbrev pub has_task : Option (Walk X g) → Bool
+  has_task found = if_there (λ (k : Walk X g). is_some k.task) false found
+
+-- ---- when it is in step with its pager, and what one event does to both
+
+-- what is kept of loads, by their numbers
+abbrev pub Kept : Type 0
+Kept = ℕ → Option Own
+
+-- what is kept of loads, tables and workers
+pub record Holding {X : Type 0} (g : Ghosts X) : Type 0 where
+  pub readings : Kept
+  pub tables : List (SlotTable X g)
+  pub walks : ℕ → Option (Walk X g)
+
+-- a load is read by the machine as long as it is open
+abbrev pub readings_in : Kept → Core → ℕ → Option Reading
+readings_in kept w l = if_there (λ (load : OpenLoad). option_map reading_of (kept l)) None (w.loads l)
+
+abbrev pub work_of : {X : Type 0} {g : Ghosts X} → Holding g → Core → Work
+work_of h w = record { shelves = shelf_at h.tables; last_table = length h.tables; readings = readings_in h.readings w; walkings = λ v. option_map walking_of (h.walks v) }
+
+abbrev pub machine_of : {X : Type 0} {g : Ghosts X} {N E : Type 0} → PagerState N E → Holding g → MachineState N E
+machine_of s h = record { pager = s; work = work_of h s.core }
+
+-- the caller's load, of this key and root
+pub record ReadsFor (load : OpenLoad) (own : Own) : Type 0 where
+  pub owned : load.owner ≡ Owner.Caller
+  pub key : load.key ≡ own.key
+  pub sort : is_cell load.root ≡ own.for_cell
+  pub typed : FitsRoot load.root (reading_of own)
+
+-- It is of a load that was begun, and reads that one as long as it is open.
+pub record IsKept (w : Core) (l : ℕ) (own : Own) : Type 0 where
+  pub number : own.load.0 ≡ l
+  pub given : l ≤ w.last.load
+  pub reads : (load : OpenLoad) → w.loads l ≡ Some load → ReadsFor load own
+
+abbrev pub AllKept : Core → Kept → Type 0
+AllKept w kept = (l : ℕ) (own : Own) → kept l ≡ Some own → IsKept w l own
+
+module _ {X : Type 0} {g : Ghosts X} where
+  -- what is true of a machine after each event, beside what is true of its pager
+  pub record IsServing (w : Core) (h : Holding g) : Type 0 where
+    pub readings : AllKept w h.readings
+    pub walks : (v : ℕ) (k : Walk X g) → h.walks v ≡ Some k → IsWalkKept w (length h.tables) v k
+    pub all_there : (v : ℕ) → w.workers v ≡ true → is_some (h.walks v) ≡ true
+
+  -- One event.
+  pub record Makes {N E B W : Type 0} (m : Seen N B W) (s : PagerState N E) (h : Holding g) (event : Event N B W) (reply : EventReply N B W) (s' : PagerState N E) (h' : Holding g) : Type 0 where
+    pub does : Does m (machine_of s h) event reply (machine_of s' h')
+    pub serving : IsServing s'.core h'
+
+-- what is kept of an open load stays, and nothing comes
+pub record Forgets (w : Core) (kept kept' : Kept) : Type 0 where
+  pub still : (l : ℕ) (load : OpenLoad) → w.loads l ≡ Some load → kept' l ≡ kept l
+  pub only : (l : ℕ) (own : Own) → kept' l ≡ Some own → kept l ≡ Some own
+
+-- of this number this is kept
+pub record KeepsOne {Y : Type 0} (kept : ℕ → Option Y) (l : ℕ) (own : Option Y) (kept' : ℕ → Option Y) : Type 0 where
+  pub here : kept' l ≡ own
+  pub others : (q : ℕ) → q ≢ l → kept' q ≡ kept q
+
+-- A load's reading: what is kept; or one of a cell of this type that hasn't made a step.
+pub record IsTaken (kept : Kept) (l : LoadNumber) (key : ℕ) (t : Option ℕ) (own : Own) : Type 0 where
+  pub why : (kept l.0 ≡ Some own) ⊎ ((kept l.0 ≡ None) × ((type : ℕ) × (t ≡ Some type) × (reading_of own ≡ fresh l type)) × (own.key ≡ key) × (own.for_cell ≡ true))
+
+-- Where a load's reading is kept now, it is what was kept of it, or one that has just begun; and where none is, there was none, and it is of a cell.
+pub record IsPrepared (kept : Kept) (l : LoadNumber) (key : ℕ) (t : Option ℕ) (kept' : Kept) : Type 0 where
+  pub taken : (own : Own) → kept' l.0 ≡ Some own → IsTaken kept l key t own
+  pub full : kept' l.0 ≡ None → (kept l.0 ≡ None) × ((type : ℕ) × (t ≡ Some type))
+  pub others : (q : ℕ) → q ≢ l.0 → kept' q ≡ kept q
+
+-- A load's reading made a step, which is counted.
+pub record Stepped {N E : Type 0} (v : Values N) (me : Owner) (own : Own) (reply : LoadReply N) (new : Own) (s s' : PagerState N E) : Type 0 where
+  pub does : IsLoadOf s.core me own → ReadingStep v me (reading_of own) s reply.ended (reading_of new).frames s'
+  pub same : IsSameLoad own new (one_more own.steps)
+  pub counts : reply.steps ≡ one_more own.steps
+
+-- what is kept after a step that ended the load, or didn't
+abbrev pub rest_after : {N : Type 0} → Option (LoadAnswer N) → Option Own → Option Own
+rest_after None own = own
+rest_after (Some answer) own = None
+
+-- ---- what a call does to a pager
+
+-- blobs as the pager has them, and what is written as it is
+abbrev pub plainly : {N : Type 0} → Values N → Seen N PagableData Written
+plainly v = record { values = v; blob_of = blob_of; written_of = λ w. w }
+
+-- The plain world asks for one type of blobs, so a reply is seen first without where its blob lies in memory.
+abbrev pub plain_found : Found (Arc PagableData Global) → Found PagableData
+plain_found (Found.Cached k) = Found.Cached k
+plain_found (Found.Blob b) = Found.Blob (arc_value b)
+
+-- the reply with its blob as the call has it
+abbrev pub plain_reply : {N : Type 0} → Reply N (Arc PagableData Global) → Reply N PagableData
+plain_reply (Reply.Made r) = Reply.Made r
+plain_reply (Reply.Handle r) = Reply.Handle r
+plain_reply (Reply.Pin r) = Reply.Pin r
+plain_reply (Reply.Done r) = Reply.Done r
+plain_reply (Reply.Count r) = Reply.Count r
+plain_reply (Reply.KeyFound r) = Reply.KeyFound r
+plain_reply (Reply.Away r) = Reply.Away r
+plain_reply (Reply.Node r) = Reply.Node r
+plain_reply (Reply.NodeType t) = Reply.NodeType t
+plain_reply (Reply.Length n) = Reply.Length n
+plain_reply (Reply.Taken h) = Reply.Taken h
+plain_reply (Reply.FromCache r) = Reply.FromCache r
+plain_reply (Reply.Fetched r) = Reply.Fetched (seen_as arc_value r)
+plain_reply (Reply.Stored r) = Reply.Stored r
+plain_reply (Reply.Begun r) = Reply.Begun r
+plain_reply (Reply.LoadFound r) = Reply.LoadFound (seen_as plain_found r)
+plain_reply (Reply.LoadEnded r) = Reply.LoadEnded r
+
+-- the event and its reply with what is written as plain
+abbrev pub plain_event : {N : Type 0} → Event N PagableData SerializedData → Event N PagableData Written
+plain_event (Event.Call call) = Event.Call call
+plain_event (Event.LoadStart h) = Event.LoadStart h
+plain_event (Event.LoadKey key t) = Event.LoadKey key t
+plain_event (Event.LoadStep l) = Event.LoadStep l
+plain_event Event.TableNew = Event.TableNew
+plain_event (Event.WorkerItem t item) = Event.WorkerItem t (written_of item)
+plain_event (Event.WorkerListed t i) = Event.WorkerListed t i
+plain_event (Event.WorkerStep v) = Event.WorkerStep v
+
+abbrev pub plain_moved : WorkerReply (Arc SerializedData Global) → WorkerReply Written
+plain_moved r = record { took = plain_took r.took; answer = r.answer; steps = r.steps }
+
+abbrev pub plain_answer : {N : Type 0} → EventReply N (Arc PagableData Global) (Arc SerializedData Global) → EventReply N PagableData Written
+plain_answer (EventReply.CallReply r) = EventReply.CallReply (plain_reply r)
+plain_answer (EventReply.Started r) = EventReply.Started r
+plain_answer (EventReply.LoadMoved r) = EventReply.LoadMoved r
+plain_answer (EventReply.TableMade r) = EventReply.TableMade r
+plain_answer (EventReply.WorkerMade r) = EventReply.WorkerMade r
+plain_answer (EventReply.WorkerMoved r) = EventReply.WorkerMoved (seen_as plain_moved r)
+
+-- The caller's call does this step, and brings no other value than its own.
+pub record Serves {N S E : Type 0} (v : Values N) (tells : Telling S) (old : PagerView N S E) (call : Call N PagableData) (r : Reply N (Arc PagableData Global)) (new : PagerView N S E) : Type 0 where
+  pub step : CallStep (plainly v) (core_in tells old) Owner.Caller call (plain_reply r) (core_in tells new)
+  pub moves : Moves (CallBrings (core_in tells old) call) (state_in tells old) (state_in tells new)
+
+-- ---- a machine over a pager, as a state of the plain world
 
 abbrev pub ByNumber : Type 0 → Type 0
 ByNumber Y = HashMap ℕ Y (BuildHasherDefault FoldHasher)
@@ -61,22 +283,14 @@ module _ {X : Type 0} {g : Ghosts X} where
   abbrev pub holding : Held X g → Holding g
   holding h = record { readings = kept_at h.readings; tables = h.tables.items; walks = kept_at h.walks }
 
--- a pager with what is held beside it
-pub record Over (N S E : Type 0) {X : Type 0} (g : Ghosts X) : Type 0 where
-  pub pager : PagerView N S E
-  pub held : Held X g
-
 module _ {N S E X : Type 0} {g : Ghosts X} where
-  abbrev pub over : PagerView N S E → Held X g → Over N S E g
-  over p h = record { pager = p; held = h }
-
   -- what is true of each machine
-  abbrev pub IsInStep : Telling S → Over N S E g → Type 0
-  IsInStep tells s = IsServing (core_in tells s.pager) (holding s.held)
+  abbrev pub IsInStep : Telling S → PagerView N S E → Held X g → Type 0
+  IsInStep tells p h = IsServing (core_in tells p) (holding h)
 
   -- One event.
-  pub record Drives (v : Values N) (tells : Telling S) (old : Over N S E g) (event : Given N) (reply : Answer N) (new : Over N S E g) : Type 0 where
-    pub makes : Makes (plainly v) (state_in tells old.pager) (holding old.held) (plain_event event) (plain_answer reply) (state_in tells new.pager) (holding new.held)
+  pub record Drives (v : Values N) (tells : Telling S) (old : PagerView N S E) (held : Held X g) (event : Given N) (reply : Answer N) (new : PagerView N S E) (held' : Held X g) : Type 0 where
+    pub makes : Makes (plainly v) (state_in tells old) (holding held) (plain_event event) (plain_answer reply) (state_in tells new) (holding held')
 
 -- These events, with these replies, led from the old machine to the new one; and the headline holds of them after whatever led from an idle machine to the old one.
 pub record Runs {N S E : Type 0} (v : Values N) (tells : Telling S) (old : MachineView N S E) (happened : List (Given N)) (replied : List (Answer N)) (new : MachineView N S E) : Type 0 where

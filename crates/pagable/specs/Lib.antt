@@ -1,6 +1,3 @@
-pub mod Serving
-pub mod Walking
-pub mod Keeping
 pub mod Driving
 pub mod Paged
 -- The words of the clauses about values, blobs and keys, so that a crate with types of its own names `pagable` alone.

@@ -1,20 +1,177 @@
-//! Each event of the machine: a step of the plain world that leaves the machine whole.
+//! Each event of the machine: a step of the plain world that leaves the machine whole. A call is one of the pager's, with a reply of the call's type; a load that the caller began goes on by steps.
 
-ghost use Rattle.{pagable_loads.specs.Telling.values_at, pagable_pager.specs.View.{core_in, telling}, pagable.specs.{Keeping.Forgets, Driving.{Drives, IsInStep, kept_at, over}}};
+ghost use Rattle.std.specs.{Arc.arc_value, Prelude.{◌≡◌, ℕ, None, IfErr, OnOk, OnErr}};
+ghost use Rattle.pagable.specs.Driving.{Drives, Forgets, IsInStep, IsPrepared, KeepsOne, Serves, Stepped, kept_at, plain_found, rest_after};
+ghost use Rattle.{pagable_core.specs.Data.blob_of, pagable_loads.specs.Telling.values_at, pagable_pager.specs.View.{core_in, given_as, state_in, telling}};
+ghost use Rattle.pagable_world.specs.{Events.given_of, World.seen_as, declared.handles.Owner.Owner};
 
-use crate::calls;
-use crate::held::Held;
-use crate::readings::{load_step, put};
-use crate::workers::{table_new, worker_item, worker_listed, worker_step};
+use crate::workers::{Held, put, table_new, worker_item, worker_listed, worker_step};
+use either::Either;
 use indexmap::IndexMap;
 use pagable_codec::{Env, NodeSet};
 use pagable_core::{PagableData, PagableStorage, SerializedData};
 use pagable_loads::Reading;
-use pagable_model::{DataKey, Error, LoadNumber};
-use pagable_pager::Pager;
-use pagable_world::{Beginning, Call, Event, EventReply};
+use pagable_model::{DataKey, Error, HandleNumber, LoadNumber};
+use pagable_pager::{Lent, Pager};
+use pagable_world::{Beginning, Call, Event, EventReply, Found, LoadAnswer, LoadReply, Reply};
 use std::alloc::Global;
 use std::sync::Arc;
+
+// What was found, as the reply has it.
+fn found(
+    given: Result<Either<HandleNumber, Arc<PagableData>>, Error>,
+) -> Result<Found<Arc<PagableData>>, Error>
+    ensures { seen_as (given_of blob_of) (seen_as plain_found result) ≡ seen_as (given_as (λ d. blob_of (arc_value d))) given }
+{
+    match given {
+        Ok(Either::Left(known)) => Ok(Found::Cached(known)),
+        Ok(Either::Right(blob)) => Ok(Found::Blob(blob)),
+        Err(e) => Err(e),
+    }
+}
+
+// Makes the call, and answers what the pager answers.
+fn make_call<E: Env, S: PagableStorage<E>>(
+    pager: &mut Pager<E, S>,
+    alloc: Global,
+    call: Call<E::Node, PagableData>,
+) -> Reply<E::Node, Arc<PagableData>>
+where
+    E::Node: NodeSet<E>,
+    ensures { Serves (values_at E.Node.NodeSet E.Env E.Hash.KeyHash pager.old.environment) (telling S.stored S.is_closed S.failed) pager.old call result pager.new }
+{
+    match call {
+        Call::NewPinned(node) => Reply::Made(pager.new_pinned(alloc, node)),
+        Call::NewLoose(node) => Reply::Made(pager.new_loose(alloc, node)),
+        Call::NewShared(node) => Reply::Made(pager.new_shared(alloc, node)),
+        Call::NewPagedOut(node_type, key) => {
+            Reply::Handle(pager.new_paged_out(alloc, node_type, key))
+        }
+        Call::Clone(handle) => Reply::Handle(pager.clone(handle)),
+        Call::Pin(handle) => Reply::Pin(pager.pin(handle)),
+        Call::Unpin(handle) => Reply::Done(pager.unpin(handle)),
+        Call::Release(handle) => Reply::Done(pager.release(handle)),
+        Call::IntoPagable(handle) => Reply::Handle(pager.into_pagable(handle)),
+        Call::SetDataKey(handle, key) => Reply::Done(pager.set_data_key(handle, key)),
+        Call::Count(handle) => Reply::Count(pager.count(handle)),
+        Call::Key(handle) => Reply::KeyFound(pager.key(handle)),
+        Call::IsPagedOut(handle) => Reply::Away(pager.is_paged_out(handle)),
+        Call::NodeOf(handle) => Reply::Node(pager.node_of(handle)),
+        Call::NodeLive(node) => Reply::NodeType(pager.node_live(node)),
+        Call::ScheduleForPaging(handle) => Reply::Done(pager.schedule_for_paging(handle)),
+        Call::Pending => Reply::Length(pager.pending() as u64),
+        Call::TakePending(place) => Reply::Taken(pager.take_pending(place as usize)),
+        Call::CacheGet(kind, key) => Reply::FromCache(pager.cache_get(kind, key)),
+        Call::OnArcDeserialized(kind, key, handle) => {
+            Reply::FromCache(pager.on_arc_deserialized(kind, key, handle))
+        }
+        Call::CacheClear => Reply::Done(pager.cache_clear()),
+        Call::Fetch(key) => Reply::Fetched(pager.fetch(alloc, key)),
+        Call::Store(blob) => Reply::Stored(pager.store(alloc, blob)),
+        Call::Flush => Reply::Done(pager.flush()),
+        Call::LoadBegin(handle) => Reply::Begun(pager.load_begin(handle)),
+        Call::LoadKey(key) => Reply::Begun(pager.load_key(key)),
+        Call::LoadFetch(load, want) => Reply::LoadFound(found(pager.load_fetch(alloc, load, want))),
+        Call::LoadAdopt(load, kind, key, node) => {
+            Reply::Made(pager.load_adopt(alloc, load, kind, key, node))
+        }
+        Call::LoadLazy(load, kind, key) => Reply::Handle(pager.load_lazy(alloc, load, kind, key)),
+        Call::LoadEnd(load, node) => Reply::LoadEnded(pager.load_end(alloc, load, node)),
+        Call::LoadTake(load, named) => Reply::Done(pager.load_take(load, &named)),
+        Call::LoadDrop(load) => Reply::Done(pager.load_drop(load)),
+        Call::Reserve(more) => Reply::Done(pager.reserve(more as usize)),
+        Call::Room => Reply::Length(pager.room() as u64),
+        Call::Close => Reply::Done(pager.close()),
+    }
+}
+
+// Nothing is kept of a load that has ended by its step.
+fn end<N: Drop>(readings: &mut IndexMap<u64, Reading>, load: u64, ended: &Option<LoadAnswer<N>>)
+    ensures { KeepsOne (kept_at readings.old) load (rest_after ended.now (kept_at readings.old load)) (kept_at readings.new) }
+{
+    if ended.is_some() {
+        readings.swap_remove(&load);
+    }
+}
+
+// Sees to it that an open load's reading is kept, where there is a place for it: it is, or begins now, at the first step of a load of a cell. Refused with WrongMode where it
+// is of a key, and a call began it: nobody said as what it is read.
+fn prepare(
+    readings: &mut IndexMap<u64, Reading>,
+    alloc: Global,
+    load: LoadNumber,
+    key: DataKey,
+    cell_type: Option<u32>,
+) -> Result<(), Error>
+    ensures ready { OnOk result (IsPrepared (kept_at readings.old) load key cell_type (kept_at readings.new)) }
+    ensures untyped { IfErr result (λ e. (e ≡ Error.WrongMode) × (cell_type ≡ None) × (kept_at readings.old load.0 ≡ None)) }
+    ensures stays { OnErr result ((q : ℕ) → kept_at readings.new q ≡ kept_at readings.old q) }
+{
+    if readings.get(&load.0).is_some() {
+        return Ok(());
+    }
+    let Some(node_type) = cell_type else {
+        return Err(Error::WrongMode);
+    };
+    if readings.reserve(1).is_err() {
+        return Ok(());
+    }
+    put(
+        readings,
+        load.0,
+        Reading::new(alloc, load, key, node_type, true),
+    );
+    Ok(())
+}
+
+// One step of a load over a lent pager: the borrow checker takes a lent struct where its own type is asked, and not where any access is.
+fn step_by<'a, E: Env, S: PagableStorage<E>>(
+    lent: &mut Lent<'a, E, S>,
+    alloc: Global,
+    own: &mut Reading,
+) -> LoadReply<E::Node>
+where
+    E::Node: NodeSet<E>,
+    requires { lent.old.me ≡ Owner.Caller }
+    ensures step { Stepped (values_at E.Node.NodeSet E.Env E.Hash.KeyHash lent.old.pager.now.environment) Owner.Caller own.old result own.new
+        (state_in (telling S.stored S.is_closed S.failed) lent.old.pager.now) (state_in (telling S.stored S.is_closed S.failed) lent.new.pager.now) }
+    ensures lender { lent.new.pager.ghost_name ≡ lent.old.pager.ghost_name }
+{
+    let ended = own.step(lent, alloc);
+    let steps = own.steps;
+    LoadReply { ended, steps }
+}
+
+// A load's next step. Refused with NoSuchHandle and NotYours; with WrongMode where a call began it as a load of a key. Then nothing changes, and no step is counted.
+fn load_step<E: Env, S: PagableStorage<E>>(
+    pager: &mut Pager<E, S>,
+    held: &mut Held<E>,
+    alloc: Global,
+    load: LoadNumber,
+) -> Result<LoadReply<E::Node>, Error>
+where
+    E::Node: NodeSet<E>,
+    requires { IsInStep (telling S.stored S.is_closed S.failed) pager.old held.old }
+    ensures { Drives (values_at E.Node.NodeSet E.Env E.Hash.KeyHash pager.old.environment) (telling S.stored S.is_closed S.failed)
+        pager.old held.old (Event.LoadStep load) (EventReply.LoadMoved result) pager.new held.new }
+{
+    pager.is_whole();
+    let (key, cell_type) = pager.load_of(load)?;
+    prepare(&mut held.readings, alloc, load, key, cell_type)?;
+    let Some(own) = held.readings.get_mut(&load.0) else {
+        // It has no place for its reading, and is given up: this is its only step.
+        let _told = pager.load_drop(load);
+        pager.is_whole();
+        return Ok(LoadReply {
+            ended: Some(LoadAnswer::Refused(Error::OutOfMemory)),
+            steps: 1,
+        });
+    };
+    let mut lent = Lent::new(pager);
+    let reply = step_by(&mut lent, alloc, own);
+    end(&mut held.readings, load.0, &reply.ended);
+    Ok(reply)
+}
 
 // The load that the call may close.
 fn closed_by<N: Drop>(call: &Call<N, PagableData>) -> Option<LoadNumber> {
@@ -52,9 +209,9 @@ fn load_key<E: Env, S: PagableStorage<E>>(
 ) -> Result<Beginning, Error>
 where
     E::Node: NodeSet<E>,
-    requires { IsInStep (telling S.stored S.is_closed S.failed) (over pager.old held.old) }
+    requires { IsInStep (telling S.stored S.is_closed S.failed) pager.old held.old }
     ensures { Drives (values_at E.Node.NodeSet E.Env E.Hash.KeyHash pager.old.environment) (telling S.stored S.is_closed S.failed)
-        (over pager.old held.old) (Event.LoadKey key node_type) (EventReply.Started result) (over pager.new held.new) }
+        pager.old held.old (Event.LoadKey key node_type) (EventReply.Started result) pager.new held.new }
 {
     pager.is_whole();
     if !pager.has_load_number() {
@@ -85,15 +242,15 @@ pub fn serve<E: Env, S: PagableStorage<E>>(
 ) -> EventReply<E::Node, Arc<PagableData>, Arc<SerializedData>>
 where
     E::Node: NodeSet<E>,
-    requires { IsInStep (telling S.stored S.is_closed S.failed) (over pager.old held.old) }
+    requires { IsInStep (telling S.stored S.is_closed S.failed) pager.old held.old }
     ensures { Drives (values_at E.Node.NodeSet E.Env E.Hash.KeyHash pager.old.environment) (telling S.stored S.is_closed S.failed)
-        (over pager.old held.old) event result (over pager.new held.new) }
+        pager.old held.old event result pager.new held.new }
 {
     pager.is_whole();
     match event {
         Event::Call(call) => {
             let closed = closed_by(&call);
-            let reply = calls::serve(pager, alloc, call);
+            let reply = make_call(pager, alloc, call);
             pager.is_whole();
             forget(pager, &mut held.readings, closed);
             EventReply::CallReply(reply)

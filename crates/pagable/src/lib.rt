@@ -5,13 +5,10 @@
 //! names its items: to pass on a module of a crate below would have every check above read all that stands in it.
 #![tactic(auto)]
 
-mod calls;
 mod events;
-mod held;
 pub mod laws;
 pub mod machine;
 pub mod paging;
-mod readings;
 mod workers;
 
 /// The numbers of cells and handles, the references that values hold, and what the sorts of these have in common.

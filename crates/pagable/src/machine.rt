@@ -4,7 +4,7 @@ ghost use Rattle.std.specs.Prelude.{◌≡◌, IfOk, IfErr, OnErr};
 ghost use Rattle.{pagable_loads.specs.Telling.values_at, pagable.specs.Driving.{Runs, machine_in}, pagable_pager.specs.View.{state_in, telling}, pagable_world.specs.Pager.{IsIdle, IsNew}};
 
 use crate::events;
-use crate::held::Held;
+use crate::workers::Held;
 use indexmap::IndexMap;
 use pagable_codec::{Env, NodeSet};
 use pagable_core::{PagableData, PagableStorage, SerializedData};
@@ -33,7 +33,7 @@ where
     E::Node: NodeSet<E>,
 {
     ghost use Rattle.std.specs.Coded.{codes};
-    ghost use Rattle.{pagable_pager.specs.View.telling, pagable.specs.Driving.{IsInStep, MachineView, over, view_of}, indexmap.specs.Layout.hash_map_code};
+    ghost use Rattle.{pagable_pager.specs.View.telling, pagable.specs.Driving.{IsInStep, MachineView, view_of}, indexmap.specs.Layout.hash_map_code};
 
     ghost Value = { MachineView E.Node S E };
 
@@ -41,7 +41,7 @@ where
 
     ghost view = { λ m. view_of m.pager m.held };
 
-    ghost invariant = { λ m. IsInStep (telling S.stored S.is_closed S.failed) (over m.pager m.held) };
+    ghost invariant = { λ m. IsInStep (telling S.stored S.is_closed S.failed) m.pager m.held };
 }
 
 impl<E: Env, S: PagableStorage<E>> Machine<E, S>

@@ -1,17 +1,15 @@
-//! Tables of page-out, workers on them, and a worker's step.
+//! What a machine keeps beside its pager; tables of page-out, workers on them, and a worker's step.
 
 ghost use Rattle.std.specs.{HashMap.spare, Prelude.{◌≡◌, ◌<◌, ◌⊎◌, ℕ, Some, IfOk, IfErr, OnOk, true, false, ◌≤◌, ◌∷◌, length, is_some}};
-ghost use Rattle.{pagable.specs.{Driving.{Drives, IsInStep, kept_at, over}, Walking.{IsBegun, IsIn, IsAfter, WalksOn, has_task, task_in, todo_left}}, pagable_loads.specs.Telling.values_at};
+ghost use Rattle.{pagable.specs.Driving.{Drives, IsInStep, KeepsOne, kept_at, IsBegun, IsIn, IsAfter, WalksOn, has_task, task_in, todo_left}, pagable_loads.specs.Telling.values_at};
 ghost use Rattle.{pagable_pager.specs.View.{core_in, state_in, telling}, pagable_walk.specs.{Slots.written_of, Table.shelf_of, Tasks.{IsWay, todo_of, todos}, Turns.{StepsTo, answer_in, plan}}};
 ghost use Rattle.pagable_world.specs.{Kinds.{identity_of, owner_worker}, World.{of_entry, of_item}, declared.events.{Event.Event, EventReply.EventReply}};
 
-use crate::held::{Begun, Held, Walk};
-use crate::readings::put;
 use indexmap::IndexMap;
 use pagable_codec::{Env, NodeSet};
 use pagable_core::{PagableStorage, SerializedData};
-use pagable_loads::WorkerAccess;
-use pagable_model::{ArcRef, Error, Identity, WorkerNumber};
+use pagable_loads::{Reading, WorkerAccess};
+use pagable_model::{ArcRef, Error, HandleNumber, Identity, WorkerNumber};
 use pagable_pager::{Lent, Pager};
 use pagable_walk::stack::{start_entry, start_item};
 use pagable_walk::step::step;
@@ -21,6 +19,44 @@ use std::alloc::Global;
 use std::mem::replace;
 use std::sync::Arc;
 
+/// What a worker was begun for.
+#[derive(Drop)]
+pub enum Begun {
+    /// An item.
+    Item(Arc<SerializedData>),
+    /// An entry of the list: its handle, and the cell as a loose handle sees it.
+    Entry(HandleNumber, Identity),
+}
+
+/// A worker: its table, counted from 1, what it was begun for and how many steps it has made; its task with the path below it, until it has answered.
+#[derive(Drop)]
+pub struct Walk<E: Trees> {
+    pub table: u64,
+    pub begun: Begun,
+    pub steps: u64,
+    pub path: Vec<Waiting<E>>,
+    pub task: Option<Task<E>>,
+    pub answer: Option<WorkerAnswer>,
+}
+
+/// How far loads are, by their numbers; the tables in the order in which they were made; and workers by their numbers.
+#[derive(Drop)]
+pub struct Held<E: Trees> {
+    pub readings: IndexMap<u64, Reading>,
+    pub tables: Vec<SlotTable<E>>,
+    pub walks: IndexMap<u64, Walk<E>>,
+}
+
+/// This is kept of a number from now on, where there is a place for it.
+pub fn put<V: Drop>(kept: &mut IndexMap<u64, V>, number: u64, value: V)
+    requires { 0 < spare kept.old }
+    ensures { KeepsOne (kept_at kept.old) number (Some value) (kept_at kept.new) }
+{
+    let Ok(_) = kept.insert(number, value) else {
+        unreachable!();
+    };
+}
+
 /// A new table, under the next number. Refused by want of memory alone; then nothing changes.
 pub fn table_new<E: Env, S: PagableStorage<E>>(
     pager: &Pager<E, S>,
@@ -29,9 +65,9 @@ pub fn table_new<E: Env, S: PagableStorage<E>>(
 ) -> Result<TableNumber, Error>
 where
     E::Node: NodeSet<E>,
-    requires { IsInStep (telling S.stored S.is_closed S.failed) (over pager.now held.old) }
+    requires { IsInStep (telling S.stored S.is_closed S.failed) pager.now held.old }
     ensures { Drives (values_at E.Node.NodeSet E.Env E.Hash.KeyHash pager.now.environment) (telling S.stored S.is_closed S.failed)
-        (over pager.now held.old) Event.TableNew (EventReply.TableMade result) (over pager.now held.new) }
+        pager.now held.old Event.TableNew (EventReply.TableMade result) pager.now held.new }
 {
     pager.is_whole();
     held.tables.reserve(1)?;
@@ -108,9 +144,9 @@ pub fn worker_item<E: Env, S: PagableStorage<E>>(
 ) -> Result<WorkerNumber, Error>
 where
     E::Node: NodeSet<E>,
-    requires { IsInStep (telling S.stored S.is_closed S.failed) (over pager.old held.old) }
+    requires { IsInStep (telling S.stored S.is_closed S.failed) pager.old held.old }
     ensures { Drives (values_at E.Node.NodeSet E.Env E.Hash.KeyHash pager.old.environment) (telling S.stored S.is_closed S.failed)
-        (over pager.old held.old) (Event.WorkerItem table item) (EventReply.WorkerMade result) (over pager.new held.new) }
+        pager.old held.old (Event.WorkerItem table item) (EventReply.WorkerMade result) pager.new held.new }
 {
     pager.is_whole();
     ready(&mut held.walks, &held.tables, table)?;
@@ -132,9 +168,9 @@ pub fn worker_listed<E: Env, S: PagableStorage<E>>(
 ) -> Result<WorkerNumber, Error>
 where
     E::Node: NodeSet<E>,
-    requires { IsInStep (telling S.stored S.is_closed S.failed) (over pager.old held.old) }
+    requires { IsInStep (telling S.stored S.is_closed S.failed) pager.old held.old }
     ensures { Drives (values_at E.Node.NodeSet E.Env E.Hash.KeyHash pager.old.environment) (telling S.stored S.is_closed S.failed)
-        (over pager.old held.old) (Event.WorkerListed table place) (EventReply.WorkerMade result) (over pager.new held.new) }
+        pager.old held.old (Event.WorkerListed table place) (EventReply.WorkerMade result) pager.new held.new }
 {
     pager.is_whole();
     if place >= pager.pending() as u64 {
@@ -252,9 +288,9 @@ pub fn worker_step<E: Env, S: PagableStorage<E>>(
 ) -> Result<WorkerReply<Arc<SerializedData>>, Error>
 where
     E::Node: NodeSet<E>,
-    requires { IsInStep (telling S.stored S.is_closed S.failed) (over pager.old held.old) }
+    requires { IsInStep (telling S.stored S.is_closed S.failed) pager.old held.old }
     ensures { Drives (values_at E.Node.NodeSet E.Env E.Hash.KeyHash pager.old.environment) (telling S.stored S.is_closed S.failed)
-        (over pager.old held.old) (Event.WorkerStep worker) (EventReply.WorkerMoved result) (over pager.new held.new) }
+        pager.old held.old (Event.WorkerStep worker) (EventReply.WorkerMoved result) pager.new held.new }
 {
     pager.is_whole();
     if !has_task(&held.walks, worker.0) {

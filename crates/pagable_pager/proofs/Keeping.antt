@@ -64,10 +64,7 @@ module _ {N S E : Type 0} {tells : Telling S} {says : E → Values N} {p : Pager
   -- the value is in memory of a node that the cache gives for handles that pin
   pub known-valued : (kind key n : ℕ) → usable (core_in tells p) kind key ≡ Some n → is_pinning (mode_of kind) ≡ true → has_value (counts_at p.tables.holdings.nodes n) ≡ true
   known-valued kind key n known pinning =
-      let there = entered-of kind key n (core_in tells p) known in
-      let here = known-here is.state.whole kind key n known pinning in
-      let both = here-in n in
-      grind (arith, nat_tests)
+      grind (arith, nat_tests, entered-of kind key n (core_in tells p) known, known-here is.state.whole kind key n known pinning, here-in n)
 
   pub kept-in : AreKept (counts_at p.tables.holdings.nodes) (get nat_eq p.values)
   kept-in n falls = sym (some-map arc_value (get nat_eq p.values n)) ∙ is.state.valued n ∙ here-in n
@@ -102,14 +99,11 @@ module _ {N S E : Type 0} {tells : Telling S} {says : E → Values N} {p : Pager
 
     -- by a call of the tables
     module _ {b : Bool} {step : Core → Core → Type 0} (call : DoesShed (not b) p.tables p.values step t values) (opens : b ≡ tells.closed p.storage) where
-      does : step (core_in tells p) (core_in tells gone)
-      does = call.does (tells.stored p.storage) (tells.closed p.storage) (tells.failed p.storage) (ap not opens)
-
       pub shed-by : (Leaves (value_in p.values) (state_in tells gone) → step (core_in tells p) (core_in tells gone) → WellFormed (says p.environment) (state_in tells gone)) → IsPager tells says gone
-      shed-by state = shed call.whole (call.later is.later) call.sheds (λ left. state left does)
+      shed-by state = shed call.whole (call.later is.later) call.sheds (λ left. state left (call.does _ _ _ (ap not opens)))
 
       pub less-called : Calls OnlyLess tells p step gone
-      less-called = record { step = does; only = only-less call.sheds }
+      less-called = record { step = call.does _ _ _ (ap not opens); only = only-less call.sheds }
 
     module _ (whole : IsWhole t) (later : AreLater t) (sheds : Goes) where
       same-so : Alike (core_in tells p) (core_in tells gone) → IsPager tells says gone
@@ -145,16 +139,14 @@ module _ {N S E : Type 0} {tells : Telling S} {says : E → Values N} {p q : Pag
   owner-loads m = grind (arith, nat_tests, owner-may)
 
 -- what a load asks for
-pub known-found : {w w' : Core} {me : Owner} {l : LoadNumber} {kind : Kind} {key : ℕ} {k : HandleNumber} (found : Option HandleNumber) → found ≡ Some k → AsksKnown w me l kind key (Ok found) w'
+pub known_found : {w w' : Core} {me : Owner} {l : LoadNumber} {kind : Kind} {key : ℕ} {k : HandleNumber} (found : Option HandleNumber) → found ≡ Some k → AsksKnown w me l kind key (Ok found) w'
     → AskCall w me l (Want.Nested kind key) (Ok (from_cache k)) w'
-known-found found some known = grind (arith, nat_tests)
+known_found found some known = grind (arith, nat_tests)
 
 -- and no value comes or goes by that
 pub asks : {w w' : Core} {me : Owner} {l : LoadNumber} {kind : Kind} {key : ℕ} → pager.IsWhole w → (r : Result (Option HandleNumber) Error) → AsksKnown w me l kind key r w' → Rests w w'
 asks {l = l} whole (Ok found) c = recalls whole (not-load l) (Ok found) (record { answers = c.gives.2; refused = tt })
 asks whole (Err e) c = unmoved c.refused.stays whole.shut
-
-pub ruleset asked_known = (nat_tests, known-found)
 
 module _ {N S E : Type 0} {tells : Telling S} {says : E → Values N} {p : PagerView N S E} (is : IsPager tells says p) (s : S) (stays : tells.closed s ≡ tells.closed p.storage)
     (more : tells.failed p.storage ≤ tells.failed s) where
@@ -205,20 +197,15 @@ module _ {N S E : Type 0} {tells : Telling S} {says : E → Values N} {p : Pager
       roomier = in-step roomy room.whole (room.later is.later) (spared is.state (unmoved (room-alike only-room) is.state.whole.shut) same)
 
       -- a value is kept with the node that has come
-      module _ (t2 : Tables) (values : ValuesByNode N) (x : N) {y : N} (shared : y ≡ x)
-          (kept : (n : ℕ) → value_in values n ≡ updated t2.last_node (Some y) (value_in mid) n) where
+      module _ (t2 : Tables) (values : ValuesByNode N) (x : N) {y : N} (shared : y ≡ x) (kept : (n : ℕ) → value_in values n ≡ updated t2.last_node (Some y) (value_in mid) n) where
         abbrev after : PagerView N S E
         after = record p { tables = t2; values = values }
 
         pub told : t2.last_node ≡ next → (n : ℕ) → value_in values n ≡ (if n == next then Some x else value_in p.values n)
         told last n = grind (arith, nat_tests, cases_eq)
 
-        -- the node of the next number had no value yet
-        none-yet : value_in p.values next ≡ None
-        none-yet = grind (arith, nat_tests)
-
         pub moved-in : t2.last_node ≡ next → Moves (λ n z. (z ≡ x) × IsNewNode (core_in tells p) n) (state_in tells p) (state_in tells after)
-        moved-in last = let a = told last in grind (arith, nat_tests, cases_eq, none-yet, same_some)
+        moved-in last = let none_yet : value_in p.values next ≡ None = grind (arith, nat_tests) in grind (arith, nat_tests, cases_eq, none_yet, same_some, told last)
 
         -- a node of the caller's
         module _ {mode : Mode} {k : HandleNumber} {node_type : ℕ} {rs qs : List ArcRef} (bears : Does t1 (λ w w'. Bears w Owner.Caller node_type 0 rs mode k w') t2) (left : t1.last_node < greatest)
@@ -231,20 +218,16 @@ module _ {N S E : Type 0} {tells : Telling S} {says : E → Values N} {p : Pager
               birth-past Owner.Caller node_type ((says p.environment).node_type x) rs ((says p.environment).references x) mode k only-room fine left typed named
               (bears.does (tells.stored p.storage) (tells.closed p.storage) (tells.failed p.storage))
 
-          born-last : t2.last_node ≡ next
-          born-last = ap (λ (l : Last). l.node) birth.made.3.last
-
           pub born-told : BirthCall (core_in tells p) Owner.Caller x ((says p.environment).node_type x) ((says p.environment).references x) mode (Ok k) (core_in tells after) × Moves (λ n z. (z ≡ x) × IsNewNode (core_in tells p) n)
               (state_in tells p) (state_in tells after)
-          born-told = (birth, moved-in born-last)
+          born-told = (birth, moved-in (ap (λ (l : Last). l.node) birth.made.3.last))
 
           pub born-so : is_pinning mode ≡ true → IsPager tells says after
           born-so pinning = in-step after bears.whole (bears.later (room.later is.later))
-              (born {v = says p.environment} {s = state_in tells p} {s' = state_in tells after} is.state caller-free pinning birth (told born-last))
+              (born {v = says p.environment} {s = state_in tells p} {s' = state_in tells after} is.state caller-free pinning birth (told (ap (λ (l : Last). l.node) birth.made.3.last)))
 
--- ---- what a load has read becomes a node
+-- ---- what a load has read becomes a new node
 
--- what a load has read becomes a new node
 module _ {N S E : Type 0} {tells : Telling S} {says : E → Values N} {p q : PagerView N S E} (is : IsPager tells says p) (viewed : p ≡ q) (me : Owner) (l : LoadNumber) (kind : Kind) (key : ℕ) (x : N)
     {rs : List ArcRef} (listed : rs ≡ (says p.environment).references x) (fresh : (stored : ℕ → Option Blob) (closed : Bool) (failures : ℕ) → early_fault (core_of q.tables stored closed failures) me l kind
     ((says p.environment).node_type x) rs ≡ None) (unknown : usable (plain_of q.tables) kind.0 key ≡ None) where
@@ -299,7 +282,6 @@ module _ {N S E : Type 0} {tells : Telling S} {says : E → Values N} {p q : Pag
 
 -- ---- a value comes to a load's cell, and others go with their nodes
 
--- the value comes
 module _ {N : Type 0} (t t' : Tables) (old mid new : ValuesByNode N) (node : NodeNumber) (x : N) (put-there : (n : ℕ) → value_in mid n ≡ updated node.0 (Some x) (value_in old) n) where
   come : ((n : ℕ) → is_some (value_in old n) ≡ has_value (counts_at t.holdings.nodes n)) → (n : ℕ) → is_some (get nat_eq mid n) ≡ has_come (counts_at t.holdings.nodes) node n
   come was n = grind (arith, nat_tests, nat_eq, put-there, some-map)
@@ -350,9 +332,8 @@ module _ {N S E : Type 0} {tells : Telling S} {says : E → Values N} {p : Pager
   may = may-wider wider ready.may
 
   was : Installs w me l r.row.node r.row.number k ((says p.environment).references x) w'
-  was =
-      let installed = done.does (tells.stored p.storage) (tells.closed p.storage) (tells.failed p.storage) (ap not opens) in
-      installs-wider wider (subst (λ z. Installs (core_in tells (record p { tables = t1 })) me l r.row.node r.row.number k z w') listed installed)
+  was = installs-wider wider (subst (λ z. Installs (core_in tells (record p { tables = t1 })) me l r.row.node r.row.number k z w') listed
+      (done.does (tells.stored p.storage) (tells.closed p.storage) (tells.failed p.storage) (ap not opens)))
 
   kept : (n : ℕ) → is_some (value_in p.values n) ≡ has_value (counts_at t1.holdings.nodes n)
   kept n = is.state.valued n ∙ here-in is n ∙ ap (λ ns. has_value (counts_at ns n)) (sym nodes)
@@ -400,16 +381,13 @@ module _ {N S E : Type 0} (tells : Telling S) (v : E → Values N) (p q : PagerV
   pub called_fewer : (D : Core → Type 0) → D (core_in tells q) → FewerValues p q → WellFormed (v q.environment) (state_in tells q) → Called (v p.environment) D (state_in tells p) (state_in tells q)
   called_fewer D step only whole = grind (arith, nat_tests)
 
-  pub told_fewer : (D : Core → Core → Type 0) → D (core_in tells p) (core_in tells q) → FewerValues p q → WellFormed (v q.environment) (state_in tells q)
-      → Told (Some (state_in tells p)) (Some (state_in tells q)) (λ s t. Called (v p.environment) (λ w'. D s.core w') s t)
-  told_fewer D step only whole = record { holds = called_fewer (D (core_in tells p)) step only whole }
-
   pub all_there : SameValues p q → FewerValues p q
   all_there only = record { values = λ n x has. subst (λ (values : ValuesByNode N). value_in values n ≡ Some x) only.values has; environment = only.environment }
 
 pub told_less : {N S E : Type 0} {tells : Telling S} (v : E → Values N) {p q : PagerView N S E} {makes : Core → Core → Type 0} → Calls OnlyLess tells p makes q → WellFormed (v q.environment)
     (state_in tells q) → Told (Some (state_in tells p)) (Some (state_in tells q)) (λ s t. Called (v p.environment) (λ w'. makes s.core w') s t)
-told_less {tells = tells} v {p} {q} {makes} call whole = told_fewer tells v p q makes call.step (record { values = call.only.values; environment = call.only.environment }) whole
+told_less {tells = tells} v {p} {q} {makes} call whole =
+    record { holds = called_fewer tells v p q (makes (core_in tells p)) call.step (record { values = call.only.values; environment = call.only.environment }) whole }
 
 pub stored_key : {digest : Blob → ℕ} {w w' : Core} {blob : Blob} (r : Result ℕ Error) → StoreCall digest w blob r w' → IfOk r (λ key. key ≡ digest blob)
 stored_key r c = grind (arith, nat_tests)

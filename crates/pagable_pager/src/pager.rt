@@ -223,7 +223,7 @@ where
         self.load_fetch_by(Owner::Caller, alloc, load, want)
     }
 
-    #[tactic(auto, using(crate::proofs::Keeping::asked_known))]
+    #[tactic(auto, using(std::proofs::lemmas::Bool::Decides::nat_tests, crate::proofs::Keeping::known_found))]
     pub(crate) fn load_fetch_by(
         &mut self,
         me: Owner,

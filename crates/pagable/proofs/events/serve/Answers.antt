@@ -3,7 +3,7 @@ use Rattle.pagable.proofs.events.serve.Goals as goal
 
 pub returns-in-Call : goal.returns-in-Call
 returns-in-Call g c =
-    rw c.in-Call.is (call-drives (values_at g.E.Node.NodeSet g.E.Env g.E.Hash.KeyHash) _ _ _ _ c.requires c.is_whole.ensures _ _ _ c.serve-reply.ensures c.is_whole-in-Call.ensures c.forget.ensures)
+    rw c.in-Call.is (call-drives (values_at g.E.Node.NodeSet g.E.Env g.E.Hash.KeyHash) _ _ _ _ c.requires c.is_whole.ensures _ _ _ c.make_call-reply.ensures c.is_whole-in-Call.ensures c.forget.ensures)
 
 pub returns-in-LoadStart : goal.returns-in-LoadStart
 returns-in-LoadStart g c = rw c.in-LoadStart.is (start-drives (values_at g.E.Node.NodeSet g.E.Env g.E.Hash.KeyHash) _ _ _ _ c.requires c.is_whole.ensures _ _

@@ -1,5 +1,4 @@
-use Rattle.{std.{proofs.Common.{◌+◌, ◌≤◌, length, vec_len}, specs.Vec.vec_capacity}, pagable_loads.specs.Telling.values_at, pagable.{proofs.Running.SoFar, specs.Driving.over}}
-use Rattle.pagable_pager.specs.View.{telling}
+use Rattle.{pagable.proofs.Running.SoFar, pagable_loads.specs.Telling.values_at, pagable_pager.specs.View.telling, std.{proofs.Common.{length, vec_len, ◌+◌, ◌≤◌}, specs.Vec.vec_capacity}}
 use Rattle.pagable.proofs.machine.Machine.run.Given as goal
 
 -- the events so far have happened, and there is room for the replies to the rest
@@ -8,7 +7,7 @@ invariant-loop-event g l =
     let tells = telling g.S.PagableStorage.stored g.S.PagableStorage.is_closed g.S.PagableStorage.failed in
     record {
       room : length l.rest.items + vec_len l.replies ≤ vec_capacity l.replies;
-      run : SoFar tells (λ e. values_at g.E.Node.NodeSet g.E.Env g.E.Hash.KeyHash e) l.fn.self l.fn.events.items l.rest.items l.replies.items (over l.self-inside.pager l.self-inside.held);
+      run : SoFar tells (λ e. values_at g.E.Node.NodeSet g.E.Env g.E.Hash.KeyHash e) l.fn.self l.fn.events.items l.rest.items l.replies.items l.self-inside.pager l.self-inside.held;
     }
 
 abbrev pub decreases-loop-event : goal.decreases-loop-event

@@ -1,5 +1,5 @@
 use Rattle.pagable.proofs.Driven.{serves, serves-less}
-use Rattle.pagable.proofs.calls.serve.Goals as goal
+use Rattle.pagable.proofs.events.make_call.Goals as goal
 
 pub returns-in-LoadAdopt : goal.returns-in-LoadAdopt
 returns-in-LoadAdopt g c = rw c.in-LoadAdopt.is (serves c.load_adopt.ensures.step c.load_adopt.ensures.moves)

@@ -1,6 +1,6 @@
-use Rattle.{std.{proofs.Common.{None, Some, ap, arith, inl, inr, refl, sym, true, ℕ, ◌∙◌, ◌≡◌}, specs.{Map.lookup, Prelude.{is_some, nat_eq}}}, pagable.specs.Driving.kept_at}
-use Rattle.{std.proofs.{Common.{false, rules, subst}, lemmas.Bool.Decides.nat_tests}, pagable_laws.proofs.Trees.same_some, pagable.{proofs.Driven.keeps-after, specs.Keeping.IsTaken}}
-use Rattle.pagable.proofs.readings.prepare.Goals as goal
+use Rattle.{pagable.{proofs.Driven.keeps-after, specs.Driving.{IsTaken, kept_at}}, pagable_laws.proofs.Trees.same_some}
+use Rattle.std.{proofs.{Common.{None, Some, ap, arith, false, inl, inr, refl, rules, subst, sym, true, ℕ, ◌∙◌, ◌≡◌}, lemmas.Bool.Decides.nat_tests}, specs.{Map.lookup, Prelude.{is_some, nat_eq}}}
+use Rattle.pagable.proofs.events.prepare.Goals as goal
 
 pub returns-then-is_some-clause-ready : goal.returns-then-is_some-clause-ready
 returns-then-is_some-clause-ready c =

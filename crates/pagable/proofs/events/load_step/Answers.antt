@@ -1,6 +1,6 @@
-use Rattle.{std.proofs.{Common.{rules, sym, refl, ◌≡◌, arith}, lemmas.{Bool.Decides.nat_tests, Grind.common_steps}}, pagable_loads.specs.Telling.values_at, pagable_tables.proofs.Worlds.failed}
+use Rattle.{std.proofs.{Common.{arith, refl, rules, sym, ◌≡◌}, lemmas.{Bool.Decides.nat_tests, Grind.common_steps}}, pagable_loads.specs.Telling.values_at, pagable_tables.proofs.Worlds.failed}
 use Rattle.pagable.proofs.Driven.{no-place-drives, step-drives, step-refused, untyped-drives}
-use Rattle.pagable.proofs.readings.load_step.Goals as goal
+use Rattle.pagable.proofs.events.load_step.Goals as goal
 
 pub returns-in_err-key : goal.returns-in_err-key
 returns-in_err-key g c =
@@ -9,9 +9,9 @@ returns-in_err-key g c =
 
 pub returns-in_err-prepare : goal.returns-in_err-prepare
 returns-in_err-prepare g c =
-    let (is, untyped, none) = c.in_err-prepare.ensures.untyped in
-    rw (failed c.from_residual-in_err-prepare.result c.from_residual-in_err-prepare.ensures.1, is) (untyped-drives (values_at g.E.Node.NodeSet g.E.Env g.E.Hash.KeyHash) _ _ c.args.pager.now _
-    c.requires c.is_whole.ensures _ _ _ _ c.in_ok-key.ensures.reads untyped none c.in_err-prepare.ensures.stays)
+    let none = c.in_err-prepare.ensures.untyped in
+    rw (failed c.from_residual-in_err-prepare.result c.from_residual-in_err-prepare.ensures.1, none.0) (untyped-drives (values_at g.E.Node.NodeSet g.E.Env g.E.Hash.KeyHash) _ _ c.args.pager.now _
+    c.requires c.is_whole.ensures _ _ _ _ c.in_ok-key.ensures.reads none.1 none.2 c.in_err-prepare.ensures.stays)
 
 pub returns-in_default : goal.returns-in_default
 returns-in_default g c =
