@@ -4,7 +4,7 @@
 #[cfg(test)]
 mod tests;
 
-use pagable::{Sha256Key, WeighHash};
+use pagable::{KeyHash, Sha256Key, WeighHash};
 use pagable_examples::named_texts::serve::serve;
 use std::io::{BufReader, BufWriter};
 use std::process::ExitCode;
@@ -24,15 +24,20 @@ fn wanted(rt: &HostRuntime) -> io::Result<Option<String>> {
     }
 }
 
-/// Serves with keys by the hash that the word names.
-fn run(rt: &HostRuntime) -> io::Result<ExitCode> {
+/// Serves with keys by the hash `H`.
+fn answer<H: KeyHash>(rt: &HostRuntime) -> io::Result<()> {
     let alloc = rt.alloc();
-    let word = wanted(rt)?;
     let mut reader = BufReader::new(alloc, rt.reader())?;
     let mut writer = BufWriter::new(alloc, io::writer(rt))?;
+    serve::<H, _, _>(alloc, &mut reader, &mut writer)
+}
+
+/// Serves with keys by the hash that the word names.
+fn run(rt: &HostRuntime) -> io::Result<ExitCode> {
+    let word = wanted(rt)?;
     match word.as_ref().map(String::as_str) {
-        Some("weigh") => serve::<WeighHash, _, _>(alloc, &mut reader, &mut writer)?,
-        Some("sha256") => serve::<Sha256Key, _, _>(alloc, &mut reader, &mut writer)?,
+        Some("weigh") => answer::<WeighHash>(rt)?,
+        Some("sha256") => answer::<Sha256Key>(rt)?,
         _ => {
             eprintln!(rt; "usage: pagectl weigh|sha256")?;
             return Ok(ExitCode::from(2));

@@ -14,25 +14,25 @@ pub record Spelled (T : Type 0) : Type 1 where
   pub single : AreSingle means
   pub writes : WriteCauses
 
-abbrev plain : {T : Type 0} → Shape → (T → Meaning ArcRef) → WriteCauses → Spelled T
+abbrev pub plain : {T : Type 0} → Shape → (T → Meaning ArcRef) → WriteCauses → Spelled T
 plain s meaning causes = record { shape = s; means = exactly meaning; single = λ x m is. is; writes = causes }
 
-abbrev two : {A B : Type 0} → Spelled A → Spelled B → Spelled (A × B)
+abbrev pub two : {A B : Type 0} → Spelled A → Spelled B → Spelled (A × B)
 two a b = record { shape = both a.shape b.shape; means = pairs a.means b.means; single = pairs_single a.means b.means a.single b.single; writes = writes_either a.writes b.writes }
 
 abbrev string : Spelled (String Global)
 string = plain text (λ t. meanings.text (string_bytes t)) (writes_long_or writes_memory)
 
-abbrev byte : Spelled ℕ
+abbrev pub byte : Spelled ℕ
 byte = plain (unsigned w8) number writes_memory
 
-abbrev one : (kind : ℕ) → Spelled (OfKind kind)
+abbrev pub one : (kind : ℕ) → Spelled (OfKind kind)
 one kind = plain (reference kind) (plain_means kind) writes_memory
 
 abbrev at_most_one : (kind : ℕ) → Spelled (Option (OfKind kind))
 at_most_one kind = record { shape = optional (reference kind); means = options (one kind).means; single = options_single (one kind).means (one kind).single; writes = writes_memory_or writes_memory }
 
-abbrev many : (kind : ℕ) → Spelled (Vec (OfKind kind))
+abbrev pub many : (kind : ℕ) → Spelled (Vec (OfKind kind))
 many kind = record {
   shape = list (reference kind);
   means = seen_by (λ v. v.items) (lists (one kind).means);
@@ -40,7 +40,7 @@ many kind = record {
   writes = writes_long_or (writes_memory_or writes_memory);
 }
 
-abbrev mixed : Spelled (ℕ × (Vec (OfKind 6) × (Vec (OfKind 7) × (Vec (OfKind 8) × (Vec (OfKind 1) × Vec (OfKind 0))))))
+abbrev pub mixed : Spelled (ℕ × (Vec (OfKind 6) × (Vec (OfKind 7) × (Vec (OfKind 8) × (Vec (OfKind 1) × Vec (OfKind 0))))))
 mixed = two byte (two (many 6) (two (many 7) (two (many 8) (two (many 1) (many 0)))))
 
 -- a byte refers to nothing

@@ -1,7 +1,7 @@
-//! Blobs as rows spell them, and their keys by the hash for tests.
+//! Inputs and blobs as rows spell them.
 
 use anyhow::Context;
-use pagable::{DataKey, PagableData, WeighHash};
+use pagable::{DataKey, PagableData};
 use std::alloc::Global;
 
 /// The bytes of an input: parts in hex, each perhaps with how often it stands, as `0401*127+0400`. `-` is none.
@@ -37,10 +37,4 @@ pub fn blob(alloc: Global, text: &str) -> anyhow::Result<PagableData> {
     };
     let bytes = bytes_of(alloc, bytes)?;
     Ok(PagableData { bytes, arcs })
-}
-
-/// The key of a blob.
-pub fn answer(alloc: Global, input: &str) -> anyhow::Result<String> {
-    let key = blob(alloc, input)?.compute_key::<WeighHash>();
-    Ok(format!(in alloc; "{}", key.get())?)
 }

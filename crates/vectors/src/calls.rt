@@ -15,9 +15,9 @@ use pagable::{
 use pagable_examples::FailingStorage;
 use std::alloc::Global;
 
-pub type CellStorage<H> = FailingStorage<InMemoryBlobs<CellEnv<H>>>;
+type CellStorage<H> = FailingStorage<InMemoryBlobs<CellEnv<H>>>;
 
-pub type CellMachine<H> = Machine<CellEnv<H>, CellStorage<H>>;
+type CellMachine<H> = Machine<CellEnv<H>, CellStorage<H>>;
 
 pub type CellCall = Call<CellNode, PagableData>;
 
@@ -44,11 +44,6 @@ pub fn pager_over<H: KeyHash>(alloc: Global, word: &str) -> Pager<CellEnv<H>, Ce
     Pager::new(alloc, storage_of(alloc, word), CellEnv::new())
 }
 
-/// A machine over such a storage.
-fn machine_over<H: KeyHash>(alloc: Global, word: &str) -> CellMachine<H> {
-    Machine::new(alloc, storage_of(alloc, word), CellEnv::new())
-}
-
 /// Puts a value in the place of another, where its type is open: at a known one the check would follow how each of its parts is let go.
 fn set<T: Drop>(place: &mut T, value: T) {
     *place = value;
@@ -61,21 +56,16 @@ impl Calls {
     /// A machine without cells, over a storage as the word tells, or with keys by SHA-256.
     pub fn new(alloc: Global, word: &str) -> Calls {
         match word {
-            "sha256" => Calls::Sha256(machine_over(alloc, "")),
-            _ => Calls::Weigh(machine_over(alloc, word)),
+            "sha256" => Calls::Sha256(Machine::new(alloc, storage_of(alloc, ""), CellEnv::new())),
+            _ => Calls::Weigh(Machine::new(alloc, storage_of(alloc, word), CellEnv::new())),
         }
-    }
-
-    /// Goes on with a new machine, as `new` makes it.
-    pub fn restart(&mut self, alloc: Global, word: &str) {
-        set(self, Calls::new(alloc, word));
     }
 
     /// The answer to a row, in one line.
     pub fn answer(&mut self, alloc: Global, line: &str) -> anyhow::Result<String> {
         let (word, rest) = split(line);
         if word == "machine" {
-            self.restart(alloc, rest);
+            set(self, Calls::new(alloc, rest));
             return Ok(String::new(alloc));
         }
         match self {
@@ -85,7 +75,7 @@ impl Calls {
     }
 }
 
-/// The answer to a row by a machine: a look at its pager, or to a list of events, or to the last of such a list.
+/// The answer to a row by a machine: a look at its pager, or to events, which the machine gets as one list, or to the last of these.
 fn answer<E: Env<Node = CellNode>, S: PagableStorage<E>>(
     alloc: Global,
     machine: &mut Machine<E, S>,
@@ -95,29 +85,14 @@ where
     E::Node: NodeSet<E>,
 {
     let (word, rest) = split(line);
-    match word {
-        "look" => answers::look(alloc, machine.pager(), rest.parse::<u64>()?),
-        "last" => {
-            let all = run(alloc, machine, rest)?;
-            let last = all.as_str().rsplit(';').next().unwrap_or_default();
-            Ok(String::from_str(alloc, last.trim_start())?)
-        }
-        _ => run(alloc, machine, line),
-    }
-}
-
-/// The answers to a row's events, which the machine gets as one list.
-fn run<E: Env<Node = CellNode>, S: PagableStorage<E>>(
-    alloc: Global,
-    machine: &mut Machine<E, S>,
-    line: &str,
-) -> anyhow::Result<String>
-where
-    E::Node: NodeSet<E>,
-{
-    let events = events(alloc, line)?;
-    match machine.run(alloc, events) {
-        Ok(replies) => answers::replies(alloc, replies.as_slice()),
-        Err(_) => bail!("no memory for the replies"),
-    }
+    let (asked, most) = match word {
+        "look" => return answers::look(alloc, machine.pager(), rest.parse::<u64>()?),
+        "last" => (rest, 1),
+        _ => (line, usize::MAX),
+    };
+    let Ok(replies) = machine.run(alloc, events(alloc, asked)?) else {
+        bail!("no memory for the replies");
+    };
+    let before = replies.len().saturating_sub(most);
+    answers::replies(alloc, replies.as_slice().get(before..).unwrap_or_default())
 }

@@ -1,13 +1,13 @@
 //! What comes of inputs: of values that are read and written again.
 
 use pagable::{
-    Env, Error, PagableDeserialize, PagableDeserializer, PagableEagerDeserialize,
-    PagableEagerSerialize, PagableSerialize, PagableSerializerImpl,
+    Env, Error, NoReferences, PagableDeserialize, PagableDeserializer, PagableDeserializerImpl,
+    PagableEagerDeserialize, PagableEagerSerialize, PagableSerialize, PagableSerializerImpl,
+    SessionContext,
 };
-use pagable_examples::any::{AnyEnv, Takes, Twice, finished, read, taken, written};
+use pagable_examples::any::{AnyEnv, finished, read, written};
 use std::alloc::{AllocError, Global};
 use std::fmt::Display;
-use std::marker::PhantomData;
 
 /// What comes of reading an input and of writing what was read; the number of the refusal, which was met twice; or None, where what should be the
 /// same twice was not.
@@ -78,21 +78,33 @@ fn written_text(
     }
 }
 
-/// What comes of an input of the type `T` of an environment, which is read twice from its front. Where the first reading was
-/// refused, the second one must be refused alike.
-pub fn replay_in<'de, E: Env, T>(alloc: Global, env: &E, input: &'de [u8]) -> Option<Outcome>
+/// The value at the front, which is read, and again from the same place. Where the first reading was refused, the second one must be refused
+/// alike: the number of the refusal, or None where what should be the same twice was not.
+fn read_twice<'de, E: Env, T: PagableDeserialize<'de, E> + Drop, D: PagableDeserializer<E>>(
+    alloc: Global,
+    source: &mut D,
+) -> Result<T, Option<u32>> {
+    let front = source.position();
+    let first = T::pagable_deserialize(alloc, source).err();
+    source.seek(front);
+    let first = first.as_ref().map(Error::number);
+    match T::pagable_deserialize(alloc, source) {
+        Ok(value) if first.is_none() => Ok(value),
+        Err(refusal) if first == Some(refusal.number()) => Err(first),
+        _ => Err(None),
+    }
+}
+
+/// What comes of an input of the type `T` of an environment, which is read twice from its front.
+pub fn replay_in<'de, E: Env, T>(alloc: Global, env: &E, input: &'de [u8]) -> Outcome
 where
     T: PagableSerialize<E> + PagableDeserialize<'de, E> + Drop,
 {
-    let ((first, second), used) = taken::<E, Twice<T>>(alloc, env, input);
-    let number = second.as_ref().err().map(Error::number);
-    if first != number {
-        return Some(Err(None));
-    }
-    Some(match second {
-        Ok(value) => Ok(Taken::new(used, written(alloc, env, &value))),
-        Err(_) => Err(number),
-    })
+    let session = SessionContext::new(alloc);
+    let mut source = PagableDeserializerImpl::new(input, &[], NoReferences::new(env, &session));
+    let value = read_twice::<E, T, _>(alloc, &mut source)?;
+    let used = PagableDeserializer::<E>::position(&source).byte_pos;
+    Ok(Taken::new(used, written(alloc, env, &value)))
 }
 
 /// What comes of an input of the type `T`, which no environment bears on.
@@ -100,7 +112,7 @@ pub fn replay<'de, T>(alloc: Global, input: &'de [u8]) -> Option<Outcome>
 where
     T: PagableSerialize<AnyEnv> + PagableDeserialize<'de, AnyEnv> + Drop,
 {
-    replay_in::<AnyEnv, T>(alloc, &AnyEnv, input)
+    Some(replay_in::<AnyEnv, T>(alloc, &AnyEnv, input))
 }
 
 /// As `replay`, with the value shown.
@@ -116,36 +128,20 @@ where
     Some(with_shown(outcome, text))
 }
 
-/// To read a value eagerly.
-struct Eagerly<T>(PhantomData<T>);
-
-impl<'de, E: Env, T: PagableEagerDeserialize<'de, E>> Takes<'de, E> for Eagerly<T> {
-    type Taken = Result<T, Error>;
-
-    fn take<D: PagableDeserializer<E>>(alloc: Global, source: &mut D) -> Result<T, Error> {
-        T::eager_pagable_deserialize(alloc, source)
-    }
-}
-
-/// The bytes of a value, or the number of the refusal.
-fn written_eagerly<E: Env, T: PagableEagerSerialize<E>>(
-    alloc: Global,
-    env: &E,
-    value: &T,
-) -> Result<Vec<u8>, u32> {
-    let mut out = PagableSerializerImpl::testing_new(alloc, env);
-    let done = value.eager_pagable_serialize(&mut out);
-    finished(done, out)
-}
-
 /// What comes of an input of the type `T` of an environment, which is read and written eagerly.
-pub fn replay_eagerly<'de, E: Env, T>(alloc: Global, env: &E, input: &'de [u8]) -> Option<Outcome>
+pub fn replay_eagerly<'de, E: Env, T>(alloc: Global, env: &E, input: &'de [u8]) -> Outcome
 where
     T: PagableEagerSerialize<E> + PagableEagerDeserialize<'de, E> + Drop,
 {
-    let (read, used) = taken::<E, Eagerly<T>>(alloc, env, input);
-    Some(match read {
-        Ok(value) => Ok(Taken::new(used, written_eagerly(alloc, env, &value))),
+    let session = SessionContext::new(alloc);
+    let mut source = PagableDeserializerImpl::new(input, &[], NoReferences::new(env, &session));
+    match T::eager_pagable_deserialize(alloc, &mut source) {
         Err(refusal) => Err(Some(refusal.number())),
-    })
+        Ok(value) => {
+            let used = PagableDeserializer::<E>::position(&source).byte_pos;
+            let mut out = PagableSerializerImpl::testing_new(alloc, env);
+            let done = value.eager_pagable_serialize(&mut out);
+            Ok(Taken::new(used, finished(done, out)))
+        }
+    }
 }

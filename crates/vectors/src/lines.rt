@@ -1,9 +1,10 @@
 //! Lines, and their answers.
 
-use crate::blobs::{self, bytes_of};
+use crate::blobs::{blob, bytes_of};
 use crate::calls::Calls;
 use crate::carried::{text, written_bytes};
 use crate::{own, types};
+use pagable::WeighHash;
 use pagable_examples::any::{AnyEnv, written};
 use pagable_examples::input_of;
 use serde_json::Value;
@@ -77,7 +78,7 @@ fn answer_all(alloc: Global, name: &str, verb: &str, inputs: &str) -> anyhow::Re
         let answer = match verb {
             "read" => read_bytes(alloc, name, bytes_of(alloc, input)?.as_slice())?,
             "cut" => cut(alloc, name, input)?,
-            _ => blobs::answer(alloc, input)?,
+            _ => format!(in alloc; "{}", blob(alloc, input)?.compute_key::<WeighHash>().get())?,
         };
         answers.push_str(answer.as_str())?;
     }

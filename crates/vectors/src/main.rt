@@ -36,12 +36,6 @@ fn answer(rt: &HostRuntime, calls: &mut Calls, word: &str) -> anyhow::Result<()>
     Ok(())
 }
 
-/// Times the row of the first word, or every row, as often as the second one tells, or five times.
-fn time(rt: &HostRuntime, words: &[String]) -> anyhow::Result<()> {
-    let runs = words.get(1).map_or("5", String::as_str);
-    times::run(rt, words.first().map(String::as_str), runs.parse::<u64>()?)
-}
-
 /// Answers files one after the other: the rows of calls of one go on where those of the file before have ended.
 fn answer_each(rt: &HostRuntime, calls: &mut Calls, words: &[String]) -> anyhow::Result<()> {
     for word in words {
@@ -50,19 +44,16 @@ fn answer_each(rt: &HostRuntime, calls: &mut Calls, words: &[String]) -> anyhow:
     Ok(())
 }
 
-/// Answers the files of these names, from a new machine on.
-fn answer_all(rt: &HostRuntime, words: &[String]) -> anyhow::Result<()> {
-    let mut calls = Calls::new(rt.alloc(), "");
-    let done = answer_each(rt, &mut calls, words);
-    let_go(calls);
-    done
-}
-
-/// Does what the words after the program's name ask for.
+/// Does what the words after the program's name ask for: it answers the files of these names, from a new machine on, or times rows.
 fn run(rt: &HostRuntime, words: &[String]) -> anyhow::Result<()> {
     match words {
-        [first, rest @ ..] if first.as_str() == "time" => time(rt, rest),
-        _ => answer_all(rt, words),
+        [first, rest @ ..] if first.as_str() == "time" => times::run(rt, rest),
+        _ => {
+            let mut calls = Calls::new(rt.alloc(), "");
+            let done = answer_each(rt, &mut calls, words);
+            let_go(calls);
+            done
+        }
     }
 }
 

@@ -1,15 +1,15 @@
 //! Types of one's own, and static and tagged values by an environment's registries.
 
-use crate::carried::{Outcome, replay_eagerly, replay_in, with_shown};
+use crate::carried::{Outcome, replay, replay_eagerly, replay_in, with_shown};
 use crate::types;
 use pagable::{StaticBytes, StaticStr};
 use pagable_examples::any::{AnyEnv, read};
-use pagable_examples::{Animal, AnimalReader, Expression, Sheet, Ticket, Zoo};
+use pagable_examples::{Animal, AnimalReader, Dish, Expression, Size, Ticket, Zoo};
 use std::alloc::Global;
 
 /// What comes of a static text, which is shown.
 fn static_text(alloc: Global, zoo: &Zoo, input: &[u8]) -> Option<Outcome> {
-    let outcome = replay_in::<Zoo, StaticStr>(alloc, zoo, input)?;
+    let outcome = replay_in::<Zoo, StaticStr>(alloc, zoo, input);
     let text = match read::<Zoo, StaticStr>(alloc, zoo, input) {
         Ok(value) => String::from_str(alloc, value.as_str()).ok(),
         Err(_) => None,
@@ -19,7 +19,7 @@ fn static_text(alloc: Global, zoo: &Zoo, input: &[u8]) -> Option<Outcome> {
 
 /// What comes of static bytes, which are shown as a text.
 fn static_bytes(alloc: Global, zoo: &Zoo, input: &[u8]) -> Option<Outcome> {
-    let outcome = replay_in::<Zoo, StaticBytes>(alloc, zoo, input)?;
+    let outcome = replay_in::<Zoo, StaticBytes>(alloc, zoo, input);
     let text = match read::<Zoo, StaticBytes>(alloc, zoo, input) {
         Ok(value) => String::from_utf8(value.as_bytes().to_vec(alloc).ok()?).ok(),
         Err(_) => None,
@@ -41,24 +41,31 @@ fn readers(names: &str) -> &'static [AnimalReader] {
         "Cat" => &[Cat],
         "Cat,OldCat" => &[Cat, OldCat],
         "OldCat,Dog,Cat" => &[OldCat, Dog, Cat],
-        "Dog" => &[Dog],
         _ => &[],
+    }
+}
+
+/// What comes of a static value, which is shown, or of a tagged one.
+fn registered(alloc: Global, zoo: &Zoo, name: &str, input: &[u8]) -> Option<Outcome> {
+    match name {
+        "StaticStr" => static_text(alloc, zoo, input),
+        "StaticBytes" => static_bytes(alloc, zoo, input),
+        _ => Some(replay_in::<Zoo, Animal>(alloc, zoo, input)),
     }
 }
 
 /// What comes of an input of the type of this name; None for an unknown name.
 pub fn answer(alloc: Global, name: &str, input: &[u8]) -> Option<Outcome> {
-    if let Some(outcome) = types::answer(alloc, name, input) {
-        return Some(outcome);
-    }
-    let (name, names) = name.split_once(':').unwrap_or((name, ""));
-    let zoo = zoo(alloc, readers(names))?;
-    match name {
-        "Expression" => replay_in::<Sheet, Expression>(alloc, &Sheet, input),
-        "Ticket" => replay_eagerly::<AnyEnv, Ticket>(alloc, &AnyEnv, input),
-        "StaticStr" => static_text(alloc, &zoo, input),
-        "StaticBytes" => static_bytes(alloc, &zoo, input),
-        "Animal" => replay_in::<Zoo, Animal>(alloc, &zoo, input),
-        _ => None,
+    let (word, names) = name.split_once(':').unwrap_or((name, ""));
+    match word {
+        "StaticStr" | "StaticBytes" | "Animal" => {
+            let zoo = zoo(alloc, readers(names))?;
+            registered(alloc, &zoo, word, input)
+        }
+        "Dish" => replay::<Dish>(alloc, input),
+        "Size" => replay::<Size>(alloc, input),
+        "Expression" => replay::<Expression>(alloc, input),
+        "Ticket" => Some(replay_eagerly::<AnyEnv, Ticket>(alloc, &AnyEnv, input)),
+        _ => types::answer(alloc, name, input),
     }
 }

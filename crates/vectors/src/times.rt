@@ -4,11 +4,8 @@ mod graphs;
 
 use anyhow::{bail, ensure};
 use indexmap::IndexMap;
-use pagable::{
-    Error, NoReferences, PagableDeserialize, PagableDeserializerImpl, PagableSerialize,
-    SessionContext,
-};
-use pagable_examples::any::{AnyEnv, written};
+use pagable::{PagableDeserialize, PagableSerialize};
+use pagable_examples::any::{AnyEnv, read, written};
 use pagable_examples::input_of;
 use std::alloc::Global;
 use std::collections::BTreeMap;
@@ -25,16 +22,6 @@ struct Outcome {
     read: Duration,
 }
 
-/// The `T` at the front of these bytes.
-fn read_of<'de, T: PagableDeserialize<'de, AnyEnv>>(
-    alloc: Global,
-    bytes: &'de [u8],
-) -> Result<T, Error> {
-    let session = SessionContext::new(alloc);
-    let lent = NoReferences::new(&AnyEnv, &session);
-    T::pagable_deserialize(alloc, &mut PagableDeserializerImpl::new(bytes, &[], lent))
-}
-
 /// Reads a `T` from these bytes and writes it again: what was written, and how long both took.
 fn once<'de, T>(
     clock: &impl Clock,
@@ -45,7 +32,7 @@ where
     T: PagableSerialize<AnyEnv> + PagableDeserialize<'de, AnyEnv> + Drop,
 {
     let start = Instant::now(clock)?;
-    let value: T = read_of(alloc, bytes)?;
+    let value: T = read(alloc, &AnyEnv, bytes)?;
     let read = start.elapsed(clock)?;
     let start = Instant::now(clock)?;
     let Ok(written) = written(alloc, &AnyEnv, &value) else {
@@ -71,26 +58,17 @@ fn once_of(
     }
 }
 
-/// As `once_of`, of drawn bytes as they are first written: a map is drawn in another order. What is read has to be written alike.
-fn codec(
-    clock: &impl Clock,
-    alloc: Global,
-    name_of_type: &str,
-    drawn: Vec<u8>,
-) -> anyhow::Result<Outcome> {
+/// Runs a row once: as `once_of`, of drawn bytes as they are first written, since a map is drawn in another order. What is read has to be written
+/// alike.
+fn run_row(clock: &impl Clock, alloc: Global, name: &str, count: u32) -> anyhow::Result<Outcome> {
+    let Some((name_of_type, drawn)) = input_of(alloc, name, count)? else {
+        return graphs::once(clock, alloc, name, count);
+    };
     let (first, _) = once_of(clock, alloc, name_of_type, drawn.as_slice())?;
     drop(drawn);
     let (again, outcome) = once_of(clock, alloc, name_of_type, first.as_slice())?;
     ensure!(again == first, "another value was read");
     Ok(outcome)
-}
-
-/// Runs a row once.
-fn run_row(clock: &impl Clock, alloc: Global, name: &str, count: u32) -> anyhow::Result<Outcome> {
-    match input_of(alloc, name, count)? {
-        Some((name_of_type, drawn)) => codec(clock, alloc, name_of_type, drawn),
-        None => graphs::once(clock, alloc, name, count),
-    }
 }
 
 /// Runs a row so often, and prints its shortest times, as `NAME write T s read T s`.
@@ -111,8 +89,10 @@ fn print_row(rt: &HostRuntime, name: &str, count: u32, runs: u64) -> anyhow::Res
     Ok(())
 }
 
-/// Runs the row of this name, or every one, so often, and prints the shortest times.
-pub fn run(rt: &HostRuntime, wanted: Option<&str>, runs: u64) -> anyhow::Result<()> {
+/// Runs the row of the first word, or every row, as often as the second one tells, or five times, and prints the shortest times.
+pub fn run(rt: &HostRuntime, words: &[String]) -> anyhow::Result<()> {
+    let wanted = words.first().map(String::as_str);
+    let runs = words.get(1).map_or("5", String::as_str).parse::<u64>()?;
     for row in ROWS.split(';') {
         let (name, count) = row.split_once(' ').unwrap_or((row, ""));
         if wanted.is_none() || wanted == Some(name) {

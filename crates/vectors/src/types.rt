@@ -4,10 +4,11 @@
 use crate::carried::{Outcome, Taken, replay, shown};
 use indexmap::{IndexMap, IndexSet};
 use pagable::{
-    Error, PagableBoxDeserialize, PagableDeserializer, PagableSerializerImpl, PagableSlice,
-    PagableVecFlavor, PathText, SavedRegex, Thin, serialize_slice,
+    NoReferences, PagableBoxDeserialize, PagableDeserializer, PagableDeserializerImpl,
+    PagableSerializerImpl, PagableSlice, PagableVecFlavor, PathText, SavedRegex, SessionContext,
+    Thin, serialize_slice,
 };
-use pagable_examples::any::{AnyEnv, Takes, finished, read, taken, written};
+use pagable_examples::any::{AnyEnv, finished, read, written};
 use serde_json::Value;
 use smallvec::SmallVec;
 use std::alloc::Global;
@@ -39,48 +40,29 @@ fn hash_map(alloc: Global, input: &[u8]) -> Option<Outcome> {
 
 // ---- calls that read or write in a way of their own: lent slices, boxes, byte arrays
 
-/// A list of numbers, and how many bytes it takes.
-fn numbers(alloc: Global, input: &[u8]) -> Option<(usize, Vec<i32>)> {
+/// A list as it is written without its count: as a lent slice, or by `serialize_slice`.
+fn slice(alloc: Global, input: &[u8], is_lent: bool) -> Option<Outcome> {
     let used = replay::<Vec<i32>>(alloc, input)?.ok()?.used;
-    let numbers = read(alloc, &AnyEnv, input).ok()?;
-    Some((used, numbers))
-}
-
-/// A list as it is written without its count as a lent slice.
-fn lent_slice(alloc: Global, input: &[u8]) -> Option<Outcome> {
-    let (used, numbers) = numbers(alloc, input)?;
-    let bytes = written(alloc, &AnyEnv, &numbers.as_slice());
-    Some(Ok(Taken::new(used, bytes)))
-}
-
-/// A list as it is written by `serialize_slice`.
-fn slice(alloc: Global, input: &[u8]) -> Option<Outcome> {
-    let (used, numbers) = numbers(alloc, input)?;
+    let numbers: Vec<i32> = read(alloc, &AnyEnv, input).ok()?;
+    if is_lent {
+        let bytes = written(alloc, &AnyEnv, &numbers.as_slice());
+        return Some(Ok(Taken::new(used, bytes)));
+    }
     let mut out = PagableSerializerImpl::testing_new(alloc, &AnyEnv);
     let done = serialize_slice(numbers.as_slice(), &mut out);
     Some(Ok(Taken::new(used, finished(done, out))))
 }
 
-/// To read a number into a box.
-struct IntoBox;
-
-impl<'de> Takes<'de, AnyEnv> for IntoBox {
-    type Taken = Result<Box<u16>, Error>;
-
-    fn take<D: PagableDeserializer<AnyEnv>>(
-        alloc: Global,
-        source: &mut D,
-    ) -> Result<Box<u16>, Error> {
-        u16::deserialize_box(alloc, source)
-    }
-}
-
 /// What comes of a number that is read into a box.
 fn boxed(alloc: Global, input: &[u8]) -> Outcome {
-    let (read, used) = taken::<AnyEnv, IntoBox>(alloc, &AnyEnv, input);
-    match read {
-        Ok(number) => Ok(Taken::new(used, written(alloc, &AnyEnv, &*number))),
+    let session = SessionContext::new(alloc);
+    let mut source = PagableDeserializerImpl::new(input, &[], NoReferences::new(&AnyEnv, &session));
+    match <u16 as PagableBoxDeserialize<AnyEnv>>::deserialize_box(alloc, &mut source) {
         Err(refusal) => Err(Some(refusal.number())),
+        Ok(number) => {
+            let used = PagableDeserializer::<AnyEnv>::position(&source).byte_pos;
+            Ok(Taken::new(used, written(alloc, &AnyEnv, &*number)))
+        }
     }
 }
 
@@ -131,24 +113,11 @@ fn array(alloc: Global, name: &str, input: &[u8]) -> Option<Outcome> {
         "Thin<u8,u8>" => replay::<Thin<u8, u8>>(alloc, input),
         "Box<[u32]>" => replay::<BoxedSlice<u32>>(alloc, input),
         "SmallVec<[String;4]>" => replay::<SmallVec<String, 4>>(alloc, input),
-        "&[i32]" => lent_slice(alloc, input),
-        "[i32]" => slice(alloc, input),
+        "&[i32]" => slice(alloc, input, true),
+        "[i32]" => slice(alloc, input, false),
         "Boxed<u16>" => Some(boxed(alloc, input)),
         "bytes" => Some(bytes(alloc, input)),
         _ => map(alloc, name, input),
-    }
-}
-
-/// Vectors, and what comes after them.
-fn vector(alloc: Global, name: &str, input: &[u8]) -> Option<Outcome> {
-    match name {
-        "Vec<()>" => replay::<Vec<()>>(alloc, input),
-        "Vec<u8>" => replay::<Vec<u8>>(alloc, input),
-        "Vec<i32>" => replay::<Vec<i32>>(alloc, input),
-        "Vec<u64>" => replay::<Vec<u64>>(alloc, input),
-        "Vec<String>" => replay::<Vec<String>>(alloc, input),
-        "Vec<[u64;32]>" => replay::<Vec<[u64; 32]>>(alloc, input),
-        _ => array(alloc, name, input),
     }
 }
 
@@ -165,7 +134,7 @@ fn holder(alloc: Global, name: &str, input: &[u8]) -> Option<Outcome> {
             replay::<(u8, String, Vec<u64>, Option<i8>)>(alloc, input)
         }
         "(u128,i128,char,bool,())" => replay::<(u128, i128, char, bool, ())>(alloc, input),
-        _ => vector(alloc, name, input),
+        _ => array(alloc, name, input),
     }
 }
 
@@ -201,7 +170,7 @@ fn unsigned(alloc: Global, name: &str, input: &[u8]) -> Option<Outcome> {
     }
 }
 
-/// What comes of a number; other names are handed on.
+/// What comes of a number with a sign or of a vector; other names are handed on.
 pub fn answer(alloc: Global, name: &str, input: &[u8]) -> Option<Outcome> {
     match name {
         "i8" => replay::<i8>(alloc, input),
@@ -209,6 +178,12 @@ pub fn answer(alloc: Global, name: &str, input: &[u8]) -> Option<Outcome> {
         "i32" => replay::<i32>(alloc, input),
         "i64" => replay::<i64>(alloc, input),
         "i128" => shown::<i128>(alloc, input),
+        "Vec<()>" => replay::<Vec<()>>(alloc, input),
+        "Vec<u8>" => replay::<Vec<u8>>(alloc, input),
+        "Vec<i32>" => replay::<Vec<i32>>(alloc, input),
+        "Vec<u64>" => replay::<Vec<u64>>(alloc, input),
+        "Vec<String>" => replay::<Vec<String>>(alloc, input),
+        "Vec<[u64;32]>" => replay::<Vec<[u64; 32]>>(alloc, input),
         _ => unsigned(alloc, name, input),
     }
 }

@@ -53,12 +53,10 @@ fn holds_what_stands(pager: &LinkPager, bundle: &Bundle) -> bool {
     let (Some(shared), Some(pinned)) = (bundle.shared.first(), bundle.pinned.first()) else {
         return false;
     };
-    let held = (next(shared.get()), next(pinned.get()));
-    let stands = (
-        next_in(pager, shared.reference::<Linked>().handle),
-        next_in(pager, pinned.reference::<Linked>().handle),
-    );
-    held.0.is_some() && held.1.is_some() && held == stands
+    let (first, second) = (next(shared.get()), next(pinned.get()));
+    let is_first = first == next_in(pager, shared.reference::<Linked>().handle);
+    let is_second = second == next_in(pager, pinned.reference::<Linked>().handle);
+    first.is_some() && second.is_some() && is_first && is_second
 }
 
 /// The key under which a page-out stores a bundle, which begins without one.

@@ -57,7 +57,7 @@ fn has_one<R: Wait>(rt: &R, session: &SessionContext<(), ()>) -> Option<bool> {
 }
 
 #[test]
-fn page_out_and_readers_lend_their_session(rt: HostRuntime) {
+fn writers_and_readers_have_a_session(rt: HostRuntime) {
     let alloc = rt.alloc();
     let env = AnyEnv;
     let session = SessionContext::new(alloc);
@@ -68,14 +68,8 @@ fn page_out_and_readers_lend_their_session(rt: HostRuntime) {
     let source = PagableDeserializerImpl::new(b"", &[], NoReferences::new(&env, &session));
     let lent = PagableDeserializer::<AnyEnv>::session_context(&source);
     equal(&rt, has_one(&rt, lent), Some(true), "reader");
-}
-
-#[test]
-fn a_testing_serializer_has_a_session_of_its_own(rt: HostRuntime) {
-    let env = AnyEnv;
-    let out = PagableSerializerImpl::testing_new(rt.alloc(), &env);
-    for had in [false, true] {
-        let lent = PagableSerializer::<AnyEnv>::session_context(&out);
-        equal(&rt, has_one(&rt, lent), Some(had), "its session");
-    }
+    let testing = PagableSerializerImpl::testing_new(alloc, &env);
+    let own = PagableSerializer::<AnyEnv>::session_context(&testing);
+    equal(&rt, has_one(&rt, own), Some(false), "one of its own");
+    equal(&rt, has_one(&rt, own), Some(true), "the same one");
 }

@@ -4,7 +4,7 @@ use crate::blobs::{blob, bytes_of};
 use crate::calls::nodes::node;
 use crate::calls::references::references;
 use crate::calls::{CellCall, CellEvent};
-use anyhow::{Context, bail};
+use anyhow::Context;
 use pagable::{
     Call, DataKey, Event, HandleNumber, Kind, LoadNumber, NodeNumber, SerializedData, TableNumber,
     Want, WorkerNumber,
@@ -108,12 +108,6 @@ fn key_of(word: &str) -> Option<DataKey> {
 /// One call: its name, and what it is about. A number that isn't there is 0, which nothing has.
 fn call(alloc: Global, name: &str, rest: &str) -> anyhow::Result<CellCall> {
     let (first, behind) = split(rest);
-    if let Some(call) = of_handle(name, HandleNumber(number_of(first))) {
-        return Ok(call);
-    }
-    if let Some(call) = of_numbers(name, first, behind) {
-        return Ok(call);
-    }
     let load = LoadNumber(number_of(first));
     match name {
         "new_loose" => Ok(Call::NewLoose(node(alloc, rest)?)),
@@ -123,12 +117,13 @@ fn call(alloc: Global, name: &str, rest: &str) -> anyhow::Result<CellCall> {
         "load_adopt" => adopted(alloc, load, behind),
         "load_take" => taken(alloc, load, behind),
         "store" => Ok(Call::Store(blob(alloc, rest)?)),
-        _ => bail!("no such call"),
+        _ => of_handle(name, first, behind).context("no such call"),
     }
 }
 
-/// A call that is about a handle and no more.
-fn of_handle(name: &str, handle: HandleNumber) -> Option<CellCall> {
+/// A call that is about a handle and no more; other names are handed on.
+fn of_handle(name: &str, first: &str, behind: &str) -> Option<CellCall> {
+    let handle = HandleNumber(number_of(first));
     Some(match name {
         "clone" => Call::Clone(handle),
         "pin" => Call::Pin(handle),
@@ -141,7 +136,7 @@ fn of_handle(name: &str, handle: HandleNumber) -> Option<CellCall> {
         "key" => Call::Key(handle),
         "is_paged_out" => Call::IsPagedOut(handle),
         "node_of" => Call::NodeOf(handle),
-        _ => return None,
+        _ => return of_numbers(name, first, behind),
     })
 }
 

@@ -106,7 +106,10 @@ pub fn node(alloc: Global, spelled: &str) -> anyhow::Result<CellNode> {
         "0" => Ok(CellNode::Name(String::from_str(alloc, rest)?)),
         "1" => Ok(CellNode::Note(String::from_str(alloc, rest)?)),
         "2" => mixed(alloc, rest),
-        "7" => bytes(alloc, rest),
+        "7" => match bytes_of(alloc, rest)?.as_slice() {
+            [first, second] => Ok(CellNode::Bytes((*first, *second))),
+            _ => bail!("no two bytes"),
+        },
         _ => referring(alloc, node_type, references(alloc, rest)?.as_slice()),
     }
 }
@@ -116,28 +119,21 @@ fn mixed(alloc: Global, spelled: &str) -> anyhow::Result<CellNode> {
     let (tag, rest) = spelled.split_once('/').unwrap_or(("0", spelled));
     let tag = tag.parse::<u8>()?;
     let spelled = references(alloc, rest)?;
-    Ok(CellNode::Mixed((tag, lists(alloc, spelled.as_slice())?)))
+    let node = CellNode::Mixed((tag, lists(alloc, spelled.as_slice())?));
+    let listed = NodeSet::<CellEnv<WeighHash>>::refs(&node, alloc)?;
+    ensure!(
+        listed == spelled,
+        "references of other kinds, or in another order"
+    );
+    Ok(node)
 }
 
 /// The lists of these references, list after list.
-fn lists(alloc: Global, spelled: &[ArcRef]) -> anyhow::Result<Lists> {
+fn lists(alloc: Global, spelled: &[ArcRef]) -> Result<Lists, Error> {
     let (own, loose) = of_two_kinds(alloc, spelled)?;
-    let (pinned, names) = (of_kinds(alloc, spelled)?, of_two_kinds(alloc, spelled)?);
-    let lists: Lists = (own, (loose, (pinned, names)));
-    let listed = references_of::<CellEnv<WeighHash>, Lists>(alloc, &lists)?;
-    ensure!(
-        listed.as_slice() == spelled,
-        "references of other kinds, or in another order"
-    );
-    Ok(lists)
-}
-
-/// Two bytes.
-fn bytes(alloc: Global, spelled: &str) -> anyhow::Result<CellNode> {
-    match bytes_of(alloc, spelled)?.as_slice() {
-        [first, second] => Ok(CellNode::Bytes((*first, *second))),
-        _ => bail!("no two bytes"),
-    }
+    let pinned = of_kinds(alloc, spelled)?;
+    let names = of_two_kinds(alloc, spelled)?;
+    Ok((own, (loose, (pinned, names))))
 }
 
 /// A value of references of one kind.
@@ -217,11 +213,12 @@ impl<H: KeyHash> NodeSet<CellEnv<H>> for CellNode {
         }
     }
 
+    #[tactic(auto, using(crate::proofs::Listed::mixed_listed))]
     fn write<S: PagableSerializer<CellEnv<H>>>(&self, serializer: &mut S) -> Result<(), Error> {
         match self {
             CellNode::Name(text) => write_listed(text, serializer),
             CellNode::Note(_) => Err(Error::Custom(Reason::new("writing is refused"))),
-            CellNode::Mixed(mixed) => write_listed(mixed, serializer),
+            CellNode::Mixed(mixed) => mixed.pagable_serialize(serializer),
             CellNode::Link(next) => write_listed(next, serializer),
             CellNode::ArcLink(next) => write_listed(next, serializer),
             CellNode::Names(names) => write_listed(names, serializer),

@@ -80,8 +80,28 @@ where
         Ok(lists)
     }
 
-    /// The nodes of one level of a tree, over those of the level below: twice as many as of the level above, and at most 64. Each
-    /// refers to two of those below it, by this kind, and to a text of its own.
+    /// The value of a node of a tree, as rows spell it: it refers by this kind to two of the nodes of the level below, and to a text of its own.
+    fn branch(
+        &mut self,
+        kind: u32,
+        name: &str,
+        below: &[HandleNumber],
+        place: usize,
+    ) -> anyhow::Result<String> {
+        let mut spelled = String::from_str(self.alloc, "2 ")?;
+        for next in 0..2 {
+            let kid = place.wrapping_mul(2).wrapping_add(next) % below.len().max(1);
+            if let Some(kid) = below.get(kid) {
+                let copy = self.pager.clone(*kid)?;
+                self.refer(&mut spelled, kind, copy)?;
+            }
+        }
+        let text = self.made(name, false)?;
+        self.refer(&mut spelled, 0, text)?;
+        Ok(spelled)
+    }
+
+    /// The nodes of one level of a tree, over those of the level below: twice as many as of the level above, and at most 64.
     fn level(
         &mut self,
         kind: u32,
@@ -91,17 +111,8 @@ where
     ) -> anyhow::Result<Vec<HandleNumber>> {
         let mut nodes = Vec::new(self.alloc);
         for place in 0..1usize << level.min(6) {
-            let mut spelled = String::from_str(self.alloc, "2 ")?;
-            for next in 0..2 {
-                let kid = place.wrapping_mul(2).wrapping_add(next) % below.len().max(1);
-                if let Some(kid) = below.get(kid) {
-                    let copy = self.pager.clone(*kid)?;
-                    self.refer(&mut spelled, kind, copy)?;
-                }
-            }
-            let text = format!(in self.alloc; "0 tree {tree} level {level} node {place}")?;
-            let text = self.made(text.as_str(), false)?;
-            self.refer(&mut spelled, 0, text)?;
+            let name = format!(in self.alloc; "0 tree {tree} level {level} node {place}")?;
+            let spelled = self.branch(kind, name.as_str(), below, place)?;
             nodes.push(self.made(spelled.as_str(), kind == 7 || level == 0)?)?;
         }
         Ok(nodes)
@@ -155,11 +166,24 @@ where
         Ok(Outcome { write, read })
     }
 
+    /// Pages out items on one table: their keys.
+    fn keys_of(&mut self, items: Vec<Item>) -> anyhow::Result<Vec<DataKey>> {
+        let mut table = SlotTable::new(self.alloc);
+        let mut keys = Vec::with_capacity(self.alloc, items.len())?;
+        for item in items {
+            match paging::page_out_item(self.alloc, self.pager, &mut table, item) {
+                Ok(key) => keys.push(key)?,
+                Err(_) => bail!("an item isn't paged out"),
+            }
+        }
+        Ok(keys)
+    }
+
     /// Pages out lists, and reads each key.
     fn lists_out_and_in(&mut self, clock: &impl Clock, count: u32) -> anyhow::Result<Outcome> {
         let lists = self.lists(count)?;
         let start = Instant::now(clock)?;
-        let keys = keys_of(self.alloc, self.pager, lists)?;
+        let keys = self.keys_of(lists)?;
         let write = start.elapsed(clock)?;
         let start = Instant::now(clock)?;
         for key in keys {
@@ -168,26 +192,6 @@ where
         let read = start.elapsed(clock)?;
         Ok(Outcome { write, read })
     }
-}
-
-/// Pages out items on one table: their keys.
-fn keys_of<E: Env, S: PagableStorage<E>>(
-    alloc: Global,
-    pager: &mut Pager<E, S>,
-    items: Vec<Item>,
-) -> anyhow::Result<Vec<DataKey>>
-where
-    E::Node: NodeSet<E>,
-{
-    let mut table = SlotTable::new(alloc);
-    let mut keys = Vec::with_capacity(alloc, items.len())?;
-    for item in items {
-        match paging::page_out_item(alloc, pager, &mut table, item) {
-            Ok(key) => keys.push(key)?,
-            Err(_) => bail!("an item isn't paged out"),
-        }
-    }
-    Ok(keys)
 }
 
 /// Makes what a row pages out, pages it out, and reads it back.
