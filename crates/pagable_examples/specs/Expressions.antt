@@ -2,7 +2,7 @@
 use Rattle.std.specs.{Int.w64, Prelude.{Err, Ok, Result, ℕ, ◌≡◌}}
 use Rattle.pagable.specs.model.{Gives.memory, Meaning.{Meaning, failure, number, pair, success}, Shape.{Shape, both, nested, outcome, unsigned}, Standing.Is, Writing.{Refused, WritesSome, nesting}}
 use Rattle.{pagable.specs.model.declared.{error.Error.Error, numbers.ArcRef.ArcRef}, pagable_examples.specs.declared.expression.Expression.{Expression, Number, Sum'}}
-use Rattle.pagable_traits.specs.JsonSteps.{Piece}
+use Rattle.pagable_traits.specs.Clauses.{Piece}
 
 -- a number, or two expressions, each one level further down
 abbrev pub node : Shape

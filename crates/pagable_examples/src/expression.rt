@@ -1,7 +1,7 @@
 //! A type that holds values of its own type, each one level further down: sums inside sums.
 
 ghost use Rattle.pagable.specs.{model.{Gives.{deep_or, memory}, Reading.read, Shape.nested, Standing.Is}, traits.{Meanings.exactly, OwnCauses.{reads_memory, writes_deep_or, writes_memory}}};
-ghost use Rattle.{pagable_examples.specs.Expressions.{IsSum, expression, node, nodes, of_expression}, pagable_traits.specs.JsonSteps.{Reads, Wrote}};
+ghost use Rattle.{pagable_examples.specs.Expressions.{IsSum, expression, node, nodes, of_expression}, pagable_traits.specs.Clauses.{Reads, Wrote}};
 
 use crate::zoo::NoNode;
 use pagable::parts::{read_flag, write_flag};

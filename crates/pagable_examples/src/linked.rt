@@ -2,7 +2,7 @@
 //! sort of references.
 
 ghost use Rattle.std.specs.{Arc.arc_value, Prelude.{OnOk, Some, refl, ◌++◌, ◌≡◌}};
-ghost use Rattle.{pagable.specs.{model.References.references_in, traits.JsonSteps.{Wrote, value as form}}, pagable_examples.specs.Linked.{arc_link_in, bundle_in, holds_arc_link, holds_bundle}};
+ghost use Rattle.{pagable.specs.{model.References.references_in, traits.Clauses.{Wrote, value as form}}, pagable_examples.specs.Linked.{arc_link_in, bundle_in, holds_arc_link, holds_bundle}};
 ghost use Rattle.pagable_examples.specs.Linked.{holds_link, link_in, no_parts, numbers_are_small};
 
 pub mod bundle;

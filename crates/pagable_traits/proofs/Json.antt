@@ -11,7 +11,7 @@ use Rattle.pagable_traits.proofs.Words.{flag, flag-form, grows_refl, grows_trans
 use Rattle.pagable_traits.proofs.Words.{list, list-form, long_or, long_or_memory, longest, map, memory, memory_refuses, moves_trans, none, number_view, object_case, of_data, of_entries, of_key}
 use Rattle.pagable_traits.proofs.Words.{of_value, ordered, ordering_reverse, pair, pair_has_meaning, pos, put_all, put_sorted, read, read_with, refl, refused_memory, rules, seen, sequence, signed}
 use Rattle.pagable_traits.proofs.Words.{signed-form, sorted-map-form, sorted_map, string_bytes, string_cmp, subst, suc, sym, text, text-form, text_order, then, to_z-of_z, true, unsigned_at, variant}
-use Rattle.pagable_traits.{proofs.Words.{view, w64, ℕ, ℤ, ◌+◌, ◌-◌, ◌<◌, ◌^◌, ◌∙◌, ◌∷◌, ◌≡◌, ◌≤◌}, specs.{JsonData.long_or_no_memory, JsonSteps.{ObjectOf, front, part_of, value as form}}}
+use Rattle.pagable_traits.{proofs.Words.{view, w64, ℕ, ℤ, ◌+◌, ◌-◌, ◌<◌, ◌^◌, ◌∙◌, ◌∷◌, ◌≡◌, ◌≤◌}, specs.{JsonData.long_or_no_memory, Clauses.{ObjectOf, front, part_of, value as form}}}
 use Rattle.serde_json.{proofs.Views.{view-Array, view-Object}, specs.{Data.{Data, Num, array, boolean, null, number, object, string}, Find.of_integer, View.{items_view, members_view}}}
 use Rattle.{serde_json.specs.declared.{number.Number.Number, value.Value.the_lemmas}, std.{proofs.{Common.BTreeMap, lemmas.Bool.{lt-ltb, ne_eqb}}, specs.Prelude.{nat_lt, negsuc}}}
 use Rattle.std.specs.String.{string_cmp_total}

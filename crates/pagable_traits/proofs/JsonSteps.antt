@@ -5,7 +5,7 @@ use Rattle.pagable_traits.proofs.{Parts.{no-success, ok_along, refused_second, r
 use Rattle.pagable_traits.proofs.Words.{GivesSome, IsErrAnd, List, Meaning, Meanings, MeansPair, MeansResult, MovesOn, Nesting, NoForm, Ok, Option, Out, Piece, Reads, Rest, Result, Shape, SomeMeaning}
 use Rattle.pagable_traits.proofs.Words.{Wrote, [], added, arith, bool_form, both, bytes, context_in, deepest, err-form, err_from_is_err_and, failure, false, grows_refl, grows_trans, inl, inr, items}
 use Rattle.pagable_traits.proofs.Words.{length, length_form, means-err, means-ok, memory, memory_or, moves_trans, nested_in, nesting, ok-form, outcome, read, refl, some, subst, success, true, ℕ, ◌++◌}
-use Rattle.pagable_traits.{proofs.Words.{◌+◌, ◌-◌, ◌<◌, ◌∙◌, ◌∷◌, ◌≡◌, ◌≤◌, ◌⊎◌}, specs.{JsonSteps.value, Walks.counted as walked}}
+use Rattle.pagable_traits.{proofs.Words.{◌+◌, ◌-◌, ◌<◌, ◌∙◌, ◌∷◌, ◌≡◌, ◌≤◌, ◌⊎◌}, specs.{Clauses.value, Walks.counted as walked}}
 
 -- one level further down, where a level is left
 abbrev pub deeper : Nesting → Nesting

@@ -8,8 +8,8 @@ pub use Rattle.pagable_model.specs.{Lifted.pair_has_meaning, Meaning.{Meaning, a
 pub use Rattle.pagable_model.specs.{Numbers.unsigned_at, Reading.{Context, Gets, Rest, array_case, bytes_of, counted, deepest, object_case, seen}, Shape.{Shape, both, flag, json, list, optional}}
 pub use Rattle.pagable_model.specs.{Shape.{outcome, signed, sorted_map, text}, Standing.{Answer, Gave, GivesSome, Is, MovesOn, SomeMeaning, handles_at}, Steps.◌>>=◌, Writing.{FormAt, FormsAt, Grows}}
 pub use Rattle.pagable_model.specs.Writing.{Nesting, NoForm, NoFormOfSome, NoForms, NoFormsOfSome, Out, Refused, RefusedAll, WritesSome, WritesSomeAll, added, kind_of_arc, nesting}
-pub use Rattle.{pagable_model.specs.declared.{error.Error.Error, numbers.ArcRef.ArcRef}, pagable_traits.specs.{JsonData.{of_data, of_key, of_value}, JsonSteps.{Piece, Reads, Wrote, all, bytes}}}
-pub use Rattle.{pagable_traits.specs.{JsonSteps.{context_in, nested_in}, Meanings.{Meanings, pairs, some}, Walks.{RefusedAmong, RefusedCounted, WritesEach}}, serde_json.specs.Find.as_i64}
+pub use Rattle.{pagable_model.specs.declared.{error.Error.Error, numbers.ArcRef.ArcRef}, pagable_traits.specs.{JsonData.{of_data, of_key, of_value}, Clauses.{Piece, Reads, Wrote, all, bytes}}}
+pub use Rattle.{pagable_traits.specs.{Clauses.{context_in, nested_in}, Meanings.{Meanings, pairs, some}, Walks.{RefusedAmong, RefusedCounted, WritesEach}}, serde_json.specs.Find.as_i64}
 pub use Rattle.{serde_json.specs.{View.{number_view, view}, declared.value.Value.Value}, std.proofs.Common.{Bool, Err, Global, IsPermutation, List, None, Ok, Option, Result, Some, String, Vec, []}}
 pub use Rattle.std.proofs.Common.{ap, append_assoc, arith, false, get_or, inl, inr, is_some, length, map, refl, rules, subst, suc, sym, take, true, zero, ℕ, ◌*◌, ◌++◌, ◌+◌, ◌-◌, ◌<◌, ◌^◌, ◌∙◌, ◌∷◌}
 pub use Rattle.std.{proofs.{Common.{◌≡◌, ◌≤◌}, lemmas.{Int.to_z-of_z, List.{append-nil, length-map}, Result.err_from_is_err_and}}, specs.{BTreeMap.insert_entry, Borrow.Bor, Cmp.IsTotalOrder, Int.w32}}

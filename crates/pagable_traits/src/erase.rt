@@ -2,7 +2,7 @@
 
 ghost use Rattle.std.specs.Prelude.{List, codes, refl, ℕ, ◌≡◌};
 ghost use Rattle.pagable_model.specs.Reading.{read};
-ghost use Rattle.{pagable_model.specs.declared.numbers.ArcRef.ArcRef as Reference, pagable_traits.specs.{JsonSteps.Reads, References.{holding, holding_kind, holding_name, loose, loose_kind}}};
+ghost use Rattle.{pagable_model.specs.declared.numbers.ArcRef.ArcRef as Reference, pagable_traits.specs.{Clauses.Reads, References.{holding, holding_kind, holding_name, loose, loose_kind}}};
 
 use crate::PagableDeserialize;
 use crate::holding::{HoldingArc, holding_kind_of};

@@ -2,7 +2,7 @@
 
 ghost use Rattle.std.specs.{Arc.arc_value, Prelude.{IfErr, IfOk, Some, nat_eq, option_and_then, ◌≡◌, ◌≢◌}};
 ghost use Rattle.pagable_model.specs.{Reading.read, Shape.reference as reference_shape, Standing.Is};
-ghost use Rattle.pagable_traits.specs.{JsonSteps.Reads, Meanings.exactly, References.{holding, holding_kind, holding_means, reads_unlent, reference_has_one_form, unlent}};
+ghost use Rattle.pagable_traits.specs.{Clauses.Reads, Meanings.exactly, References.{holding, holding_kind, holding_means, reads_unlent, reference_has_one_form, unlent}};
 
 use crate::plain::{read_reference, write_reference};
 use crate::{Canonical, Carried, OneMeaning, PagableDeserialize, PagableSerialize};

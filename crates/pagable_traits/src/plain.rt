@@ -2,7 +2,7 @@
 
 ghost use Rattle.std.specs.Prelude.{IfNone, IfOk, IfSome, ◌≡◌, ◌≢◌};
 ghost use Rattle.pagable_model.specs.{Gives.{memory, never}, Meaning.reference as meaning_of, Reading.read, Shape.reference as reference_shape, Standing.Is};
-ghost use Rattle.pagable_traits.specs.{JsonSteps.{Reads, Wrote, value as form}, Meanings.exactly, References.{plain, plain_means, reference_has_one_form}};
+ghost use Rattle.pagable_traits.specs.{Clauses.{Reads, Wrote, value as form}, Meanings.exactly, References.{plain, plain_means, reference_has_one_form}};
 
 use crate::{Canonical, Carried, OneMeaning, PagableDeserialize, PagableSerialize};
 use pagable_codec::{

@@ -4,8 +4,8 @@
 ghost use Rattle.std.specs.{List.{Sorted.{IsPermutation, IsSorted, IsStable}, slice_get}, Prelude.{Err, IfErr, IfNone, IfOk, IfSome, IsTrue, List, Option, Some, length, map, vec_len, ◌<◌, ◌↔◌, ◌≡◌}};
 ghost use Rattle.std.specs.Prelude.{◌≤◌};
 ghost use Rattle.pagable_model.specs.{Basic.longest, Canonical.HasNoReference, Gives.{Gives, memory_or, never}, Lengths.long_or_memory, Meaning.{Meaning, lifted}, Reading.{read, registered}};
-ghost use Rattle.{pagable_model.specs.{Shape.static_value, Standing.Is, Statics.{HasEqual, NoEqualBelow, StandsAt, meanings_of, unregistered}}, pagable_traits.specs.JsonSteps.{Reads, Wrote}};
-ghost use Rattle.pagable_traits.specs.{JsonSteps.value as form, Meanings.exactly, OwnCauses.writes_memory_or, StaticValues.{static_is_same, static_refers_to_nothing, writes_unregistered}};
+ghost use Rattle.{pagable_model.specs.{Shape.static_value, Standing.Is, Statics.{HasEqual, NoEqualBelow, StandsAt, meanings_of, unregistered}}, pagable_traits.specs.Clauses.{Reads, Wrote}};
+ghost use Rattle.pagable_traits.specs.{Clauses.value as form, Meanings.exactly, OwnCauses.writes_memory_or, StaticValues.{static_is_same, static_refers_to_nothing, writes_unregistered}};
 
 use crate::keys::PagableKey;
 use crate::traits::{Carried, OneMeaning, PagableDeserialize, PagableSerialize};

@@ -1,8 +1,8 @@
 //! The types that can be written and read, also into a box, eagerly, and as the values of nodes.
 
 ghost use Rattle.std.specs.Prelude.{Some, ◌≡◌};
-ghost use Rattle.{pagable_model.specs.{Gives.memory_or, Reading.read, Shape.Shape, declared.error.Error.Error as Refusal}, pagable_traits.specs.{InNodes.Holds, JsonSteps.{Reads, Wrote}}};
-ghost use Rattle.pagable_traits.specs.{JsonSteps.value as form, Meanings.{AreSingle, Meanings}, OwnCauses.{ReadCauses, WriteCauses, reads_memory_or, reads_never, writes_memory}};
+ghost use Rattle.{pagable_model.specs.{Gives.memory_or, Reading.read, Shape.Shape, declared.error.Error.Error as Refusal}, pagable_traits.specs.{InNodes.Holds, Clauses.{Reads, Wrote}}};
+ghost use Rattle.pagable_traits.specs.{Clauses.value as form, Meanings.{AreSingle, Meanings}, OwnCauses.{ReadCauses, WriteCauses, reads_memory_or, reads_never, writes_memory}};
 
 use pagable_codec::{Env, NodeSet, OfNode, PagableDeserializer, PagableSerializer};
 use pagable_flavors::Error;

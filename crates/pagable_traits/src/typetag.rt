@@ -4,7 +4,7 @@
 ghost use Rattle.std.specs.{Prelude.{Bool, IfErr, IfNone, IfOk, IfSome, List, None, OnOk, Option, Some, [], length, map, ℕ, ◌≡◌, ◌≤◌}, Str.IsUtf8, String.string_bytes};
 ghost use Rattle.pagable_model.specs.{Basic.{longest, text_at, text_form}, Carried.tagged_by, Gives.{Gives, long_or, memory, memory_or}, Lengths.long_or_memory, Reading.{bytes_of, read}};
 ghost use Rattle.pagable_model.specs.{Shape.{Shape, tagged}, Standing.MovesOn, Tagged.{HasDistinctTags, IsLastFor, MeansTagged, NoneFor, ReadsWhatIsWritten, grammars}, Writing.{Grows, added}};
-ghost use Rattle.pagable_traits.specs.{JsonSteps.{Reads, Wrote, value as form}, Meanings.Meanings, OwnCauses.{ReadCauses, WriteCauses}, ReadBack.IsReadThroughout};
+ghost use Rattle.pagable_traits.specs.{Clauses.{Reads, Wrote, value as form}, Meanings.Meanings, OwnCauses.{ReadCauses, WriteCauses}, ReadBack.IsReadThroughout};
 
 use pagable_codec::{Env, PagableDeserializer, PagableSerializer, Reader};
 use pagable_flavors::Error;

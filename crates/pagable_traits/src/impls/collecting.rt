@@ -3,7 +3,7 @@
 
 ghost use Rattle.std.specs.{Iterator.IsFinite, Prelude.{◌≡◌, ℕ, List, [], length, min, OnOk, IfOk, IfErr}};
 ghost use Rattle.pagable_model.specs.{Collected.Collected, Gives.{memory, memory_or, long_or}, Reading.{items, counted, read}, Standing.MovesOn};
-ghost use Rattle.pagable_traits.specs.{JsonSteps.{Reads, Wrote}, Walks.{counted as walked, each}};
+ghost use Rattle.pagable_traits.specs.{Clauses.{Reads, Wrote}, Walks.{counted as walked, each}};
 
 use crate::traits::{PagableDeserialize, PagableSerialize};
 use pagable_codec::parts::{places_for, read_count, write_count};

@@ -4,7 +4,7 @@
 ghost use Rattle.std.{specs.Prelude.◌≡◌, specs.Int.w64};
 ghost use Rattle.pagable_model.specs.{Reading.{bytes_of, items as items_at, read, seen, array_case, object_case}, Gives.{Gives, memory, never}, Lifted.MeansPair, Meaning.{sequence, variant}};
 ghost use Rattle.pagable_model.specs.{Numbers.unsigned_at, Shape.{both, json, text}, Standing.{Is, MovesOn}};
-ghost use Rattle.pagable_traits.specs.{JsonData.{of_key, of_value}, JsonSteps.{Reads, part_of, ObjectOf}, Meanings.exactly, OwnCauses.reads_memory};
+ghost use Rattle.pagable_traits.specs.{JsonData.{of_key, of_value}, Clauses.{Reads, part_of, ObjectOf}, Meanings.exactly, OwnCauses.reads_memory};
 
 use crate::traits::{Carried, OneMeaning, PagableDeserialize};
 use pagable_codec::parts::{places_for, read_count, read_flag};

@@ -4,7 +4,7 @@
 ghost use Rattle.std.{specs.Int.w64, specs.String.string_bytes};
 ghost use Rattle.pagable_model.specs.{Gives.{memory, json_causes}, Lifted.{MeanAll, MeansPair}, Numbers.unsigned_form, Shape.{both, json, text}, Standing.Is};
 ghost use Rattle.serde_json.specs.{Data.{boolean, number, string, array, object}, View.{number_view, items_view, members_view}};
-ghost use Rattle.pagable_traits.specs.{JsonData.{of_data, of_value, of_key, long_or_no_memory}, JsonSteps.{Wrote, bytes, front, value as form, all}, OwnCauses.writes_json};
+ghost use Rattle.pagable_traits.specs.{JsonData.{of_data, of_value, of_key, long_or_no_memory}, Clauses.{Wrote, bytes, front, value as form, all}, OwnCauses.writes_json};
 
 use crate::traits::PagableSerialize;
 use pagable_codec::{Env, PagableSerializer, parts};

@@ -2,7 +2,7 @@
 
 ghost use Rattle.std.specs.{BTreeMap.insert_entry, BTreeSet.insert_key, HashMap.spare, Prelude.{◌≡◌, ◌≤◌}};
 ghost use Rattle.pagable_model.specs.{Gives.either, Hashed.{PutsAnywhere, hash_map_single}, Lifted.MeansPair, Shape.{both, hash_map, placed_map, placed_set, sorted_map, sorted_set}};
-ghost use Rattle.pagable_traits.specs.{JsonSteps.{Wrote, value as form}, Meanings.{hash_maps, lists, lists_single, pairs, pairs_single, seen_by}, OwnCauses.{reads_either, reads_memory_or}};
+ghost use Rattle.pagable_traits.specs.{Clauses.{Wrote, value as form}, Meanings.{hash_maps, lists, lists_single, pairs, pairs_single, seen_by}, OwnCauses.{reads_either, reads_memory_or}};
 ghost use Rattle.pagable_traits.specs.OwnCauses.{writes_either, writes_long_or, writes_memory_or};
 ghost use Rattle.indexmap.specs.IndexMap as placed_maps;
 ghost use Rattle.indexmap.specs.IndexSet as placed_sets;
