@@ -2,7 +2,8 @@
 
 ghost use Rattle.pagable_model.specs.{Meaning.Meaning, Reading.read_typed, References.{SameReferences, references_in}, Refusals.{is_own_reading, may_refuse_writing}, Shape.Shape, Standing.GivesSome};
 ghost use Rattle.pagable_model.specs.{Standing.{MovesOn, SomeMeaning, handles_at}, Writing.{Grows, Refused, WritesSome, nesting}, declared.error.Error.Error as Refusal};
-ghost use Rattle.{pagable_model.specs.declared.numbers.ArcRef.ArcRef as Reference, std.specs.Prelude.{IfErr, IfOk, List, OnOk, Option, Some, true, ℕ, ◌++◌, ◌<◌, ◌^◌, ◌≡◌}};
+ghost use Rattle.pagable_model.specs.declared.numbers.ArcRef.{ArcRef as Reference};
+ghost use Rattle.std.specs.Prelude.{IfErr, IfOk, List, OnOk, Option, Some, true, ℕ, ◌++◌, ◌<◌, ◌^◌, ◌≡◌};
 
 use crate::deserializer::PagableDeserializer;
 use crate::env::Env;

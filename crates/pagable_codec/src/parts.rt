@@ -1,7 +1,8 @@
 //! The parts of values that hold others: flags and counts. Each later type is written and read by these.
 
 ghost use Rattle.pagable_model.specs.{Basic.{bool_at, bool_form, length_at, length_form, longest}, Gives.{Gives, memory, never}, Lengths.long_or_memory, Reading.bytes_of, Standing.MovesOn};
-ghost use Rattle.{pagable_model.specs.Writing.{Grows, added}, std.specs.Prelude.{IfErr, OnOk, [], length, min, ◌≡◌, ◌≤◌}};
+ghost use Rattle.pagable_model.specs.Writing.{Grows, added};
+ghost use Rattle.std.specs.Prelude.{IfErr, OnOk, [], length, min, ◌≡◌, ◌≤◌};
 
 use crate::deserializer::PagableDeserializer;
 use crate::env::Env;

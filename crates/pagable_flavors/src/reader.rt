@@ -1,7 +1,8 @@
 //! What reads basic values: what a deserializer lends.
 
 ghost use Rattle.{pagable_flavors.specs.Calls.Reads, pagable_model.specs.{Basic.{bool_at, char_at, length_at, text_at}, Gives.{Gives, memory}, Numbers.{signed_at, unsigned_at}, Track.GoesOn}};
-ghost use Rattle.{pagable_model.specs.Track.{Track, left}, std.specs.{Int.{w128, w16, w32, w64, w8}, Prelude.{length, ◌≡◌, ◌≤◌}, String.string_bytes}};
+ghost use Rattle.pagable_model.specs.Track.{Track, left};
+ghost use Rattle.std.specs.{Int.{w128, w16, w32, w64, w8}, Prelude.{length, ◌≡◌, ◌≤◌}, String.string_bytes};
 
 use pagable_model::Error;
 use std::alloc::Global;

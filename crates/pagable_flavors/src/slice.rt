@@ -20,7 +20,8 @@ pub struct PagableSlice<'de> {
 }
 
 impl<'de> Model for PagableSlice<'de> {
-    ghost use Rattle.{pagable_model.specs.Track.Track, std.specs.Prelude.{length, ◌≤◌}};
+    ghost use Rattle.pagable_model.specs.Track.{Track};
+    ghost use Rattle.std.specs.Prelude.{length, ◌≤◌};
 
     ghost Value = { Track };
 

@@ -1,6 +1,7 @@
 //! Bytes that are written one after another.
 
-ghost use Rattle.{pagable_model.specs.Gives.memory, std.specs.Prelude.{IfErr, List, OnErr, OnOk, [], drop, length, take, ◌++◌, ◌+◌, ◌∷◌, ◌≡◌, ◌≤◌}};
+ghost use Rattle.pagable_model.specs.Gives.{memory};
+ghost use Rattle.std.specs.Prelude.{IfErr, List, OnErr, OnOk, [], drop, length, take, ◌++◌, ◌+◌, ◌∷◌, ◌≡◌, ◌≤◌};
 
 mod writing;
 

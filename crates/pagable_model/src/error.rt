@@ -1,6 +1,7 @@
 //! Why something is refused.
 
-ghost use Rattle.{pagable_model.specs.{Refusals.number_of, declared.error.Error.TheVariants.OutOfMemory}, std.specs.Prelude.◌≡◌};
+ghost use Rattle.pagable_model.specs.{Refusals.number_of, declared.error.Error.TheVariants.OutOfMemory};
+ghost use Rattle.std.specs.Prelude.{◌≡◌};
 
 use crate::data_key::DataKey;
 use crate::reason::Reason;

@@ -1,6 +1,7 @@
 //! The keys of a blob, which are read one after another.
 
-ghost use Rattle.{pagable_model.specs.Track.Track, std.specs.Prelude.{IfNone, IfSome, OnSome, Some, length, slice_get, ◌+◌, ◌<◌, ◌≡◌, ◌≤◌}};
+ghost use Rattle.pagable_model.specs.Track.{Track};
+ghost use Rattle.std.specs.Prelude.{IfNone, IfSome, OnSome, Some, length, slice_get, ◌+◌, ◌<◌, ◌≡◌, ◌≤◌};
 
 use pagable_flavors::DataKey;
 use std::marker::Model;
@@ -13,7 +14,8 @@ pub struct PagableKeys<'de> {
 }
 
 impl<'de> Model for PagableKeys<'de> {
-    ghost use Rattle.{pagable_model.specs.Track.Track, std.specs.Prelude.{length, ◌≤◌}};
+    ghost use Rattle.pagable_model.specs.Track.{Track};
+    ghost use Rattle.std.specs.Prelude.{length, ◌≤◌};
 
     ghost Value = { Track };
 

@@ -1,6 +1,7 @@
 //! The deserializer over one blob.
 
-ghost use Rattle.{pagable_core.specs.Context.at_front, std.specs.Prelude.◌≡◌};
+ghost use Rattle.pagable_core.specs.Context.{at_front};
+ghost use Rattle.std.specs.Prelude.{◌≡◌};
 
 use crate::context::keys::PagableKeys;
 use crate::context::references::References;

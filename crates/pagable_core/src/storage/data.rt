@@ -1,6 +1,7 @@
 //! Blobs and their keys.
 
-ghost use Rattle.{pagable_core.specs.Data.blob_of, pagable_model.specs.Blob.key_of, std.specs.Prelude.◌≡◌};
+ghost use Rattle.{pagable_core.specs.Data.blob_of, pagable_model.specs.Blob.key_of};
+ghost use Rattle.std.specs.Prelude.{◌≡◌};
 
 use pagable_codec::KeyHash;
 use pagable_flavors::DataKey;

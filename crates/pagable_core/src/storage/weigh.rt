@@ -1,6 +1,7 @@
 //! A hash for tests.
 
-ghost use Rattle.{pagable_core.specs.Data.IsWeighed, pagable_model.specs.Blob.weigh_hash, std.specs.Prelude.{List, length, ℕ, ◌%◌, ◌+◌, ◌^◌, ◌≡◌}};
+ghost use Rattle.{pagable_core.specs.Data.IsWeighed, pagable_model.specs.Blob.weigh_hash};
+ghost use Rattle.std.specs.Prelude.{List, length, ℕ, ◌%◌, ◌+◌, ◌^◌, ◌≡◌};
 
 use pagable_codec::KeyHash;
 

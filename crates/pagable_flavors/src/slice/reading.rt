@@ -1,6 +1,7 @@
 //! Basic values are read, and texts and byte arrays that stay where they are.
 
-ghost use Rattle.{pagable_model.specs.{Basic.{byte_array_at, text_at}, Gives.{Gives, never}, Track.{GoesOn, left}}, std.specs.Prelude.◌≡◌};
+ghost use Rattle.pagable_model.specs.{Basic.{byte_array_at, text_at}, Gives.{Gives, never}, Track.{GoesOn, left}};
+ghost use Rattle.std.specs.Prelude.{◌≡◌};
 
 use super::PagableSlice;
 use crate::reader::Reader;

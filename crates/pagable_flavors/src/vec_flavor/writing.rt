@@ -1,7 +1,8 @@
 //! Basic values are written: whole numbers, flags, lengths, texts and byte arrays.
 
 ghost use Rattle.{pagable_flavors.specs.Calls.{Appends, AppendsCounted}, pagable_model.specs.{Basic.{bool_form, byte_array_form, char_form, length_form, text_form}, Gives.{Extends, memory}}};
-ghost use Rattle.{pagable_model.specs.Numbers.{AppendsVarint, signed_form, unsigned_form}, std.specs.{Int.{w128, w16, w32, w64, w8}, Prelude.{IfErr, OnOk, length, ◌++◌, ◌≡◌}}};
+ghost use Rattle.pagable_model.specs.Numbers.{AppendsVarint, signed_form, unsigned_form};
+ghost use Rattle.std.specs.{Int.{w128, w16, w32, w64, w8}, Prelude.{IfErr, OnOk, length, ◌++◌, ◌≡◌}};
 
 use super::{LONGEST, PagableVecFlavor};
 use crate::zigzag;
