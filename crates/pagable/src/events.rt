@@ -31,13 +31,11 @@ fn found(
 }
 
 // Makes the call, and answers what the pager answers.
-fn make_call<E: Env, S: PagableStorage<E>>(
+fn make_call<E: Env<Node: NodeSet<E>>, S: PagableStorage<E>>(
     pager: &mut Pager<E, S>,
     alloc: Global,
     call: Call<E::Node, PagableData>,
 ) -> Reply<E::Node, Arc<PagableData>>
-where
-    E::Node: NodeSet<E>,
     ensures { Serves (values_at E.Node.NodeSet E.Env E.Hash.KeyHash pager.old.environment) (telling S.stored S.is_closed S.failed) pager.old call result pager.new }
 {
     match call {
@@ -125,13 +123,11 @@ fn prepare(
 }
 
 // One step of a load over a lent pager: the borrow checker takes a lent struct where its own type is asked, and not where any access is.
-fn step_by<'a, E: Env, S: PagableStorage<E>>(
+fn step_by<'a, E: Env<Node: NodeSet<E>>, S: PagableStorage<E>>(
     lent: &mut Lent<'a, E, S>,
     alloc: Global,
     own: &mut Reading,
 ) -> LoadReply<E::Node>
-where
-    E::Node: NodeSet<E>,
     requires { lent.old.me ≡ Owner.Caller }
     ensures step { Stepped (values_at E.Node.NodeSet E.Env E.Hash.KeyHash lent.old.pager.now.environment) Owner.Caller own.old result own.new
         (state_in (telling S.stored S.is_closed S.failed) lent.old.pager.now) (state_in (telling S.stored S.is_closed S.failed) lent.new.pager.now) }
@@ -143,14 +139,12 @@ where
 }
 
 // A load's next step. Refused with NoSuchHandle and NotYours; with WrongMode where a call began it as a load of a key. Then nothing changes, and no step is counted.
-fn load_step<E: Env, S: PagableStorage<E>>(
+fn load_step<E: Env<Node: NodeSet<E>>, S: PagableStorage<E>>(
     pager: &mut Pager<E, S>,
     held: &mut Held<E>,
     alloc: Global,
     load: LoadNumber,
 ) -> Result<LoadReply<E::Node>, Error>
-where
-    E::Node: NodeSet<E>,
     requires { IsInStep (telling S.stored S.is_closed S.failed) pager.old held.old }
     ensures { Drives (values_at E.Node.NodeSet E.Env E.Hash.KeyHash pager.old.environment) (telling S.stored S.is_closed S.failed)
         pager.old held.old (Event.LoadStep load) (EventReply.LoadMoved result) pager.new held.new }
@@ -182,13 +176,11 @@ fn closed_by<N: Drop>(call: &Call<N, PagableData>) -> Option<LoadNumber> {
 }
 
 // Nothing is kept of a load that is closed.
-fn forget<E: Env, S: PagableStorage<E>>(
+fn forget<E: Env<Node: NodeSet<E>>, S: PagableStorage<E>>(
     pager: &Pager<E, S>,
     readings: &mut IndexMap<u64, Reading>,
     load: Option<LoadNumber>,
 )
-where
-    E::Node: NodeSet<E>,
     ensures { Forgets (core_in (telling S.stored S.is_closed S.failed) pager.now) (kept_at readings.old) (kept_at readings.new) }
 {
     let Some(load) = load else {
@@ -200,15 +192,13 @@ where
 }
 
 // A load of a key begins, which is read as a value of this type.
-fn load_key<E: Env, S: PagableStorage<E>>(
+fn load_key<E: Env<Node: NodeSet<E>>, S: PagableStorage<E>>(
     pager: &mut Pager<E, S>,
     held: &mut Held<E>,
     alloc: Global,
     key: DataKey,
     node_type: u32,
 ) -> Result<Beginning, Error>
-where
-    E::Node: NodeSet<E>,
     requires { IsInStep (telling S.stored S.is_closed S.failed) pager.old held.old }
     ensures { Drives (values_at E.Node.NodeSet E.Env E.Hash.KeyHash pager.old.environment) (telling S.stored S.is_closed S.failed)
         pager.old held.old (Event.LoadKey key node_type) (EventReply.Started result) pager.new held.new }
@@ -234,14 +224,12 @@ where
 }
 
 /// Makes the event's step, and answers what it answers.
-pub fn serve<E: Env, S: PagableStorage<E>>(
+pub fn serve<E: Env<Node: NodeSet<E>>, S: PagableStorage<E>>(
     pager: &mut Pager<E, S>,
     held: &mut Held<E>,
     alloc: Global,
     event: Event<E::Node, PagableData, SerializedData>,
 ) -> EventReply<E::Node, Arc<PagableData>, Arc<SerializedData>>
-where
-    E::Node: NodeSet<E>,
     requires { IsInStep (telling S.stored S.is_closed S.failed) pager.old held.old }
     ensures { Drives (values_at E.Node.NodeSet E.Env E.Hash.KeyHash pager.old.environment) (telling S.stored S.is_closed S.failed)
         pager.old held.old event result pager.new held.new }

@@ -19,19 +19,13 @@ use std::sync::Arc;
 
 /// A pager that takes lists of events: calls, and loads and workers of page-out by steps.
 #[derive(Drop)]
-pub struct Machine<E: Env + Trees, S: PagableStorage<E>>
-where
-    E::Node: NodeSet<E>,
-{
+pub struct Machine<E: Env<Node: NodeSet<E>> + Trees, S: PagableStorage<E>> {
     pager: Pager<E, S>,
     // What it keeps of loads, tables and workers.
     held: Held<E>,
 }
 
-impl<E: Env + Trees, S: PagableStorage<E>> Model for Machine<E, S>
-where
-    E::Node: NodeSet<E>,
-{
+impl<E: Env<Node: NodeSet<E>> + Trees, S: PagableStorage<E>> Model for Machine<E, S> {
     ghost use Rattle.std.specs.Coded.{codes};
     ghost use Rattle.{pagable_pager.specs.View.telling, pagable.specs.Driving.{IsInStep, MachineView, view_of}, indexmap.specs.Layout.hash_map_code};
 
@@ -44,10 +38,7 @@ where
     ghost invariant = { λ m. IsInStep (telling S.stored S.is_closed S.failed) m.pager m.held };
 }
 
-impl<E: Env, S: PagableStorage<E>> Machine<E, S>
-where
-    E::Node: NodeSet<E>,
-{
+impl<E: Env<Node: NodeSet<E>>, S: PagableStorage<E>> Machine<E, S> {
     /// A machine over a pager of nothing, over a storage as it stands. It takes no memory.
     pub fn new(alloc: Global, storage: S, env: E) -> Machine<E, S>
         ensures empty { IsNew (state_in (telling S.stored S.is_closed S.failed) result.pager) }

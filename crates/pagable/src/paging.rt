@@ -15,13 +15,11 @@ use std::alloc::Global;
 use std::sync::Arc;
 
 // A pin by a lent pager: the borrow checker takes a lent struct where its own type is asked, and not where any access is.
-fn pin_by<'a, E: Env, S: PagableStorage<E>>(
+fn pin_by<'a, E: Env<Node: NodeSet<E>>, S: PagableStorage<E>>(
     lent: &mut Lent<'a, E, S>,
     alloc: Global,
     handle: HandleNumber,
 ) -> Result<(HandleNumber, Arc<E::Node>), Error>
-where
-    E::Node: NodeSet<E>,
     requires caller { lent.old.me ≡ owners.Caller }
     ensures pins { PinsOver (values_at E.Node.NodeSet E.Env E.Hash.KeyHash lent.old.pager.now.environment) (state_in (telling S.stored S.is_closed S.failed) lent.old.pager.now)
         handle (seen_as (λ a. (a.0, arc_value a.1)) result) (state_in (telling S.stored S.is_closed S.failed) lent.new.pager.now) }
@@ -32,13 +30,11 @@ where
 
 /// Pins a loose handle's cell, reading its value from the storage where it isn't in memory, with all that it refers to and that is read
 /// together with it. Answers the Pinned handle and the value, shared. A refusal leaves the handle as it was, and no load open.
-pub fn pin<E: Env, S: PagableStorage<E>>(
+pub fn pin<E: Env<Node: NodeSet<E>>, S: PagableStorage<E>>(
     alloc: Global,
     pager: &mut Pager<E, S>,
     handle: HandleNumber,
 ) -> Result<(HandleNumber, Arc<E::Node>), Error>
-where
-    E::Node: NodeSet<E>,
     ensures pins { PinsOver (values_at E.Node.NodeSet E.Env E.Hash.KeyHash pager.old.environment) (state_in (telling S.stored S.is_closed S.failed) pager.old)
         handle (seen_as (λ a. (a.0, arc_value a.1)) result) (state_in (telling S.stored S.is_closed S.failed) pager.new) }
 {
@@ -47,14 +43,12 @@ where
 }
 
 // A reading by a lent pager.
-fn read_by<'a, E: Env, S: PagableStorage<E>>(
+fn read_by<'a, E: Env<Node: NodeSet<E>>, S: PagableStorage<E>>(
     lent: &mut Lent<'a, E, S>,
     alloc: Global,
     key: DataKey,
     node_type: u32,
 ) -> Result<E::Node, Error>
-where
-    E::Node: NodeSet<E>,
     requires caller { lent.old.me ≡ owners.Caller }
     ensures reads { ReadsOver (values_at E.Node.NodeSet E.Env E.Hash.KeyHash lent.old.pager.now.environment) (state_in (telling S.stored S.is_closed S.failed) lent.old.pager.now)
         key node_type result (state_in (telling S.stored S.is_closed S.failed) lent.new.pager.now) }
@@ -65,14 +59,12 @@ where
 
 /// Reads a key as a value of this type, with all that it refers to and that is read together with it. The handles of its references are the
 /// caller's. A refusal leaves nothing of it.
-pub fn read<E: Env, S: PagableStorage<E>>(
+pub fn read<E: Env<Node: NodeSet<E>>, S: PagableStorage<E>>(
     alloc: Global,
     pager: &mut Pager<E, S>,
     key: DataKey,
     node_type: u32,
 ) -> Result<E::Node, Error>
-where
-    E::Node: NodeSet<E>,
     ensures reads { ReadsOver (values_at E.Node.NodeSet E.Env E.Hash.KeyHash pager.old.environment) (state_in (telling S.stored S.is_closed S.failed) pager.old)
         key node_type result (state_in (telling S.stored S.is_closed S.failed) pager.new) }
 {
@@ -83,13 +75,11 @@ where
 /// Reads a key as a value of the type T, as `read` does, and answers the value that its node holds. Refused as `read`; and where memory is
 /// wanting to take the value out, or the node holds none, with the node, whose references' handles are the caller's.
 #[tactic(auto, using(crate::proofs::Driven::taking))]
-pub fn deserialize_pagable_data<E: Env, S: PagableStorage<E>, T: OfNode<E>>(
+pub fn deserialize_pagable_data<E: Env<Node: NodeSet<E>>, S: PagableStorage<E>, T: OfNode<E>>(
     alloc: Global,
     pager: &mut Pager<E, S>,
     key: DataKey,
 ) -> Result<Arc<T>, (Error, Option<E::Node>)>
-where
-    E::Node: NodeSet<E>,
     ensures reads { ReadsValue (values_at E.Node.NodeSet E.Env E.Hash.KeyHash pager.old.environment) arc_value T.held (state_in (telling S.stored S.is_closed S.failed) pager.old)
         key T.TYPE result (state_in (telling S.stored S.is_closed S.failed) pager.new) }
 {
@@ -104,14 +94,12 @@ where
 }
 
 // A page-out of an item by a lent pager.
-fn page_out_item_by<'a, E: Env, S: PagableStorage<E>>(
+fn page_out_item_by<'a, E: Env<Node: NodeSet<E>>, S: PagableStorage<E>>(
     lent: &mut Lent<'a, E, S>,
     alloc: Global,
     table: &mut SlotTable<E>,
     item: Arc<SerializedData>,
 ) -> Result<DataKey, PageOutError>
-where
-    E::Node: NodeSet<E>,
     requires caller { lent.old.me ≡ owners.Caller }
     ensures pages { PagesItem (values_at E.Node.NodeSet E.Env E.Hash.KeyHash lent.old.pager.now.environment) (shelf_of table.old) (written_of (arc_value item)) (shelf_of table.new) (answer_of result)
         (state_in (telling S.stored S.is_closed S.failed) lent.old.pager.now) (state_in (telling S.stored S.is_closed S.failed) lent.new.pager.now) }
@@ -122,14 +110,12 @@ where
 
 /// Pages out what an item refers to, and then the item itself: answers its key, or why it failed. What the table knows from the items before it
 /// isn't written again. Whatever it answers, the caller owns afterwards the handles that it owned before.
-pub fn page_out_item<E: Env, S: PagableStorage<E>>(
+pub fn page_out_item<E: Env<Node: NodeSet<E>>, S: PagableStorage<E>>(
     alloc: Global,
     pager: &mut Pager<E, S>,
     table: &mut SlotTable<E>,
     item: Arc<SerializedData>,
 ) -> Result<DataKey, PageOutError>
-where
-    E::Node: NodeSet<E>,
     ensures pages { PagesOutItem (values_at E.Node.NodeSet E.Env E.Hash.KeyHash pager.old.environment) (state_in (telling S.stored S.is_closed S.failed) pager.old)
         (shelf_of table.old) (written_of (arc_value item)) (answer_of result) (state_in (telling S.stored S.is_closed S.failed) pager.new) (shelf_of table.new) }
 {
@@ -139,12 +125,10 @@ where
 }
 
 // A page-out of the list by a lent pager.
-fn page_out_pending_by<'a, E: Env, S: PagableStorage<E>>(
+fn page_out_pending_by<'a, E: Env<Node: NodeSet<E>>, S: PagableStorage<E>>(
     lent: &mut Lent<'a, E, S>,
     alloc: Global,
 ) -> Result<(), PageOutError>
-where
-    E::Node: NodeSet<E>,
     requires caller { lent.old.me ≡ owners.Caller }
     ensures pages { PagesList (values_at E.Node.NodeSet E.Env E.Hash.KeyHash lent.old.pager.now.environment) result
         (state_in (telling S.stored S.is_closed S.failed) lent.old.pager.now) (state_in (telling S.stored S.is_closed S.failed) lent.new.pager.now) }
@@ -156,12 +140,10 @@ where
 /// Pages out the entries that stand in the list at the call, with all that they refer to, from the last to the first, and stops at the first
 /// failure, which it answers. What is listed meanwhile waits for the next call. An entry whose cell has a key is only
 /// released; one whose page-out fails before it is pinned is listed again, at the end.
-pub fn page_out_pending<E: Env, S: PagableStorage<E>>(
+pub fn page_out_pending<E: Env<Node: NodeSet<E>>, S: PagableStorage<E>>(
     alloc: Global,
     pager: &mut Pager<E, S>,
 ) -> Result<(), PageOutError>
-where
-    E::Node: NodeSet<E>,
     ensures pages { PagesOutList (values_at E.Node.NodeSet E.Env E.Hash.KeyHash pager.old.environment) (state_in (telling S.stored S.is_closed S.failed) pager.old)
         result (state_in (telling S.stored S.is_closed S.failed) pager.new) }
 {

@@ -58,13 +58,11 @@ pub fn put<V: Drop>(kept: &mut IndexMap<u64, V>, number: u64, value: V)
 }
 
 /// A new table, under the next number. Refused by want of memory alone; then nothing changes.
-pub fn table_new<E: Env, S: PagableStorage<E>>(
+pub fn table_new<E: Env<Node: NodeSet<E>>, S: PagableStorage<E>>(
     pager: &Pager<E, S>,
     held: &mut Held<E>,
     alloc: Global,
 ) -> Result<TableNumber, Error>
-where
-    E::Node: NodeSet<E>,
     requires { IsInStep (telling S.stored S.is_closed S.failed) pager.now held.old }
     ensures { Drives (values_at E.Node.NodeSet E.Env E.Hash.KeyHash pager.now.environment) (telling S.stored S.is_closed S.failed)
         pager.now held.old Event.TableNew (EventReply.TableMade result) pager.now held.new }
@@ -135,15 +133,13 @@ fn entry_walk<E: Trees>(alloc: Global, table: TableNumber, reference: ArcRef) ->
 }
 
 /// A worker on a table begins, for an item. Refused with NoSuchHandle where there is no such table, and with OutOfMemory; then nothing changes.
-pub fn worker_item<E: Env, S: PagableStorage<E>>(
+pub fn worker_item<E: Env<Node: NodeSet<E>>, S: PagableStorage<E>>(
     pager: &mut Pager<E, S>,
     held: &mut Held<E>,
     alloc: Global,
     table: TableNumber,
     item: SerializedData,
 ) -> Result<WorkerNumber, Error>
-where
-    E::Node: NodeSet<E>,
     requires { IsInStep (telling S.stored S.is_closed S.failed) pager.old held.old }
     ensures { Drives (values_at E.Node.NodeSet E.Env E.Hash.KeyHash pager.old.environment) (telling S.stored S.is_closed S.failed)
         pager.old held.old (Event.WorkerItem table item) (EventReply.WorkerMade result) pager.new held.new }
@@ -159,15 +155,13 @@ where
 
 /// A worker on a table begins, for the entry at this place of the list, counted from 0. Refused with NoSuchHandle where there is no such table or no such place, with
 /// WrongKind where the cell's type is too great a number for its kinds, and with OutOfMemory; then nothing changes.
-pub fn worker_listed<E: Env, S: PagableStorage<E>>(
+pub fn worker_listed<E: Env<Node: NodeSet<E>>, S: PagableStorage<E>>(
     pager: &mut Pager<E, S>,
     held: &mut Held<E>,
     alloc: Global,
     table: TableNumber,
     place: u64,
 ) -> Result<WorkerNumber, Error>
-where
-    E::Node: NodeSet<E>,
     requires { IsInStep (telling S.stored S.is_closed S.failed) pager.old held.old }
     ensures { Drives (values_at E.Node.NodeSet E.Env E.Hash.KeyHash pager.old.environment) (telling S.stored S.is_closed S.failed)
         pager.old held.old (Event.WorkerListed table place) (EventReply.WorkerMade result) pager.new held.new }
@@ -185,7 +179,7 @@ where
 }
 
 // One step over a lent pager: the borrow checker takes a lent struct where its own type is asked, and not where any access is.
-fn step_by<'a, E: Env, S: PagableStorage<E>>(
+fn step_by<'a, E: Env<Node: NodeSet<E>>, S: PagableStorage<E>>(
     lent: &mut Lent<'a, E, S>,
     alloc: Global,
     table: &mut SlotTable<E>,
@@ -193,8 +187,6 @@ fn step_by<'a, E: Env, S: PagableStorage<E>>(
     path: &mut Vec<Waiting<E>>,
     task: Task<E>,
 ) -> Moved<E>
-where
-    E::Node: NodeSet<E>,
     requires me { lent.old.me ≡ owner_worker worker.0 }
     requires way { IsWay (todo_of task ∷ todos path.old.items) }
     ensures way { IsWay (plan result.turn path.new.items) }
@@ -244,15 +236,13 @@ fn settle<E: Trees>(walk: &mut Walk<E>, moved: Moved<E>) -> WorkerReply<Arc<Seri
 }
 
 // A worker that has a task makes a step on its table.
-fn walk_on<E: Env, S: PagableStorage<E>>(
+fn walk_on<E: Env<Node: NodeSet<E>>, S: PagableStorage<E>>(
     pager: &mut Pager<E, S>,
     alloc: Global,
     tables: &mut Vec<SlotTable<E>>,
     worker: WorkerNumber,
     walk: &mut Walk<E>,
 ) -> WorkerReply<Arc<SerializedData>>
-where
-    E::Node: NodeSet<E>,
     requires has { is_some walk.old.task ≡ true }
     requires table { (0 < walk.old.table) × (walk.old.table ≤ length tables.old.items) }
     requires way { IsWay (todo_left walk.old.task walk.old.path.items) }
@@ -280,14 +270,12 @@ fn has_task<E: Trees>(walks: &IndexMap<u64, Walk<E>>, worker: u64) -> bool
 }
 
 /// A worker's next step. Refused with NoSuchHandle where there is no such worker or it has answered; then nothing changes.
-pub fn worker_step<E: Env, S: PagableStorage<E>>(
+pub fn worker_step<E: Env<Node: NodeSet<E>>, S: PagableStorage<E>>(
     pager: &mut Pager<E, S>,
     held: &mut Held<E>,
     alloc: Global,
     worker: WorkerNumber,
 ) -> Result<WorkerReply<Arc<SerializedData>>, Error>
-where
-    E::Node: NodeSet<E>,
     requires { IsInStep (telling S.stored S.is_closed S.failed) pager.old held.old }
     ensures { Drives (values_at E.Node.NodeSet E.Env E.Hash.KeyHash pager.old.environment) (telling S.stored S.is_closed S.failed)
         pager.old held.old (Event.WorkerStep worker) (EventReply.WorkerMoved result) pager.new held.new }

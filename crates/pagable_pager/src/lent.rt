@@ -21,19 +21,13 @@ use std::sync::Arc;
 
 /// The caller's access to a pager that is lent, or that of a worker at work. It tells the pager's state.
 #[derive(Drop)]
-pub struct Lent<'a, E: Env, S: PagableStorage<E>>
-where
-    E::Node: NodeSet<E>,
-{
+pub struct Lent<'a, E: Env<Node: NodeSet<E>>, S: PagableStorage<E>> {
     pager: &'a mut Pager<E, S>,
     me: Owner,
     ghost at_work: { is_at_work (core_in (telling S.stored S.is_closed S.failed) pager.now) me ≡ true },
 }
 
-impl<'a, E: Env, S: PagableStorage<E>> Lent<'a, E, S>
-where
-    E::Node: NodeSet<E>,
-{
+impl<'a, E: Env<Node: NodeSet<E>>, S: PagableStorage<E>> Lent<'a, E, S> {
     /// The access to this pager, as it stands.
     pub fn new(pager: &'a mut Pager<E, S>) -> Lent<'a, E, S>
         ensures lent { result.pager.ghost_name ≡ pager.entry.ghost_name }
@@ -61,9 +55,10 @@ where
 }
 
 // What a call has answered, with what is true of the pager after it.
-fn settled<E: Env, S: PagableStorage<E>, X: Drop>(answer: X, pager: &Pager<E, S>) -> X
-where
-    E::Node: NodeSet<E>,
+fn settled<E: Env<Node: NodeSet<E>>, S: PagableStorage<E>, X: Drop>(
+    answer: X,
+    pager: &Pager<E, S>,
+) -> X
     ensures same { result ≡ answer }
     ensures whole { WellFormed (values_at E.Node.NodeSet E.Env E.Hash.KeyHash pager.now.environment) (state_in (telling S.stored S.is_closed S.failed) pager.now) }
 {
@@ -71,10 +66,7 @@ where
     answer
 }
 
-impl<'a, E: Env, S: PagableStorage<E>> Access<E> for Lent<'a, E, S>
-where
-    E::Node: NodeSet<E>,
-{
+impl<'a, E: Env<Node: NodeSet<E>>, S: PagableStorage<E>> Access<E> for Lent<'a, E, S> {
     ghost use Rattle.std.specs.Prelude.{Some};
     ghost use Rattle.pagable_pager.specs.View.{state_in, telling};
     ghost use Rattle.pagable_world.specs.declared.handles.Owner.TheVariants as owners;
@@ -189,10 +181,7 @@ where
     }
 }
 
-impl<'a, E: Env, S: PagableStorage<E>> WorkerAccess<E> for Lent<'a, E, S>
-where
-    E::Node: NodeSet<E>,
-{
+impl<'a, E: Env<Node: NodeSet<E>>, S: PagableStorage<E>> WorkerAccess<E> for Lent<'a, E, S> {
     fn check_reference(&self, reference: ArcRef) -> Result<(), Error> {
         match self.pager.claim_fault(reference) {
             Some(e) => Err(e),
@@ -256,17 +245,11 @@ pub struct ArcCell {
 
 /// The cache of a pager, which it borrows: which node is known under a kind and a key. It owns no handle. Each call is the pager's own.
 #[derive(Drop)]
-pub struct DeserializedArcCache<'a, E: Env, S: PagableStorage<E>>
-where
-    E::Node: NodeSet<E>,
-{
+pub struct DeserializedArcCache<'a, E: Env<Node: NodeSet<E>>, S: PagableStorage<E>> {
     pager: &'a mut Pager<E, S>,
 }
 
-impl<'a, E: Env, S: PagableStorage<E>> DeserializedArcCache<'a, E, S>
-where
-    E::Node: NodeSet<E>,
-{
+impl<'a, E: Env<Node: NodeSet<E>>, S: PagableStorage<E>> DeserializedArcCache<'a, E, S> {
     /// The cache of this pager, as it stands.
     pub fn new(pager: &'a mut Pager<E, S>) -> DeserializedArcCache<'a, E, S>
         ensures lent { result.pager.ghost_name ≡ pager.entry.ghost_name }

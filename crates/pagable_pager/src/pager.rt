@@ -25,20 +25,14 @@ use std::sync::Arc;
 
 /// Shared values, their handles and their loads, over a storage of blobs. A call that is refused leaves all as it was and gives its value back, but where its own page says more.
 #[derive(Drop)]
-pub struct Pager<E: Env, S: PagableStorage<E>>
-where
-    E::Node: NodeSet<E>,
-{
+pub struct Pager<E: Env<Node: NodeSet<E>>, S: PagableStorage<E>> {
     tables: Tables,
     values: IndexMap<u64, Arc<E::Node>>,
     storage: S,
     env: E,
 }
 
-impl<E: Env, S: PagableStorage<E>> Model for Pager<E, S>
-where
-    E::Node: NodeSet<E>,
-{
+impl<E: Env<Node: NodeSet<E>>, S: PagableStorage<E>> Model for Pager<E, S> {
     ghost use Rattle.std.specs.Coded.{codes};
     ghost use Rattle.{pagable_loads.specs.Telling.values_at, pagable_pager.specs.View.{PagerView, IsPager, telling}, indexmap.specs.Layout.hash_map_code};
 
@@ -62,10 +56,7 @@ pub(crate) fn cell_type(root: LoadRoot) -> Option<u32>
     }
 }
 
-impl<E: Env, S: PagableStorage<E>> Pager<E, S>
-where
-    E::Node: NodeSet<E>,
-{
+impl<E: Env<Node: NodeSet<E>>, S: PagableStorage<E>> Pager<E, S> {
     /// A pager of nothing, over a storage as it stands. It takes no memory.
     pub fn new(alloc: Global, storage: S, env: E) -> Pager<E, S>
         ensures empty { IsNew (state_in (telling S.stored S.is_closed S.failed) result) }

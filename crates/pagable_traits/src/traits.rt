@@ -137,13 +137,10 @@ pub trait PagableEagerDeserialize<'de, E: Env>: EagerlyCarried<E> + Sized {
 
 /// A value type of an environment whose nodes are spelled, and mean, as its values are: it is read without borrowing from
 /// the input, so at `'static`.
-pub trait InNode<E: Env>: OfNode<E>
+pub trait InNode<E: Env<Node: NodeSet<E>>>: OfNode<E>
     + Carried<E>
     + PagableSerialize<E>
-    + PagableDeserialize<'static, E>
-where
-    E::Node: NodeSet<E>,
-{
+    + PagableDeserialize<'static, E> {
     // The node of a value is of this type and means what the value means, and a node without one is of another type.
     ghost holds: { (n : E.Node) → Holds Self.Carried.means.of Self.OfNode.TYPE (E.Node.type_of n) (E.Node.means n) (Self.OfNode.held n) };
 

@@ -112,10 +112,7 @@ fn give_back<N: Drop>(
     }
 }
 
-impl<E: Env, S: PagableStorage<E>> Pager<E, S>
-where
-    E::Node: NodeSet<E>,
-{
+impl<E: Env<Node: NodeSet<E>>, S: PagableStorage<E>> Pager<E, S> {
     /// A new node with a pinning handle of this mode.
     fn new_node(
         &mut self,

@@ -32,10 +32,7 @@ fn loose_kind_of(node_type: u32) -> Option<Kind>
     Some(Kind(number as u32))
 }
 
-impl<E: Env, S: PagableStorage<E>> Pager<E, S>
-where
-    E::Node: NodeSet<E>,
-{
+impl<E: Env<Node: NodeSet<E>>, S: PagableStorage<E>> Pager<E, S> {
     /// One more handle of the node of a live handle, of the same mode, which is the caller's: a clone of a pinning handle pins. Refused with NoSuchHandle, NumbersSpent and OutOfMemory.
     pub fn clone(&mut self, handle: HandleNumber) -> Result<HandleNumber, Error>
         ensures { Calls OnlyTables (telling S.stored S.is_closed S.failed) self.old (λ w w'. CloneCall w Owner.Caller handle result w') self.new }

@@ -21,10 +21,7 @@ const SHARED: u64 = 2_000;
 
 /// A pager that is filled.
 #[derive(Drop)]
-struct Filling<'a, E: Env, S: PagableStorage<E>>
-where
-    E::Node: NodeSet<E>,
-{
+struct Filling<'a, E: Env<Node: NodeSet<E>>, S: PagableStorage<E>> {
     alloc: Global,
     pager: &'a mut Pager<E, S>,
 }
