@@ -3,7 +3,6 @@
 ghost use Rattle.{pagable_model.specs.Shape.Shape, std.specs.Prelude.ℕ};
 
 use crate::hash::KeyHash;
-use crate::session::SessionValue;
 
 /// The types that a caller brings along. The environment's value is what readers and writers of values are lent.
 pub trait Env: Sized {
@@ -16,8 +15,8 @@ pub trait Env: Sized {
     /// The keys of a session's values; `()` where no session is used.
     type CtxKey: Ord + Drop;
 
-    /// The values of a session, of which it answers clones, so values that are equal to those that were set.
-    type CtxValue: SessionValue;
+    /// The values of a session, of which it answers clones.
+    type CtxValue: Drop;
 
     // How the parts of values that have numbers are spelled, each one level further down.
     ghost parts: { Self → ℕ → Shape };

@@ -39,7 +39,7 @@ pub struct SessionMap<K: Ord, V> {
     pub values: BTreeMap<K, V>,
 }
 
-impl<K: Ord + Drop, V: Clone> SessionMap<K, V> {
+impl<K: Ord + Drop, V: Drop> SessionMap<K, V> {
     /// A map without values.
     pub fn new(alloc: Global) -> Self
         ensures { IsEmpty result.values }
@@ -47,7 +47,9 @@ impl<K: Ord + Drop, V: Clone> SessionMap<K, V> {
         let values = BTreeMap::new(alloc);
         SessionMap { values }
     }
+}
 
+impl<K: Ord + Drop, V: SessionValue> SessionMap<K, V> {
     /// A clone of the key's value, or None where there is none. Refused by want of memory alone.
     pub fn get(&self, key: &K) -> Result<Option<V>, Error>
         ensures value { IfOk result (IsCloneOf V.is_clone (get K.cmp self.now.values key.now)) }
@@ -125,7 +127,7 @@ impl<K: Ord, V> AsRef<SessionContext<K, V>> for SessionContext<K, V> {
     }
 }
 
-impl<K: Ord + Drop, V: Clone> SessionContext<K, V> {
+impl<K: Ord + Drop, V: Drop> SessionContext<K, V> {
     /// A context without values.
     pub fn new(alloc: Global) -> Self {
         let map = Mutex::new(SessionMap::new(alloc));
@@ -136,7 +138,9 @@ impl<K: Ord + Drop, V: Clone> SessionContext<K, V> {
     pub fn default(alloc: Global) -> Self {
         Self::new(alloc)
     }
+}
 
+impl<K: Ord + Drop, V: SessionValue> SessionContext<K, V> {
     /// `SessionMap::get` on the lent map.
     pub fn get<R: Wait>(&self, rt: &R, key: &K) -> Result<Option<V>, Error>
         ensures only { IfErr result memory }

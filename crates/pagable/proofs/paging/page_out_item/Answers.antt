@@ -1,7 +1,6 @@
 use Rattle.std.proofs.Common.{rules, ◌≡◌}
-use Rattle.pagable.proofs.paging.page_out_item.Goals as goal
 
-pub returns : goal.returns
+pub returns : Rattle.pagable.proofs.paging.page_out_item.Goals.returns
 returns g c =
     let ends : c.page_out_item_by.new.lent.pager.now ≡ c.pager-1.given.0 = search rules in
     let pages = rw ends at (rw c.new-lent.ensures.same at c.page_out_item_by.ensures.pages) in

@@ -1,7 +1,6 @@
 use Rattle.{std.proofs.{Common.{rules, ◌≡◌, ◌-◌, refl, arith}, lemmas.Option.slice_get_read}, pagable.proofs.Running.set-at}
-use Rattle.pagable.proofs.workers.walk_on.Goals as goal
 
-pub returns : goal.returns
+pub returns : Rattle.pagable.proofs.workers.walk_on.Goals.returns
 returns g c =
     let ends : c.step_by-moved.new.lent.pager.now ≡ c.pager-1.given.0 = search rules in
     record {

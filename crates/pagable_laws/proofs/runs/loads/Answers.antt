@@ -1,8 +1,7 @@
 use Rattle.pagable_laws.proofs.{Answered.pin_law, SparingSteps.one_identity_law}
-use Rattle.pagable_laws.proofs.runs.loads.Goals as goal
 
-pub returns-clause-one_identity : goal.returns-clause-one_identity
+pub returns-clause-one_identity : Rattle.pagable_laws.proofs.runs.loads.Goals.returns-clause-one_identity
 returns-clause-one_identity g c = one_identity_law g.row.E.Denot g.N.SeenAs.seen
 
-pub returns-clause-pins_stand : goal.returns-clause-pins_stand
+pub returns-clause-pins_stand : Rattle.pagable_laws.proofs.runs.loads.Goals.returns-clause-pins_stand
 returns-clause-pins_stand g c = pin_law g.N.SeenAs.seen.values

@@ -5,14 +5,13 @@ use Rattle.pagable_model.specs.{Form.{json-number-form, list-form, more-forms, n
 use Rattle.pagable_model.specs.{Meaning.{integer, plain}, Merkle.{key-of, kind_of_ref, more-keys, no-keys, unfolded}, Numbers.{varint, varint_at}, Reading.{below, deepest, items, read_with}}
 use Rattle.std.specs.Str.{chars, is_utf8}
 use Rattle.{pagable_model.specs.{Shape.{nested, signed}, Trees.KeyRef}, std.{proofs.{Common.{codes, lit<, lit≤, negsuc, pos}, lemmas.Str.IsUtf8-from_is_utf8}, specs.{Char.encode_utf8, Int.{w32, w8}}}}
-use Rattle.pagable_laws.proofs.values.worked_examples.Goals as goal
 
 -- two numbers with a sign
 signed_two : Forms KeyRef kind_of_ref no_parts deepest (signed w32) (integer (negsuc 0) ∷ integer (pos 1) ∷ []) (0x01 ∷ 0x02 ∷ []) []
 unfolding varint
 signed_two = more-forms _ _ _ _ _ _ _ _ (signed-form _ w32 (negsuc 0) (lit< tt)) (more-forms _ _ _ _ _ _ _ _ (signed-form _ w32 (pos 1) (lit< tt)) (no-forms _ _))
 
-pub returns : goal.returns
+pub returns : Rattle.pagable_laws.proofs.values.worked_examples.Goals.returns
 unfolding read read_with below varint varint_at duration_at length_at items text_at char_at bool_at is_utf8 put_all code plain rename chars encode_utf8 preimage weight unfolded
     IsReadable IsCanonical LiesIn
 returns c = record {

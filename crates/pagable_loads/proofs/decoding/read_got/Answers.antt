@@ -1,7 +1,6 @@
 use Rattle.{pagable_core.specs.Data.blob_of, pagable_loads.proofs.Stepped.reads_with, std.proofs.Common.rules}
-use Rattle.pagable_loads.proofs.decoding.read_got.Goals as goal
 
-pub returns-clause-reads : goal.returns-clause-reads
+pub returns-clause-reads : Rattle.pagable_loads.proofs.decoding.read_got.Goals.returns-clause-reads
 returns-clause-reads g c = λ none. record {
   after = _;
   gives = reads_with (g.E.Node.NodeSet.read_causes c.args.node_type) g.E.Node.NodeSet.means g.E.Node.NodeSet.shape_of g.E.Env.parts c.args.node_type c.args.env.now

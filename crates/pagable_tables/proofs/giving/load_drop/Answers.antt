@@ -1,12 +1,11 @@
 use Rattle.pagable_tables.proofs.{Calls.{closes, owned-in}, Fitting.begun-less, Newer.{closed-still, does-as, later-less, lazily-by, listing, loads-anew, nothing-shed, owned-given, sheds-with}}
 use Rattle.pagable_tables.proofs.{Newer.{still-reaches, updated-by}, Told.{newer-falls, roomy-whole, stays-on}, Words.{LoadCloses, None, Owner, arith, core_of, inl, inr, is_owned_in, load_at}}
 use Rattle.pagable_tables.proofs.{Words.{load_in, option_map, plain_of, refl, with_tables, without_load}, Worlds.{failed, still}}
-use Rattle.pagable_tables.proofs.giving.load_drop.Goals as goal
 
-pub returns-in_err-row : goal.returns-in_err-row
+pub returns-in_err-row : Rattle.pagable_tables.proofs.giving.load_drop.Goals.returns-in_err-row
 returns-in_err-row g c = rw (failed c.from_residual.result c.from_residual.ensures.1) (nothing-shed c.requires.whole (λ stored closed failures e. record { does = inl (record { e = c.in_err-row.field-0.0; why = c.in_err-row.ensures.fault stored closed failures; told = refl; stays = still _ }) }))
 
-pub returns : goal.returns
+pub returns : Rattle.pagable_tables.proofs.giving.load_drop.Goals.returns
 returns g c =
     let t = c.args.t.now in
     let l = c.args.load in

@@ -1,12 +1,11 @@
 use Rattle.pagable_tables.proofs.{Fitting.begun-whole, Newer.{does-as, lazily-so, nothing-shed, sheds-with}, Told.lone-falling, Words.{Falls, any_mode, arith, inl, inr, only_handle, refl}}
 use Rattle.pagable_tables.proofs.Worlds.{failed, owner-same, still}
-use Rattle.pagable_tables.proofs.giving.release.Goals as goal
 
-pub returns-in_err-at : goal.returns-in_err-at
+pub returns-in_err-at : Rattle.pagable_tables.proofs.giving.release.Goals.returns-in_err-at
 returns-in_err-at g c =
     rw (failed c.from_residual.result c.from_residual.ensures.1) (nothing-shed c.requires.whole (λ stored closed failures e. record { does = inl (record { e = c.in_err-at.field-0.0; why = c.in_err-at.ensures.fault stored closed failures any_mode; told = refl; stays = still _ }) }))
 
-pub returns : goal.returns
+pub returns : Rattle.pagable_tables.proofs.giving.release.Goals.returns
 returns g c =
     let row = c.in_ok-at.at.row in
     sheds-with (does-as (lazily-so {lists = c.args.lists} {step = λ w w'. Falls w w (only_handle c.args.handle) c.give_back.result w'}

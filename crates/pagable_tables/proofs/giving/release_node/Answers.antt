@@ -1,8 +1,7 @@
 use Rattle.pagable_tables.proofs.{Alive.and-left, Fitting.begun-whole, Newer.{lazily-so, passes-given, sheds-with}, Told.lone-falling, Words.{Giving, InReach, arith, core_of, gives_row, nat_tests}}
 use Rattle.pagable_tables.proofs.Words.{plain_of, refl, subst, sym}
-use Rattle.pagable_tables.proofs.giving.release_node.Goals as goal
 
-pub returns : goal.returns
+pub returns : Rattle.pagable_tables.proofs.giving.release_node.Goals.returns
 returns g c =
     let t = c.args.t.now in
     sheds-with (lazily-so

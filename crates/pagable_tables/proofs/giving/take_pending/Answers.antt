@@ -1,14 +1,13 @@
 use Rattle.pagable_tables.proofs.{Alive.whole-so, Calls.take-whole, Fitting.{entry-lives, entry-unvalued}, Kept.found-among, Newer.{later-by, load-kept, worker-kept}, Told.not-a-value, Words.Blob}
 use Rattle.pagable_tables.proofs.Words.{Bool, InReach, None, Option, Some, TakeCall, ap, arith, core_of, false, inl, inr, live, moved, nat_tests, only_handle, plain_of, reach_at, refl, rules}
 use Rattle.pagable_tables.proofs.{Words.{slice_get_read, subst, ℕ, ◌<◌, ◌∙◌}, Worlds.{alike-listed, at-work-still}}
-use Rattle.pagable_tables.proofs.giving.take_pending.Goals as goal
 
-pub unreachable-requires : goal.unreachable-requires
+pub unreachable-requires : Rattle.pagable_tables.proofs.giving.take_pending.Goals.unreachable-requires
 unreachable-requires c =
     let listed = c.requires.whole.core.owners_there.listed c.remove-handle.result.0 in
     entry-lives c.args.t.now.holdings.list.items c.args.t.now.holdings.handles.places.items c.args.place c.remove-handle.result (omega arith) c.remove-handle.ensures.value listed (search rules)
 
-pub returns : goal.returns
+pub returns : Rattle.pagable_tables.proofs.giving.take_pending.Goals.returns
 returns c =
     let u = c.args.t.now in
     let t = u.holdings in

@@ -1,9 +1,8 @@
 use Rattle.pagable_tables.proofs.{Calls.worker-end-whole, Fitting.begun-less, Newer.{in-reach, later-less, lazily-by, loads-anew, passes-given, sheds-with, updated-by}, Told.newer-falls, Words.Falls}
 use Rattle.pagable_tables.proofs.Words.{Giving, InReach, None, Some, arith, cases_eq, core_of, gives_row, is_some, is_workers, left_load, load_at, nat_tests, plain_of, refl, subst, sym, with_tables}
 use Rattle.pagable_tables.proofs.Words.{without_worker, worker_at, ◌∙◌, ◌≡◌}
-use Rattle.pagable_tables.proofs.giving.worker_end.Goals as goal
 
-pub returns : goal.returns
+pub returns : Rattle.pagable_tables.proofs.giving.worker_end.Goals.returns
 returns g c =
     let t = c.args.t.now in
     let v = c.args.worker.0 in

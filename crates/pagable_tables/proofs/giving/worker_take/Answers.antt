@@ -1,7 +1,6 @@
 use Rattle.pagable_tables.proofs.{Newer.takes-worker, Words.{arith, core_of, nat_tests, refl}}
-use Rattle.pagable_tables.proofs.giving.worker_take.Goals as goal
 
-pub returns : goal.returns
+pub returns : Rattle.pagable_tables.proofs.giving.worker_take.Goals.returns
 returns c =
     let t1 = c.worker_begin.new.t in
     let e = c.in_ok-worker.ensures in

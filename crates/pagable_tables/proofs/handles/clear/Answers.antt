@@ -1,7 +1,6 @@
 use Rattle.pagable_tables.proofs.{Words.{◌∙◌, ◌-◌, ◌≡◌, ap, arith, false, get_or, live, nat_tests, suc, sym, take}, Alive.take-dead}
-use Rattle.pagable_tables.proofs.handles.clear.Goals as goal
 
-pub loop-end-preserved : goal.loop-end-preserved
+pub loop-end-preserved : Rattle.pagable_tables.proofs.handles.clear.Goals.loop-end-preserved
 loop-end-preserved c =
     let places = c.args.handles.now.places.items in
     let end = c.loop-end.end - 1 in

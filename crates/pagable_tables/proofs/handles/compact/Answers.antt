@@ -1,8 +1,7 @@
 use Rattle.pagable_tables.proofs.Words.{◌<◌, arith, sym, ap, ◌∙◌, ◌≡◌, filter, length, subst, rules, filter_from_retain, All-filter, AllPairs-filter, live, is_live_place, IsBefore, IsNext, Place}
 use Rattle.pagable_tables.proofs.{Words.AllPairs, Alive.{live-filter, length-live-filter}}
-use Rattle.pagable_tables.proofs.handles.compact.Goals as goal
 
-pub returns-clause-becomes : goal.returns-clause-becomes
+pub returns-clause-becomes : Rattle.pagable_tables.proofs.handles.compact.Goals.returns-clause-becomes
 returns-clause-becomes c =
     let old = c.args.handles.now.places.items in
     let e : c.retain.new.self.items ≡ filter is_live_place old = filter_from_retain _ is_live_place (λ p x b q called. search rules) _ old c.retain.new.self.items c.retain.ensures.filtered in

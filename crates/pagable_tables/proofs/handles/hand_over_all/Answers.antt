@@ -1,11 +1,10 @@
 use Rattle.pagable_tables.proofs.{Newer.moved-then, Words.{arith, is_named_by, live, sym, take, take_all}, Worlds.named-take}
-use Rattle.pagable_tables.proofs.handles.hand_over_all.Goals as goal
 
-pub loop-reference-preserved : goal.loop-reference-preserved
+pub loop-reference-preserved : Rattle.pagable_tables.proofs.handles.hand_over_all.Goals.loop-reference-preserved
 loop-reference-preserved c =
     let i = c.loop-reference in
     moved-then (is_named_by (take i.reference-index c.args.references.now)) _ _ c.args.owner (live c.args.handles.now.places.items) i.invariant c.hand_over_live.ensures
     (λ q. sym (named-take c.args.references.now i.reference-index _ q (omega arith)))
 
-pub returns : goal.returns
+pub returns : Rattle.pagable_tables.proofs.handles.hand_over_all.Goals.returns
 returns c = rw (take_all c.loop-reference.reference-index c.args.references.now (omega arith)) at c.loop-reference.invariant

@@ -1,10 +1,9 @@
 use Rattle.pagable_tables.proofs.{Words.{arith, refl, ◌∙◌}, Alive.{at-place, next-set, sound-set}}
-use Rattle.pagable_tables.proofs.handles.kill.Goals as goal
 
-pub clear-requires : goal.clear-requires
+pub clear-requires : Rattle.pagable_tables.proofs.handles.kill.Goals.clear-requires
 clear-requires c = sound-set c.args.handles.now _ c.args.at.place c.args.at.row _ c.requires.sound c.requires.place refl refl (omega arith)
 
-pub returns-clause-becomes : goal.returns-clause-becomes
+pub returns-clause-becomes : Rattle.pagable_tables.proofs.handles.kill.Goals.returns-clause-becomes
 returns-clause-becomes c =
     let e = c.clear.ensures in
     record {

@@ -1,7 +1,6 @@
 use Rattle.pagable_tables.proofs.{Words.{arith, ap, refl, HandleNumber}, Alive.{at-place, next-set, sound-set}}
-use Rattle.pagable_tables.proofs.handles.set.Goals as goal
 
-pub returns-clause-becomes : goal.returns-clause-becomes
+pub returns-clause-becomes : Rattle.pagable_tables.proofs.handles.set.Goals.returns-clause-becomes
 returns-clause-becomes c =
     let number = ap (λ (n : HandleNumber). n.0) c.requires.number in
     record {

@@ -1,7 +1,6 @@
 use Rattle.pagable_tables.proofs.{Next.{ended, lasts-on, none-falls, steps-on}, Words.{Steps, arith, counts_at, is_node, nat_tests, ◌∙◌}}
-use Rattle.pagable_tables.proofs.holdings.cascade.Goals as goal
 
-pub fall-preserved : goal.fall-preserved
+pub fall-preserved : Rattle.pagable_tables.proofs.holdings.cascade.Goals.fall-preserved
 fall-preserved g c =
     let i = c.fall.invariant.0 in
     let s : Steps c.fall.t i.0 c.args.lists c.step-done.result c.step-done.new.t = c.step-done.ensures i.0 i.1 in
@@ -15,6 +14,6 @@ fall-preserved g c =
       λ none. s.unlisting none ∙ c.fall.invariant.4 none,
     )
 
-pub returns-clause-falls : goal.returns-clause-falls
+pub returns-clause-falls : Rattle.pagable_tables.proofs.holdings.cascade.Goals.returns-clause-falls
 returns-clause-falls g c before w given so-far =
     ended before w given c.args.lists c.fall.t (c.fall.invariant.1 before w given so-far) (none-falls c.fall.t c.fall.invariant.0.0 c.fall.invariant.0.1 (omega arith))

@@ -1,9 +1,8 @@
 use Rattle.pagable_tables.proofs.{Alive.{row-le-live, with-entry}, Fitting.{given-fits, held-here, owned-by-none, pin-here}, Words.{Fits, HandleRow, Holdings, MayList, Some, after, ap, arith}}
 use Rattle.pagable_tables.proofs.Words.{cases_eq, counts_at, entry, if◌then◌else◌, is_fallen_by, is_pin, is_pinning, live, nat_tests, one, owns_nothing, pins_in, refl, refs_at, subst, sum_by, sym}
 use Rattle.pagable_tables.proofs.Words.{true, unpinned, ℕ, ◌+◌, ◌-◌, ◌∙◌, ◌∷◌, ◌≡◌, ◌≢◌, ◌≤◌}
-use Rattle.pagable_tables.proofs.holdings.give_up.Goals as goal
 
-pub returns : goal.returns
+pub returns : Rattle.pagable_tables.proofs.holdings.give_up.Goals.returns
 returns c stack w =
     let x = c.args.at.row in
     let n = x.node.0 in

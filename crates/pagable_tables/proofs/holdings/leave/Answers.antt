@@ -1,7 +1,6 @@
 use Rattle.pagable_tables.proofs.{Words.{subst, unpinned, Becomes}, Alive.{changed-known, row-le-live}}
-use Rattle.pagable_tables.proofs.holdings.leave.Goals as goal
 
-pub returns-then-stays : goal.returns-then-stays
+pub returns-then-stays : Rattle.pagable_tables.proofs.holdings.leave.Goals.returns-then-stays
 returns-then-stays c =
     let old = c.args.handles.now in
     let at = c.args.at in

@@ -1,7 +1,6 @@
 use Rattle.pagable_tables.proofs.Words.{Error, arith, is_loose_kind, nat_tests, not, refl, refused_if, type_of, ◌==◌, ◌≡◌}
-use Rattle.pagable_tables.proofs.loading.adopt_fault.Goals as goal
 
-pub returns : goal.returns
+pub returns : Rattle.pagable_tables.proofs.loading.adopt_fault.Goals.returns
 returns c stored closed failures =
     let mode : c.then_some-mode.result ≡ refused_if (is_loose_kind c.args.kind.0) Error.WrongMode = grind (arith, nat_tests) in
     let typed : c.then_some-typed.result ≡ refused_if (not (c.args.node_type == type_of c.args.kind.0)) Error.WrongKind = grind (arith, nat_tests) in

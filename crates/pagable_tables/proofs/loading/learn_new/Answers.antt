@@ -1,12 +1,11 @@
 use Rattle.pagable_tables.proofs.{Alive.whole-so, Calls.adopted-whole, Fitting.closed-is, Told.settles, Words.{Alike, Blob, Bool, IndexMap, Last, NodeNumber, None, Option, Owner, Some, adopted, ap}}
 use Rattle.pagable_tables.proofs.Words.{core_of, false, has_key, inl, inr, is_shared, key_in, mode_of, next_node, not, option_map, refl, subst, sym, true, with_handle, with_node, ℕ, ◌+◌, ◌/◌, ◌∙◌}
 use Rattle.pagable_tables.proofs.{Words.◌≡◌, Worlds.{if-open, learned}}
-use Rattle.pagable_tables.proofs.loading.learn_new.Goals as goal
 
 abbrev number : Option NodeNumber → Option ℕ
 number o = option_map (λ (n : NodeNumber). n.0) o
 
-pub returns : goal.returns
+pub returns : Rattle.pagable_tables.proofs.loading.learn_new.Goals.returns
 returns c =
     let t = c.args.t.now in
     let owner = Owner.Load c.args.load in

@@ -1,8 +1,7 @@
 use Rattle.pagable_tables.proofs.{Calls.loaded-whole, Newer.{does-by, later-less, later-opened, still-reaches}, Told.{alike-goes, newer-alike, settles}, Words.{arith, inl, load_at, nat_tests, of_key}}
 use Rattle.pagable_tables.proofs.{Words.{refl, sym, ◌+◌, ◌∙◌}, Worlds.{failed, none-yet, same-cache}}
-use Rattle.pagable_tables.proofs.loading.load_key.Goals as goal
 
-pub returns : goal.returns
+pub returns : Rattle.pagable_tables.proofs.loading.load_key.Goals.returns
 returns c =
     let t = c.args.t.now in
     let l = t.last_load + 1 in
@@ -11,7 +10,7 @@ returns c =
     (λ begins later. later-opened c.requires.whole.core later (record { last = omega arith; kept = λ o q gives own. inl own }) l _ (none-yet (load_at t.loads l) t.last_load (λ some. (c.requires.whole.core.loads.numbered l some).1))
     c.in_ok-open.ensures.here refl c.in_ok-open.ensures.others refl)
 
-pub returns-in_err-open : goal.returns-in_err-open
+pub returns-in_err-open : Rattle.pagable_tables.proofs.loading.load_key.Goals.returns-in_err-open
 returns-in_err-open c = rw (failed c.from_residual.result c.from_residual.ensures.1)
     (does-by (λ stored closed failures. grind (arith, nat_tests, same-cache, c.in_err-open.ensures.err)) c.requires.whole.steady
     (λ begins. (alike-goes c.requires.whole.core begins.refused.stays).whole)

@@ -1,7 +1,6 @@
 use Rattle.pagable_tables.proofs.{Fitting.entry-lives, Words.{arith, nat_tests}}
-use Rattle.pagable_tables.proofs.lookups.entry.Goals as goal
 
-pub unreachable-requires : goal.unreachable-requires
+pub unreachable-requires : Rattle.pagable_tables.proofs.lookups.entry.Goals.unreachable-requires
 unreachable-requires c =
     let t = c.args.t.now.holdings in
     let h = c.in_ok-handle.field-0.now in

@@ -1,7 +1,6 @@
 use Rattle.pagable_tables.proofs.{Words.{arith, drop, named_fault, seen, subst, ◌+◌, ◌-◌, ◌∙◌, ◌≡◌}, Worlds.one-named}
-use Rattle.pagable_tables.proofs.lookups.named_fault.Goals as goal
 
-pub loop-place-preserved : goal.loop-place-preserved
+pub loop-place-preserved : Rattle.pagable_tables.proofs.lookups.named_fault.Goals.loop-place-preserved
 loop-place-preserved c =
     let hs = c.args.named.now in
     let p = c.loop-place.place - 1 in

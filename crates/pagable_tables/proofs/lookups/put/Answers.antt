@@ -1,5 +1,4 @@
 use Rattle.pagable_tables.proofs.Words.{arith, nat_tests}
-use Rattle.pagable_tables.proofs.lookups.put.Goals as goal
 
-pub returns-clause-others : goal.returns-clause-others
+pub returns-clause-others : Rattle.pagable_tables.proofs.lookups.put.Goals.returns-clause-others
 returns-clause-others c k q differs = c.in_ok-insert.ensures.updates.2 (k, q) (grind (arith, nat_tests))

@@ -1,10 +1,9 @@
 use Rattle.pagable_tables.proofs.{Words.{ArcRef, Blob, Bool, None, Option, Some, arith, core_of, get_or, sym, ℕ, ◌∙◌, ◌∷◌}, Worlds.{fault-at, named-other, seen-more}}
-use Rattle.pagable_tables.proofs.lookups.references_fault.Goals as goal
 
 abbrev blank : ArcRef
 blank = record { kind = record { 0 = 0 }; node = record { 0 = 0 }; handle = record { 0 = 0 } }
 
-pub loop-i-preserved : goal.loop-i-preserved
+pub loop-i-preserved : Rattle.pagable_tables.proofs.lookups.references_fault.Goals.loop-i-preserved
 loop-i-preserved c =
     let l = c.loop-i in
     let rs = c.args.references.now in
@@ -17,7 +16,7 @@ loop-i-preserved c =
       rest = λ stored closed failures. l.invariant.rest stored closed failures ∙ fault-at (core_of c.args.t.now stored closed failures) c.args.me l.invariant.seen rs l.i blank None (omega arith) (none stored closed failures);
     }
 
-pub returns-in-Some : goal.returns-in-Some
+pub returns-in-Some : Rattle.pagable_tables.proofs.lookups.references_fault.Goals.returns-in-Some
 returns-in-Some c stored closed failures =
     let l = c.loop-i in
     let fault = sym (c.fault_of.ensures stored closed failures l.invariant.seen (l.invariant.same _ ∙ sym c.is_named-is_seen.ensures)) ∙ c.in-Some.is in

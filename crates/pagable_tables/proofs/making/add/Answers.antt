@@ -1,8 +1,7 @@
 use Rattle.pagable_tables.proofs.{Fitting.{come-fits, rows-told}, Words.{HandleRow, Some, ap, arith, cases_Bool, cases_eq, counts_at, is_pinning, nat_tests, one, refl, rules, sym, ◌+◌, ◌∙◌, ◌≡◌}}
 use Rattle.pagable_tables.proofs.Worlds.{alike}
-use Rattle.pagable_tables.proofs.making.add.Goals as goal
 
-pub returns : goal.returns
+pub returns : Rattle.pagable_tables.proofs.making.add.Goals.returns
 returns c =
     let t = c.args.t.now in
     let m = c.args.node.0 in

@@ -1,9 +1,8 @@
 use Rattle.pagable_tables.proofs.{Fitting.rows-told, Installed.born-fits, Newer.{bears-goes, does-so}, Told.not-a-value, Words.{Counts, HandleRow, NodeRow, None, Option, Some, [], ap, arith}}
 use Rattle.pagable_tables.proofs.Words.{counts_at, false, has_key, inl, inr, is_named_by, is_pinning, key_in, live, moved, nat_eq, nat_tests, one, option_map, owner_value, plain_of, refl, refs_at, ℕ}
 use Rattle.{pagable_tables.proofs.{Words.{◌++◌, ◌+◌, ◌∙◌, ◌∷◌, ◌≡◌, ◌≢◌}, Worlds.same-cache}, std.specs.Option.option_map_or}
-use Rattle.pagable_tables.proofs.making.bear.Goals as goal
 
-pub returns-clause-does : goal.returns-clause-does
+pub returns-clause-does : Rattle.pagable_tables.proofs.making.bear.Goals.returns-clause-does
 returns-clause-does c =
     let u = c.args.t.now in
     let t = u.holdings in

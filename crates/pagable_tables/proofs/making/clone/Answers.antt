@@ -1,8 +1,7 @@
 use Rattle.pagable_tables.proofs.{Kept.found-among, Newer.does-as, Words.{arith, nat_tests}}
-use Rattle.pagable_tables.proofs.making.clone.Goals as goal
 
-pub make-requires-clause-suits : goal.make-requires-clause-suits
+pub make-requires-clause-suits : Rattle.pagable_tables.proofs.making.clone.Goals.make-requires-clause-suits
 make-requires-clause-suits c = grind (arith, nat_tests, found-among, c.in-Some.ensures.found)
 
-pub returns : goal.returns
+pub returns : Rattle.pagable_tables.proofs.making.clone.Goals.returns
 returns c = does-as c.make.ensures.does (λ stored closed failures made. grind (arith, nat_tests, c.in-Some.ensures.found))

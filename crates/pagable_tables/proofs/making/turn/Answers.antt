@@ -1,8 +1,7 @@
 use Rattle.pagable_tables.proofs.{Alive.{at-place, changed-known}, Fitting.{turn-fits, turned}, Newer.does-so, Told.{moded, settled}, Words.{Counts, Mode, Some, ap, arith, cases_eq, counts_at}}
 use Rattle.pagable_tables.proofs.{Words.{nat_tests, not, one, refl, sym, ◌+◌, ◌∙◌, ◌≡◌}, Worlds.alike}
-use Rattle.pagable_tables.proofs.making.turn.Goals as goal
 
-pub returns-clause-does : goal.returns-clause-does
+pub returns-clause-does : Rattle.pagable_tables.proofs.making.turn.Goals.returns-clause-does
 returns-clause-does c =
     let t = c.args.t.now.holdings in
     let x = c.args.at.row in

@@ -1,7 +1,6 @@
 use Rattle.pagable_tables.proofs.{Newer.does-so, Told.{newer-alike, told-whole}, Words.{None, arith, known_at, nat_tests, plain_of, refl, ℕ, ◌≡◌}, Worlds.same-cache}
-use Rattle.pagable_tables.proofs.tables.cache_clear.Goals as goal
 
-pub returns : goal.returns
+pub returns : Rattle.pagable_tables.proofs.tables.cache_clear.Goals.returns
 returns c =
     let none : (kind key : ℕ) → known_at c.clear.new.self kind key ≡ None = λ kind key. rw c.clear.ensures.empty refl in
     does-so (λ stored closed failures. grind (arith, nat_tests, same-cache, none)) c.requires.steady

@@ -1,6 +1,5 @@
 use Rattle.pagable_tables.proofs.{Next.passes-none, Words.{Among, AreLater, HandleRow, NodeRow, None, Tables, [], ap, arith, counts_at, get, known_at, live, load_at, nat_eq, nat_tests, option_map}}
 use Rattle.pagable_tables.{proofs.Words.{refl, subst, worker_at, ℕ, ◌≡◌}, specs.Core.IsWhole}
-use Rattle.pagable_tables.proofs.tables.new.Goals as goal
 
 nothing-whole : (t : Tables) → t.holdings.handles.dead ≡ 0 → t.holdings.handles.places.items ≡ [] → ((n : ℕ) → get nat_eq t.holdings.nodes n ≡ None) → t.holdings.list.items ≡ []
     → ((kind key : ℕ) → known_at t.cache kind key ≡ None) → ((l : ℕ) → load_at t.loads l ≡ None) → ((v : ℕ) → worker_at t.workers v ≡ None)
@@ -14,10 +13,10 @@ nothing-whole t dead rows found list cache loads workers last =
 nothing-later : (t : Tables) → live t.holdings.handles.places.items ≡ [] → ((l : ℕ) → load_at t.loads l ≡ None) → ((v : ℕ) → worker_at t.workers v ≡ None) → AreLater t
 nothing-later t none loads workers = grind (arith, nat_tests, passes-none)
 
-pub returns-clause-later : goal.returns-clause-later
+pub returns-clause-later : Rattle.pagable_tables.proofs.tables.new.Goals.returns-clause-later
 returns-clause-later c = nothing-later _ (ap live c.new.ensures.items) (λ l. rw c.new-5.ensures.empty refl) (λ v. rw c.new-6.ensures.empty refl)
 
-pub returns-clause-whole : goal.returns-clause-whole
+pub returns-clause-whole : Rattle.pagable_tables.proofs.tables.new.Goals.returns-clause-whole
 returns-clause-whole c =
     nothing-whole _ refl c.new.ensures.items (λ n. rw c.new-2.ensures.empty refl) c.new-3.ensures.items (λ kind key. rw c.new-4.ensures.empty refl) (λ l. rw c.new-5.ensures.empty refl)
     (λ v. rw c.new-6.ensures.empty refl) (refl, refl, refl, refl)

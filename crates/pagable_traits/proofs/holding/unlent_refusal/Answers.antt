@@ -1,5 +1,4 @@
 use Rattle.std.proofs.Common.{inr, refl}
-use Rattle.pagable_traits.proofs.holding.unlent_refusal.Goals as goal
 
-pub returns : goal.returns
+pub returns : Rattle.pagable_traits.proofs.holding.unlent_refusal.Goals.returns
 returns c = inr (_, refl)

@@ -1,7 +1,6 @@
 use Rattle.{pagable_traits.proofs.Registered.{is_last, none_from_less}, std.{proofs.Common.{arith, false, length, rules, true, ◌+◌, ◌-◌, ◌≡◌}, specs.{Str.bytes_eq, String.string_bytes}}}
-use Rattle.pagable_traits.proofs.typetag.last_reader.Goals as goal
 
-pub returns-then-eq-clause-found : goal.returns-then-eq-clause-found
+pub returns-then-eq-clause-found : Rattle.pagable_traits.proofs.typetag.last_reader.Goals.returns-then-eq-clause-found
 returns-then-eq-clause-found g c =
     let known = c.index-registrations-count.result in
     let equal : bytes_eq c.args.tag.now (string_bytes known.tag) ≡ true = search rules in
@@ -9,7 +8,7 @@ returns-then-eq-clause-found g c =
     let passed = c.loop-passed.passed in
     is_last (λ x. (string_bytes x.tag, x.deserialize)) c.args.tag.now c.args.registrations.now (count - passed) (count - 1 - passed) known (omega (arith, c.loop-passed-test.true)) (omega (arith, c.loop-passed-test.true)) c.index-registrations-count.is equal c.loop-passed.invariant
 
-pub loop-passed-preserved : goal.loop-passed-preserved
+pub loop-passed-preserved : Rattle.pagable_traits.proofs.typetag.last_reader.Goals.loop-passed-preserved
 loop-passed-preserved g c =
     let known = c.index-registrations-count.result in
     let differs : bytes_eq c.args.tag.now (string_bytes known.tag) ≡ false = search rules in

@@ -1,10 +1,9 @@
 use Rattle.{std.proofs.Common.refl, pagable_loads.proofs.Stepped.{acts_map, acts_on}, pagable_walk.{specs.{Table.shelf_of, Tasks.todos}, proofs.Pages.{entry-refused, entry-walked, is-caller}}}
-use Rattle.pagable_walk.proofs.step.page_out_entry.Goals as goal
 
-pub returns-in-Err : goal.returns-in-Err
+pub returns-in-Err : Rattle.pagable_walk.proofs.step.page_out_entry.Goals.returns-in-Err
 returns-in-Err g c = acts_map c.in-Err.ensures.refused (entry-refused _ c.args.place c.in-Err.e)
 
-pub returns : goal.returns
+pub returns : Rattle.pagable_walk.proofs.step.page_out_entry.Goals.returns
 returns g c =
     let first = c.start_entry-task in
     let shelf = shelf_of c.new-table.result in

@@ -1,7 +1,6 @@
 use Rattle.{pagable_loads.proofs.Stepped.acts_on, pagable_walk.{proofs.Turning.goes-walked, specs.{Table.shelf_of, Tasks.todos, Turns.{acting_then, plan}}}, std.proofs.Common.ap}
-use Rattle.pagable_walk.proofs.step.run.Goals as goal
 
-pub loop-next-preserved : goal.loop-next-preserved
+pub loop-next-preserved : Rattle.pagable_walk.proofs.step.run.Goals.loop-next-preserved
 loop-next-preserved g c =
     let says = c.step_within-turn.ensures in
     record {

@@ -1,11 +1,10 @@
 use Rattle.{pagable_loads.proofs.Stepped.acts_map, pagable_walk.{proofs.Turning.{pin-begins, pin-holds}, specs.Tasks.todos}}
-use Rattle.pagable_walk.proofs.turns.pin.Goals as goal
 
-pub returns-in-Held-clause-acts : goal.returns-in-Held-clause-acts
+pub returns-in-Held-clause-acts : Rattle.pagable_walk.proofs.turns.pin.Goals.returns-in-Held-clause-acts
 returns-in-Held-clause-acts g c n shelf =
     rw c.named-identity.ensures (acts_map (rw c.in-Held.is at c.in-Ok.ensures) (pin-holds _ _ n shelf c.args.reference c.args.place (todos c.args.path.now.items) c.in-Held.through c.in-Held.pin))
 
-pub returns-in-Begun-clause-acts : goal.returns-in-Begun-clause-acts
+pub returns-in-Begun-clause-acts : Rattle.pagable_walk.proofs.turns.pin.Goals.returns-in-Begun-clause-acts
 returns-in-Begun-clause-acts g c n shelf =
     let says = c.new-reading.ensures in
     rw c.named-identity.ensures (acts_map (rw c.in-Begun.is at c.in-Ok.ensures) (pin-begins _ _ n shelf c.args.reference c.args.place (todos c.args.path.now.items) c.in-Begun.through c.in-Begun.load c.in-Begun.key c.new-reading.result says.reading says.key says.for_cell))

@@ -1,5 +1,4 @@
 use Rattle.{pagable_loads.proofs.Stepped.acts_map, pagable_walk.{proofs.Turning.set-goes, specs.Tasks.todos}}
-use Rattle.pagable_walk.proofs.turns.set_key.Goals as goal
 
-pub returns-in-Ok-clause-acts : goal.returns-in-Ok-clause-acts
+pub returns-in-Ok-clause-acts : Rattle.pagable_walk.proofs.turns.set_key.Goals.returns-in-Ok-clause-acts
 returns-in-Ok-clause-acts g c n shelf = rw c.named-identity.ensures (acts_map (rw c.key.ensures at c.in-Ok.ensures) (set-goes _ _ n shelf (todos c.args.path.now.items) c.args.done c.args.through))

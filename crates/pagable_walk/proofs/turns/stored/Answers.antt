@@ -2,7 +2,6 @@ use Rattle.{pagable_loads.specs.Telling.values_at, pagable_model.specs.declared.
 use Rattle.pagable_walk.specs.{Results.{ResultStands, ResultsStand, more-results, no-results, stands-over}, Slots.{ids_of, keys_of, written_of}, declared.results.{SlotResult.SlotResult, Trees.Ghosts}}
 use Rattle.std.{proofs.{Common.{List, [], ap, arith, drop, get_or, length, map, subst, sym, ℕ, ◌∙◌, ◌∷◌, ◌≡◌}, lemmas.{Grind.merely, List.{length-map, take_all}}}, specs.Arc.arc_value}
 use mathlib.Core.Logic.{∥∥₁_elim, ∥∥₁_map, ∥∥₁_prop}
-use Rattle.pagable_walk.proofs.turns.stored.Goals as goal
 
 -- results have their trees, one for each reference
 module _ {N E X : Type 0} (hash : List ℕ → List ℕ) (values : E → Values N) {g : Ghosts X} (h : (i : Identity) (key : ℕ) → g.has_result i key → ResultStands hash values i key) where
@@ -15,7 +14,7 @@ module _ {N E X : Type 0} (hash : List ℕ → List ℕ) (values : E → Values 
       ∥∥₁_elim x.stands ∥∥₁_prop (λ t. ∥∥₁_map (all-stand refs xs (ap (drop 1) e)) (λ ts.
       more-results r x.key refs (keys_of xs) (subst (λ i. ResultStands hash values i x.key) (sym same) (h x.identity x.key t)) ts))
 
-pub invariant_of-found : goal.invariant_of-found
+pub invariant_of-found : Rattle.pagable_walk.proofs.turns.stored.Goals.invariant_of-found
 invariant_of-found g c =
     let w = c.args.waiting in
     let n = c.in-Some.node in

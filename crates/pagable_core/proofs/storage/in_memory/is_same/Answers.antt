@@ -1,7 +1,6 @@
 use Rattle.{std.proofs.{Common.{ap, sym, ◌∙◌, refl}, lemmas.{Bool.{and_parts, Decides.Decides-eqb}, Slice.Eq.slice_eq-Decides}}, pagable_model.specs.Blob.Blob}
-use Rattle.pagable_core.proofs.storage.in_memory.is_same.Goals as goal
 
-pub returns : goal.returns
+pub returns : Rattle.pagable_core.proofs.storage.in_memory.is_same.Goals.returns
 returns c =
     let bytes = slice_eq-Decides Decides-eqb c.args.left.now.bytes.items c.args.right.now.bytes.items _ refl in
     let keys = slice_eq-Decides Decides-eqb c.args.left.now.arcs.items c.args.right.now.arcs.items _ refl in (

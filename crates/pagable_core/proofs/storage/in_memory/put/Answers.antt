@@ -1,5 +1,4 @@
 use Rattle.{std.proofs.Common.ap, pagable_core.{proofs.Adding.stored_more, specs.Data.blob_of}}
-use Rattle.pagable_core.proofs.storage.in_memory.put.Goals as goal
 
-pub returns-clause-ok : goal.returns-clause-ok
+pub returns-clause-ok : Rattle.pagable_core.proofs.storage.in_memory.put.Goals.returns-clause-ok
 returns-clause-ok c = stored_more c.args.blobs.now c.insert.new.self c.args.key c.in_ok-kept.kept (blob_of c.args.blob) (λ q. c.in_ok-insert.ensures.updates.0 q) (ap blob_of c.in_ok-kept.ensures.ok)

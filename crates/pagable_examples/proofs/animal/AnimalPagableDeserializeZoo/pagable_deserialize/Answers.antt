@@ -1,5 +1,4 @@
 use Rattle.pagable_examples.specs.Animals.{written}
-use Rattle.pagable_examples.proofs.animal.AnimalPagableDeserializeZoo.pagable_deserialize.Goals as goal
 
-pub returns : goal.returns
+pub returns : Rattle.pagable_examples.proofs.animal.AnimalPagableDeserializeZoo.pagable_deserialize.Goals.returns
 returns g c = c.deserialize_tagged.ensures written

@@ -1,7 +1,6 @@
 use Rattle.{pagable.{proofs.Parts.basic_written, specs.model.{Form.unsigned-form, Meaning.number, Shape.unsigned}}, std.{proofs.Common.rules, specs.Int.w16}}
-use Rattle.pagable_examples.proofs.ticket.TicketPagableEagerSerialize.eager_pagable_serialize.Goals as goal
 
-pub returns-clause-wrote : goal.returns-clause-wrote
+pub returns-clause-wrote : Rattle.pagable_examples.proofs.ticket.TicketPagableEagerSerialize.eager_pagable_serialize.Goals.returns-clause-wrote
 returns-clause-wrote g c =
     let law = g.met.S.PagableSerializer in
     let old = c.args.serializer.now in

@@ -1,8 +1,7 @@
 use Rattle.{pagable_loads.{proofs.Foreseen.row_tells, specs.{Frames.{frame_of, frames_of, onto}, Got.stand_in}}, std.proofs.lemmas.Option.slice_get-get_or}
 use Rattle.std.proofs.Common.{[], ◌∙◌, Some, ap, rules, slice_index_or, sym}
-use Rattle.pagable_loads.proofs.reading.Reading.told.Goals as goal
 
-pub returns-clause-tells : goal.returns-clause-tells
+pub returns-clause-tells : Rattle.pagable_loads.proofs.reading.Reading.told.Goals.returns-clause-tells
 returns-clause-tells c = λ types ahead.
     let key = c.index-keys-place.result in
     let at = slice_get-get_or c.as_slice-keys.result.now c.len-place.result key (search rules) ∙ ap (λ k. Some k) (sym c.index-keys-place.is) in

@@ -1,7 +1,6 @@
 use Rattle.{pagable_loads.specs.Telling.{TakesLazily, values_at}, pagable_pager.{proofs.Keeping.{all_there, called_fewer, lazy_live}, specs.View.{core_in, telling}}, std.proofs.Common.{Ok, rules}}
-use Rattle.pagable_pager.proofs.lent.LentAccess.load_lazy.Goals as goal
 
-pub returns : goal.returns
+pub returns : Rattle.pagable_pager.proofs.lent.LentAccess.load_lazy.Goals.returns
 returns g c =
     let tells = telling g.S.PagableStorage.stored g.S.PagableStorage.is_closed g.S.PagableStorage.failed in
     let e = c.in_ok-taken.ensures in

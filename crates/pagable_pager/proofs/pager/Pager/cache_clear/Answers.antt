@@ -1,9 +1,8 @@
 use Rattle.{pagable_pager.proofs.Keeping.called, pagable_steps.proofs.Owning.{rests-then, spares-same}, std.proofs.Common.refl}
-use Rattle.pagable_pager.proofs.pager.Pager.cache_clear.Goals as goal
 
-pub invariant_of-self : goal.invariant_of-self
+pub invariant_of-self : Rattle.pagable_pager.proofs.pager.Pager.cache_clear.Goals.invariant_of-self
 invariant_of-self g c = called c.self.invariant c.cache_clear.new.t c.cache_clear.ensures
     (λ r. rests-then (spares-same refl (λ n. refl) refl) r.leaves (λ e. ((c.self.invariant.state.whole.shut e).0, λ kind key. refl)))
 
-pub returns : goal.returns
+pub returns : Rattle.pagable_pager.proofs.pager.Pager.cache_clear.Goals.returns
 returns g c = rw (← c.self.view_is) (record { step = c.cache_clear.ensures.does _ _ _; only = record { values = refl; storage = refl; environment = refl } })

@@ -1,10 +1,9 @@
 use Rattle.{pagable_core.specs.Data.blob_of, pagable_pager.proofs.Keeping.{asked, asked-so, fetch-call}, std.{proofs.Common.refl, specs.Arc.arc_value}}
-use Rattle.pagable_pager.proofs.pager.Pager.fetch.Goals as goal
 
-pub invariant_of-self : goal.invariant_of-self
+pub invariant_of-self : Rattle.pagable_pager.proofs.pager.Pager.fetch.Goals.invariant_of-self
 invariant_of-self g c = let e = c.fetch_data_blocking.ensures in asked-so c.self.invariant c.fetch_data_blocking.new.self e.open e.later e.same
 
-pub returns : goal.returns
+pub returns : Rattle.pagable_pager.proofs.pager.Pager.fetch.Goals.returns
 returns g c =
     let e = c.fetch_data_blocking.ensures in
     let asks = asked c.self.invariant c.fetch_data_blocking.new.self e.open e.later e.same in

@@ -1,7 +1,6 @@
 use Rattle.{pagable_tables.{proofs.Worlds.failed, specs.Core.load_in}, std.proofs.Common.{None, false, refl, sym}}
-use Rattle.pagable_pager.proofs.pager.Pager.load_of.Goals as goal
 
-pub returns-clause-reads : goal.returns-clause-reads
+pub returns-clause-reads : Rattle.pagable_pager.proofs.pager.Pager.load_of.Goals.returns-clause-reads
 returns-clause-reads g c = rw (← c.self.view_is) (record {
   load = load_in c.in_ok-row.row;
   owned = c.in_ok-row.ensures.own _ _ _;
@@ -9,5 +8,5 @@ returns-clause-reads g c = rw (← c.self.view_is) (record {
   type_is = sym c.cell_type.ensures;
 })
 
-pub returns-in_err-row-clause-fault : goal.returns-in_err-row-clause-fault
+pub returns-in_err-row-clause-fault : Rattle.pagable_pager.proofs.pager.Pager.load_of.Goals.returns-in_err-row-clause-fault
 returns-in_err-row-clause-fault g c = rw (← c.self.view_is, failed c.from_residual.result c.from_residual.ensures.1) (c.in_err-row.ensures.fault (λ key. None) false 0)

@@ -1,7 +1,6 @@
 use Rattle.{std.proofs.Common.refl, pagable_pager.{proofs.Keeping.is-new, specs.View.telling}}
-use Rattle.pagable_pager.proofs.pager.Pager.new.Goals as goal
 
-pub returns-clause-empty : goal.returns-clause-empty
+pub returns-clause-empty : Rattle.pagable_pager.proofs.pager.Pager.new.Goals.returns-clause-empty
 returns-clause-empty g c =
     let e = c.new.ensures in
     is-new (telling g.S.PagableStorage.stored g.S.PagableStorage.is_closed g.S.PagableStorage.failed) (record { tables = c.new.result; values = c.new-2.result; storage = c.args.storage; environment = c.args.env })

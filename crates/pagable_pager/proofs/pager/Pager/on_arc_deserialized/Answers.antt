@@ -1,14 +1,13 @@
 use Rattle.{pagable_pager.proofs.Keeping.{caller-free, known-valued, only-less, shed}, pagable_steps.proofs.Owning.offered, std.proofs.Common.{ap, not}}
-use Rattle.pagable_pager.proofs.pager.Pager.on_arc_deserialized.Goals as goal
 
-pub invariant_of-self : goal.invariant_of-self
+pub invariant_of-self : Rattle.pagable_pager.proofs.pager.Pager.on_arc_deserialized.Goals.invariant_of-self
 invariant_of-self g c =
     let e = c.offer.ensures in
     let step = e.offered _ _ _ (ap not c.has_closed-lists.ensures) in
     let sheds = e.sheds (λ n known pinning. known-valued c.self.invariant c.args.kind.0 c.args.key n known pinning) in
     shed c.self.invariant c.offer.new.t c.offer.new.values e.whole (e.later c.self.invariant.later) sheds (λ left. offered c.self.invariant.state left caller-free c.offer.result step)
 
-pub returns : goal.returns
+pub returns : Rattle.pagable_pager.proofs.pager.Pager.on_arc_deserialized.Goals.returns
 returns g c =
     let sheds = c.offer.ensures.sheds (λ n known pinning. known-valued c.self.invariant c.args.kind.0 c.args.key n known pinning) in
     rw (← c.self.view_is) (record { step = c.offer.ensures.offered _ _ _ (ap not c.has_closed-lists.ensures); only = only-less c.self.invariant _ _ sheds })

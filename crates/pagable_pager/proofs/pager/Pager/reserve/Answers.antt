@@ -1,8 +1,7 @@
 use Rattle.{pagable_pager.proofs.Keeping.called, pagable_steps.proofs.Owning.unmoved, std.proofs.Common.refl}
-use Rattle.pagable_pager.proofs.pager.Pager.reserve.Goals as goal
 
-pub invariant_of-self : goal.invariant_of-self
+pub invariant_of-self : Rattle.pagable_pager.proofs.pager.Pager.reserve.Goals.invariant_of-self
 invariant_of-self g c = called c.self.invariant c.reserve.new.t c.reserve.ensures (λ r. unmoved r.stays c.self.invariant.state.whole.shut)
 
-pub returns : goal.returns
+pub returns : Rattle.pagable_pager.proofs.pager.Pager.reserve.Goals.returns
 returns g c = rw (← c.self.view_is) (record { step = c.reserve.ensures.does _ _ _; only = record { values = refl; storage = refl; environment = refl } })

@@ -1,7 +1,6 @@
 use Rattle.{pagable_pager.proofs.Keeping.{in-step, owner-free, owner-loads}, pagable_steps.proofs.Owning.{spared, takes}, std.proofs.Common.refl}
-use Rattle.pagable_pager.proofs.pager.Pager.take_pending_by.Goals as goal
 
-pub invariant_of-self : goal.invariant_of-self
+pub invariant_of-self : Rattle.pagable_pager.proofs.pager.Pager.take_pending_by.Goals.invariant_of-self
 invariant_of-self g c =
     let later = c.take_pending.ensures.later (owner-loads c.self.invariant c.args.me c.self.view_is c.requires) c.self.invariant.later in
     in-step _ c.take_pending.ensures.whole later

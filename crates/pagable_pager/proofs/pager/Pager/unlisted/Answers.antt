@@ -1,13 +1,12 @@
 use Rattle.{pagable_tables.{proofs.Worlds.{earlier-first, still}, specs.Core.load_in}, pagable_world.specs.{Kinds.is_owner, Plain.{Error, if_there}, Refusals.refused_if, World.OpenLoad}}
 use Rattle.std.{proofs.Common.{None, Some, ap, arith, inl, inr, not, refl, sym, ◌∙◌}, specs.Option.option_map}
-use Rattle.pagable_pager.proofs.pager.Pager.unlisted.Goals as goal
 
-pub returns-in-Some : goal.returns-in-Some
+pub returns-in-Some : Rattle.pagable_pager.proofs.pager.Pager.unlisted.Goals.returns-in-Some
 returns-in-Some g c later =
     let open_load = ap (option_map load_in) (sym c.load_of.ensures ∙ c.in-Some.is) in
     rw (← c.self.view_is) (record { why = inr (refl, ap (if_there (λ (load : OpenLoad). None) (Some Error.NoSuchHandle)) open_load, tt); stays = still _ })
 
-pub returns-in-None : goal.returns-in-None
+pub returns-in-None : Rattle.pagable_pager.proofs.pager.Pager.unlisted.Goals.returns-in-None
 returns-in-None g c later =
     let gone = ap (option_map load_in) (sym c.load_of.ensures ∙ c.in-None.is) in
     let fault = ap (if_there (λ (load : OpenLoad). refused_if (not (is_owner c.args.me load.owner)) Error.NotYours) (Some Error.NoSuchHandle)) gone in

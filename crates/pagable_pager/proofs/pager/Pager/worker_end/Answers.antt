@@ -1,8 +1,7 @@
 use Rattle.{pagable_pager.proofs.Keeping.{less-called, shed-by}, pagable_steps.proofs.Owning.worker_ended}
-use Rattle.pagable_pager.proofs.pager.Pager.worker_end.Goals as goal
 
-pub invariant_of-self : goal.invariant_of-self
+pub invariant_of-self : Rattle.pagable_pager.proofs.pager.Pager.worker_end.Goals.invariant_of-self
 invariant_of-self g c = shed-by c.self.invariant _ _ c.worker_end.ensures c.has_closed-lists.ensures (λ left. worker_ended c.self.invariant.state left c.args.worker.0)
 
-pub returns : goal.returns
+pub returns : Rattle.pagable_pager.proofs.pager.Pager.worker_end.Goals.returns
 returns g c = rw (← c.self.view_is) (less-called c.self.invariant _ _ c.worker_end.ensures c.has_closed-lists.ensures)

@@ -1,8 +1,7 @@
 use Rattle.pagable_traits.proofs.{Json.{json-memory, number_written}, Parts.{err_along, ok_along}}
 use Rattle.{pagable_traits.proofs.Words.{Is, Some, as_i64, grows_trans, json, nested_in, number_view, of_data, refused_memory, rules, to_z-of_z, w64, ◌∙◌, ◌≡◌}, serde_json.specs.Data.number}
-use Rattle.pagable_traits.proofs.impls.json_writing.write_number.Goals as goal
 
-pub returns : goal.returns
+pub returns : Rattle.pagable_traits.proofs.impls.json_writing.write_number.Goals.returns
 returns g c =
     let whole : as_i64 (number_view c.args.value.now) ≡ Some c.in-Some.whole = search rules in
     let first = c.in_ok-write_case.ensures in

@@ -1,11 +1,10 @@
 use Rattle.{pagable_traits.proofs.JsonSteps.{as-form, pair-refused, pair-wrote}, std.proofs.Common.{inl, inr}}
-use Rattle.pagable_traits.proofs.impls.maps.write_entry.Goals as goal
 
-pub returns-in_err-pagable_serialize : goal.returns-in_err-pagable_serialize
+pub returns-in_err-pagable_serialize : Rattle.pagable_traits.proofs.impls.maps.write_entry.Goals.returns-in_err-pagable_serialize
 returns-in_err-pagable_serialize g c = pair-refused g.E.Env g.S.PagableSerializer g.K.Carried.means g.V.Carried.means c.args.key.now c.args.value.now _ _
     c.from_residual.result c.from_residual.ensures.1 c.in_err-pagable_serialize.ensures (λ h. inl h)
 
-pub returns : goal.returns
+pub returns : Rattle.pagable_traits.proofs.impls.maps.write_entry.Goals.returns
 returns g c =
     let r = c.pagable_serialize-2.result in
     let key = c.in_ok-pagable_serialize.ensures in

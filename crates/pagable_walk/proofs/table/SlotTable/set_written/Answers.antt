@@ -1,13 +1,12 @@
 use Rattle.{pagable_walk.{proofs.Waits.{changed-is, changed-table}, specs.Slots.{with_written, written_of}}, std.{proofs.Common.{Some, refl, rules}, specs.Arc.arc_value}}
-use Rattle.pagable_walk.proofs.table.SlotTable.set_written.Goals as goal
 
-pub returns-in-Some : goal.returns-in-Some
+pub returns-in-Some : Rattle.pagable_walk.proofs.table.SlotTable.set_written.Goals.returns-in-Some
 returns-in-Some g c =
     let w = record c.in-Some.slot.now { written = Some c.args.written } in
     let at = ((c.get_mut.follows.holds w).3 (search rules)).0 in
     record { slots = changed-is c.args.self.now.slots (c.get_mut.follows.lender w) c.args.identity w at _ c.in-Some.ensures.value _ refl; waits = λ v. refl }
 
-pub invariant_of-self : goal.invariant_of-self
+pub invariant_of-self : Rattle.pagable_walk.proofs.table.SlotTable.set_written.Goals.invariant_of-self
 invariant_of-self g c =
     let w = record c.in-Some.slot.now { written = Some c.args.written } in
     let at = ((c.get_mut.follows.holds w).3 (search rules)).0 in

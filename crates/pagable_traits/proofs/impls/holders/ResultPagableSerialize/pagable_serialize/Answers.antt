@@ -1,7 +1,6 @@
 use Rattle.{pagable_traits.proofs.{JsonSteps.{as-form, failure-wrote, success-wrote}, Words.{false, memory, rules, true, ◌≡◌}}, std.proofs.Common.{inl, inr}}
-use Rattle.pagable_traits.proofs.impls.holders.ResultPagableSerialize.pagable_serialize.Goals as goal
 
-pub returns-in-Ok : goal.returns-in-Ok
+pub returns-in-Ok : Rattle.pagable_traits.proofs.impls.holders.ResultPagableSerialize.pagable_serialize.Goals.returns-in-Ok
 returns-in-Ok g c =
     let f = c.in_ok-write_flag.ensures in
     let good : c.is_ok.result ≡ true = search rules in
@@ -9,7 +8,7 @@ returns-in-Ok g c =
     success-wrote g.E.Env g.S.PagableSerializer {X = Unit {0}} {p = memory} {u = tt} c.pagable_serialize.result g.T.Carried.means.of g.X.Carried.means.of _ _ c.args.self.now _ c.in-Ok.is
     (record { ok = rw good at f.ok; refused = tt; only = tt; err = f.err; same_env = f.same_env; same_levels = f.same_levels }) v (λ e h. inr (inl h))
 
-pub returns-in-Err : goal.returns-in-Err
+pub returns-in-Err : Rattle.pagable_traits.proofs.impls.holders.ResultPagableSerialize.pagable_serialize.Goals.returns-in-Err
 returns-in-Err g c =
     let f = c.in_ok-write_flag.ensures in
     let r = c.pagable_serialize-in-Err.result in

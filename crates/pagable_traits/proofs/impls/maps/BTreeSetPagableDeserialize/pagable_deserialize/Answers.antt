@@ -1,7 +1,6 @@
 use Rattle.pagable_traits.proofs.{JsonSteps.reads-as, Maps.{key_like, reads_sorted_set}, Words.{ordered, ordering_reverse}}
-use Rattle.pagable_traits.proofs.impls.maps.BTreeSetPagableDeserialize.pagable_deserialize.Goals as goal
 
-pub returns : goal.returns
+pub returns : Rattle.pagable_traits.proofs.impls.maps.BTreeSetPagableDeserialize.pagable_deserialize.Goals.returns
 returns g c =
     let same = key_like g.T.Carried.means.of g.T.Carried.means.meaning g.met.T.OneMeaning.single g.T.Ord.cmp (ordered g.T.PagableOrdKey.order) ordering_reverse g.met.T.PagableOrdKey.is_order g.met.T.Ord.total.antisymm in
     reads-as g.E.Env g.D.PagableDeserializer c.read_collected.result c.read_collected.ensures

@@ -1,7 +1,6 @@
 use Rattle.pagable_traits.proofs.{Items.shows_items, JsonSteps.wrote-counted, Maps.{key_like, wraps_sorted_set}, Words.{ordered, ordering_reverse, some}}
-use Rattle.pagable_traits.proofs.impls.maps.BTreeSetPagableSerialize.pagable_serialize.Goals as goal
 
-pub returns : goal.returns
+pub returns : Rattle.pagable_traits.proofs.impls.maps.BTreeSetPagableSerialize.pagable_serialize.Goals.returns
 returns g c =
     let same = key_like g.T.Carried.means.of g.T.Carried.means.meaning g.met.T.OneMeaning.single g.T.Ord.cmp (ordered g.T.PagableOrdKey.order) ordering_reverse g.met.T.PagableOrdKey.is_order g.met.T.Ord.total.antisymm in
     wrote-counted g.E.Env g.S.PagableSerializer c.write_counted.result c.len.result (some g.T.Carried.means) c.len.ensures.len

@@ -1,7 +1,6 @@
 use Rattle.pagable_traits.proofs.{Hashed.wraps_hash_map, Items.shows_entries, JsonSteps.wrote-counted, Maps.key_like, Words.{pairs, same_key, some}}
-use Rattle.pagable_traits.proofs.impls.maps.HashMapPagableSerialize.pagable_serialize.Goals as goal
 
-pub returns : goal.returns
+pub returns : Rattle.pagable_traits.proofs.impls.maps.HashMapPagableSerialize.pagable_serialize.Goals.returns
 returns g c =
     let same = key_like g.K.Carried.means.of g.K.Carried.means.meaning g.met.K.OneMeaning.single g.K.PartialEq.eq same_key (λ b. b) g.met.K.PagableKey.key.same g.met.K.Eq.laws.symm in
     wrote-counted g.E.Env g.S.PagableSerializer c.write_counted.result c.len.result (some (pairs g.K.Carried.means g.V.Carried.means)) c.len.ensures.len

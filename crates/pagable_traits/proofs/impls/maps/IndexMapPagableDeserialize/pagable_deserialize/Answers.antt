@@ -1,7 +1,6 @@
 use Rattle.pagable_traits.proofs.{JsonSteps.reads-as, Words.same_key, Maps.key_like, Maps.reads_placed_map}
-use Rattle.pagable_traits.proofs.impls.maps.IndexMapPagableDeserialize.pagable_deserialize.Goals as goal
 
-pub returns : goal.returns
+pub returns : Rattle.pagable_traits.proofs.impls.maps.IndexMapPagableDeserialize.pagable_deserialize.Goals.returns
 returns g c =
     let same = key_like g.K.Carried.means.of g.K.Carried.means.meaning g.met.K.OneMeaning.single g.K.PartialEq.eq same_key (λ b. b) g.met.K.PagableKey.key.same g.met.K.Eq.laws.symm in
     reads-as g.E.Env g.D.PagableDeserializer c.read_collected.result c.read_collected.ensures

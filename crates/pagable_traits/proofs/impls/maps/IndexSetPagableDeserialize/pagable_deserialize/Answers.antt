@@ -1,7 +1,6 @@
 use Rattle.pagable_traits.proofs.{JsonSteps.reads-as, Maps.{key_like, reads_placed_set}, Words.same_key}
-use Rattle.pagable_traits.proofs.impls.maps.IndexSetPagableDeserialize.pagable_deserialize.Goals as goal
 
-pub returns : goal.returns
+pub returns : Rattle.pagable_traits.proofs.impls.maps.IndexSetPagableDeserialize.pagable_deserialize.Goals.returns
 returns g c =
     let same = key_like g.T.Carried.means.of g.T.Carried.means.meaning g.met.T.OneMeaning.single g.T.PartialEq.eq same_key (λ b. b) g.met.T.PagableKey.key.same g.met.T.Eq.laws.symm in
     reads-as g.E.Env g.D.PagableDeserializer c.read_collected.result c.read_collected.ensures
