@@ -15,7 +15,7 @@ pub trait Env: Sized {
     /// The keys of a session's values; `()` where no session is used.
     type CtxKey: Ord + Drop;
 
-    /// The values of a session, of which it answers clones.
+    /// The values of a session, whose calls ask that they are `SessionValue`s.
     type CtxValue: Drop;
 
     // How the parts of values that have numbers are spelled, each one level further down.
