@@ -2,18 +2,18 @@
 use Rattle.pagable_laws.proofs.{Goes.{NotValues, among-found, find-both, found-number, good, low-whole, new-handle, stands-fell}, ReadingSteps.cached-rows, SparingSteps.{entered-of, named-among}}
 use Rattle.{pagable_laws.proofs.Taking.{row-held, row-pins}, pagable_loads.{proofs.Stepped.begun_is, specs.declared.access.PinStart.PinStart}, std.specs.Option.option_map}
 use Rattle.{pagable_loads.specs.Telling.IsMade, pagable_model.specs.{Stored.{Adds, RefusesFetch, RefusesStore}, declared.{data_key.OptionalDataKey.OptionalDataKey, numbers.WorkerNumber.WorkerNumber}}}
-use Rattle.pagable_world.specs.LoadCalls.{AdoptCall, Adopts, AskCall, BeginCall, DropCall, EndCall, EndRefused, GetsKnown, Installs, LazyCall, MayEnd, adopt_fault, adopted, first_key, from_cache}
+use Rattle.pagable_world.specs.LoadCalls.{AdoptCall, Adopts, AskCall, BeginCall, DropCall, EndCall, EndRefused, GetsKnown, Installs, LazyCall, MayEnd, adopt_fault, adopted, end_fault, first_key, from_cache}
 use Rattle.{pagable_loads.specs.Starting.StartsPin, pagable_model.specs.declared.numbers.{ArcRef.ArcRef, HandleNumber.HandleNumber, Kind.Kind, LoadNumber.LoadNumber, NodeNumber.NodeNumber}}
 use Rattle.pagable_steps.proofs.Owning.{IsRight, IsShut, Leaves, Rests, Spares, adopted_known, adopts-new, asked as spares-asked, born, closed, installed_away, installed_there, known-here}
-use Rattle.{pagable_steps.proofs.Owning.{load_closed, not-load, pinned-here, recalls, rests-then, spared, spares-same, starts-listed, stayed, unmoved}, pagable_tables.proofs.Worlds.adopted-past}
+use Rattle.{pagable_steps.proofs.Owning.{not-load, pinned-here, recalls, rests-then, spared, spares-same, starts-listed, stayed, unmoved}, pagable_tables.proofs.Worlds.adopted-past}
 use Rattle.pagable_tables.proofs.Worlds.{adopts-new as made-new, born-past, early-past, fault-by, next-past, no-load-fault, refused-memory, refused-new, room-alike, room-fault, still, told-later}
 use Rattle.pagable_tables.specs.{Core.{AreLater, Bears, BeginsWorker, Does, DoesShed, IsWhole}, Ready.{AsksKnown, IsReady, IsVain, ShedsBeside, early_fault, has_come}, declared.tables.Counts.Counts}
 use Rattle.pagable_tables.{proofs.Installed.{installs-wider, may-wider, so-then}, specs.{Core.{OnlyRoom, TakesWorker, core_of, plain_of}, declared.{loading.Ending.Ending, tables.Tables.Tables}}}
 use Rattle.{pagable_laws.proofs.{Following.cell-of, Trees.same_some}, pagable_tables.specs.Falling.{AreKept, Sheds, cell_in, counts_at, has_value, key_in, known_at, load_at, pins_in, worker_at}}
 use Rattle.pagable_world.specs.{Access.{Called, Told}, Kinds.{HasKinds, find_row, has_key, is_handle, is_loose, is_owner, is_pinning, loose_kind, mode_of, pins}, declared.answers.Beginning.Beginning}
-use Rattle.pagable_pager.specs.View.{Calls, FewerValues, IsPager, OnlyLess, PagerView, PutsIn, SameValues, TakesEntry, Telling, ValuesByNode, core_in, is_at_work, state_in, value_in, with_value}
+use Rattle.pagable_pager.specs.View.{Calls, FewerValues, IsPager, OnlyLess, PagerView, SameValues, TakesEntry, Telling, ValuesByNode, core_in, is_at_work, state_in, value_in, with_value}
 use Rattle.pagable_world.specs.{Pager.{HandlesAreWhole, IsCellOf, IsNew, IsNewNode, MayOwnLoad, Moves, PagerState, ValueCall, WellFormed}, Plain.{Blob, Error, if_there, or_else, type_of, updated}}
-use Rattle.pagable_world.specs.{Refusals.{Refused, load_fault, references_fault}, World.{Alike, Core, Last, OpenLoad, Reading, Values, greatest, is_here, row_at, seen_as, usable}}
+use Rattle.pagable_world.specs.{Refusals.{Refused, load_fault, references_fault}, World.{Alike, Core, OpenLoad, Reading, Values, greatest, is_here, row_at, seen_as, usable}}
 use Rattle.pagable_world.specs.{Calls.{Asked, BirthCall, CloseCall, FetchCall, IsNext, Looks, StoreCall, birth_fault, is_named_by, next_node, row_of, with_handle, with_node}, declared.calls.Want.Want}
 use Rattle.{pagable_world.specs.{Events.{IsEntry, reading_of_load}, Workers.RowIs, declared.{handles.{HandleRow.HandleRow, Owner.Owner}, rows.Mode.Mode}}, std.proofs.Common.{Bool, Err, List, None}}
 use Rattle.std.proofs.Common.{Ok, Option, Result, Some, [], ap, arith, false, if◌then◌else◌, inl, inr, nat_eq, not, refl, rules, subst, sym, true, ℕ, ◌&&◌, ◌++◌, ◌+◌, ◌<◌, ◌==◌, ◌∙◌, ◌∷◌, ◌≡◌, ◌≤◌}
@@ -118,11 +118,6 @@ module _ {N S E : Type 0} {tells : Telling S} {says : E → Values N} {p : Pager
           same-so (subst (λ (x : Tables). Alike (core_in tells p) (core_in tells (record p { tables = x; values = values }))) (sym same) (still (core_in tells p)))
       found-so me l kind key u rs (Err e) known given same refused = same-so refused.stays
 
-      pub refused-so : (me : Owner) (l : LoadNumber) (x : N) (u : ℕ) (refs : List ArcRef) (e : Error) (back : Option N) → EndRefused (core_in tells p) me l x u refs e back (core_in tells gone)
-          → IsPager tells says gone
-      refused-so me l x u refs e (Some y) refused = same-so refused.1.stays
-      refused-so me l x u refs e None refused = shed whole later sheds (λ left. load_closed is.state left l refused.closes)
-
 pub caller-free : NotValues Owner.Caller
 caller-free n is = absurd (cc)
 
@@ -181,50 +176,48 @@ birth-past : {N : Type 0} {w w1 w' : Core} {x : N} (me : Owner) (t t' : ℕ) (rs
     → w1.last.node < greatest → t ≡ t' → rs ≡ rs' → Bears w1 me t 0 rs mode k w' → BirthCall w me x t' rs' mode (Ok k) w'
 birth-past {N} {w} {w1} {w'} {x} me t t' rs rs' mode k room fit left typed named b = grind (arith, nat_tests, born-past, next-past)
 
-module _ {N S E : Type 0} {tells : Telling S} {says : E → Values N} {p : PagerView N S E} (is : IsPager tells says p) where
-  abbrev next : ℕ
-  next = p.tables.last_node + 1
+module _ {N S E : Type 0} {tells : Telling S} {says : E → Values N} {p : PagerView N S E} (is : IsPager tells says p) {t1 : Tables} (values : ValuesByNode N) (room : Does p.tables OnlyRoom t1) where
+  abbrev roomy : PagerView N S E
+  roomy = record p { tables = t1; values = values }
 
-  module _ {t1 : Tables} (mid : ValuesByNode N) (room : Does p.tables OnlyRoom t1) where
-    abbrev roomy : PagerView N S E
-    roomy = record p { tables = t1; values = mid }
+  pub only-room : OnlyRoom (core_in tells p) (core_in tells roomy)
+  only-room = room.does (tells.stored p.storage) (tells.closed p.storage) (tells.failed p.storage)
 
-    pub only-room : OnlyRoom (core_in tells p) (core_in tells roomy)
-    only-room = room.does (tells.stored p.storage) (tells.closed p.storage) (tells.failed p.storage)
+  pub roomier : ((n : ℕ) → value_in values n ≡ value_in p.values n) → IsPager tells says roomy
+  roomier same = in-step roomy room.whole (room.later is.later) (spared is.state (unmoved (room-alike only-room) is.state.whole.shut) same)
 
-    module _ (same : (n : ℕ) → value_in mid n ≡ value_in p.values n) where
-      pub roomier : IsPager tells says roomy
-      roomier = in-step roomy room.whole (room.later is.later) (spared is.state (unmoved (room-alike only-room) is.state.whole.shut) same)
+  -- a value is kept for the node that comes
+  module _ (t2 : Tables) (x : N) (placed : (n : ℕ) → value_in values n ≡ updated (t1.last_node + 1) (Some x) (value_in p.values) n) where
+    abbrev next : ℕ
+    next = p.tables.last_node + 1
 
-      -- a value is kept with the node that has come
-      module _ (t2 : Tables) (values : ValuesByNode N) (x : N) {y : N} (shared : y ≡ x) (kept : (n : ℕ) → value_in values n ≡ updated t2.last_node (Some y) (value_in mid) n) where
-        abbrev after : PagerView N S E
-        after = record p { tables = t2; values = values }
+    abbrev after : PagerView N S E
+    after = record p { tables = t2; values = values }
 
-        pub told : t2.last_node ≡ next → (n : ℕ) → value_in values n ≡ (if n == next then Some x else value_in p.values n)
-        told last n = grind (arith, nat_tests, cases_eq)
+    pub told : (n : ℕ) → value_in values n ≡ (if n == next then Some x else value_in p.values n)
+    told n = placed n ∙ ap (λ m. if n == m + 1 then Some x else value_in p.values n) (ap (λ (u : Core). u.last.node) only-room.same)
 
-        pub moved-in : t2.last_node ≡ next → Moves (λ n z. (z ≡ x) × IsNewNode (core_in tells p) n) (state_in tells p) (state_in tells after)
-        moved-in last = let none_yet : value_in p.values next ≡ None = grind (arith, nat_tests) in grind (arith, nat_tests, cases_eq, none_yet, same_some, told last)
+    pub moved-in : Moves (λ n z. (z ≡ x) × IsNewNode (core_in tells p) n) (state_in tells p) (state_in tells after)
+    moved-in = let none_yet : value_in p.values next ≡ None = grind (arith, nat_tests) in grind (arith, nat_tests, cases_eq, none_yet, same_some, told)
 
-        -- a node of the caller's
-        module _ {mode : Mode} {k : HandleNumber} {node_type : ℕ} {rs qs : List ArcRef} (bears : Does t1 (λ w w'. Bears w Owner.Caller node_type 0 rs mode k w') t2) (left : t1.last_node < greatest)
-            (fit : references_fault (plain_of t1) Owner.Caller [] qs ≡ None) (read : qs ≡ rs) (typed : node_type ≡ (says p.environment).node_type x) (named : rs ≡ (says p.environment).references x) where
-          birth : BirthCall (core_in tells p) Owner.Caller x ((says p.environment).node_type x) ((says p.environment).references x) mode (Ok k) (core_in tells after)
-          birth =
-              let plain = room.does (λ key. None) false 0 in
-              let fine = fault-by (plain_of p.tables) (core_in tells p) Owner.Caller [] rs ∙ sym (room-fault Owner.Caller rs plain) ∙ subst
-              (λ l. references_fault (plain_of t1) Owner.Caller [] l ≡ None) read fit in
-              birth-past Owner.Caller node_type ((says p.environment).node_type x) rs ((says p.environment).references x) mode k only-room fine left typed named
-              (bears.does (tells.stored p.storage) (tells.closed p.storage) (tells.failed p.storage))
+    -- a node of the caller's
+    module _ {mode : Mode} {k : HandleNumber} {node_type : ℕ} {rs qs : List ArcRef} (bears : Does t1 (λ w w'. Bears w Owner.Caller node_type 0 rs mode k w') t2) (left : t1.last_node < greatest)
+        (fit : references_fault (plain_of t1) Owner.Caller [] qs ≡ None) (read : qs ≡ rs) (typed : node_type ≡ (says p.environment).node_type x) (named : rs ≡ (says p.environment).references x) where
+      birth : BirthCall (core_in tells p) Owner.Caller x ((says p.environment).node_type x) ((says p.environment).references x) mode (Ok k) (core_in tells after)
+      birth =
+          let plain = room.does (λ key. None) false 0 in
+          let fine = fault-by (plain_of p.tables) (core_in tells p) Owner.Caller [] rs ∙ sym (room-fault Owner.Caller rs plain) ∙ subst
+          (λ l. references_fault (plain_of t1) Owner.Caller [] l ≡ None) read fit in
+          birth-past Owner.Caller node_type ((says p.environment).node_type x) rs ((says p.environment).references x) mode k only-room fine left typed named
+          (bears.does (tells.stored p.storage) (tells.closed p.storage) (tells.failed p.storage))
 
-          pub born-told : BirthCall (core_in tells p) Owner.Caller x ((says p.environment).node_type x) ((says p.environment).references x) mode (Ok k) (core_in tells after) × Moves (λ n z. (z ≡ x) × IsNewNode (core_in tells p) n)
-              (state_in tells p) (state_in tells after)
-          born-told = (birth, moved-in (ap (λ (l : Last). l.node) birth.made.3.last))
+      pub born-told : BirthCall (core_in tells p) Owner.Caller x ((says p.environment).node_type x) ((says p.environment).references x) mode (Ok k) (core_in tells after) × Moves (λ n z. (z ≡ x) × IsNewNode (core_in tells p) n)
+          (state_in tells p) (state_in tells after)
+      born-told = (birth, moved-in)
 
-          pub born-so : is_pinning mode ≡ true → IsPager tells says after
-          born-so pinning = in-step after bears.whole (bears.later (room.later is.later))
-              (born {v = says p.environment} {s = state_in tells p} {s' = state_in tells after} is.state caller-free pinning birth (told (ap (λ (l : Last). l.node) birth.made.3.last)))
+      pub born-so : is_pinning mode ≡ true → IsPager tells says after
+      born-so pinning = in-step after bears.whole (bears.later (room.later is.later))
+          (born {v = says p.environment} {s = state_in tells p} {s' = state_in tells after} is.state caller-free pinning birth told)
 
 -- ---- what a load has read becomes a new node
 
@@ -251,68 +244,49 @@ module _ {N S E : Type 0} {tells : Telling S} {says : E → Values N} {p q : Pag
   pub new-unknown : {t1 : Tables} → Does p.tables OnlyRoom t1 → usable (plain_of t1) kind.0 key ≡ None
   new-unknown room = ap (λ (u : Core). usable u kind.0 key) (room.does (λ key. None) false 0).same ∙ unknown-in
 
-  module _ {t1 : Tables} (mid : ValuesByNode N) (room : Does p.tables OnlyRoom t1) where
-    pub new-memory : {y : N} → y ≡ x → AdoptCall (core_in tells p) me l kind key x ((says p.environment).node_type x) ((says p.environment).references x) (Err (Error.OutOfMemory, y)) (core_in tells (record p { tables = t1; values = mid }))
-    new-memory back = not-adopted back (refused-memory (core_in tells p) me l kind key ((says p.environment).node_type x) rs (fresh-in _ _ _) (only-room is mid room))
+  module _ {t1 : Tables} (values : ValuesByNode N) (room : Does p.tables OnlyRoom t1) where
+    pub new-memory : {y : N} → y ≡ x → AdoptCall (core_in tells p) me l kind key x ((says p.environment).node_type x) ((says p.environment).references x) (Err (Error.OutOfMemory, y)) (core_in tells (record p { tables = t1; values = values }))
+    new-memory back = not-adopted back (refused-memory (core_in tells p) me l kind key ((says p.environment).node_type x) rs (fresh-in _ _ _) (only-room is values room))
 
-    module _ (same : (n : ℕ) → value_in mid n ≡ value_in p.values n) (t2 : Tables) (values : ValuesByNode N) {y : N} (shared : y ≡ x)
-        (kept : (n : ℕ) → value_in values n ≡ updated t2.last_node (Some y) (value_in mid) n) {k : HandleNumber} {b : Bool} (opens : b ≡ tells.closed p.storage) (left : t1.last_node < greatest)
-        (does : Does t1 (λ w w'. IsNext k w × (not b ≡ not w.closed → Alike (adopted w l kind key (first_key kind.0 key) rs) w')) t2) where
+    module _ (placed : (n : ℕ) → value_in values n ≡ updated (t1.last_node + 1) (Some x) (value_in p.values) n) (t2 : Tables) {k : HandleNumber} {b : Bool} (opens : b ≡ tells.closed p.storage)
+        (left : t1.last_node < greatest) (does : Does t1 (λ w w'. IsNext k w × (not b ≡ not w.closed → Alike (adopted w l kind key (first_key kind.0 key) rs) w')) t2) where
       abbrev learned : PagerView N S E
       learned = record p { tables = t2; values = values }
 
       leaves : Alike (adopted (core_in tells p) l kind key (first_key kind.0 key) rs) (core_in tells learned)
-      leaves = adopted-past l kind key (first_key kind.0 key) rs (only-room is mid room) ((does.does (tells.stored p.storage) (tells.closed p.storage) (tells.failed p.storage)).1 (ap not opens))
+      leaves = adopted-past l kind key (first_key kind.0 key) rs (only-room is values room) ((does.does (tells.stored p.storage) (tells.closed p.storage) (tells.failed p.storage)).1 (ap not opens))
 
       adopts : Adopts (core_in tells p) me l kind key ((says p.environment).node_type x) ((says p.environment).references x) k (core_in tells learned)
       adopts = subst (λ z. Adopts (core_in tells p) me l kind key ((says p.environment).node_type x) z k (core_in tells learned)) listed
-          (made-new (core_in tells p) me l kind key ((says p.environment).node_type x) rs (fresh-in _ _ _) unknown-in k (subst (λ (u : Core). u.last.node < greatest) (only-room is mid room).same left)
-          (next-past (only-room is mid room) (does.does (tells.stored p.storage) (tells.closed p.storage) (tells.failed p.storage)).0) leaves)
-
-      last : t2.last_node ≡ p.tables.last_node + 1
-      last = let a = leaves in grind (arith, nat_tests)
+          (made-new (core_in tells p) me l kind key ((says p.environment).node_type x) rs (fresh-in _ _ _) unknown-in k (subst (λ (u : Core). u.last.node < greatest) (only-room is values room).same left)
+          (next-past (only-room is values room) (does.does (tells.stored p.storage) (tells.closed p.storage) (tells.failed p.storage)).0) leaves)
 
       pub new-told : AdoptCall (core_in tells p) me l kind key x ((says p.environment).node_type x) ((says p.environment).references x) (Ok k) (core_in tells learned) × Moves (λ n z. (z ≡ x) × IsNewNode (core_in tells p) n)
           (state_in tells p) (state_in tells learned)
-      new-told = (record { adopts = adopts; refused = tt }, moved-in is mid room same t2 values x shared kept last)
+      new-told = (record { adopts = adopts; refused = tt }, moved-in is values room t2 x placed)
 
       pub new-so : IsPager tells says learned
       new-so = in-step learned does.whole (does.later (room.later is.later))
-          (adopts-new {v = says p.environment} {s = state_in tells p} {s' = state_in tells learned} is.state adopts unknown-in (told is mid room same t2 values x shared kept last))
+          (adopts-new {v = says p.environment} {s = state_in tells p} {s' = state_in tells learned} is.state adopts unknown-in (told is values room t2 x placed))
 
 -- ---- a value comes to a load's cell, and others go with their nodes
 
-module _ {N : Type 0} (t t' : Tables) (old mid new : ValuesByNode N) (node : NodeNumber) (x : N) (put-there : (n : ℕ) → value_in mid n ≡ updated node.0 (Some x) (value_in old) n) where
-  come : ((n : ℕ) → is_some (value_in old n) ≡ has_value (counts_at t.holdings.nodes n)) → (n : ℕ) → is_some (get nat_eq mid n) ≡ has_come (counts_at t.holdings.nodes) node n
-  come was n = grind (arith, nat_tests, nat_eq, put-there, some-map)
-
-  pub puts : ShedsBeside node (counts_at t.holdings.nodes) (get nat_eq mid) (counts_at t'.holdings.nodes) (get nat_eq new) → PutsIn true node.0 x t old t' new
-  puts sheds = grind (arith, nat_tests, come, left-map, nat_eq, put-there)
-
-pub drops : {N : Type 0} (t t' : Tables) (old new : ValuesByNode N) (node : NodeNumber) (x : N) → has_value (counts_at t.holdings.nodes node.0) ≡ true
-    → ShedsBeside node (counts_at t.holdings.nodes) (get nat_eq old) (counts_at t'.holdings.nodes) (get nat_eq new) → PutsIn false node.0 x t old t' new
-drops t t' old new node x there sheds = grind (arith, nat_tests, left-map, nat_eq, some-map)
-
--- a node that has its value by the world has it by its counts
-pub beside-there : (t : Tables) (me : Owner) (l : LoadNumber) (node_type : ℕ) (refs : List ArcRef) (r : Ending) → IsWhole t → IsReady (plain_of t) me l node_type refs r → r.is_away ≡ false
-    → has_value (counts_at t.holdings.nodes r.row.node.0) ≡ true
-beside-there t me l node_type refs r whole ready here =
-    let n = r.row.node.0 in
-    let p = plain_of t in
-    let some = row-held p r.row.number r.row ready.owned.live in
-    let is = so-then (is_here p n) (sym ready.away ∙ here) in
-    sym (here-told (counts_at t.holdings.nodes n) p n refl (sym (whole.steady.fits.pinned n))) ∙ ap (λ b. b && is_here p n) (cell-of whole.core.handles n some) ∙ is
+came : {N : Type 0} (comes : Bool) (node : NodeNumber) (x : N) (values : ℕ → Option N) (at : ℕ → Option Counts) → (comes ≡ false → has_value (at node.0) ≡ true) → ((n : ℕ) → is_some (values n) ≡ has_value (at n))
+    → (n : ℕ) → is_some (with_value comes node.0 x values n) ≡ has_come at node n
+came true node x values at there was n = grind (arith, nat_tests)
+came false node x values at there was n = let here = there refl in grind (arith, nat_tests, cases_eq)
 
 pub ready-told : {w : Core} {me : Owner} {l : LoadNumber} {t t' : ℕ} {refs refs' : List ArcRef} {r : Ending} → t ≡ t' → refs ≡ refs' → IsReady w me l t refs r → IsReady w me l t' refs' r
 ready-told {w} {me} {l} {t} {t'} {refs} {refs'} {r} typed named is = subst (λ k. IsReady w me l k refs' r) typed (subst (λ k. IsReady w me l t k r) named is)
 
 -- the pager after a load has ended with a pin
-module _ {N S E : Type 0} {tells : Telling S} {says : E → Values N} {p : PagerView N S E} (is : IsPager tells says p) (x : N) {t1 t2 : Tables} (values : ValuesByNode N) {me : Owner} {l : LoadNumber}
+module _ {N S E : Type 0} {tells : Telling S} {says : E → Values N} {p : PagerView N S E} (is : IsPager tells says p) (x : N) {t1 t2 : Tables} (mid values : ValuesByNode N) {me : Owner} {l : LoadNumber}
     {node_type : ℕ} {qs rs : List ArcRef} {r : Ending} {k : HandleNumber} {b : Bool} (typed : node_type ≡ (says p.environment).node_type x) (read : qs ≡ rs)
     (listed : rs ≡ (says p.environment).references x) (room : Does p.tables OnlyRoom t1) (nodes : t1.holdings.nodes ≡ p.tables.holdings.nodes)
     (prepared : (stored : ℕ → Option Blob) (closed : Bool) (failures : ℕ) → IsReady (core_of t1 stored closed failures) me l node_type qs r)
     (done : Does t1 (λ w w'. not b ≡ not w.closed → Installs w me l r.row.node r.row.number k rs w') t2) (opens : b ≡ tells.closed p.storage)
-    (puts : PutsIn r.is_away r.row.node.0 x t1 p.values t2 values) where
+    (placed : (n : ℕ) → value_in mid n ≡ with_value r.is_away r.row.node.0 x (value_in p.values) n)
+    (sheds : ShedsBeside r.row.node (counts_at t1.holdings.nodes) (get nat_eq mid) (counts_at t2.holdings.nodes) (get nat_eq values)) where
   abbrev w : Core
   w = core_in tells p
 
@@ -338,8 +312,24 @@ module _ {N S E : Type 0} {tells : Telling S} {says : E → Values N} {p : Pager
   kept : (n : ℕ) → is_some (value_in p.values n) ≡ has_value (counts_at t1.holdings.nodes n)
   kept n = is.state.valued n ∙ here-in is n ∙ ap (λ ns. has_value (counts_at ns n)) (sym nodes)
 
+  -- a node that has its value by the world has it by its counts
+  there : r.is_away ≡ false → has_value (counts_at t1.holdings.nodes r.row.node.0) ≡ true
+  there here =
+      let n = r.row.node.0 in
+      let q = plain_of t1 in
+      let ready = prepared (λ key. None) false 0 in
+      let some = cell-of room.whole.core.handles n (row-held q r.row.number r.row ready.owned.live) in
+      sym (here-told (counts_at t1.holdings.nodes n) q n refl (sym (room.whole.steady.fits.pinned n))) ∙ ap (λ b. b && is_here q n) some ∙ so-then (is_here q n) (sym ready.away ∙ here)
+
+  left : (n : ℕ) → value_in values n ≡ (if has_value (counts_at t2.holdings.nodes n) then with_value r.is_away r.row.node.0 x (value_in p.values) n else None)
+  left n =
+      let come = came r.is_away r.row.node x (value_in p.values) (counts_at t1.holdings.nodes) there kept in
+      let l = sheds.left (λ m. sym (some-map arc_value (get nat_eq mid m)) ∙ ap is_some (placed m) ∙ come m) n in
+      let here = has_value (counts_at t2.holdings.nodes n) in
+      left-map arc_value here (get nat_eq mid n) (get nat_eq values n) l.0 l.1 ∙ ap (λ v. if here then v else None) (placed n)
+
   swept-so : (b : Bool) → r.is_away ≡ b → (n : ℕ) → value_in values n ≡ (if is_some (w'.cells n) && is_here w' n then with_value b r.row.node.0 x (value_in p.values) n else None)
-  swept-so b e n = search (rules, here-told, kept, puts)
+  swept-so b e n = search (rules, here-told, left)
 
   away : (b : Bool) → r.is_away ≡ b → is_here w r.row.node.0 ≡ not b
   away b e = let same = ap (λ v. is_here v r.row.node.0) wider.same in let told = ready.away in grind (arith, nat_tests)
@@ -361,10 +351,13 @@ module _ {N S E : Type 0} {tells : Telling S} {says : E → Values N} {p : Pager
   pub ended-told : EndCall w me l x ((says p.environment).node_type x) ((says p.environment).references x) (Ok k) w' × Moves (λ n y. (y ≡ x) × IsCellOf w l n) (state_in tells p) (state_in tells p')
   ended-told = (record { installs = (r.row.node, r.row.number, may, was); refused = tt }, record { each = comes; environment = refl })
 
--- a load whose end is in vain is closed
-pub vain : {N : Type 0} {w v w' : Core} {me : Owner} {l : LoadNumber} {t : ℕ} {refs : List ArcRef} {e : Error} (x : N) (r : Result (Unit {0}) Error) → IsVain w me l t refs e × (v ≡ w) → DropCall v me l r w'
-    → EndRefused w me l x t refs e None w'
-vain {w = w} {v} {w'} {me} {l} x r (is, same) drop = grind (arith, nat_tests, no-load-fault)
+-- a load that doesn't end with the value stays open; or it is closed, where its end is in vain
+module _ {N : Type 0} {w w' : Core} {me : Owner} {l : LoadNumber} {t u : ℕ} {qs refs : List ArcRef} {e : Error} (x : N) (typed : t ≡ u) (named : qs ≡ refs) where
+  pub unended : Refused (end_fault w me l t qs) (load_fault w me l) (Unit {0}) w e w' → EndCall w me l x u refs (Err (e, Some x)) w'
+  unended refused = rw (← typed, ← named) (record { installs = tt; refused = (refl, told-later me l refused) })
+
+  pub vain : {v : Core} (r : Result (Unit {0}) Error) → IsVain w me l t qs e × (v ≡ w) → DropCall v me l r w' → EndCall w me l x u refs (Err (e, None)) w'
+  vain r (is, same) drop = let closes : EndRefused w me l x t qs e None w' = grind (arith, nat_tests, no-load-fault) in rw (← typed, ← named) (record { installs = tt; refused = closes })
 
 pub no-room : {N S E : Type 0} {tells : Telling S} {says : E → Values N} {p : PagerView N S E} → IsPager tells says p → {t : Tables} (values : ValuesByNode N)
     → Does p.tables OnlyRoom t → {me : Owner} {l : LoadNumber} {x y : N} {u node_type : ℕ} {qs refs : List ArcRef} {r : Ending} → y ≡ x → IsReady (core_in tells (record p { tables = t })) me l u qs r

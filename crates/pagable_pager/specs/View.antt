@@ -2,7 +2,7 @@
 use Rattle.std.specs.declared.{hash.{BuildHasherDefault.BuildHasherDefault, FoldHasher.FoldHasher}, sync.Arc.Arc}
 use Rattle.std.specs.{Arc.arc_value, Global.Global, HashMap.{HashMap, get}, Option.option_map, Prelude.{Bool, None, Option, Some, false, if◌then◌else◌, is_some, nat_eq, true, ℕ, ◌+◌, ◌≡◌}}
 use Rattle.{either.specs.declared.Either.Either, pagable_model.specs.declared.numbers.{ArcRef.ArcRef, HandleNumber.HandleNumber, LoadNumber.LoadNumber, WorkerNumber.WorkerNumber}}
-use Rattle.{pagable_tables.specs.{Core.{AreLater, core_of}, Falling.{counts_at, has_value, pins_in}, declared.tables.Tables.Tables}, pagable_world.specs.Kinds.{HasKinds, loose_kind}}
+use Rattle.{pagable_tables.specs.{Core.{AreLater, core_of}, Falling.{counts_at, pins_in}, declared.tables.Tables.Tables}, pagable_world.specs.Kinds.{HasKinds, loose_kind}}
 use Rattle.pagable_world.specs.{Events.{IsEntry, with_entry_taken, with_worker}, LoadCalls.{Given, from_cache, from_store}, Pager.{PagerState, WellFormed}, Plain.{Blob, updated}, Refusals.OwnsLoad}
 use Rattle.pagable_world.specs.{World.{Alike, Core, OpenLoad, Root, Values, of_cell, of_key}, declared.handles.{HandleRow.HandleRow, Owner.Owner}}
 use Rattle.pagable_tables.specs.Core as tables
@@ -25,11 +25,6 @@ value_in values n = option_map arc_value (get nat_eq values n)
 abbrev pub with_value : {N : Type 0} → Bool → ℕ → N → (ℕ → Option N) → ℕ → Option N
 with_value true n x values = updated n (Some x) values
 with_value false n x values = values
-
--- Where each value was with its node, those are there afterwards that their nodes still have, with this one if it comes.
-pub record PutsIn {N : Type 0} (comes : Bool) (n : ℕ) (x : N) (t : Tables) (old : ValuesByNode N) (t' : Tables) (new : ValuesByNode N) : Type 0 where
-  pub left : ((m : ℕ) → is_some (value_in old m) ≡ has_value (counts_at t.holdings.nodes m)) → (m : ℕ)
-      → value_in new m ≡ (if has_value (counts_at t'.holdings.nodes m) then with_value comes n x (value_in old) m else None)
 
 -- What a storage tells: what it holds under each key, whether it was closed, and how often it failed.
 pub record Telling (S : Type 0) : Type 0 where

@@ -1,115 +1,48 @@
 //! Nodes that come, what loads have read becomes nodes, and loads of cells that end with a value.
 
-ghost use Rattle.std.specs.{Arc.arc_value, HashMap.{get, spare}, Prelude.{Bool, IfErr, IfNone, IfOk, IfSome, List, None, OnErr, OnOk, Option, Some, nat_eq, not, true, ℕ, ◌<◌, ◌≡◌}};
-ghost use Rattle.{pagable_model.specs.declared.numbers.{ArcRef.ArcRef, Kind.Kind}, pagable_pager.specs.View.{Calls, OnlyLess, OnlyTables, PutsIn, core_in, state_in, telling, value_in}};
-ghost use Rattle.pagable_tables.specs.{Core.{AreLater, Does, IsWhole, core_of, plain_of}, Falling.{Sheds, counts_at}, Ready.{HasPlace, IsReady, Unends, early_fault}};
-ghost use Rattle.pagable_world.specs.{Calls.{AwayBirthCall, BirthCall}, Kinds.is_pinning, LoadCalls.{AdoptCall, Adopts, EndCall, EndRefused, Installs, adopt_fault}, Pager.{IsCellOf, IsNewNode}};
-ghost use Rattle.pagable_world.specs.{Pager.Moves, Plain.{Blob, Error, updated}, Refusals.{Refused, closed_fault, earlier, load_fault}, World.{Core, usable}};
+ghost use Rattle.std.specs.Prelude.{Bool, IfErr, IfNone, IfOk, IfSome, None, OnErr, OnOk, Option, true, ℕ, ◌≡◌};
+ghost use Rattle.{pagable_pager.specs.View.{Calls, OnlyLess, OnlyTables, core_in, state_in, telling, value_in, with_value}, pagable_tables.specs.{Core.{core_of, plain_of}, Ready.early_fault}};
+ghost use Rattle.pagable_world.specs.{Calls.{AwayBirthCall, BirthCall}, Kinds.is_pinning, LoadCalls.{AdoptCall, Adopts, EndCall, adopt_fault}, Pager.{IsCellOf, IsNewNode, Moves}};
+ghost use Rattle.pagable_world.specs.{Plain.{Blob, Error}, Refusals.{Refused, closed_fault, earlier, load_fault}, World.usable};
 
 use crate::pager::Pager;
 use indexmap::IndexMap;
 use pagable_codec::{Env, NodeSet};
 use pagable_core::PagableStorage;
 use pagable_model::{ArcRef, DataKey, Error, HandleNumber, Kind, LoadNumber};
-use pagable_tables::loading::{Ending, Unended};
-use pagable_tables::tables::Tables;
-use pagable_tables::{giving, loading, making, tables};
+use pagable_tables::loading::Unended;
+use pagable_tables::{loading, making, tables};
 use pagable_world::Mode;
 use pagable_world::handles::Owner;
 use std::alloc::Global;
 use std::sync::Arc;
 
-/// The value, shared, where there is room for one more. Refused by memory alone, and the value comes back.
-fn share_with_room<N: Drop>(
+/// A value is in memory from now on, if it comes, and else it is dropped. Refused by memory alone, and the value comes back.
+fn place<N: Drop>(
     values: &mut IndexMap<u64, Arc<N>>,
     alloc: Global,
+    node: u64,
+    comes: bool,
     value: N,
-) -> Result<Arc<N>, N>
-    ensures same { (n : ℕ) → value_in values.new n ≡ value_in values.old n }
-    ensures room { OnOk result (0 < spare values.new) }
-    ensures shared { IfOk result (λ a. arc_value a ≡ value) }
+) -> Result<(), N>
+    ensures placed { OnOk result ((n : ℕ) → value_in values.new n ≡ with_value comes node value (value_in values.old) n) }
     ensures back { IfErr result (λ x. x ≡ value) }
+    ensures kept { OnErr result ((n : ℕ) → value_in values.new n ≡ value_in values.old n) }
 {
+    if !comes {
+        return Ok(());
+    }
     let Ok(()) = values.reserve(1) else {
         return Err(value);
     };
-    match Arc::new(alloc, value) {
-        Ok(shared) => Ok(shared),
-        Err(refused) => Err(refused.value),
-    }
-}
-
-/// A value is in memory from now on, under its node's number.
-fn keep<N: Drop>(values: &mut IndexMap<u64, Arc<N>>, node: u64, value: Arc<N>)
-    requires { 0 < spare values.old }
-    ensures { (n : ℕ) → value_in values.new n ≡ updated node (Some (arc_value value)) (value_in values.old) n }
-{
-    let Ok(_) = values.insert(node, value) else {
+    let shared = match Arc::new(alloc, value) {
+        Ok(shared) => shared,
+        Err(refused) => return Err(refused.value),
+    };
+    let Ok(_) = values.insert(node, shared) else {
         unreachable!();
     };
-}
-
-/// The load ends: the value comes to its cell, or is dropped where that has one. Refused by memory alone, and the value comes back.
-fn finish<N: Drop>(
-    tables: &mut Tables,
-    values: &mut IndexMap<u64, Arc<N>>,
-    alloc: Global,
-    me: Owner,
-    load: LoadNumber,
-    node_type: u32,
-    references: Vec<ArcRef>,
-    value: N,
-    ending: Ending,
-    lists: bool,
-) -> Result<HandleNumber, N>
-    requires whole { IsWhole tables.old }
-    requires later { AreLater tables.old }
-    requires ready { (stored : ℕ → Option Blob) (closed : Bool) (failures : ℕ) → IsReady (core_of tables.old stored closed failures) me load node_type references.items ending }
-    requires place { HasPlace tables.old load ending }
-    ensures does { Does tables.old (λ w w'. IfOk result (λ k. lists ≡ not w.closed → Installs w me load ending.row.node ending.row.number k references.items w')) tables.new }
-    ensures puts { OnOk result (PutsIn ending.is_away ending.row.node.0 value tables.old values.old tables.new values.new) }
-    ensures back { IfErr result (λ x. x ≡ value) }
-    ensures tables { OnErr result (tables.new ≡ tables.old) }
-    ensures kept { OnErr result ((n : ℕ) → value_in values.new n ≡ value_in values.old n) }
-{
-    if ending.is_away {
-        let value = share_with_room(values, alloc, value)?;
-        keep(values, ending.row.node.0, value);
-        return Ok(loading::install(
-            tables, values, me, load, node_type, references, ending, lists,
-        ));
-    }
-    Ok(loading::install(
-        tables, values, me, load, node_type, references, ending, lists,
-    ))
-}
-
-/// The load doesn't end with the value: it stays open and the value comes back, or it is closed with all that it owns, where its end is in vain.
-fn give_back<N: Drop>(
-    tables: &mut Tables,
-    values: &mut IndexMap<u64, Arc<N>>,
-    me: Owner,
-    load: LoadNumber,
-    value: N,
-    unended: Unended,
-    lists: bool,
-) -> (Error, Option<N>)
-    requires whole { IsWhole tables.old }
-    requires later { AreLater tables.old }
-    ensures refused { (w : Core) (node_type : ℕ) (references : List ArcRef) (stored : ℕ → Option Blob) (closed : Bool) (failures : ℕ) → lists ≡ not closed
-        → Unends w me load node_type references unended (core_of tables.old stored closed failures)
-        → EndRefused w me load value node_type references result.0 result.1 (core_of tables.new stored closed failures) }
-    ensures whole { IsWhole tables.new }
-    ensures later { AreLater tables.new }
-    ensures sheds { Sheds (counts_at tables.old.holdings.nodes) (get nat_eq values.old) (counts_at tables.new.holdings.nodes) (get nat_eq values.new) }
-{
-    match unended {
-        Unended::Refused(e) => (e, Some(value)),
-        Unended::InVain(e) => {
-            let _ = giving::load_drop(tables, values, me, load, lists);
-            (e, None)
-        }
-    }
+    Ok(())
 }
 
 impl<E: Env<Node: NodeSet<E>>, S: PagableStorage<E>> Pager<E, S> {
@@ -132,14 +65,12 @@ impl<E: Env<Node: NodeSet<E>>, S: PagableStorage<E>> Pager<E, S> {
             return Err((e, node));
         }
         let node_type = node.node_type();
-        let value = match share_with_room(&mut self.values, alloc, node) {
-            Ok(value) => value,
-            Err(node) => return Err((Error::OutOfMemory, node)),
-        };
+        let number = self.tables.last_node + 1;
+        if let Err(node) = place(&mut self.values, alloc, number, true, node) {
+            return Err((Error::OutOfMemory, node));
+        }
         let tables = &mut self.tables;
-        let handle = making::bear(tables, Owner::Caller, node_type, 0, references, mode);
-        keep(&mut self.values, self.tables.last_node, value);
-        Ok(handle)
+        Ok(making::bear(tables, Owner::Caller, node_type, 0, references, mode))
     }
 
     /// A new node of the value, without a key, with a Pinned handle of the caller's, and the handles of its references move to it. Refused with the cause of
@@ -236,14 +167,13 @@ impl<E: Env<Node: NodeSet<E>>, S: PagableStorage<E>> Pager<E, S> {
         if let Err(e) = loading::make_ready_to_learn(&mut self.tables) {
             return Err((e, node));
         }
-        let value = match share_with_room(&mut self.values, alloc, node) {
-            Ok(value) => value,
-            Err(node) => return Err((Error::OutOfMemory, node)),
-        };
+        let number = self.tables.last_node + 1;
+        if let Err(node) = place(&mut self.values, alloc, number, true, node) {
+            return Err((Error::OutOfMemory, node));
+        }
         let lists = !self.storage.has_closed();
-        let handle = loading::adopt(&mut self.tables, load, kind, key, references, lists);
-        keep(&mut self.values, self.tables.last_node, value);
-        Ok(handle)
+        let tables = &mut self.tables;
+        Ok(loading::adopt(tables, load, kind, key, references, lists))
     }
 
     /// Why a load's value neither becomes a node nor ends the load, where its references can't be listed: the load isn't open, or memory is wanting.
@@ -290,13 +220,10 @@ impl<E: Env<Node: NodeSet<E>>, S: PagableStorage<E>> Pager<E, S> {
         let Ok(references) = node.refs(alloc) else {
             return Err((self.unlisted(me, load), node));
         };
-        let found = match self.adopt_known(me, load, kind, key, node.node_type(), &references) {
-            Ok(found) => found,
-            Err(e) => return Err((e, node)),
-        };
-        match found {
-            Some(known) => Ok(known),
-            None => self.adopt_as_new(me, alloc, load, kind, key, references, node),
+        match self.adopt_known(me, load, kind, key, node.node_type(), &references) {
+            Ok(Some(known)) => Ok(known),
+            Ok(None) => self.adopt_as_new(me, alloc, load, kind, key, references, node),
+            Err(e) => Err((e, node)),
         }
     }
 
@@ -329,19 +256,26 @@ impl<E: Env<Node: NodeSet<E>>, S: PagableStorage<E>> Pager<E, S> {
         let Ok(references) = value.refs(alloc) else {
             return Err((self.unlisted(me, load), Some(value)));
         };
-        let lists = !self.storage.has_closed();
-        let (tables, values) = (&mut self.tables, &mut self.values);
         let node_type = value.node_type();
+        let tables = &mut self.tables;
         let ready = match loading::prepare_end(tables, me, load, node_type, &references) {
             Ok(ready) => ready,
-            Err(unended) => return Err(give_back(tables, values, me, load, value, unended, lists)),
+            Err(unended) => match unended {
+                Unended::Refused(e) => return Err((e, Some(value))),
+                Unended::InVain(e) => {
+                    let _ = self.load_drop_by(me, load);
+                    return Err((e, None));
+                }
+            },
         };
-        let handle = match finish(
-            tables, values, alloc, me, load, node_type, references, value, ready, lists,
-        ) {
-            Ok(handle) => handle,
-            Err(value) => return Err((Error::OutOfMemory, Some(value))),
-        };
-        Ok(handle)
+        let node = ready.row.node.0;
+        if let Err(value) = place(&mut self.values, alloc, node, ready.is_away, value) {
+            return Err((Error::OutOfMemory, Some(value)));
+        }
+        let lists = !self.storage.has_closed();
+        let (tables, values) = (&mut self.tables, &mut self.values);
+        Ok(loading::install(
+            tables, values, me, load, node_type, references, ready, lists,
+        ))
     }
 }

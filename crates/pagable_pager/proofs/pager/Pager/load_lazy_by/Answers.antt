@@ -4,4 +4,4 @@ pub invariant_of-self : Rattle.pagable_pager.proofs.pager.Pager.load_lazy_by.Goa
 invariant_of-self g c = made-by c.self.invariant _ c.load_lazy.ensures (λ step. lazily c.self.invariant.state c.load_lazy.result (step (ap not c.has_closed-lists.ensures)) (λ n. refl))
 
 pub returns : Rattle.pagable_pager.proofs.pager.Pager.load_lazy_by.Goals.returns
-returns g c = rw (← c.self.view_is) (record { step = c.load_lazy.ensures.does _ _ _ (ap not c.has_closed-lists.ensures); only = record { values = refl; storage = refl; environment = refl } })
+returns g c = rw (← c.self.view_is) (record { step = c.load_lazy.ensures.does _ _ _ (ap not c.has_closed-lists.ensures); only = record { values = refl {a = c.self.inside.values}; storage = refl {a = c.self.inside.storage}; environment = refl {a = c.self.inside.env} } })

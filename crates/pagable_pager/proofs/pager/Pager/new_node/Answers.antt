@@ -4,22 +4,20 @@ use Rattle.pagable_pager.proofs.pager.Pager.new_node.Goals as goal
 pub invariant_of-self : goal.invariant_of-self
 invariant_of-self g c = roomier c.self.invariant c.self.inside.values c.prepare.ensures.does (λ n. refl)
 
-pub invariant_of-self-in-Err-share_with_room : goal.invariant_of-self-in-Err-share_with_room
-invariant_of-self-in-Err-share_with_room g c = roomier c.self.invariant c.share_with_room.new.values c.prepare.ensures.does c.share_with_room.ensures.same
+pub invariant_of-self-in-Err-place : goal.invariant_of-self-in-Err-place
+invariant_of-self-in-Err-place g c = roomier c.self.invariant c.place.new.values c.prepare.ensures.does c.in-Err-place.ensures.kept
 
-pub returns-in-Err-share_with_room-clause-step : goal.returns-in-Err-share_with_room-clause-step
-returns-in-Err-share_with_room-clause-step g c =
-    let stays = room-alike (only-room c.self.invariant c.share_with_room.new.values c.prepare.ensures.does) in
-    rw (← c.self.view_is) (record { made = tt; refused = (c.in-Err-share_with_room.ensures.back, record { why = inr (refl, refl, tt); stays = stays }) })
+pub returns-in-Err-place-clause-step : goal.returns-in-Err-place-clause-step
+returns-in-Err-place-clause-step g c =
+    let stays = room-alike (only-room c.self.invariant c.place.new.values c.prepare.ensures.does) in
+    rw (← c.self.view_is) (record { made = tt; refused = (c.in-Err-place.ensures.back, record { why = inr (refl, refl, tt); stays = stays }) })
 
 pub invariant_of-self-2 : goal.invariant_of-self-2
-invariant_of-self-2 g c = born-so c.self.invariant c.share_with_room.new.values c.prepare.ensures.does c.share_with_room.ensures.same c.bear-handle.new.t c.keep.new.values c.args.node
-    c.in-Ok-share_with_room.ensures.shared c.keep.ensures c.bear-handle.ensures.does
+invariant_of-self-2 g c = born-so c.self.invariant c.place.new.values c.prepare.ensures.does c.bear.new.t c.args.node c.in_default-place.ensures.placed c.bear.ensures.does
     c.in_default.ensures.ready.node_left c.in_default.ensures.fit c.deref.ensures.value c.node_type-node_type.ensures.value c.in-Ok.ensures.ok c.requires
 
 pub returns : goal.returns
 returns g c =
-    let born = born-told c.self.invariant c.share_with_room.new.values c.prepare.ensures.does c.share_with_room.ensures.same c.bear-handle.new.t c.keep.new.values c.args.node
-    c.in-Ok-share_with_room.ensures.shared c.keep.ensures
-    c.bear-handle.ensures.does c.in_default.ensures.ready.node_left c.in_default.ensures.fit c.deref.ensures.value c.node_type-node_type.ensures.value c.in-Ok.ensures.ok in
+    let born = born-told c.self.invariant c.place.new.values c.prepare.ensures.does c.bear.new.t c.args.node c.in_default-place.ensures.placed c.bear.ensures.does
+    c.in_default.ensures.ready.node_left c.in_default.ensures.fit c.deref.ensures.value c.node_type-node_type.ensures.value c.in-Ok.ensures.ok in
     rw (← c.self.view_is) (record { step = born.0; moves = born.1 })
