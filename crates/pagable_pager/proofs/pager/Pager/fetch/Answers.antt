@@ -7,4 +7,4 @@ pub returns : Rattle.pagable_pager.proofs.pager.Pager.fetch.Goals.returns
 returns g c =
     let e = c.fetch_data_blocking.ensures in
     let asks = asked c.self.invariant c.fetch_data_blocking.new.self e.open e.later e.same in
-    rw (← c.self.view_is) (record { step = fetch-call (λ d. blob_of (arc_value d)) _ _ c.args.key c.fetch_data_blocking.result asks e.ok e.only; only = record { tables = refl; values = refl; environment = refl } })
+    rw (← c.self.view_is) (record { step = fetch-call (λ d. blob_of (arc_value d)) _ _ c.args.key c.fetch_data_blocking.result asks e.ok e.only; only = record { tables = refl {a = c.self.inside.tables}; values = refl {a = c.self.inside.values}; environment = refl {a = c.self.inside.env} } })

@@ -6,4 +6,4 @@ invariant_of-self g c = let e = c.flush.ensures in asked-so c.self.invariant c.f
 pub returns : Rattle.pagable_pager.proofs.pager.Pager.flush.Goals.returns
 returns g c =
     let e = c.flush.ensures in
-    rw (← c.self.view_is) (record { step = record { asked = asked c.self.invariant c.flush.new.self e.open e.later e.same; refused = e.only }; only = record { tables = refl; values = refl; environment = refl } })
+    rw (← c.self.view_is) (record { step = record { asked = asked c.self.invariant c.flush.new.self e.open e.later e.same; refused = e.only }; only = record { tables = refl {a = c.self.inside.tables}; values = refl {a = c.self.inside.values}; environment = refl {a = c.self.inside.env} } })

@@ -10,4 +10,4 @@ returns g c =
     let e = c.store_data.ensures in
     let digest = key_of g.E.Hash.KeyHash.digest in
     let stores = store-call c.self.invariant c.store_data.new.self e.open e.later digest (blob_of c.args.blob) c.store_data.result e.key e.adds e.was_open e.only e.err in
-    rw (← c.self.view_is) (record { step = stores; only = record { tables = refl; values = refl; environment = refl } })
+    rw (← c.self.view_is) (record { step = stores; only = record { tables = refl {a = c.self.inside.tables}; values = refl {a = c.self.inside.values}; environment = refl {a = c.self.inside.env} } })
