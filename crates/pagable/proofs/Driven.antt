@@ -1,11 +1,11 @@
 -- Each event of the machine, by what the pager and what is kept of loads, tables and workers say of it.
-use Rattle.pagable.specs.{Driving.{IsWalkKept, IsIn, shelf_at, walking_of, IsBegun}, declared.workers.{Held.Held, Walk.Walk}, Paged.{value-is-read, node-comes-back, reading-is-refused}}
+use Rattle.pagable.specs.{Driving.{IsWalkKept, IsIn, shelf_at, IsBegun}, declared.workers.{Held.Held, Walk.Walk}, Paged.{value-is-read, node-comes-back, reading-is-refused}}
 use Rattle.pagable.specs.Driving.{Drives, Given, kept_at, IsInStep, holding, Answer, ByNumber, Serves, plainly, plain_reply, Forgets, machine_of, IsPrepared, Kept, ReadsFor, rest_after}
 use Rattle.pagable.{specs.Driving.{IsServing, Stepped, IsTaken, Holding, Makes, KeepsOne, readings_in, IsKept}, proofs.Keeping.{Leaves, call-leaves, at-one, nothing-done, drives}}
 use Rattle.pagable.proofs.Keeping.{event-passes, kept-one, makes-with, one-serves, like, still-kept, are-these, kept-on, as-before, makes, not-same, same-work, leaves-so, by-call, refused}
 use Rattle.{pagable_laws.proofs.Goes.updated-at, pagable_world.specs.{LoadCalls.{LoadCloses, DropCall}, declared.{calls.{Call.Call, Reply.Reply}, handles.Owner.Owner, events.EventReply.EventReply}}}
 use Rattle.pagable_world.specs.{declared.{events.{LoadReply.LoadReply, TableNumber.TableNumber, Event.Event, LoadAnswer.LoadAnswer}, answers.Beginning.Beginning}, World.{Reading, one_more, Alike}}
-use Rattle.pagable_world.specs.{World.{OpenLoad, Written, of_item, of_key, Frame, of_entry, Seen, Last, Walking, Core, Root, Values, SameShelf}, Plain.{if_there, updated, or_else}}
+use Rattle.pagable_world.specs.{World.{OpenLoad, Written, of_item, of_key, Frame, of_entry, Seen, Last, Core, Root, Values, SameShelf}, Plain.{updated, or_else}}
 use Rattle.pagable_world.specs.{Access.{WorkerStarts, ReadingStep}, Pager.{Moves, CallBrings, PagerState, world_of, FitsRoot, WellFormed}, Events.{reading_at, Happens, entry_task, reading_after}}
 use Rattle.pagable_world.specs.{Events.{Starts, with_entry_taken, step_fault, IsTable, reading_of_root, with_worker, no_shelf, Does}, Kinds.{identity_of, is_owner}, Workers.fresh, Refusals.OwnsLoad}
 use Rattle.{pagable_world.specs.Order.step_of, std.specs.{declared.{vec.Vec.Vec, sync.Arc.Arc, alloc.Global.Global}, Prelude.{is_none, is_some, Result, slice_get}, Option.option_map}}

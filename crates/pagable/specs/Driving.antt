@@ -1,15 +1,15 @@
 -- What a machine keeps of loads, tables and workers, as the plain world knows it, and when it is in step with its pager; what its calls, events and runs are.
-use Rattle.std.specs.{Arc.arc_value, HashMap.{HashMap, get}, Map.lookup, Option.option_map, Prelude.{Bool, List, None, Option, Some, [], false, is_none, is_some, length, map, nat_eq, slice_get, suc}}
-use Rattle.std.specs.{Prelude.{true, zero, ℕ, ◌++◌, ◌<◌, ◌∷◌, ◌≡◌, ◌≢◌, ◌≤◌, ◌⊎◌}, declared.{alloc.Global.Global, hash.{BuildHasherDefault.BuildHasherDefault, FoldHasher.FoldHasher}, sync.Arc.Arc}}
+use Rattle.std.specs.{Arc.arc_value, HashMap.{HashMap, get}, Map.lookup, Option.option_map, Prelude.{Bool, List, None, Option, Some, is_none, is_some, length, map, nat_eq, slice_get, suc}}
+use Rattle.std.specs.{Prelude.{true, zero, ℕ, ◌++◌, ◌<◌, ◌≡◌, ◌≢◌, ◌≤◌, ◌⊎◌}, declared.{alloc.Global.Global, hash.{BuildHasherDefault.BuildHasherDefault, FoldHasher.FoldHasher}, sync.Arc.Arc}}
 use Rattle.{pagable.specs.declared.workers.{Begun.Begun, Held.Held, Walk.Walk}, pagable_core.specs.Data.blob_of, pagable_loads.specs.{Frames.{IsLoadOf, is_cell, reading_of}, Stepping.IsSameLoad}}
 use Rattle.{pagable_core.specs.declared.{context.writing.SerializedData.SerializedData, storage.data.PagableData.PagableData}, pagable_world.specs.declared.handles.Owner.Owner}
 use Rattle.{pagable_loads.specs.declared.reading.Reading.Reading as Own, pagable_model.specs.declared.numbers.LoadNumber.LoadNumber, pagable_pager.specs.View.{PagerView, Telling, core_in, state_in}}
-use Rattle.pagable_walk.specs.{Slots.{is_same, slot_of, written_of}, Table.shelf_of, Tasks.{IsPlain, IsWay, todo_of, todos}, Turns.{LeavesFit, StepsTo, answer_in, plain_took, plan}}
-use Rattle.pagable_walk.specs.declared.{results.Trees.Ghosts, table.SlotTable.SlotTable, tasks.{Moved.Moved, Task.Task, Turn.Turn, Waiting.Waiting}}
+use Rattle.pagable_walk.specs.{Slots.{is_same, slot_of, written_of}, Table.shelf_of, Tasks.{IsPlain, IsWay, todos}, Turns.{LeavesFit, StepsTo, answer_in, plain_took, plan}}
+use Rattle.pagable_walk.specs.declared.{results.Trees.Ghosts, table.SlotTable.SlotTable, tasks.{Moved.Moved, Task.Task, Turn.Turn}}
 use Rattle.pagable_world.specs.{Access.ReadingStep, declared.events.{Event.Event, EventReply.EventReply, LoadAnswer.LoadAnswer, LoadReply.LoadReply, TableNumber.TableNumber, WorkerReply.WorkerReply}}
 use Rattle.pagable_world.specs.{Events.{CallStep, new_walking, no_shelf, steps_after}, Headline.Headline, Kinds.owner_worker, Pager.{CallBrings, FitsRoot, IsIdle, IsMachineWhole, MachineState}}
 use Rattle.pagable_world.specs.{Pager.{Moves, PagerState}, Plain.{Identity, if_there}, Runs.{AreMoments, Does, HasRun, Moment, state_after}, Workers.fresh, World.{Core, OpenLoad, Seen}}
-use Rattle.pagable_world.specs.{World.{Reading, Shelf, Slot, Todo, Values, Walking, Work, Written, of_entry, of_item, one_more, seen_as}, declared.calls.{Call.Call, Found.Found, Reply.Reply}}
+use Rattle.pagable_world.specs.{World.{Reading, Shelf, Slot, Values, Walking, Work, Written, of_entry, of_item, one_more, seen_as}, declared.calls.{Call.Call, Found.Found, Reply.Reply}}
 use Rattle.pagable_world.specs.World as world
 
 abbrev pub task_of : Begun → world.Task

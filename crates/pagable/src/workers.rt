@@ -1,6 +1,6 @@
 //! What a machine keeps beside its pager; tables of page-out, workers on them, and a worker's step.
 
-ghost use Rattle.std.specs.{HashMap.spare, Prelude.{◌≡◌, ◌<◌, ◌⊎◌, ℕ, Some, IfOk, IfErr, OnOk, false, ◌≤◌, ◌∷◌, length, is_some}};
+ghost use Rattle.std.specs.{HashMap.spare, Prelude.{◌≡◌, ◌<◌, ◌⊎◌, ℕ, Some, IfOk, IfErr, OnOk, false, ◌∷◌, length, is_some}};
 ghost use Rattle.{pagable.specs.Driving.{Drives, IsInStep, KeepsOne, kept_at, IsBegun, IsIn, IsAfter, IsWalkKept, WalksOn, is_done}, pagable_loads.specs.Telling.values_at};
 ghost use Rattle.{pagable_pager.specs.View.{core_in, state_in, telling}, pagable_walk.specs.{Slots.written_of, Table.shelf_of, Tasks.{IsWay, todo_of, todos}, Turns.{StepsTo, answer_in, plan}}};
 ghost use Rattle.pagable_world.specs.{Kinds.{identity_of, owner_worker}, World.{of_entry, of_item}, declared.events.{Event.Event, EventReply.EventReply}};

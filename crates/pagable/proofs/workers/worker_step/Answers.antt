@@ -1,4 +1,4 @@
-use Rattle.{std.proofs.Common.{rules, sym, ◌∙◌, refl}, pagable_loads.specs.Telling.values_at, pagable.proofs.{Keeping.{drives, nothing-done, refused}, Running.worker-moved}}
+use Rattle.{std.proofs.Common.{rules, sym, refl}, pagable_loads.specs.Telling.values_at, pagable.proofs.{Keeping.{drives, nothing-done, refused}, Running.worker-moved}}
 use Rattle.pagable.proofs.workers.worker_step.Goals as goal
 
 pub returns-then-is_done : goal.returns-then-is_done
