@@ -1,18 +1,18 @@
 -- Each event of the machine, by what the pager and what is kept of loads, tables and workers say of it.
-use Rattle.pagable.specs.{Driving.{IsWalkKept, IsIn, shelf_at, has_task, walking_of, IsBegun}, declared.workers.{Held.Held, Walk.Walk}, Paged.{value-is-read, node-comes-back, reading-is-refused}}
+use Rattle.pagable.specs.{Driving.{IsWalkKept, IsIn, shelf_at, IsBegun}, declared.workers.{Held.Held, Walk.Walk}, Paged.{value-is-read, node-comes-back, reading-is-refused}}
 use Rattle.pagable.specs.Driving.{Drives, Given, kept_at, IsInStep, holding, Answer, ByNumber, Serves, plainly, plain_reply, Forgets, machine_of, IsPrepared, Kept, ReadsFor, rest_after}
 use Rattle.pagable.{specs.Driving.{IsServing, Stepped, IsTaken, Holding, Makes, KeepsOne, readings_in, IsKept}, proofs.Keeping.{Leaves, call-leaves, at-one, nothing-done, drives}}
 use Rattle.pagable.proofs.Keeping.{event-passes, kept-one, makes-with, one-serves, like, still-kept, are-these, kept-on, as-before, makes, not-same, same-work, leaves-so, by-call, refused}
 use Rattle.{pagable_laws.proofs.Goes.updated-at, pagable_world.specs.{LoadCalls.{LoadCloses, DropCall}, declared.{calls.{Call.Call, Reply.Reply}, handles.Owner.Owner, events.EventReply.EventReply}}}
 use Rattle.pagable_world.specs.{declared.{events.{LoadReply.LoadReply, TableNumber.TableNumber, Event.Event, LoadAnswer.LoadAnswer}, answers.Beginning.Beginning}, World.{Reading, one_more, Alike}}
-use Rattle.pagable_world.specs.{World.{OpenLoad, Written, of_item, of_key, Frame, of_entry, Seen, Last, Walking, Core, Root, Values, SameShelf}, Plain.{if_there, updated, or_else}}
+use Rattle.pagable_world.specs.{World.{OpenLoad, Written, of_item, of_key, Frame, of_entry, Seen, Last, Core, Root, Values, SameShelf}, Plain.{updated, or_else}}
 use Rattle.pagable_world.specs.{Access.{WorkerStarts, ReadingStep}, Pager.{Moves, CallBrings, PagerState, world_of, FitsRoot, WellFormed}, Events.{reading_at, Happens, entry_task, reading_after}}
 use Rattle.pagable_world.specs.{Events.{Starts, with_entry_taken, step_fault, IsTable, reading_of_root, with_worker, no_shelf, Does}, Kinds.{identity_of, is_owner}, Workers.fresh, Refusals.OwnsLoad}
 use Rattle.{pagable_world.specs.Order.step_of, std.specs.{declared.{vec.Vec.Vec, sync.Arc.Arc, alloc.Global.Global}, Prelude.{is_none, is_some, Result, slice_get}, Option.option_map}}
 use Rattle.std.proofs.Common.{Ok, ◌+◌, ◌++◌, Some, ℕ, subst, zero, Option, ◌≢◌, ◌∙◌, refl, ◌==◌, ◌≡◌, arith, rules, [], if◌then◌else◌, false, true, inr, ap, length, ◌∷◌, suc, Err, ◌<◌, None, List}
 use Rattle.{std.proofs.{Common.{sym, inl}, lemmas.{Bool.Decides.nat_tests, List.length-append, Grind.common_steps}}, pagable_pager.{proofs.Keeping.less-moves, specs.View.Telling}}
 use Rattle.{pagable_pager.specs.View.{type_of_root, OnlyTables, state_in, core_in, PagerView, OnlyLess, ReadsAs, value_in}, pagable_walk.{proofs.Turning.plain-fits, specs.Slots.written_of}}
-use Rattle.{pagable_walk.specs.{declared.{results.Trees.Ghosts, table.SlotTable.SlotTable}, Table.shelf_of}, pagable_loads.specs.Frames.{IsLoadOf, reading_of, is_cell}}
+use Rattle.{pagable_walk.specs.{Tasks.IsPlain, Turns.LeavesFit, declared.{results.Trees.Ghosts, table.SlotTable.SlotTable, tasks.{Task.Task, Turn.Turn}}, Table.shelf_of}, pagable_loads.specs.Frames.{IsLoadOf, reading_of, is_cell}}
 use Rattle.{pagable_loads.specs.{declared.reading.Reading.Reading as Own, Working.{RefusesEntry, StartsEntry}}, pagable_laws.proofs.{ReadingSteps.{caller-free, reading-feels}, Trees.same_some}}
 use Rattle.{pagable_laws.proofs.{Trees.same-number, Effects.{owned-mine, IsMine}}, pagable_core.specs.declared.{context.writing.SerializedData.SerializedData, storage.data.PagableData.PagableData}}
 use Rattle.{pagable_tables.proofs.Worlds.{no-load-fault, still}, pagable_model.specs.declared.{error.Error.Error, numbers.{WorkerNumber.WorkerNumber, LoadNumber.LoadNumber, HandleNumber.HandleNumber, ArcRef.ArcRef}}}
@@ -86,6 +86,10 @@ module _ {X : Type 0} {g : Ghosts X} where
       → SameShelf (updated (length tables + 1) no_shelf (shelf_at tables) t) (shelf_at (tables ++ new ∷ []) t)
   shelf-added tables new empty x3 = grind (arith, nat_tests, with-last, not-same, same-number)
 
+begun-fits : {X : Type 0} {g : Ghosts X} (v : ℕ) (w : Core) (turn : Turn X g) → ((task : Task X g) → turn ≡ Turn.Goes task → IsPlain task) → LeavesFit v w turn
+begun-fits v w (Turn.Goes task) plain = plain-fits v w task (plain task refl)
+begun-fits v w (Turn.Answers answer) plain = tt
+
 module _ {X : Type 0} {g : Ghosts X} {N B W E : Type 0} (m : Seen N B W) (s s' : PagerState N E) (h : Holding g) {walks' : ℕ → Option (Walk X g)} (serving : IsServing s.core h)
     (was : WellFormed m.values s)
     (formed : WellFormed m.values s') (on : Leaves Owner.Caller (updated (s.core.last.worker + 1) true s.core.workers) s.core s'.core)
@@ -102,7 +106,7 @@ module _ {X : Type 0} {g : Ghosts X} {N B W E : Type 0} (m : Seen N B W) (s s' :
   at-work q other = first_of (grind (arith, common_steps, nat_tests), grind (arith, nat_tests, same-number), search (rules, same-number))
 
   new-walk : IsWalkKept s'.core (length h.tables) n.0 k
-  new-walk = first_of (grind (arith, common_steps, nat_tests), grind (arith, nat_tests, updated-at, plain-fits), search (rules, updated-at, plain-fits))
+  new-walk = first_of (grind (arith, common_steps, nat_tests), grind (arith, nat_tests, updated-at, begun-fits), search (rules, updated-at, begun-fits))
 
   -- it is kept from now on
   pub worker-made : (core : Core) → Alike (with_worker core) s'.core → (event : Event N B W) → ((v : ℕ) → step_of v event (EventReply.WorkerMade (Ok n)) ≡ [])
@@ -127,17 +131,17 @@ module _ {N S E : Type 0} {v : Values N} {tells : Telling S} {old new : PagerVie
   pub serves-same : OnlyTables old new → Serves v tells old call r new
   serves-same only = serves (record { each = λ n x is. inl (subst (λ values. value_in values n ≡ Some x) only.values is); environment = only.environment })
 
+typed-so : (t : Option ℕ) → is_none t ≡ false → (type : ℕ) × (t ≡ Some type)
+typed-so (Some type) there = (type, refl)
+typed-so None there = absurd (cc)
+
+-- nothing that is kept has changed
+pub unprepared : {kept kept' : Kept} (l : LoadNumber) (key : ℕ) (t : Option ℕ) → ((q : ℕ) → kept' q ≡ kept q) → IsPrepared kept l key t kept'
+unprepared l key t same = record { taken = λ own is. record { why = inl (sym (same l.0) ∙ is) }; full = λ none. same; others = λ q other. same q }
+
 -- what is kept anew after what was kept stayed
 pub keeps-after : {Y : Type 0} {k mid kept' : ℕ → Option Y} {l : ℕ} {own : Option Y} → ((q : ℕ) → mid q ≡ k q) → KeepsOne mid l own kept' → KeepsOne k l own kept'
 keeps-after as_was keeps = record { here = keeps.here; others = λ q other. keeps.others q other ∙ as_was q }
-
-answered : {X : Type 0} {g : Ghosts X} (k : Walk X g) → is_some k.task ≡ is_none k.answer → is_some k.task ≡ false → is_some k.answer ≡ true
-answered k either none = grind (arith, nat_tests)
-
--- a worker that has no task has answered, or isn't there
-pub no-task : {X : Type 0} {g : Ghosts X} {w : Core} {h : Holding g} → IsServing w h → (n : ℕ) (found : Option (Walk X g)) → h.walks n ≡ found → has_task found ≡ false
-    → if_there (λ (walking : Walking). is_some walking.answer) true (option_map walking_of found) ≡ true
-no-task serving n found is none = grind (arith, nat_tests, answered)
 
 module _ {X : Type 0} {g : Ghosts X} {N S E : Type 0} (v : E → Values N) (tells : Telling S) (old new : PagerView N S E) (held : Held X g) (serving : IsInStep tells old held)
     (was : WellFormed (v old.environment) (state_in tells old)) where
@@ -245,11 +249,12 @@ module _ {X : Type 0} {g : Ghosts X} {N S E : Type 0} (v : E → Values N) (tell
           only None now is = same_some _ _ is
           only (Some answer) now is = absurd (cc)
 
-      pub no-place-drives : IsPrepared (kept_at kept) l key t (kept_at kept') → kept_at kept' l.0 ≡ None → (told : Result (Unit {0}) Error) → DropCall s.core Owner.Caller l told s'.core
-          → OnlyLess old new → WellFormed (v new.environment) s'
+      pub no-place-drives : IsPrepared (kept_at kept) l key t (kept_at kept') → kept_at kept' l.0 ≡ None → is_none t ≡ false
+          → (told : Result (Unit {0}) Error) → DropCall s.core Owner.Caller l told s'.core → OnlyLess old new → WellFormed (v new.environment) s'
           → Takes (Event.LoadStep l) (EventReply.LoadMoved (Ok (record { ended = Some (LoadAnswer.Refused Error.OutOfMemory); steps = 1 }))) new anew
-      no-place-drives ready none told drop only formed =
-          let (unkept, (type, typed)) = ready.full none in
+      no-place-drives ready none of_cell told drop only formed =
+          let unkept : kept_at kept l.0 ≡ None = sym (ready.full none l.0) ∙ none in
+          let (type, typed) = typed-so t of_cell in
           let moves : Moves (λ n x. ⊥) s s' = less-moves tells old new only in
           let closes : LoadCloses s.core l told s'.core =
           elim drop.does [ inl r ↦ absurd (let f : None ≡ Some r.e = sym (no-load-fault _ _ _ _ reads.owned) ∙ r.why in cc) | inr (other, owned, c) ↦ c ] in
@@ -261,8 +266,11 @@ module _ {X : Type 0} {g : Ghosts X} {N S E : Type 0} (v : E → Values N) (tell
             whole = whole-still moves formed;
           }) refl (owned-mine reads.owned) (record { here = none; others = ready.others }) refl (λ now is. absurd (cc)))
 
-      pub untyped-drives : t ≡ None → kept_at kept l.0 ≡ None → ((q : ℕ) → kept_at kept' q ≡ kept_at kept q) → Takes (Event.LoadStep l) (EventReply.LoadMoved (Err Error.WrongMode)) old anew
-      untyped-drives untyped none as_was = step-refused l Error.WrongMode as_was (never-typed s h l reads.load reads.owned none (reads.type_is ∙ untyped))
+      pub untyped-drives : IsPrepared (kept_at kept) l key t (kept_at kept') → kept_at kept' l.0 ≡ None → is_none t ≡ true
+          → Takes (Event.LoadStep l) (EventReply.LoadMoved (Err Error.WrongMode)) old anew
+      untyped-drives ready none no_type =
+          let untyped : t ≡ None = grind (arith, nat_tests) in
+          step-refused l Error.WrongMode (ready.full none) (never-typed s h l reads.load reads.owned (sym (ready.full none l.0) ∙ none) (reads.type_is ∙ untyped))
 
   pub table-drives : (tables' : Vec (SlotTable X g) Global) (table : SlotTable X g) (t : TableNumber) → tables'.items ≡ held.tables.items ++ table ∷ [] → t.0 ≡ length held.tables.items + 1
       → SameShelf no_shelf (shelf_of table) → Takes Event.TableNew (EventReply.TableMade (Ok t)) old (record held { tables = tables' })

@@ -4,7 +4,8 @@ use Rattle.{pagable.specs.{Driving.{readings_in, walking_of, work_of}, declared.
 use Rattle.pagable_laws.proofs.{Effects.{then-fell, worker-apart}, Goes.{Goes, RowsGo, fell-anyhow, quiet-goes, stands-whole}, ReadingSteps.{caller-free, event-goes}, SparingSteps.event-spares}
 use Rattle.{pagable_laws.{proofs.Trees.{counted, one-true, same-number, same_some, self-number}, specs.TreeSteps.{Change, nothing_felt}}, pagable_loads.specs.Frames.reading_of}
 use Rattle.{pagable_loads.specs.declared.reading.Reading.Reading as Own, pagable_model.specs.declared.numbers.{ArcRef.ArcRef, HandleNumber.HandleNumber}, pagable_pager.specs.View.PagerView}
-use Rattle.{pagable_pager.specs.View.{Telling, state_in}, pagable_tables.proofs.Worlds.still, pagable_walk.specs.{Turns.{IsOfKind, TaskFits}, declared.{results.Trees.Ghosts, tasks.Task.Task}}}
+use Rattle.{pagable_pager.specs.View.{Telling, state_in}, pagable_tables.proofs.Worlds.still, pagable_walk.specs.Turns.{IsOfKind, LeavesFit, TaskFits}}
+use Rattle.pagable_walk.specs.declared.{results.Trees.Ghosts, tasks.{Task.Task, Turn.Turn}}
 use Rattle.pagable_world.specs.{Access.Called, Calls.{CloseCall, is_listed, shut}, Cascade.fallen, Events.{CallStep, Does, Ends, Happens, ReadingsAre, Stays, WorkStays}, Kinds.is_owner}
 use Rattle.pagable_world.specs.{Kinds.owner_worker, Order.step_of, Pager.{EventBrings, HandlesAreWhole, IsMachineWhole, IsReadingWhole, IsWalkingWhole, IsWhole, Moves, OwnersAreThere, PagerState}}
 use Rattle.pagable_world.specs.{Pager.{ReplyWrites, WellFormed, world_of}, Plain.{SameAt, if_there, one, times, updated}, World.{Alike, Cell, Core, OpenLoad, Reading, Seen, Values, Walking, World}}
@@ -126,8 +127,12 @@ module _ {v : ℕ} {w w' : Core} (whole : HandlesAreWhole w) (passes : Passes v 
       (kind-on kind, record { pins = record { row = p.pins.row; live = s.live; at = p.pins.at; pins = p.pins.pins }; own = p.own })
   fits-on task fits = tt
 
+  turn-on : {X : Type 0} {g : Ghosts X} (turn : Turn X g) → LeavesFit v w turn → LeavesFit v w' turn
+  turn-on (Turn.Goes task) fits = fits-on task fits
+  turn-on (Turn.Answers answer) fits = tt
+
   pub walk-on : {X : Type 0} {g : Ghosts X} {last last' : ℕ} {k : Walk X g} → last ≤ last' → w'.workers v ≡ w.workers v → IsWalkKept w last v k → IsWalkKept w' last' v k
-  walk-on more same k = first_of (grind (arith, common_steps, nat_tests), grind (arith, nat_tests, fits-on), search (rules, fits-on))
+  walk-on more same k = first_of (grind (arith, common_steps, nat_tests), grind (arith, nat_tests, turn-on), search (rules, turn-on))
 
 -- the machine reads what is kept of open loads
 pub are-these : (w' : Core) (kept' : Kept) (target : ℕ → Option Reading) → ((l : ℕ) (load : OpenLoad) → w'.loads l ≡ Some load → option_map reading_of (kept' l) ≡ target l)

@@ -1,12 +1,12 @@
 -- A worker's step, and the table that it writes in its place. And a run goes on by one event more, and the headline holds of it after whatever came before.
 use Rattle.{pagable.proofs.Keeping.{Leaves, are-these, as-before, at-one, end-leaves, event-passes, kept-on, leaves-so, makes-with, not-same, one-serves, works_after}, std.specs.Prelude.slice_get}
-use Rattle.{pagable.specs.Driving.{Answer, Drives, plain_answer, plain_event, plain_moved, plainly, readings_in, shelf_at, table_view, task_in, todo_left, view_of, walking_of}, std.specs.Map.lookup}
+use Rattle.{pagable.specs.Driving.{Answer, Drives, plain_answer, plain_event, plain_moved, plainly, readings_in, shelf_at, table_view, view_of, walking_of}, std.specs.Map.lookup}
 use Rattle.pagable.specs.Driving.{Given, Holding, IsInStep, IsServing, IsWalkKept, KeepsOne, MachineView, Makes, Runs, SetsTable, WalksOn, claims_at, claims_of, holding, machine_in, machine_of}
 use Rattle.{pagable.specs.declared.workers.{Held.Held, Walk.Walk}, pagable_core.specs.declared.{context.writing.SerializedData.SerializedData, storage.data.PagableData.PagableData}}
 use Rattle.{pagable_laws.proofs.{Chains.headline_law, Effects.owned-mine, Goes.updated-at, ReadingSteps.{FrontMine, walk-goes}, Trees.{chains_join, same-number}}, std.specs.Option.option_map}
 use Rattle.{pagable_model.specs.declared.numbers.WorkerNumber.WorkerNumber, pagable_pager.specs.View.{PagerView, Telling, state_in}, pagable_walk.specs.{Slots.{is_same, slot_of}, Table.shelf_of}}
-use Rattle.pagable_walk.specs.{Tasks.{todo_of, todos}, Turns.{Stepped, TaskFits, answer_in, plain, plain_took, plan}, declared.{results.Trees.Ghosts, table.SlotTable.SlotTable, tasks.Task.Task}}
-use Rattle.{pagable_walk.specs.declared.tasks.{Turn.Turn, Waiting.Waiting}, pagable_world.specs.{Events.{Ends, Happens, WorkerSteps, no_shelf, steps_after}, Kinds.{is_owner, owner_worker}}}
+use Rattle.pagable_walk.specs.{Tasks.{todo_of, todos}, Turns.{LeavesFit, Stepped, TaskFits, answer_in, plain, plain_took, plan}, declared.results.Trees.Ghosts}
+use Rattle.{pagable_walk.specs.declared.{table.SlotTable.SlotTable, tasks.{Task.Task, Turn.Turn}}, pagable_world.specs.{Events.{Ends, Happens, WorkerSteps, no_shelf, steps_after}, Kinds.{is_owner, owner_worker}}}
 use Rattle.pagable_world.specs.{Pager.{MachineState, PagerState, TodoBrings, WellFormed, world_of}, Plain.{if_there, updated}, Runs.{AreMoments, Does, HasRun, Moment, state_after}}
 use Rattle.pagable_world.specs.{Workers.{Site, answer_after, is_counted}, World.{Core, SameShelf, Seen, Shelf, Todo, Values, Written}, declared.events.{Event.Event, EventReply.EventReply, Took.Took}}
 use Rattle.{pagable_world.specs.declared.events.{WorkerAnswer.WorkerAnswer, WorkerReply.WorkerReply}, std.proofs.Common.{Bool, List, None, Ok, Option, Some, [], ap, arith, false, if◌then◌else◌, inl}}
@@ -30,10 +30,6 @@ front-mine : {X : Type 0} {g : Ghosts X} (n : ℕ) (w : Core) (task : Task X g) 
 front-mine n w x2 below fits = grind (arith, nat_tests, owned-mine)
 
 module _ {X : Type 0} {g : Ghosts X} where
-  -- what is left to be done is the plan
-  left-is : (turn : Turn X g) (path : List (Waiting X g)) → todo_left (task_in turn) path ≡ plan turn path
-  left-is turn path = first_of (grind (arith, nat_tests), search (rules))
-
   -- the shelf of a table that is set, and of the others
   shelf-set : (tables tables' : List (SlotTable X g)) (place : ℕ) (table : SlotTable X g) (after : Shelf) → SetsTable tables place table tables' → SameShelf after (shelf_of table) → (t : ℕ)
       → SameShelf (updated (suc place) after (shelf_at tables) t) (shelf_at tables' t)
@@ -72,13 +68,13 @@ module _ {X : Type 0} {g : Ghosts X} {N E : Type 0} (v : Values N) (s s' : Pager
   mine = serving.walks n.0 k kept
 
   fits : TaskFits n.0 s.core on.task
-  fits = mine.fits on.task on.had
+  fits = subst (λ t. LeavesFit n.0 s.core t) on.had mine.fits
 
   done : Stepped v n.0 (shelf_of on.table) todo s (shelf_of on.table') on.moved (plan turn k'.path.items) s'
   done = on.steps.steps (record { me_is = refl; whole = was; task_fits = fits })
 
-  unanswered : k.answer ≡ None
-  unanswered = grind (arith, nat_tests, mine)
+  unanswered : answer_in k.turn ≡ None
+  unanswered = ap answer_in on.had
 
   ends : Ends (answer_in turn) n.0 done.does.after.core s'.core
   ends = subst (λ a. Ends a n.0 done.does.after.core s'.core) done.answers done.does.ends
@@ -89,14 +85,14 @@ module _ {X : Type 0} {g : Ghosts X} {N E : Type 0} (v : Values N) (s s' : Pager
       end-leaves (answer_in turn) n.0 (leaves-so goes.does (front-mine n.0 s.core on.task (todos k.path.items) fits)) ends
 
   -- its list and table are those that the machine knows
-  todo-is : todo_left k.task k.path.items ≡ todo
-  todo-is = ap (λ task. todo_left task k.path.items) on.had
+  todo-is : plan k.turn k.path.items ≡ todo
+  todo-is = ap (λ t. plan t k.path.items) on.had
 
   shelf-is : shelf_at h.tables k.table ≡ shelf_of on.table
   shelf-is = ap (shelf_at h.tables) on.on ∙ ap (λ (found : Option (SlotTable X g)). if_there shelf_of no_shelf found) on.there
 
   walking-is : walking_of k' ≡ record (walking_of k) { todo = done.does.after.todo; steps = k'.steps; answer = answer_in turn }
-  walking-is = first_of (grind (arith, common_steps, nat_tests), grind (arith, nat_tests, left-is), search (rules, left-is))
+  walking-is = first_of (grind (arith, common_steps, nat_tests), search (rules))
 
   steps-so : WorkerSteps m (world_of (machine_of s h)) n told (world_of (machine_of s' after))
   steps-so = record {
@@ -121,7 +117,7 @@ module _ {X : Type 0} {g : Ghosts X} {N E : Type 0} (v : Values N) (s s' : Pager
   happens = record { moves = steps-so; refused = tt }
 
   still : IsWalkKept s'.core (length tables') n.0 k'
-  still = let at_work : s.core.workers n.0 ≡ true = mine.at_work ∙ ap is_none unanswered in grind (arith, nat_tests, at_work, done, fits, leaves, left-is, mine, updated-at)
+  still = let at_work : s.core.workers n.0 ≡ true = mine.at_work ∙ ap is_none unanswered in grind (arith, nat_tests, at_work, done, fits, leaves, mine, updated-at)
 
   pub worker-moved : Makes m s h (Event.WorkerStep n) (EventReply.WorkerMoved (Ok (plain_moved reply))) s' after
   worker-moved = rw on.replies (makes-with m s s' {h' = after} done.does.whole (Event.WorkerStep n) (EventReply.WorkerMoved (Ok told)) happens

@@ -1,15 +1,15 @@
 -- What a machine keeps of loads, tables and workers, as the plain world knows it, and when it is in step with its pager; what its calls, events and runs are.
-use Rattle.std.specs.{Arc.arc_value, HashMap.{HashMap, get}, Map.lookup, Option.option_map, Prelude.{Bool, List, None, Option, Some, [], false, is_none, is_some, length, map, nat_eq, slice_get, suc}}
-use Rattle.std.specs.{Prelude.{true, zero, ℕ, ◌++◌, ◌<◌, ◌∷◌, ◌≡◌, ◌≢◌, ◌≤◌, ◌⊎◌}, declared.{alloc.Global.Global, hash.{BuildHasherDefault.BuildHasherDefault, FoldHasher.FoldHasher}, sync.Arc.Arc}}
+use Rattle.std.specs.{Arc.arc_value, HashMap.{HashMap, get}, Map.lookup, Option.option_map, Prelude.{Bool, List, None, Option, Some, is_none, is_some, length, map, nat_eq, slice_get, suc}}
+use Rattle.std.specs.{Prelude.{true, zero, ℕ, ◌++◌, ◌<◌, ◌≡◌, ◌≢◌, ◌≤◌, ◌⊎◌}, declared.{alloc.Global.Global, hash.{BuildHasherDefault.BuildHasherDefault, FoldHasher.FoldHasher}, sync.Arc.Arc}}
 use Rattle.{pagable.specs.declared.workers.{Begun.Begun, Held.Held, Walk.Walk}, pagable_core.specs.Data.blob_of, pagable_loads.specs.{Frames.{IsLoadOf, is_cell, reading_of}, Stepping.IsSameLoad}}
 use Rattle.{pagable_core.specs.declared.{context.writing.SerializedData.SerializedData, storage.data.PagableData.PagableData}, pagable_world.specs.declared.handles.Owner.Owner}
 use Rattle.{pagable_loads.specs.declared.reading.Reading.Reading as Own, pagable_model.specs.declared.numbers.LoadNumber.LoadNumber, pagable_pager.specs.View.{PagerView, Telling, core_in, state_in}}
-use Rattle.pagable_walk.specs.{Slots.{is_same, slot_of, written_of}, Table.shelf_of, Tasks.{IsPlain, IsWay, todo_of, todos}, Turns.{StepsTo, TaskFits, answer_in, plain_took, plan}}
-use Rattle.pagable_walk.specs.declared.{results.Trees.Ghosts, table.SlotTable.SlotTable, tasks.{Moved.Moved, Task.Task, Turn.Turn, Waiting.Waiting}}
+use Rattle.pagable_walk.specs.{Slots.{is_same, slot_of, written_of}, Table.shelf_of, Tasks.{IsPlain, IsWay, todos}, Turns.{LeavesFit, StepsTo, answer_in, plain_took, plan}}
+use Rattle.pagable_walk.specs.declared.{results.Trees.Ghosts, table.SlotTable.SlotTable, tasks.{Moved.Moved, Task.Task, Turn.Turn}}
 use Rattle.pagable_world.specs.{Access.ReadingStep, declared.events.{Event.Event, EventReply.EventReply, LoadAnswer.LoadAnswer, LoadReply.LoadReply, TableNumber.TableNumber, WorkerReply.WorkerReply}}
 use Rattle.pagable_world.specs.{Events.{CallStep, new_walking, no_shelf, steps_after}, Headline.Headline, Kinds.owner_worker, Pager.{CallBrings, FitsRoot, IsIdle, IsMachineWhole, MachineState}}
 use Rattle.pagable_world.specs.{Pager.{Moves, PagerState}, Plain.{Identity, if_there}, Runs.{AreMoments, Does, HasRun, Moment, state_after}, Workers.fresh, World.{Core, OpenLoad, Seen}}
-use Rattle.pagable_world.specs.{World.{Reading, Shelf, Slot, Todo, Values, Walking, Work, Written, of_entry, of_item, one_more, seen_as}, declared.calls.{Call.Call, Found.Found, Reply.Reply}}
+use Rattle.pagable_world.specs.{World.{Reading, Shelf, Slot, Values, Walking, Work, Written, of_entry, of_item, one_more, seen_as}, declared.calls.{Call.Call, Found.Found, Reply.Reply}}
 use Rattle.pagable_world.specs.World as world
 
 abbrev pub task_of : Begun → world.Task
@@ -22,39 +22,28 @@ module _ {X : Type 0} {g : Ghosts X} where
   shelf_at tables zero = no_shelf
   shelf_at tables (suc t) = if_there shelf_of no_shelf (slice_get tables t)
 
-  abbrev pub todo_left : Option (Task X g) → List (Waiting X g) → List Todo
-  todo_left None path = []
-  todo_left (Some task) path = todo_of task ∷ todos path
-
   abbrev pub walking_of : Walk X g → Walking
-  walking_of k = record { table = k.table; task = task_of k.begun; todo = todo_left k.task k.path.items; steps = k.steps; answer = k.answer }
+  walking_of k = record { table = k.table; task = task_of k.begun; todo = plan k.turn k.path.items; steps = k.steps; answer = answer_in k.turn }
 
-  -- Its table is there; it is at work, and has a task, until it has answered; its list is in order, and its task fits.
+  -- Its table is there; it is at work until it has answered; its list is in order, and its task fits.
   pub record IsWalkKept (w : Core) (last v : ℕ) (k : Walk X g) : Type 0 where
     pub table : (0 < k.table) × (k.table ≤ last)
-    pub at_work : w.workers v ≡ is_none k.answer
-    pub either : is_some k.task ≡ is_none k.answer
-    pub way : IsWay (todo_left k.task k.path.items)
-    pub fits : (task : Task X g) → k.task ≡ Some task → TaskFits v w task
+    pub at_work : w.workers v ≡ is_none (answer_in k.turn)
+    pub way : IsWay (plan k.turn k.path.items)
+    pub fits : LeavesFit v w k.turn
 
   -- a worker that has just begun on this table
   pub record IsBegun (t : TableNumber) (task : world.Task) (k : Walk X g) : Type 0 where
     pub walking : walking_of k ≡ new_walking t task
-    pub way : IsWay (todo_left k.task k.path.items)
-    pub has : is_some k.task ≡ true
-    pub plain : (x : Task X g) → k.task ≡ Some x → IsPlain x
-
-  abbrev pub task_in : Turn X g → Option (Task X g)
-  task_in (Turn.Goes task) = Some task
-  task_in (Turn.Answers answer) = None
+    pub way : IsWay (plan k.turn k.path.items)
+    pub plain : (x : Task X g) → k.turn ≡ Turn.Goes x → IsPlain x
 
   -- the worker after a step
   pub record IsAfter (k : Walk X g) (moved : Moved X g) (k' : Walk X g) : Type 0 where
     pub table : k'.table ≡ k.table
     pub begun : k'.begun ≡ k.begun
     pub steps : k'.steps ≡ steps_after k.steps moved.counted
-    pub task : k'.task ≡ task_in moved.turn
-    pub answer : k'.answer ≡ answer_in moved.turn
+    pub turn : k'.turn ≡ moved.turn
 
   -- the table at this place is another now
   pub record SetsTable (tables : List (SlotTable X g)) (place : ℕ) (table : SlotTable X g) (tables' : List (SlotTable X g)) : Type 0 where
@@ -71,7 +60,7 @@ module _ {X : Type 0} {g : Ghosts X} where
     pub table' : SlotTable X g
     pub moved : Moved X g
     pub place : ℕ
-    pub had : k.task ≡ Some task
+    pub had : k.turn ≡ Turn.Goes task
     pub on : k.table ≡ suc place
     pub there : slice_get tables place ≡ Some table
     pub sets : SetsTable tables place table' tables'
@@ -84,9 +73,9 @@ module _ {X : Type 0} {g : Ghosts X} where
   abbrev pub IsIn : ℕ → List (SlotTable X g) → Type 0
   IsIn t tables = (0 < t) × (t ≤ length tables)
 
-  -- whether there is a worker that hasn't answered
-  abbrev pub has_task : Option (Walk X g) → Bool
-  has_task found = if_there (λ (k : Walk X g). is_some k.task) false found
+  -- whether there is no worker, or it has answered
+  abbrev pub is_done : Option (Walk X g) → Bool
+  is_done found = if_there (λ (walking : Walking). is_some walking.answer) true (option_map walking_of found)
 
 -- ---- when it is in step with its pager, and what one event does to both
 
@@ -152,10 +141,10 @@ pub record KeepsOne {Y : Type 0} (kept : ℕ → Option Y) (l : ℕ) (own : Opti
 pub record IsTaken (kept : Kept) (l : LoadNumber) (key : ℕ) (t : Option ℕ) (own : Own) : Type 0 where
   pub why : (kept l.0 ≡ Some own) ⊎ ((kept l.0 ≡ None) × ((type : ℕ) × (t ≡ Some type) × (reading_of own ≡ fresh l type)) × (own.key ≡ key) × (own.for_cell ≡ true))
 
--- Where a load's reading is kept now, it is what was kept of it, or one that has just begun; and where none is, there was none, and it is of a cell.
+-- Where a load's reading is kept now, it is what was kept of it, or one that has just begun; and where none is, nothing has changed.
 pub record IsPrepared (kept : Kept) (l : LoadNumber) (key : ℕ) (t : Option ℕ) (kept' : Kept) : Type 0 where
   pub taken : (own : Own) → kept' l.0 ≡ Some own → IsTaken kept l key t own
-  pub full : kept' l.0 ≡ None → (kept l.0 ≡ None) × ((type : ℕ) × (t ≡ Some type))
+  pub full : kept' l.0 ≡ None → (q : ℕ) → kept' q ≡ kept q
   pub others : (q : ℕ) → q ≢ l.0 → kept' q ≡ kept q
 
 -- A load's reading made a step, which is counted.

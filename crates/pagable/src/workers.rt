@@ -1,7 +1,7 @@
 //! What a machine keeps beside its pager; tables of page-out, workers on them, and a worker's step.
 
-ghost use Rattle.std.specs.{HashMap.spare, Prelude.{◌≡◌, ◌<◌, ◌⊎◌, ℕ, Some, IfOk, IfErr, OnOk, true, false, ◌≤◌, ◌∷◌, length, is_some}};
-ghost use Rattle.{pagable.specs.Driving.{Drives, IsInStep, KeepsOne, kept_at, IsBegun, IsIn, IsAfter, WalksOn, has_task, task_in, todo_left}, pagable_loads.specs.Telling.values_at};
+ghost use Rattle.std.specs.{HashMap.spare, Prelude.{◌≡◌, ◌<◌, ◌⊎◌, ℕ, Some, IfOk, IfErr, OnOk, false, ◌∷◌, length, is_some}};
+ghost use Rattle.{pagable.specs.Driving.{Drives, IsInStep, KeepsOne, kept_at, IsBegun, IsIn, IsAfter, IsWalkKept, WalksOn, is_done}, pagable_loads.specs.Telling.values_at};
 ghost use Rattle.{pagable_pager.specs.View.{core_in, state_in, telling}, pagable_walk.specs.{Slots.written_of, Table.shelf_of, Tasks.{IsWay, todo_of, todos}, Turns.{StepsTo, answer_in, plan}}};
 ghost use Rattle.pagable_world.specs.{Kinds.{identity_of, owner_worker}, World.{of_entry, of_item}, declared.events.{Event.Event, EventReply.EventReply}};
 
@@ -28,15 +28,14 @@ pub enum Begun {
     Entry(HandleNumber, Identity),
 }
 
-/// A worker: its table, counted from 1, what it was begun for and how many steps it has made; its task with the path below it, until it has answered.
+/// A worker: its table, counted from 1, what it was begun for and how many steps it has made; its task with the path below it, or its answer.
 #[derive(Drop)]
 pub struct Walk<E: Trees> {
     pub table: u64,
     pub begun: Begun,
     pub steps: u64,
     pub path: Vec<Waiting<E>>,
-    pub task: Option<Task<E>>,
-    pub answer: Option<WorkerAnswer>,
+    pub turn: Turn<E>,
 }
 
 /// How far loads are, by their numbers; the tables in the order in which they were made; and workers by their numbers.
@@ -108,8 +107,7 @@ fn item_walk<E: Trees>(
         begun: Begun::Item(item),
         steps: 0,
         path,
-        task: Some(task),
-        answer: None,
+        turn: Turn::Goes(task),
     })
 }
 
@@ -127,8 +125,7 @@ fn entry_walk<E: Trees>(alloc: Global, table: TableNumber, reference: ArcRef) ->
         begun: Begun::Entry(reference.handle, identity),
         steps: 0,
         path,
-        task: Some(task),
-        answer: None,
+        turn: Turn::Goes(task),
     }
 }
 
@@ -198,7 +195,7 @@ fn step_by<'a, E: Env<Node: NodeSet<E>>, S: PagableStorage<E>>(
     step(lent, alloc, table, worker, path, task)
 }
 
-// The worker's answer, if a step came to one.
+// The worker's answer, if it came to one.
 fn answer_of<E: Trees>(turn: &Turn<E>) -> Option<WorkerAnswer>
     ensures { result ≡ answer_in turn.now }
 {
@@ -208,29 +205,17 @@ fn answer_of<E: Trees>(turn: &Turn<E>) -> Option<WorkerAnswer>
     }
 }
 
-// What is to be done after a step, if there is more.
-fn task_left<E: Trees>(turn: Turn<E>) -> Option<Task<E>>
-    ensures { result ≡ task_in turn }
-{
-    match turn {
-        Turn::Goes(task) => Some(task),
-        Turn::Answers(_) => None,
-    }
-}
-
 // What a step came to is kept of the worker, and answered.
 fn settle<E: Trees>(walk: &mut Walk<E>, moved: Moved<E>) -> WorkerReply<Arc<SerializedData>>
     ensures after { IsAfter walk.old moved walk.new }
     ensures path { walk.new.path ≡ walk.old.path }
     ensures reply { result ≡ record { took = moved.took; answer = answer_in moved.turn; steps = walk.new.steps } }
 {
-    let answer = answer_of(&moved.turn);
-    walk.answer = answer_of(&moved.turn);
     walk.steps = walk.steps.saturating_add(u64::from(moved.counted));
-    walk.task = task_left(moved.turn);
+    walk.turn = moved.turn;
     WorkerReply {
         took: moved.took,
-        answer,
+        answer: answer_of(&walk.turn),
         steps: walk.steps,
     }
 }
@@ -243,14 +228,14 @@ fn walk_on<E: Env<Node: NodeSet<E>>, S: PagableStorage<E>>(
     worker: WorkerNumber,
     walk: &mut Walk<E>,
 ) -> WorkerReply<Arc<SerializedData>>
-    requires has { is_some walk.old.task ≡ true }
-    requires table { (0 < walk.old.table) × (walk.old.table ≤ length tables.old.items) }
-    requires way { IsWay (todo_left walk.old.task walk.old.path.items) }
-    requires at_work { (core_in (telling S.stored S.is_closed S.failed) pager.old).workers worker.0 ≡ true }
+    requires has { is_some (answer_in walk.old.turn) ≡ false }
+    requires kept { IsWalkKept (core_in (telling S.stored S.is_closed S.failed) pager.old) (length tables.old.items) worker.0 walk.old }
     ensures { WalksOn (values_at E.Node.NodeSet E.Env E.Hash.KeyHash pager.old.environment) worker.0 tables.old.items walk.old (state_in (telling S.stored S.is_closed S.failed) pager.old) result
         tables.new.items walk.new (state_in (telling S.stored S.is_closed S.failed) pager.new) }
 {
-    let Some(task) = replace(&mut walk.task, None) else {
+    // Whatever stands there while it makes its step is written over by what the step comes to.
+    let meanwhile = Turn::Answers(WorkerAnswer::AlreadyFailed);
+    let Turn::Goes(task) = replace(&mut walk.turn, meanwhile) else {
         unreachable!();
     };
     let table = &mut tables[(walk.table - 1) as usize];
@@ -259,13 +244,13 @@ fn walk_on<E: Env<Node: NodeSet<E>>, S: PagableStorage<E>>(
     settle(walk, moved)
 }
 
-// Whether there is a worker of this number that hasn't answered.
-fn has_task<E: Trees>(walks: &IndexMap<u64, Walk<E>>, worker: u64) -> bool
-    ensures { result ≡ has_task (kept_at walks.now worker) }
+// Whether there is no worker of this number, or it has answered.
+fn is_done<E: Trees>(walks: &IndexMap<u64, Walk<E>>, worker: u64) -> bool
+    ensures { result ≡ is_done (kept_at walks.now worker) }
 {
     match walks.get(&worker) {
-        Some(walk) => walk.task.is_some(),
-        None => false,
+        Some(walk) => answer_of(&walk.turn).is_some(),
+        None => true,
     }
 }
 
@@ -281,7 +266,7 @@ pub fn worker_step<E: Env<Node: NodeSet<E>>, S: PagableStorage<E>>(
         pager.old held.old (Event.WorkerStep worker) (EventReply.WorkerMoved result) pager.new held.new }
 {
     pager.is_whole();
-    if !has_task(&held.walks, worker.0) {
+    if is_done(&held.walks, worker.0) {
         return Err(Error::NoSuchHandle);
     }
     let Some(walk) = held.walks.get_mut(&worker.0) else {
