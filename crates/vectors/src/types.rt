@@ -40,17 +40,23 @@ fn hash_map(alloc: Global, input: &[u8]) -> Option<Outcome> {
 
 // ---- calls that read or write in a way of their own: lent slices, boxes, byte arrays
 
+/// What `serialize_slice` writes.
+fn serialized(alloc: Global, numbers: &[i32]) -> Result<Vec<u8>, u32> {
+    let mut out = PagableSerializerImpl::testing_new(alloc, &AnyEnv);
+    let done = serialize_slice(numbers, &mut out);
+    finished(done, out)
+}
+
 /// A list as it is written without its count: as a lent slice, or by `serialize_slice`.
 fn slice(alloc: Global, input: &[u8], is_lent: bool) -> Option<Outcome> {
     let used = replay::<Vec<i32>>(alloc, input)?.ok()?.used;
     let numbers: Vec<i32> = read(alloc, &AnyEnv, input).ok()?;
-    if is_lent {
-        let bytes = written(alloc, &AnyEnv, &numbers.as_slice());
-        return Some(Ok(Taken::new(used, bytes)));
-    }
-    let mut out = PagableSerializerImpl::testing_new(alloc, &AnyEnv);
-    let done = serialize_slice(numbers.as_slice(), &mut out);
-    Some(Ok(Taken::new(used, finished(done, out))))
+    let bytes = if is_lent {
+        written(alloc, &AnyEnv, &numbers.as_slice())
+    } else {
+        serialized(alloc, numbers.as_slice())
+    };
+    Some(Ok(Taken::new(used, bytes)))
 }
 
 /// What comes of a number that is read into a box.

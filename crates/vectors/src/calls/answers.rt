@@ -32,7 +32,8 @@ fn refused(word: &'static str, refusal: &Error) -> Told {
 
 /// A refusal by its number alone.
 fn fault(word: &'static str, refusal: &Error) -> Told {
-    (word, Some(refusal.number() as u128), None)
+    let (word, number, _) = refused(word, refusal);
+    (word, number, None)
 }
 
 /// What the begin of a load answers.

@@ -140,11 +140,9 @@ fn of_handle(name: &str, first: &str, behind: &str) -> Option<CellCall> {
     })
 }
 
-/// A call of other numbers, or of none.
+/// A call of another number, or of none; other names are handed on.
 fn of_numbers(name: &str, first: &str, behind: &str) -> Option<CellCall> {
-    let (second, third) = split(behind);
-    let (number, kind) = (number_of(first), Kind(kind_of(second)));
-    let load = LoadNumber(number);
+    let number = number_of(first);
     Some(match name {
         "node_live" => Call::NodeLive(NodeNumber(number)),
         "take_pending" => Call::TakePending(number),
@@ -153,19 +151,33 @@ fn of_numbers(name: &str, first: &str, behind: &str) -> Option<CellCall> {
         "cache_clear" => Call::CacheClear,
         "flush" => Call::Flush,
         "close" => Call::Close,
-        "fetch" => Call::Fetch(key_of(first)?),
-        "load_key" => Call::LoadKey(key_of(first)?),
-        "set_data_key" => Call::SetDataKey(HandleNumber(number), key_of(second)?),
-        "new_paged_out" => Call::NewPagedOut(kind_of(first), key_of(second)?),
-        "cache_get" => Call::CacheGet(Kind(kind_of(first)), key_of(second)?),
+        "load_drop" => Call::LoadDrop(LoadNumber(number)),
+        "load_fetch" if behind.is_empty() => Call::LoadFetch(LoadNumber(number), Want::Root),
+        _ => return of_key(name, first, behind),
+    })
+}
+
+/// A call of a key, which is its first, second or third word.
+fn of_key(name: &str, first: &str, behind: &str) -> Option<CellCall> {
+    let (second, third) = split(behind);
+    let key = key_of(match name {
+        "fetch" | "load_key" => first,
+        "load_fetch" | "load_lazy" => third,
+        _ => second,
+    })?;
+    let (handle, load) = (HandleNumber(number_of(first)), LoadNumber(number_of(first)));
+    let (kind, wanted) = (kind_of(first), Kind(kind_of(second)));
+    Some(match name {
+        "fetch" => Call::Fetch(key),
+        "load_key" => Call::LoadKey(key),
+        "set_data_key" => Call::SetDataKey(handle, key),
+        "new_paged_out" => Call::NewPagedOut(kind, key),
+        "cache_get" => Call::CacheGet(Kind(kind), key),
         "on_arc_deserialized" => {
-            let handle = HandleNumber(number_of(third));
-            Call::OnArcDeserialized(Kind(kind_of(first)), key_of(second)?, handle)
+            Call::OnArcDeserialized(Kind(kind), key, HandleNumber(number_of(third)))
         }
-        "load_drop" => Call::LoadDrop(load),
-        "load_fetch" if behind.is_empty() => Call::LoadFetch(load, Want::Root),
-        "load_fetch" => Call::LoadFetch(load, Want::Nested(kind, key_of(third)?)),
-        "load_lazy" => Call::LoadLazy(load, kind, key_of(third)?),
+        "load_fetch" => Call::LoadFetch(load, Want::Nested(wanted, key)),
+        "load_lazy" => Call::LoadLazy(load, wanted, key),
         _ => return None,
     })
 }

@@ -129,7 +129,7 @@ fn mixed(alloc: Global, spelled: &str) -> anyhow::Result<CellNode> {
 }
 
 /// The lists of these references, list after list.
-fn lists(alloc: Global, spelled: &[ArcRef]) -> Result<Lists, Error> {
+pub fn lists(alloc: Global, spelled: &[ArcRef]) -> Result<Lists, Error> {
     let (own, loose) = of_two_kinds(alloc, spelled)?;
     let pinned = of_kinds(alloc, spelled)?;
     let names = of_two_kinds(alloc, spelled)?;

@@ -1,12 +1,11 @@
 //! Texts, and values that refer to others, which are paged out and pinned again. Keys are made by SHA-256.
 
-use crate::calls::asked::item;
-use crate::calls::nodes::{CellNode, node};
-use crate::calls::{let_go, pager_over};
+use crate::calls::nodes::{CellNode, lists};
+use crate::calls::pager_over;
 use crate::times::Outcome;
-use anyhow::{Context, bail};
+use anyhow::Context;
 use pagable::{
-    DataKey, Env, Error, HandleNumber, NodeSet, PagableStorage, PageOutError, Pager,
+    ArcRef, DataKey, Env, Error, HandleNumber, Kind, NodeSet, PagableStorage, Pager,
     SerializedData, Sha256Key, SlotTable, paging,
 };
 use pagable_examples::Draws;
@@ -14,88 +13,111 @@ use std::alloc::Global;
 use std::sync::Arc;
 use std::time::{Clock, Instant};
 
-type Item = Arc<SerializedData>;
-
 /// How many texts the values of `items` share.
 const SHARED: u64 = 2_000;
 
-/// A pager that is filled.
-#[derive(Drop)]
-struct Filling<'a, E: Env<Node: NodeSet<E>>, S: PagableStorage<E>> {
-    alloc: Global,
-    pager: &'a mut Pager<E, S>,
+/// A list of eight references to drawn ones of these texts, as it is written.
+fn list(alloc: Global, texts: &[ArcRef], draws: &mut Draws) -> anyhow::Result<Arc<SerializedData>> {
+    let mut arcs = Vec::new(alloc);
+    for _ in 0..8 {
+        let place = (draws.number() % SHARED) as usize;
+        arcs.push(*texts.get(place).context("no text")?)?;
+    }
+    let bytes = vec![in alloc; 8]?;
+    Ok(Arc::new(alloc, SerializedData { bytes, arcs })?)
 }
 
-impl<E: Env<Node = CellNode>, S: PagableStorage<E>> Filling<'_, E, S>
+/// A pager that is filled.
+#[derive(Drop)]
+struct Filling<E: Env<Node: NodeSet<E>>, S: PagableStorage<E>> {
+    alloc: Global,
+    pager: Pager<E, S>,
+}
+
+impl<E: Env<Node: NodeSet<E>>, S: PagableStorage<E>> Filling<E, S> {
+    /// A new node: a cell that waits for its page-out, or one that values share.
+    fn made(&mut self, value: E::Node, is_cell: bool) -> anyhow::Result<HandleNumber> {
+        if !is_cell {
+            let shared = self.pager.new_shared(self.alloc, value);
+            return shared.ok().context("a node is refused");
+        }
+        let cell = self.pager.new_loose(self.alloc, value);
+        let cell = cell.ok().context("a cell is refused")?;
+        self.pager.unpin(cell)?;
+        Ok(cell)
+    }
+
+    /// The reference of this kind by this handle.
+    fn reference(&self, kind: u32, handle: HandleNumber) -> Result<ArcRef, Error> {
+        let (kind, node) = (Kind(kind), self.pager.node_of(handle)?);
+        Ok(ArcRef { kind, node, handle })
+    }
+
+    /// A reference of this kind by a copy of this handle.
+    fn copied(&mut self, kind: u32, handle: HandleNumber) -> Result<ArcRef, Error> {
+        let copy = self.pager.clone(handle)?;
+        self.reference(kind, copy)
+    }
+
+    /// The key of an item that is paged out on this table.
+    fn key_of(
+        &mut self,
+        table: &mut SlotTable<E>,
+        item: Arc<SerializedData>,
+    ) -> anyhow::Result<DataKey> {
+        let key = paging::page_out_item(self.alloc, &mut self.pager, table, item);
+        key.ok().context("an item isn't paged out")
+    }
+
+    /// Pages out items on one table: their keys.
+    fn keys_of(&mut self, items: Vec<Arc<SerializedData>>) -> anyhow::Result<Vec<DataKey>> {
+        let mut table = SlotTable::new(self.alloc);
+        let mut keys = Vec::with_capacity(self.alloc, items.len())?;
+        for item in items {
+            keys.push(self.key_of(&mut table, item)?)?;
+        }
+        Ok(keys)
+    }
+}
+
+impl<E: Env<Node = CellNode>, S: PagableStorage<E>> Filling<E, S>
 where
     E::Node: NodeSet<E>,
 {
-    /// A new node of a value as rows spell it: a cell that waits for its page-out, or one that values share.
-    fn made(&mut self, spelled: &str, is_cell: bool) -> anyhow::Result<HandleNumber> {
-        let value = node(self.alloc, spelled)?;
-        let born = if is_cell {
-            self.pager.new_loose(self.alloc, value)
-        } else {
-            self.pager.new_shared(self.alloc, value)
-        };
-        let handle = born.map_err(|refused| refused.0)?;
-        if is_cell {
-            self.pager.unpin(handle)?;
-        }
-        Ok(handle)
-    }
-
-    /// Adds a reference of this kind by this handle, as rows spell it.
-    fn refer(&self, spelled: &mut String, kind: u32, handle: HandleNumber) -> Result<(), Error> {
-        let node = self.pager.node_of(handle)?.0;
-        Ok(spelled.push_str(format!(in self.alloc; "{kind}:{node}:{},", handle.0)?.as_str())?)
-    }
-
-    /// A list of eight references to drawn ones of these texts, as it is written.
-    fn list(&self, texts: &[HandleNumber], draws: &mut Draws) -> anyhow::Result<Item> {
-        let mut spelled = String::from_str(self.alloc, "08:")?;
-        for _ in 0..8 {
-            let place = (draws.number() % SHARED) as usize;
-            let text = texts.get(place).context("no text")?;
-            self.refer(&mut spelled, 0, *text)?;
-        }
-        Ok(Arc::new(self.alloc, item(self.alloc, spelled.as_str())?)?)
-    }
-
     /// So many lists of eight references each.
-    fn lists(&mut self, count: u32) -> anyhow::Result<Vec<Item>> {
+    fn lists(&mut self, count: u32) -> anyhow::Result<Vec<Arc<SerializedData>>> {
         let mut texts = Vec::new(self.alloc);
         for number in 0..SHARED {
-            let text = format!(in self.alloc; "0 shared text number {number}")?;
-            texts.push(self.made(text.as_str(), false)?)?;
+            let text = format!(in self.alloc; "shared text number {number}")?;
+            let text = self.made(CellNode::Name(text), false)?;
+            texts.push(self.reference(0, text)?)?;
         }
         let mut draws = Draws::new(8);
         let mut lists = Vec::new(self.alloc);
         for _ in 0..count {
-            lists.push(self.list(texts.as_slice(), &mut draws)?)?;
+            lists.push(list(self.alloc, texts.as_slice(), &mut draws)?)?;
         }
         Ok(lists)
     }
 
-    /// The value of a node of a tree, as rows spell it: it refers by this kind to two of the nodes of the level below, and to a text of its own.
+    /// The value of a node of a tree: it refers by this kind to two of the nodes of the level below, and to a text of its own.
     fn branch(
         &mut self,
         kind: u32,
-        name: &str,
+        text: String,
         below: &[HandleNumber],
         place: usize,
-    ) -> anyhow::Result<String> {
-        let mut spelled = String::from_str(self.alloc, "2 ")?;
+    ) -> anyhow::Result<CellNode> {
+        let mut references = Vec::new(self.alloc);
         for next in 0..2 {
             let kid = place.wrapping_mul(2).wrapping_add(next) % below.len().max(1);
             if let Some(kid) = below.get(kid) {
-                let copy = self.pager.clone(*kid)?;
-                self.refer(&mut spelled, kind, copy)?;
+                references.push(self.copied(kind, *kid)?)?;
             }
         }
-        let text = self.made(name, false)?;
-        self.refer(&mut spelled, 0, text)?;
-        Ok(spelled)
+        let text = self.made(CellNode::Name(text), false)?;
+        references.push(self.reference(0, text)?)?;
+        Ok(CellNode::Mixed((0, lists(self.alloc, references.as_slice())?)))
     }
 
     /// The nodes of one level of a tree, over those of the level below: twice as many as of the level above, and at most 64.
@@ -108,9 +130,9 @@ where
     ) -> anyhow::Result<Vec<HandleNumber>> {
         let mut nodes = Vec::new(self.alloc);
         for place in 0..1usize << level.min(6) {
-            let name = format!(in self.alloc; "0 tree {tree} level {level} node {place}")?;
-            let spelled = self.branch(kind, name.as_str(), below, place)?;
-            nodes.push(self.made(spelled.as_str(), kind == 7 || level == 0)?)?;
+            let text = format!(in self.alloc; "tree {tree} level {level} node {place}")?;
+            let value = self.branch(kind, text, below, place)?;
+            nodes.push(self.made(value, kind == 7 || level == 0)?)?;
         }
         Ok(nodes)
     }
@@ -132,9 +154,9 @@ where
     fn cells(&mut self, row: &str, count: u32) -> anyhow::Result<Vec<HandleNumber>> {
         let mut cells = Vec::new(self.alloc);
         for number in 0..count {
-            let text = format!(in self.alloc; "0 the text of cell number {number}")?;
+            let text = format!(in self.alloc; "the text of cell number {number}")?;
             cells.push(match row {
-                "cells" => self.made(text.as_str(), true)?,
+                "cells" => self.made(CellNode::Name(text), true)?,
                 "trees" => self.tree(6, number)?,
                 _ => self.tree(7, number)?,
             })?;
@@ -151,29 +173,15 @@ where
     ) -> anyhow::Result<Outcome> {
         let cells = self.cells(row, count)?;
         let start = Instant::now(clock)?;
-        if let Err(PageOutError::Failed(e)) = paging::page_out_pending(self.alloc, self.pager) {
-            return Err(e.into());
-        }
+        let paged_out = paging::page_out_pending(self.alloc, &mut self.pager);
+        paged_out.ok().context("the cells aren't paged out")?;
         let write = start.elapsed(clock)?;
         let start = Instant::now(clock)?;
         for cell in &cells {
-            paging::pin(self.alloc, self.pager, *cell)?;
+            paging::pin(self.alloc, &mut self.pager, *cell)?;
         }
         let read = start.elapsed(clock)?;
         Ok(Outcome { write, read })
-    }
-
-    /// Pages out items on one table: their keys.
-    fn keys_of(&mut self, items: Vec<Item>) -> anyhow::Result<Vec<DataKey>> {
-        let mut table = SlotTable::new(self.alloc);
-        let mut keys = Vec::with_capacity(self.alloc, items.len())?;
-        for item in items {
-            match paging::page_out_item(self.alloc, self.pager, &mut table, item) {
-                Ok(key) => keys.push(key)?,
-                Err(_) => bail!("an item isn't paged out"),
-            }
-        }
-        Ok(keys)
     }
 
     /// Pages out lists, and reads each key.
@@ -184,18 +192,18 @@ where
         let write = start.elapsed(clock)?;
         let start = Instant::now(clock)?;
         for key in keys {
-            paging::read(self.alloc, self.pager, key, 5)?;
+            paging::read(self.alloc, &mut self.pager, key, 5)?;
         }
         let read = start.elapsed(clock)?;
         Ok(Outcome { write, read })
     }
 }
 
-/// Makes what a row pages out, pages it out, and reads it back.
-fn once_in<E: Env<Node = CellNode>, S: PagableStorage<E>>(
+/// Makes what a row pages out in this pager, pages it out, and reads it back.
+fn once_in<E: Env<Node = CellNode> + Drop, S: PagableStorage<E> + Drop>(
     clock: &impl Clock,
     alloc: Global,
-    pager: &mut Pager<E, S>,
+    pager: Pager<E, S>,
     row: &str,
     count: u32,
 ) -> anyhow::Result<Outcome>
@@ -204,16 +212,12 @@ where
 {
     let mut filling = Filling { alloc, pager };
     if row == "items" {
-        filling.lists_out_and_in(clock, count)
-    } else {
-        filling.cells_out_and_in(clock, row, count)
+        return filling.lists_out_and_in(clock, count);
     }
+    filling.cells_out_and_in(clock, row, count)
 }
 
 /// As `once_in`, in a new pager.
 pub fn once(clock: &impl Clock, alloc: Global, row: &str, count: u32) -> anyhow::Result<Outcome> {
-    let mut pager = pager_over::<Sha256Key>(alloc, "");
-    let outcome = once_in(clock, alloc, &mut pager, row, count);
-    let_go(pager);
-    outcome
+    once_in(clock, alloc, pager_over::<Sha256Key>(alloc, ""), row, count)
 }
