@@ -8,23 +8,16 @@ use Rattle.pagable_tables.proofs.Words.{node_fault, not, numbers_of, only_handle
 use Rattle.pagable_tables.proofs.Words.{suc, sym, take, take-suc, take_all, true, type_of, usable, where_so, with_cached, with_handle, with_node, zero, ℕ, ◌&&◌, ◌++◌, ◌+◌, ◌<◌, ◌==◌, ◌||◌, ◌∙◌, ◌∷◌}
 use Rattle.{pagable_tables.proofs.Words.{◌≡◌, ◌≢◌, ◌≤◌, ◌⊎◌}, pagable_world.specs.Calls.IsNext, std.{proofs.lemmas.List.map-id, specs.Result.IsErrAnd}}
 
--- what an entry of the cache gives where its node is this cell
-abbrev pub use-of : List HandleRow → ℕ → ℕ → Option Cell → Option ℕ
-use-of rows kind n cell = if_there (λ (cell : Cell). if is_pinned_kind kind && not (is_in_memory (pins n rows) cell.key) then None else Some n) None cell
-
-pub usable-same : (rows rows' : List HandleRow) (cells cells' : ℕ → Option Cell) (kind : ℕ) (found found' : Option ℕ) → rows' ≡ rows → SameAt cells cells' → found' ≡ found
-    → if_there (λ n. use-of rows' kind n (cells' n)) None found' ≡ if_there (λ n. use-of rows kind n (cells n)) None found
-usable-same rows rows' cells cells' kind found found' e same is = grind (arith, nat_tests)
-
 pub same-cache : (w w' : Core) → w'.rows ≡ w.rows → SameAt w.cells w'.cells → ((kind key : ℕ) → w'.cache kind key ≡ w.cache kind key) → SameCache w w'
-same-cache w w' e same is = grind (arith, nat_tests, usable-same)
+same-cache w w' e same is = grind (arith, nat_tests)
 
 pub still : (w : Core) → Alike w w
 still w = grind (arith, nat_tests, same-cache)
 
--- rows, cells and room may be told anew
-pub alike : (w w' : Core) → w'.rows ≡ w.rows → SameAt w.cells w'.cells → HasRoom w.places w'.places → w' ≡ record w { rows = w'.rows; cells = w'.cells; places = w'.places } → Alike w w'
-alike w w' rows cells places same = grind (arith, nat_tests, same-cache)
+-- rows, cells, list and room may be told anew
+pub alike : (w w' : Core) → w'.rows ≡ w.rows → SameAt w.cells w'.cells → w'.list ≡ w.list → HasRoom w.places w'.places
+    → w' ≡ record w { rows = w'.rows; cells = w'.cells; list = w'.list; places = w'.places } → Alike w w'
+alike w w' rows cells list places same = grind (arith, nat_tests, same-cache)
 
 -- what is answered where a call within was refused
 pub failed : {T E : Type 0} {e : E} (r : Result T E) → IsErrAnd r (λ y. y ≡ e) → r ≡ Err e
@@ -61,12 +54,8 @@ pub spent-late : (l : ℕ) (b : Bool) (f : Error) → where_so b (spent l) ≡ S
 spent-late l b f is = grind (arith, nat_tests)
 
 -- why references are refused comes before numbers
-row-low : (at mine fits typed : Bool) (e : Error)
-    → (if not at then Some Error.NoSuchHandle else or_else (refused_if mine Error.NotYours) (if not fits then Some Error.WrongMode else refused_if (not typed) Error.WrongKind)) ≡ Some e → rank e ≤ 3
-row-low at mine fits typed e is = grind (arith, nat_tests)
-
 reference-low : (w : Core) (o : Owner) (seen : List ℕ) (r : ArcRef) (e : Error) → reference_fault w o seen r ≡ Some e → rank e ≤ 3
-reference-low w o seen r e is = search (arith, row-low)
+reference-low w o seen r e is = search arith
 
 pub references-low : (w : Core) (o : Owner) (seen : List ℕ) (refs : List ArcRef) (e : Error) → references_fault w o seen refs ≡ Some e → rank e ≤ 3
 unfolding references_fault
@@ -115,15 +104,12 @@ pub room-alike : {w w' : Core} → OnlyRoom w w' → Alike w w'
 room-alike {w} {w'} o = grind (arith, nat_tests)
 
 -- room that was made before is nothing to what comes
-pub alike-past : {m w' : Core} (p : Places) → HasRoom m.places p → Alike (record m { places = p }) w' → Alike m w'
-alike-past {m} {w'} p more a = grind (arith, nat_tests)
-
 pub next-past : {w w' : Core} {k : HandleNumber} → OnlyRoom w w' → IsNext k w' → IsNext k w
 next-past {w} {w'} {k} o next = grind (arith, nat_tests)
 
 pub born-past : {w w1 w' : Core} (node_type : ℕ) (key : OptionalDataKey) (rs : List ArcRef) (mode : Mode) (me : Owner) → OnlyRoom w w1
     → Alike (with_handle (with_node w1 node_type key rs) (next_node w1) mode me) w' → Alike (with_handle (with_node w node_type key rs) (next_node w) mode me) w'
-born-past {w} {w1} {w'} node_type key rs mode me o a = grind (arith, nat_tests, alike-past)
+born-past {w} {w1} {w'} node_type key rs mode me o a = grind (arith, nat_tests)
 
 pub room-fault : {w w' : Core} (me : Owner) (rs : List ArcRef) → OnlyRoom w w' → references_fault w' me [] rs ≡ references_fault w me [] rs
 room-fault {w} {w'} me rs o = ap (λ (u : Core). references_fault u me [] rs) o.same ∙ fault-by w (record w { places = w'.places }) me [] rs
@@ -136,8 +122,8 @@ adopted-past {w} {w1} {w'} l kind key own rs o a = split w.closed (subst (λ (u 
     m = with_handle (with_node w (type_of kind.0) own rs) (next_node w) (mode_of kind.0) (Owner.Load l)
 
     split : (b : Bool) → Alike (if b then record m { places = w1.places } else with_cached (record m { places = w1.places }) kind key (next_node w)) w' → Alike (if b then m else with_cached m kind key (next_node w)) w'
-    split true a = alike-past w1.places o.more a
-    split false a = alike-past w1.places o.more a
+    split true a = grind (arith, nat_tests)
+    split false a = grind (arith, nat_tests)
 
 -- where nothing was looked at before, memory may be wanting all the more
 pub weaker : {cause before : Option Error} {w w' : Core} {e : Error} → Refused cause before (Unit {0}) w e w' → Refused cause None (Unit {0}) w e w'
@@ -246,9 +232,6 @@ module _ (w : Core) (me : Owner) (seen : List ℕ) (rs : List ArcRef) (i : ℕ) 
   pub fault-end : length rs ≤ i → references_fault w me seen (drop i rs) ≡ None
   unfolding references_fault
   fault-end past = ap (references_fault w me seen) (drop_all i rs past)
-
-pub alike-listed : (w w' : Core) → w'.rows ≡ w.rows → w'.list ≡ w.list → HasRoom w.places w'.places → w' ≡ record w { rows = w'.rows; list = w'.list; places = w'.places } → Alike w w'
-alike-listed w w' rows list places same = grind (arith, nat_tests, same-cache)
 
 pub at-work-still : {w w' : Core} {workers : ℕ → Bool} → Alike w w' → SameAt w'.workers workers → Alike w (record w' { workers = workers })
 at-work-still {w} {w'} {workers} a still = grind (arith, nat_tests)
@@ -361,7 +344,7 @@ module _ (w w' : Core) (kind : Kind) (key : ℕ) (n : NodeNumber) (cache : ℕ �
   same k q = grind (arith, nat_tests)
 
   pub learned : Alike (with_cached w kind key n) (record w' { cache = cache })
-  learned = grind (arith, nat_tests, same, usable-same)
+  learned = grind (arith, nat_tests, same)
 
 -- the cache learns while the storage is open
 pub if-open : (closed : Bool) (w w' : Core) (kind : Kind) (key : ℕ) (n : NodeNumber) → (closed ≡ true → Alike w w') → (closed ≡ false → Alike (with_cached w kind key n) w') → Alike (if closed then w else with_cached w kind key n) w'
