@@ -1,15 +1,15 @@
 -- Calls by which handles go to the list, come from it or fall keep the world whole.
-use Rattle.pagable_tables.proofs.{Alive.of_list, Kept.{GoOn, IsIn, alike-rows, among-both, among-last, among-map, among-one, apart-sum, counted, found-among, found-so, holder-in, is-in, keeps-whole}}
+use Rattle.pagable_tables.proofs.{Alive.of_list, Kept.{IsIn, alike-rows, among-both, among-last, among-map, among-one, apart-sum, counted, found-among, found-so, holder-in, is-in, keeps-whole}}
 use Rattle.pagable_tables.proofs.{Kept.{loads-stay, may-own, once, same-rows, stays-old, sum-map, there-then}, Newer.no-load, Told.{Goes, GoesOn, beside, born-whole, falls-lost, lone-falling}}
 use Rattle.pagable_tables.proofs.Told.{loose-unshared, moved-free, moved-on, moved-so, moved-to-value, named-own, named-unlisted, newer-falls, newer-moved, newer-then, not-list, opened, own-of}
 use Rattle.pagable_tables.proofs.{Told.{pin-comes, roomy, roomy-whole, settled, settles, stays-on, then-on}, Words.{Alike, AllPairs, Among, ArcRef, ArePlaced, BeginCall, Beginning, Bool, CloseCall}}
 use Rattle.pagable_tables.proofs.Words.{Core, Error, Falls, HandOverCall, HandleNumber, HandleRow, Installs, IsEntryWhole, IsHandleBefore, IsRootWhole, IsWhole, Kind, List, LoadNumber, MayEnd}
 use Rattle.pagable_tables.proofs.Words.{MayHold, MayOwnLoad, Mode, NodeNumber, None, Ok, OpenLoad, OptionalDataKey, Owner, Owns, Result, Root, ScheduleCall, Some, Suits, TakeCall, [], adopted, ap}
-use Rattle.pagable_tables.proofs.Words.{arith, cases_eq, cell_fault, earlier, false, fits_mode, get_or_from_slice_get, greatest, hand_over_fault, has_key, if_there, if◌then◌else◌, inl, inr, is_handle}
-use Rattle.pagable_tables.proofs.Words.{is_in, is_loose, is_named_by, is_owned_by, is_owned_in, is_owner, is_shared, is_shared_kind, is_workers, load_fault, mode_of, moved, named_fault, nat_tests}
-use Rattle.pagable_tables.proofs.Words.{next_node, not, numbers_of, of_cell, one, only_handle, owner_value, owner_worker, references_fault, refl, row_of, shut, slice_get_within, subst, sum_by-remove}
-use Rattle.pagable_tables.proofs.Words.{sum_by_push, sym, times, true, type_at, type_of, usable, with_cached, with_handle, with_key, with_load, with_mode, with_node, with_pin, with_worker}
-use Rattle.pagable_tables.proofs.{Words.{without_load, without_worker, ℕ, ◌&&◌, ◌++◌, ◌+◌, ◌<◌, ◌==◌, ◌||◌, ◌∙◌, ◌∷◌, ◌≡◌, ◌≤◌}, Worlds.{both-none, fault-by, found-map, one-fault, owner-self}}
+use Rattle.pagable_tables.proofs.Words.{arith, cases_eq, cell_fault, earlier, false, fits_mode, get_or_from_slice_get, greatest, hand_over_fault, has_key, if_there, if◌then◌else◌, inl, inr}
+use Rattle.pagable_tables.proofs.Words.{is_handle, is_in, is_loose, is_named_by, is_owned_by, is_owned_in, is_owner, is_shared, is_shared_kind, is_workers, load_fault, mode_of, moved, named_fault}
+use Rattle.pagable_tables.proofs.Words.{nat_tests, next_node, not, numbers_of, of_cell, one, only_handle, owner_value, owner_worker, references_fault, refl, row_of, shut, slice_get_within, subst}
+use Rattle.pagable_tables.proofs.Words.{sum_by-remove, sum_by_push, sym, times, true, type_at, type_of, usable, with_cached, with_handle, with_key, with_load, with_mode, with_node, with_pin}
+use Rattle.pagable_tables.proofs.{Words.{with_worker, without_load, without_worker, ℕ, ◌&&◌, ◌++◌, ◌+◌, ◌<◌, ◌==◌, ◌||◌, ◌∙◌, ◌∷◌, ◌≡◌}, Worlds.{both-none, fault-by, found-map, one-fault, owner-self}}
 use Rattle.{pagable_world.specs.Workers.{WorkerEnds, is_load_of}, std.specs.List.remove}
 
 -- The handle h of this row alone moves: what the list's handles of a number are then.

@@ -1,14 +1,13 @@
 -- A handle is given up: handles and nodes fit again.
 use Rattle.pagable_tables.proofs.{Alive.{all-kept, and_one, entries-none, length-live-le, none-found, of_list, one-le, ones, only-row, row-le-live, sum-most, times-left}, Kept.{found-among, only-at}}
-use Rattle.pagable_tables.proofs.Words.{AllPairs, Among, ArcRef, Blob, Bool, Cell, Chain, Core, Counts, Error, Fits, HandleNumber, HandleRow, HasFallen, HasRoom, Holdings, IsApart, IsBefore}
-use Rattle.pagable_tables.proofs.Words.{IsClosed, IsFalling, IsSome, IsWithin, List, Mode, None, OpenLoad, Option, OptionalDataKey, Owner, Place, Right, SoFar, Some, Tables, TellsListing}
-use Rattle.pagable_tables.proofs.Words.{[], after, alive, ap, append-nil, arith, cases_Bool, cases_eq, cell_in, core_of, counts_at, entry, falls_in, false, filter, find_row, get_or, get_or-le-sum_by}
-use Rattle.pagable_tables.proofs.Words.{greatest, has_key, has_value, held, holds_in, if_there, if◌then◌else◌, inl, inr, is_at, is_fallen_by, is_handle, is_keyed, is_listed, is_listing, is_outside}
-use Rattle.pagable_tables.proofs.Words.{is_owned_by, is_owned_in, is_owner, is_pin, is_pinning, is_plain_pin, is_share, is_shared, is_some, is_valued, keyed, landed, left_rows, length, live, map}
-use Rattle.pagable_tables.proofs.Words.{named, nat_lt, nat_tests, next_in, nobody, not, often, one, owner_value, owns, owns_nothing, pins, refl, sharing, slice_get, slice_get-get_or, subst, sum_by}
-use Rattle.pagable_tables.proofs.Words.{sum_by-append, sum_by-cons, sum_by-le-sum_by, sum_by_push, sym, times, told_by, true, unpinned, with_tables, ℕ, ◌&&◌, ◌++◌, ◌+◌, ◌-◌, ◌<◌, ◌==◌, ◌∙◌}
+use Rattle.pagable_tables.proofs.Words.{AllPairs, Among, ArcRef, Blob, Bool, Chain, Core, Counts, Error, Fits, HandleNumber, HandleRow, HasFallen, HasRoom, Holdings, IsApart, IsBefore, IsClosed}
+use Rattle.pagable_tables.proofs.Words.{IsFalling, IsSome, IsWithin, List, Mode, None, OpenLoad, Option, Owner, Place, Right, SoFar, Some, Tables, TellsListing, [], after, alive, ap, append-nil}
+use Rattle.pagable_tables.proofs.Words.{arith, cases_Bool, cases_eq, cell_in, core_of, counts_at, entry, falls_in, false, filter, find_row, get_or, get_or-le-sum_by, greatest, has_value, held}
+use Rattle.pagable_tables.proofs.Words.{holds_in, if◌then◌else◌, inl, inr, is_at, is_fallen_by, is_handle, is_keyed, is_listed, is_listing, is_outside, is_owned_by, is_owned_in, is_owner, is_pin}
+use Rattle.pagable_tables.proofs.Words.{is_pinning, is_plain_pin, is_share, is_shared, is_valued, keyed, landed, left_rows, length, live, map, named, nat_lt, nat_tests, next_in, nobody, not, often}
+use Rattle.pagable_tables.proofs.Words.{one, owner_value, owns, owns_nothing, pins, refl, sharing, slice_get, slice_get-get_or, subst, sum_by, sum_by-append, sum_by-cons, sum_by-le-sum_by}
+use Rattle.pagable_tables.proofs.Words.{sum_by_push, sym, times, told_by, true, unpinned, with_tables, ℕ, ◌&&◌, ◌++◌, ◌+◌, ◌-◌, ◌<◌, ◌==◌, ◌∙◌, GetsKey, NodeNumber, with_key}
 use Rattle.{pagable_tables.{proofs.Words.{◌∷◌, ◌≡◌, ◌≢◌, ◌≤◌, ◌⊎◌}, specs.Core.IsWhole}, pagable_world.proofs.Elements.sum-none}
-use Rattle.pagable_tables.proofs.Words.{GetsKey, NodeNumber, with_key}
 use Rattle.pagable_world.specs.Pager as pager
 
 -- 1 for the handle q that the node's value owns

@@ -3,9 +3,9 @@ use Rattle.pagable_tables.proofs.Alive.{and_one, entries-more, entries-none, fou
 use Rattle.pagable_tables.proofs.Words.{Falls, GivesUp, HandleNumber, HandleRow, HasFallen, HasPlaces, Holdings, IndexMap, IsApart, IsClosed, IsFalling, IsLeast, IsListRefusal, IsUnlisted, IsWithin}
 use Rattle.pagable_tables.proofs.Words.{List, LoadNumber, MustList, NodeNumber, NodeRow, None, Option, Owner, Result, Sheds, SoFar, Some, Steps, TellsListing, ValueStays, [], and_parts, ap}
 use Rattle.pagable_tables.proofs.Words.{append-nil, append_assoc, arith, cases_Bool, cases_eq, cell_in, counts_at, entries_of, entry, fallen, falls_in, false, filter, filter-append, find_row}
-use Rattle.pagable_tables.proofs.Words.{has_value, held, if◌then◌else◌, inl, inr, is_at, is_handle, is_keyed, is_listing, is_outside, is_owned_by, is_owned_in, is_owner, is_pin, is_plain_pin}
-use Rattle.pagable_tables.proofs.Words.{is_share, is_shared, is_some, is_valued, left_rows, length, length-append, live, map-append, nat_tests, not, one, or_else, owner_value, owns}
-use Rattle.pagable_tables.proofs.Words.{owns_nothing, passes_in, pins, pins_in, refl, subst, sum_by, sum_by-cons, sum_by-le-sum_by, sym, times, told_by, true, valued, with_tables, ℕ, ◌&&◌, ◌++◌, ◌+◌}
+use Rattle.pagable_tables.proofs.Words.{has_value, held, if◌then◌else◌, inl, inr, is_at, is_handle, is_keyed, is_listing, is_owned_by, is_owned_in, is_owner, is_pin, is_plain_pin, is_share}
+use Rattle.pagable_tables.proofs.Words.{is_shared, is_some, is_valued, left_rows, length, length-append, live, map-append, nat_tests, not, one, or_else, owner_value, owns, owns_nothing, passes_in}
+use Rattle.pagable_tables.proofs.Words.{pins, pins_in, refl, subst, sum_by, sum_by-cons, sum_by-le-sum_by, sym, times, told_by, true, valued, with_tables, ℕ, ◌&&◌, ◌++◌, ◌+◌}
 use Rattle.pagable_tables.proofs.{Alive.with-entry, Fitting.{closed-is, counted, forced, listing-is, no-more, which}, Words.{Alike, AreNewEntries, Begins, Bool, Cell, Core, Counts, Error}}
 use Rattle.{pagable_tables.proofs.{Words.{◌<◌, ◌==◌, ◌||◌, ◌∙◌, ◌∷◌, ◌≡◌, ◌≢◌, ◌≤◌, ◌⊎◌}, Worlds.same-cache}, pagable_world.proofs.Elements.{at-most-sum, sum-none}}
 

@@ -1,11 +1,11 @@
 -- Two worlds that are told alike.
-use Rattle.pagable_tables.proofs.Words.{Adopts, Alike, ArcRef, AreHandlesFull, Bool, Cell, Core, Err, Error, FallsAnyhow, HandleNumber, HandleRow, HasRoom, Kind, LazyCall, List, LoadNumber}
-use Rattle.pagable_tables.proofs.Words.{LoadRow, Makes, Mode, NodeNumber, None, Ok, OnlyRoom, OpenLoad, Option, OptionalDataKey, Owner, OwnsLoad, Places, RecallCall, Refused, Result, SameAt}
-use Rattle.pagable_tables.proofs.Words.{SameCache, Some, [], add-one, adopt_fault, adopted, ap, arith, at_drop_all, at_drop_more, birth_fault, closed_fault, drop, drop-cons, drop_all}
-use Rattle.pagable_tables.proofs.Words.{earlier, early_fault, false, find_row, first_key, get_or, greatest, handle_fault, if_there, if◌then◌else◌, inl, inr, is_in, is_in_memory, is_loose_kind}
-use Rattle.pagable_tables.proofs.Words.{is_named_by, is_owner, is_pinned_kind, is_some, length, load_fault, load_in, map, mode_of, moved, named_at, named_fault, nat_tests, next_node}
-use Rattle.pagable_tables.proofs.Words.{node_fault, not, numbers_of, only_handle, option_map, or_else, pins, rank, reference_fault, references_fault, refl, refused_if, seen, spent, subst}
-use Rattle.pagable_tables.proofs.Words.{suc, sym, take, take-suc, take_all, true, type_of, usable, where_so, with_cached, with_handle, with_node, zero, ℕ, ◌&&◌, ◌++◌, ◌+◌, ◌<◌, ◌==◌, ◌||◌, ◌∙◌, ◌∷◌}
+use Rattle.pagable_tables.proofs.Words.{Adopts, Alike, ArcRef, AreHandlesFull, Bool, Core, Err, Error, FallsAnyhow, HandleNumber, HandleRow, HasRoom, Kind, LazyCall, List, LoadNumber, Makes, Mode}
+use Rattle.pagable_tables.proofs.Words.{NodeNumber, None, Ok, OnlyRoom, OpenLoad, Option, OptionalDataKey, Owner, OwnsLoad, RecallCall, Refused, Result, SameAt, SameCache, Some, [], add-one}
+use Rattle.pagable_tables.proofs.Words.{adopt_fault, adopted, ap, arith, at_drop_all, at_drop_more, birth_fault, closed_fault, drop, drop-cons, drop_all, earlier, early_fault, false, find_row}
+use Rattle.pagable_tables.proofs.Words.{first_key, get_or, greatest, handle_fault, if_there, if◌then◌else◌, inl, inr, is_in, is_loose_kind, is_named_by, is_owner, length, load_fault, map, mode_of}
+use Rattle.pagable_tables.proofs.Words.{moved, named_at, named_fault, nat_tests, next_node, node_fault, not, numbers_of, only_handle, option_map, or_else, rank, reference_fault, references_fault}
+use Rattle.pagable_tables.proofs.Words.{refl, refused_if, seen, spent, subst, suc, sym, take, take-suc, take_all, true, type_of, usable, where_so, with_cached, with_handle, with_node, zero, ℕ, ◌&&◌}
+use Rattle.pagable_tables.proofs.Words.{◌++◌, ◌+◌, ◌<◌, ◌==◌, ◌||◌, ◌∙◌, ◌∷◌}
 use Rattle.{pagable_tables.proofs.Words.{◌≡◌, ◌≢◌, ◌≤◌, ◌⊎◌}, pagable_world.specs.Calls.IsNext, std.{proofs.lemmas.List.map-id, specs.Result.IsErrAnd}}
 
 pub same-cache : (w w' : Core) → w'.rows ≡ w.rows → SameAt w.cells w'.cells → ((kind key : ℕ) → w'.cache kind key ≡ w.cache kind key) → SameCache w w'
@@ -46,9 +46,6 @@ late None b m one two f is = two f is
 late (Some e) None m one two f is = one f is
 late (Some e) (Some g) m one two f is = grind (arith, nat_tests)
 
-pub kind-late : (b : Bool) (f : Error) → refused_if b Error.WrongKind ≡ Some f → 3 ≤ rank f
-kind-late b f is = grind (arith, nat_tests)
-
 -- a cause of numbers, where it is asked
 pub spent-late : (l : ℕ) (b : Bool) (f : Error) → where_so b (spent l) ≡ Some f → 4 ≤ rank f
 spent-late l b f is = grind (arith, nat_tests)
@@ -85,10 +82,6 @@ no-load-fault w me l load own = grind (arith, nat_tests, owner-self)
 -- memory may be told to be wanting where it was asked for only of an own load
 pub told-later : {cause : Option Error} {full : Type 0} {w w' : Core} {e : Error} (me : Owner) (l : LoadNumber) → Refused cause (load_fault w me l) full w e w' → Refused cause (closed_fault w l) full w e w'
 told-later {cause} {full} {w} {w'} {e} me l r = grind (arith, nat_tests)
-
--- no load has a number that wasn't given yet
-pub none-yet : (o : Option LoadRow) (last : ℕ) → (is_some (option_map load_in o) ≡ true → last + 1 ≤ last) → o ≡ None
-none-yet x0 last h = grind (arith, nat_tests)
 
 module _ (w : Core) (me : Owner) (kind : Kind) (key : ℕ) (node : NodeNumber) (mode : Mode) (w' : Core)
     (is : usable w kind.0 key ≡ Some node.0) (fits : mode ≡ mode_of kind.0) where
