@@ -14,9 +14,6 @@ and-left a b e = grind (arith, nat_tests)
 pub one-le : (b : Bool) → one b ≤ 1
 one-le b = grind (arith, nat_tests)
 
-pub not-so : (b : Bool) → not b ≡ true → b ≡ false
-not-so b e = grind (arith, nat_tests)
-
 pub there-is : {X : Type 0} (test : X → Bool) (o : Option X) → if_there test false o ≡ true → (x : X) × (o ≡ Some x) × (test x ≡ true)
 there-is test (Some x) is = (x, refl, is)
 there-is test None is = absurd (cc)
@@ -81,9 +78,8 @@ of_list q h = is_handle q h && is_owned_by Owner.List h
 
 pub none-listed : {old new : Handles} {x : HandleRow} → Leaves old x false new → is_owned_by Owner.List x ≡ false → times (of_list x.number.0) (live old.places.items) ≡ 0
 none-listed {old} {x = x} leaves owner =
-    let others = sum-none (λ h. one (of_list x.number.0 h && not (h.number.0 == x.number.0))) (live old.places.items) (λ h among. grind (arith, nat_tests)) in
     let left = ap (times (of_list x.number.0)) leaves.becomes.rows ∙ times-left (of_list x.number.0) (only_handle x.number) (live old.places.items) in
-    grind (arith, nat_tests, leaves.sums (λ h. one (of_list x.number.0 h)), others, left)
+    grind (arith, nat_tests, sum-none, leaves.sums (λ h. one (of_list x.number.0 h)), left)
 
 pub none-entered : (q last : ℕ) (rows left entries : List HandleRow) → rows ≡ left ++ entries → AreNewEntries last entries → times (of_list q) rows ≡ 0 → times (is_handle q) entries ≡ 0
 none-entered q last rows left entries is new none =
@@ -112,9 +108,7 @@ take-dead (s ∷ ss) zero d within dead = grind (arith, nat_tests)
 take-dead (s ∷ ss) (suc n) d within dead = let rest = take-dead ss n d (omega arith) dead in grind (arith, nat_tests)
 
 pub pairs-take : (n : ℕ) (ss : List Place) → n ≤ length ss → AllPairs IsBefore ss → AllPairs IsBefore (take n ss)
-pairs-take n ss within ordered i j d less lt =
-    let e = length-take-le n ss within in
-    omega (arith, ap (λ (p : Place). p.row.number.0) (get_or-take n ss i d (omega arith)), ap (λ (p : Place). p.row.number.0) (get_or-take n ss j d (omega arith)), ordered i j d less (omega arith))
+pairs-take n ss within ordered i j d less lt = grind (arith, nat_tests, cases_eq, length-take-le, get_or-take)
 
 -- what a place weighs
 abbrev pub weigh : (HandleRow → ℕ) → Place → ℕ
@@ -164,10 +158,8 @@ at-place (s ∷ ss) zero row ordered at =
 at-place (s ∷ ss) (suc i) row ordered at =
     let (kill, change, find) = at-place ss i row (λ j k d less lt. ordered (suc j) (suc k) d (omega arith) (omega arith)) at in
     let lt = slice_get_within ss i (alive row) at in
-    let is = ap (λ (p : Place). p.row.number.0) (get_or_from_slice_get ss i (alive row) (alive row) at) in
     let less = ordered 0 (suc i) (alive row) (omega arith) (omega arith) in
-    let other : (s.row.number.0 == row.number.0) ≡ false = grind (arith, nat_tests) in
-    (grind (arith, nat_tests), λ f. grind (arith, nat_tests, change f), grind (arith, nat_tests))
+    (grind (arith, nat_tests, get_or_from_slice_get, get_or_from_slice_get), λ f. grind (arith, nat_tests, get_or_from_slice_get, get_or_from_slice_get, change f), grind (arith, nat_tests, get_or_from_slice_get, get_or_from_slice_get))
 
 pub changed-known : (ss : List Place) (i : ℕ) (row : HandleRow) → AllPairs IsBefore ss → slice_get ss i ≡ Some (alive row) → (f : HandleRow → HandleRow)
     → changed (is_handle row.number.0) (λ _. f row) (live ss) ≡ changed (is_handle row.number.0) f (live ss)
@@ -198,9 +190,7 @@ sum-without q (h ∷ hs) = grind (arith, nat_tests, sum-without q hs)
 -- a number is used once, so what weighs only at the number weighs at its row alone
 pub only-row : (f : HandleRow → ℕ) (ss : List Place) (i : ℕ) (row : HandleRow) → AllPairs IsBefore ss → slice_get ss i ≡ Some (alive row)
     → ((h : HandleRow) → f h ≤ one (is_handle row.number.0 h)) → sum_by f (live ss) ≡ f row
-only-row f ss i row ordered at less =
-    let left = sum_by-le-sum_by f (λ h. one (is_handle row.number.0 h)) (left_rows (λ n. n == row.number.0) (live ss)) less in
-    grind (arith, nat_tests, ap (sum_by f) (at-place ss i row ordered at).0, sum-without row.number.0 (live ss), sum-live-set)
+only-row f ss i row ordered at less = grind (arith, nat_tests, sum_by-le-sum_by, ap (sum_by f) (at-place ss i row ordered at).0, sum-without row.number.0 (live ss), sum-live-set)
 
 pub le_or_lt : (a b : ℕ) → (a ≤ b) ⊎ (b < a)
 le_or_lt a b = grind arith
@@ -208,13 +198,7 @@ le_or_lt a b = grind arith
 -- places are in order and counted after one of them changes
 pub sound-set : (old new : Handles) (i : ℕ) (row : HandleRow) (p : Place) → AreSound old → slice_get old.places.items i ≡ Some (alive row) → p.row.number.0 ≡ row.number.0
     → new.places.items ≡ set old.places.items i p → new.dead + one p.is_live ≡ old.dead + 1 → AreSound new
-sound-set old new i row p sound at same is dead =
-    let ss = old.places.items in
-    let number : (k : ℕ) (d : Place) → k < length ss → (get_or (set ss i p) k d).row.number.0 ≡ (get_or ss k d).row.number.0 =
-    λ k d lt. grind (arith, nat_tests, cases_eq, get_or-set_at, slice_get_within, get_or_from_slice_get, get_or-set_other) in
-    let ordered : AllPairs IsBefore (set ss i p) =
-    λ j k d less lt. let n = length-set ss i p in omega (arith, number j d (omega arith), number k d (omega arith), sound.ordered j k d less (omega arith)) in
-    grind (arith, nat_tests, ap (λ ss. length (live ss)) is, length-set, length-live-set)
+sound-set old new i row p sound at same is dead = grind (arith, nat_tests, cases_eq, get_or-set_at, slice_get_within, get_or_from_slice_get, get_or-set_other, length-set, sound.ordered, length-live-set)
 
 pub ordered-push : (ss : List Place) (row : HandleRow) → AllPairs IsBefore ss → IsNext row.number.0 ss → AllPairs IsBefore (ss ++ alive row ∷ [])
 ordered-push ss row ordered next = all_pairs_push IsBefore ss (alive row) ordered next

@@ -1,15 +1,15 @@
 -- Calls by which handles go to the list, come from it or fall keep the world whole.
-use Rattle.pagable_tables.proofs.{Alive.of_list, Kept.{GoOn, IsIn, alike-rows, among-both, among-last, among-map, among-one, apart-sum, counted, found-among, found-so, holder-in, is-in, keeps-whole}}
+use Rattle.pagable_tables.proofs.{Alive.of_list, Kept.{IsIn, alike-rows, among-both, among-last, among-map, among-one, apart-sum, counted, found-among, found-so, holder-in, is-in, keeps-whole}}
 use Rattle.pagable_tables.proofs.{Kept.{loads-stay, may-own, once, same-rows, stays-old, sum-map, there-then}, Newer.no-load, Told.{Goes, GoesOn, beside, born-whole, falls-lost, lone-falling}}
 use Rattle.pagable_tables.proofs.Told.{loose-unshared, moved-free, moved-on, moved-so, moved-to-value, named-own, named-unlisted, newer-falls, newer-moved, newer-then, not-list, opened, own-of}
 use Rattle.pagable_tables.proofs.{Told.{pin-comes, roomy, roomy-whole, settled, settles, stays-on, then-on}, Words.{Alike, AllPairs, Among, ArcRef, ArePlaced, BeginCall, Beginning, Bool, CloseCall}}
 use Rattle.pagable_tables.proofs.Words.{Core, Error, Falls, HandOverCall, HandleNumber, HandleRow, Installs, IsEntryWhole, IsHandleBefore, IsRootWhole, IsWhole, Kind, List, LoadNumber, MayEnd}
 use Rattle.pagable_tables.proofs.Words.{MayHold, MayOwnLoad, Mode, NodeNumber, None, Ok, OpenLoad, OptionalDataKey, Owner, Owns, Result, Root, ScheduleCall, Some, Suits, TakeCall, [], adopted, ap}
-use Rattle.pagable_tables.proofs.Words.{arith, cases_eq, cell_fault, earlier, false, fits_mode, get_or_from_slice_get, greatest, hand_over_fault, has_key, if_there, if◌then◌else◌, inl, inr, is_handle}
-use Rattle.pagable_tables.proofs.Words.{is_in, is_loose, is_named_by, is_owned_by, is_owned_in, is_owner, is_shared, is_shared_kind, is_workers, load_fault, mode_of, moved, named_fault, nat_tests}
-use Rattle.pagable_tables.proofs.Words.{next_node, not, numbers_of, of_cell, one, only_handle, owner_value, owner_worker, references_fault, refl, row_of, shut, slice_get_within, subst, sum_by-remove}
-use Rattle.pagable_tables.proofs.Words.{sum_by_push, sym, times, true, type_at, type_of, usable, with_cached, with_handle, with_key, with_load, with_mode, with_node, with_pin, with_worker}
-use Rattle.pagable_tables.proofs.{Words.{without_load, without_worker, ℕ, ◌&&◌, ◌++◌, ◌+◌, ◌<◌, ◌==◌, ◌||◌, ◌∙◌, ◌∷◌, ◌≡◌, ◌≤◌}, Worlds.{both-none, fault-by, found-map, one-fault, owner-self}}
+use Rattle.pagable_tables.proofs.Words.{arith, cases_eq, cell_fault, earlier, false, fits_mode, get_or_from_slice_get, greatest, hand_over_fault, has_key, if_there, if◌then◌else◌, inl, inr}
+use Rattle.pagable_tables.proofs.Words.{is_handle, is_in, is_loose, is_named_by, is_owned_by, is_owned_in, is_owner, is_shared, is_shared_kind, is_workers, load_fault, mode_of, moved, named_fault}
+use Rattle.pagable_tables.proofs.Words.{nat_tests, next_node, not, numbers_of, of_cell, one, only_handle, owner_value, owner_worker, references_fault, refl, row_of, shut, slice_get_within, subst}
+use Rattle.pagable_tables.proofs.Words.{sum_by-remove, sum_by_push, sym, times, true, type_at, type_of, usable, with_cached, with_handle, with_key, with_load, with_mode, with_node, with_pin}
+use Rattle.pagable_tables.proofs.{Words.{with_worker, without_load, without_worker, ℕ, ◌&&◌, ◌++◌, ◌+◌, ◌<◌, ◌==◌, ◌||◌, ◌∙◌, ◌∷◌, ◌≡◌}, Worlds.{both-none, fault-by, found-map, one-fault, owner-self}}
 use Rattle.{pagable_world.specs.Workers.{WorkerEnds, is_load_of}, std.specs.List.remove}
 
 -- The handle h of this row alone moves: what the list's handles of a number are then.
@@ -74,9 +74,8 @@ known-suits {w} whole kind key n is = grind (arith, nat_tests, counted, mode-sha
 
 pub cached-whole : {w : Core} (kind : Kind) (key : ℕ) (n : NodeNumber) → IsWhole w → IsEntryWhole w kind.0 n.0 → IsWhole (roomy (with_cached w kind key n))
 cached-whole {w} kind key n whole entry =
-    let on : GoOn w (roomy (with_cached w kind key n)) = same-rows whole refl (λ m. refl) refl refl (omega arith) in
     let known : (k q m : ℕ) → (with_cached w kind key n).cache k q ≡ Some m → IsEntryWhole w k m = λ k q m is. grind (arith, nat_tests, whole.cache k q m) in
-    keeps-whole whole (grind (arith, nat_tests, is-in whole, loads-stay))
+    keeps-whole whole (grind (arith, nat_tests, same-rows, is-in whole, loads-stay))
 
 -- the cache learns the node of an own handle
 pub learns-whole : {w w' : Core} (me : Owner) (kind : Kind) (key : ℕ) (h : HandleNumber) (row : HandleRow) → IsWhole w → Owns w me h (fits_mode kind.0) row
@@ -85,8 +84,7 @@ learns-whole {w} me kind key h row whole owns typed leaves placed =
     let there = (found-among h.0 w.rows row owns.live).0 in
     let given = (whole.handles.nodes_numbered row.node.0 (there-then whole row there)).1 in
     let fits : is_shared row.mode ≡ is_shared_kind kind.0 = grind (arith, nat_tests, owns.as_asked) in
-    let shares = λ (x : HandleRow) (among : Among w.rows x) (at : x.node.0 ≡ row.node.0). alike-rows whole x row among there at ∙ fits in
-    let entry : IsEntryWhole w kind.0 row.node.0 = grind (arith, nat_tests) in
+    let entry : IsEntryWhole w kind.0 row.node.0 = grind (arith, nat_tests, alike-rows) in
     settles (cached-whole kind key row.node whole entry) leaves placed
 
 -- ---- calls on loads keep the world whole: one load more
@@ -94,11 +92,9 @@ learns-whole {w} me kind key h row whole owns typed leaves placed =
 pub loaded-whole : {w : Core} (key : ℕ) (root : Root) (me : Owner) → IsWhole w → MayOwnLoad w me → w.last.load < greatest
     → ((node : NodeNumber) (t : ℕ) (h : HandleNumber) → root ≡ of_cell node t h → IsRootWhole w node t h) → IsWhole (roomy (with_load w key root me))
 loaded-whole {w} key root me whole may left good =
-    let new : OpenLoad = record { owner = me; key = key; root = root } in
     let after = roomy (with_load w key root me) in
-    let on : GoOn w after = same-rows whole refl (λ n. refl) refl refl (omega arith) in
     let owners : (h : HandleRow) → Among w.rows h → IsIn after h.mode h.owner = λ h among. let i = is-in whole h among in grind (arith, nat_tests) in
-    keeps-whole whole (grind (arith, nat_tests, loads-stay, may-own))
+    keeps-whole whole (grind (arith, nat_tests, same-rows, loads-stay, may-own))
 
 pub may-hold : (w : Core) (o : Owner) → MayOwnLoad w o → MayHold w o
 may-hold w x1 may = grind (arith, nat_tests)
@@ -110,8 +106,7 @@ begin-whole {w} {w'} {l} {key} me h whole may call placed =
     let (away, keyed, next, left, rest) = begins in
     let (t, typed, leaves) = rest in
     let found = found-among h.0 w.rows row owns.live in
-    let old = whole.handles.nodes_numbered row.node.0 (there-then whole row found.0) in
-    let root : IsRootWhole w row.node t h = grind (arith, nat_tests, owns.live, owns.as_asked, whole.handles.numbered row found.0) in
+    let root : IsRootWhole w row.node t h = grind (arith, nat_tests, there-then, owns.live, owns.as_asked, whole.handles.numbered row found.0) in
     let named : (node : NodeNumber) (t2 : ℕ) (k : HandleNumber) → of_cell row.node t h ≡ of_cell node t2 k → IsRootWhole w node t2 k = λ node t2 k is. grind (arith, nat_tests) in
     settles (beside (loaded-whole key (of_cell row.node t h) me whole may next.is_left named) row.node Mode.LooseUnpinned (Owner.Load l)
     (record { row = row; there = found.0; at = refl; same = loose-unshared row.mode owns.as_asked })
@@ -268,11 +263,8 @@ module _ (w : Core) (whole : IsWhole (opened w)) (l : LoadNumber) (kind : Kind) 
 
 pub worker-whole : {w : Core} → IsWhole w → IsWhole (roomy (with_worker w))
 worker-whole {w} whole =
-    let still : (v : ℕ) → w.workers v ≡ true → (with_worker w).workers v ≡ true = λ v is. grind (arith, nat_tests) in
-    let numbered : (v : ℕ) → (with_worker w).workers v ≡ true → v ≤ w.last.worker + 1 = λ v is. grind (arith, nat_tests, whole.workers_numbered v) in
-    let on : GoOn w (roomy (with_worker w)) = same-rows whole refl (λ n. refl) refl refl (omega arith) in
     let owners : (h : HandleRow) → Among w.rows h → IsIn (roomy (with_worker w)) h.mode h.owner = λ h among. let i = is-in whole h among in grind (arith, nat_tests) in
-    keeps-whole whole (grind (arith, nat_tests, loads-stay))
+    keeps-whole whole (grind (arith, nat_tests, same-rows, whole.workers_numbered, loads-stay))
 
 -- ---- a worker ends
 

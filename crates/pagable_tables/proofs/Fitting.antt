@@ -1,14 +1,13 @@
 -- A handle is given up: handles and nodes fit again.
 use Rattle.pagable_tables.proofs.{Alive.{all-kept, and_one, entries-none, length-live-le, none-found, of_list, one-le, ones, only-row, row-le-live, sum-most, times-left}, Kept.{found-among, only-at}}
-use Rattle.pagable_tables.proofs.Words.{AllPairs, Among, ArcRef, Blob, Bool, Cell, Chain, Core, Counts, Error, Fits, HandleNumber, HandleRow, HasFallen, HasRoom, Holdings, IsApart, IsBefore}
-use Rattle.pagable_tables.proofs.Words.{IsClosed, IsFalling, IsSome, IsWithin, List, Mode, None, OpenLoad, Option, OptionalDataKey, Owner, Place, Right, SoFar, Some, Tables, TellsListing}
-use Rattle.pagable_tables.proofs.Words.{[], after, alive, ap, append-nil, arith, cases_Bool, cases_eq, cell_in, core_of, counts_at, entry, falls_in, false, filter, find_row, get_or, get_or-le-sum_by}
-use Rattle.pagable_tables.proofs.Words.{greatest, has_key, has_value, held, holds_in, if_there, if◌then◌else◌, inl, inr, is_at, is_fallen_by, is_handle, is_keyed, is_listed, is_listing, is_outside}
-use Rattle.pagable_tables.proofs.Words.{is_owned_by, is_owned_in, is_owner, is_pin, is_pinning, is_plain_pin, is_share, is_shared, is_some, is_valued, keyed, landed, left_rows, length, live, map}
-use Rattle.pagable_tables.proofs.Words.{named, nat_lt, nat_tests, next_in, nobody, not, often, one, owner_value, owns, owns_nothing, pins, refl, sharing, slice_get, slice_get-get_or, subst, sum_by}
-use Rattle.pagable_tables.proofs.Words.{sum_by-append, sum_by-cons, sum_by-le-sum_by, sum_by_push, sym, times, told_by, true, unpinned, with_tables, ℕ, ◌&&◌, ◌++◌, ◌+◌, ◌-◌, ◌<◌, ◌==◌, ◌∙◌}
+use Rattle.pagable_tables.proofs.Words.{AllPairs, Among, ArcRef, Blob, Bool, Chain, Core, Counts, Error, Fits, HandleNumber, HandleRow, HasFallen, HasRoom, Holdings, IsApart, IsBefore, IsClosed}
+use Rattle.pagable_tables.proofs.Words.{IsFalling, IsSome, IsWithin, List, Mode, None, OpenLoad, Option, Owner, Place, Right, SoFar, Some, Tables, TellsListing, [], after, alive, ap, append-nil}
+use Rattle.pagable_tables.proofs.Words.{arith, cases_Bool, cases_eq, cell_in, core_of, counts_at, entry, falls_in, false, filter, find_row, get_or, get_or-le-sum_by, greatest, has_value, held}
+use Rattle.pagable_tables.proofs.Words.{holds_in, if◌then◌else◌, inl, inr, is_at, is_fallen_by, is_handle, is_keyed, is_listed, is_listing, is_outside, is_owned_by, is_owned_in, is_owner, is_pin}
+use Rattle.pagable_tables.proofs.Words.{is_pinning, is_plain_pin, is_share, is_shared, is_valued, keyed, landed, left_rows, length, live, map, named, nat_lt, nat_tests, next_in, nobody, not, often}
+use Rattle.pagable_tables.proofs.Words.{one, owner_value, owns, owns_nothing, pins, refl, sharing, slice_get, slice_get-get_or, subst, sum_by, sum_by-append, sum_by-cons, sum_by-le-sum_by}
+use Rattle.pagable_tables.proofs.Words.{sum_by_push, sym, times, told_by, true, unpinned, with_tables, ℕ, ◌&&◌, ◌++◌, ◌+◌, ◌-◌, ◌<◌, ◌==◌, ◌∙◌, GetsKey, NodeNumber, with_key}
 use Rattle.{pagable_tables.{proofs.Words.{◌∷◌, ◌≡◌, ◌≢◌, ◌≤◌, ◌⊎◌}, specs.Core.IsWhole}, pagable_world.proofs.Elements.sum-none}
-use Rattle.pagable_tables.proofs.Words.{GetsKey, NodeNumber, with_key}
 use Rattle.pagable_world.specs.Pager as pager
 
 -- 1 for the handle q that the node's value owns
@@ -166,23 +165,17 @@ module _ (at at' : ℕ → Option Counts) (refs refs' : ℕ → List ArcRef) (ro
 abbrev pub owned-by : Owner → HandleRow → HandleRow
 owned-by owner x = record x { owner = owner }
 
--- the list's owner is none, and what it has is there
-pub list-owner : (o : Owner) → is_owner Owner.List o ≡ true → is_valued o ≡ false
-list-owner x0 e = grind (arith, nat_tests)
-
-entry-less : (q : ℕ) (h : HandleRow) → one (of_list q h) ≤ one (is_handle q h)
-entry-less q h = grind (arith, nat_tests)
-
+-- what the list has is there
 module _ (list : List HandleNumber) (ss : List Place) (i : ℕ) (h : HandleNumber) (lt : i < length list) (is : h ≡ get_or list i h)
     (listed : times (λ (x : HandleNumber). x.0 == h.0) list ≡ times (of_list h.0) (live ss)) where
   some-entry : 1 ≤ times (of_list h.0) (live ss)
   some-entry = grind (arith, nat_tests, get_or-le-sum_by)
 
   pub entry-lives : find_row h.0 (live ss) ≡ None → ⊥
-  entry-lives none = absurd (omega (arith, none-found h.0 (live ss) none, sum_by-le-sum_by (λ r. one (of_list h.0 r)) (λ r. one (is_handle h.0 r)) (live ss) (entry-less h.0), some-entry))
+  entry-lives none = absurd (omega (arith, none-found h.0 (live ss) none, sum_by-le-sum_by (λ r. one (of_list h.0 r)) (λ r. one (is_handle h.0 r)) (live ss) (grind (arith, nat_tests)), some-entry))
 
   pub entry-unvalued : (place : ℕ) (row : HandleRow) → AllPairs IsBefore ss → slice_get ss place ≡ Some (alive row) → row.number ≡ h → is_valued row.owner ≡ false
-  entry-unvalued place row ordered at number = grind (arith, nat_tests, entry-less, only-row, some-entry, list-owner)
+  entry-unvalued place row ordered at number = grind (arith, nat_tests, only-row, some-entry)
 
 -- what is counted at a node whose handle is there
 pub ruleset counting = (nat_tests, row-le-live, held-here, pins-le-held, held-few, length-live-le, some-held, slice_get-get_or)
@@ -277,21 +270,16 @@ module _ {before w : Core} {given : ℕ → Bool} {lists : Bool} {t : Holdings} 
       → IsClosed w.rows (is_keyed w) final s
       → times (λ h. is_owned_by (owner_value n) h && is_outside s h) (live t.handles.places.items) ≡ 0
   forced final n bare down closed =
-      let fewer = pins-le-held n (live t.handles.places.items) in
-      let none = closed n (grind (arith, nat_tests, cases_Bool (is_keyed w n), counted f (is_pin n), cut (is_pin n) f.gone s w.rows, counted f (is_at n), cut (is_at n) f.gone s w.rows, f.cells n)) in
+      let none = closed n (grind (arith, nat_tests, pins-le-held, cases_Bool (is_keyed w n), counted f (is_pin n), cut (is_pin n) f.gone s w.rows, counted f (is_at n), cut (is_at n) f.gone s w.rows, f.cells n)) in
       let a = counted f (λ h. is_owned_by (owner_value n) h && is_outside s h) in
-      let b = entries-none (λ h. is_owned_by (owner_value n) h && is_outside s h) (λ h mode owner. grind (arith, nat_tests)) w.last.handle f.entries f.new in
+      let b = entries-none (λ h. is_owned_by (owner_value n) h && is_outside s h) (λ h mode owner. grind (arith, nat_tests, pins-le-held)) w.last.handle f.entries f.new in
       let d = sum_by-le-sum_by (λ h. one ((is_owned_by (owner_value n) h && is_outside s h) && not (f.gone h.number.0))) (λ h. one (is_owned_by (owner_value n) h && is_outside s h))
-      w.rows (λ h. grind (arith, nat_tests)) in
+      w.rows (λ h. grind (arith, nat_tests, pins-le-held)) in
       omega arith
 
 -- what a listing handle is: the last pin of a cell without a key
 pub listing-is : (c : Counts) (m : Mode) → is_listing c m ≡ true → (is_pinning m ≡ true) × (is_shared m ≡ false) × (c.pins ≡ 1) × (nat_lt 0 c.key ≡ false)
 listing-is c m e = grind (arith, nat_tests)
-
-pub cell-keyed : (o : Option Counts) (c : Counts) (cell : Option Cell) → o ≡ Some c → (is_some o ≡ true → cell_in o ≡ cell)
-    → has_key (if_there (λ (c : Cell). c.key) OptionalDataKey.None cell) ≡ nat_lt 0 c.key
-cell-keyed o c cell is same = grind (arith, nat_tests)
 
 pub which : (listed wanted : Bool) → ((listed ≡ true) ⊎ (wanted ≡ false)) ⊎ ((listed ≡ false) × (wanted ≡ true))
 which listed wanted = grind (arith, nat_tests)
@@ -318,9 +306,8 @@ module _ {before w : Core} {given : ℕ → Bool} {lists : Bool} {t : Holdings} 
 
 pub owned-listed : {w : Core} → pager.IsWhole w → (q : ℕ) → is_owned_in w Owner.List q ≡ is_listed w q
 owned-listed {w} whole q =
-    let less = sum_by-le-sum_by (λ h. one (of_list q h)) (λ h. one (is_handle q h)) w.rows (λ h. grind (arith, nat_tests)) in
     let its = λ (h : HandleRow) (there : Among w.rows h). only-at (λ y. one (of_list q y)) w.rows h whole.handles.ordered there in
-    grind (arith, nat_tests, none-found q w.rows, found-among q w.rows, whole.owners_there.listed q)
+    grind (arith, nat_tests, sum_by-le-sum_by, none-found q w.rows, found-among q w.rows, whole.owners_there.listed q)
 
 -- ---- a node gets a key: handles and nodes fit again, and nothing else has gone or come so far
 

@@ -61,10 +61,9 @@ module _ (w : Core) (me : Owner) (rs : List ArcRef) (ordered : AllPairs IsHandle
 
   owned-here : (q : ℕ) → named q (refs' n) + owns_nothing n q ≡ sum_by (is_owned n q) rows'
   owned-here q =
-      let l = sum_by_push (is_owned n q) given-rows x in
       let bare : refs n ≡ [] = subst (λ o. Right o (refs n)) free (fits.right n) in let none = ap (named q) bare in
       let before : sum_by (is_owned n q) w.rows ≡ 0 = omega arith in
-      grind (arith, nat_tests, own-own w me n rs ordered fit unvalued q before, ap (named q) refers)
+      grind (arith, nat_tests, sum_by_push, own-own w me n rs ordered fit unvalued q before, ap (named q) refers)
 
   pub born-fits : Fits at' refs' rows' top [] owns_nothing
   born-fits = record {
@@ -181,8 +180,7 @@ module _ (t t1 : Tables) (stored : ℕ → Option Blob) (closed lists : Bool) (f
         (record { handles = (let b = a.places.handles in omega arith); entries = (let b = a.places.entries in let d = ap vec_capacity list in omega arith) }) (λ n. cells n ∙ a.cells n) refl
 
     owned-pinned : (q : ℕ) → is_owned_in u (Owner.Load l) q ≡ given q
-    owned-pinned q = found-first (is_owned_by (Owner.Load l)) q mid (x ∷ []) (let none = no-load (plain_of t) me l may in grind (arith, nat_tests, passes-here, passes-none))
-        ∙ owned-mode (Owner.Load l) q (is_handle row.number.0) Mode.LoosePinned rows0 ∙ owned-moved s o (Owner.Load l) q w.rows refl
+    owned-pinned q = grind (arith, nat_tests, cases_eq, found-first, no-load, passes-here, passes-none, owned-mode, owned-moved)
 
     ordered : AllPairs IsHandleBefore u.rows
     ordered = grind (arith, nat_tests, come, ordered-map)
@@ -210,11 +208,7 @@ module _ (t t1 : Tables) (stored : ℕ → Option Blob) (closed lists : Bool) (f
         (later q mine, (let g = owned-given (plain_of t) (Owner.Load l) q was.core.handles mine in let b = ap (λ (v : Last). v.handle) a.last in omega arith))) in
         let fell = as-before (subst (λ g. Falls u u g r (with_tables u new)) (λ i q. owned-pinned q i) falls) in
         let closed-one = updated-by (option_map load_in) (load_at t.loads) loads l.0 None gone (λ q other. others q other ∙ ap (λ (v : Tables). load_at v.loads q) same) in
-        subst (λ (v : Tables). Falls w u given r (record (core_of (record v { holdings = new }) stored closed failures) { loads = λ q. option_map load_in (loads q) })) (sym same)
-        (subst (λ f. Falls w u given r (record (with_tables u new) { loads = f })) (λ i q. closed-one q i) fell)
-
-pub so-then : (b : Bool) → not b ≡ false → b ≡ true
-so-then x0 e = grind (arith, nat_tests)
+        grind (arith, nat_tests, cases_eq)
 
 -- t1 is t with the pins
 module _ (t t1 : Tables) (stored : ℕ → Option Blob) (closed : Bool) (failures : ℕ) (row : HandleRow) (me : Owner)

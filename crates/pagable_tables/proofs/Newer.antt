@@ -105,8 +105,7 @@ later-opened {t} {t'} whole later newer m row none here since others same =
     let new-owns : (q : ℕ) → owned (Owner.Load (record { 0 = m })) q (plain_of t).rows ≡ true → ⊥ = λ q own.
     none-owned (plain_of t) (Owner.Load (record { 0 = m })) q (λ h among of. absurd (let a = whole.owners_there.loads h (record { 0 = m }) among of in
     let b : is_some ((plain_of t).loads m) ≡ false = ap (λ o. is_some (option_map load_in o)) none in cc)) own in
-    let reaches : (v : ℕ) → reach_at t'.workers v ≡ reach_at t.workers v = λ v. ap (λ u. reach_at u v) same in
-    grind (arith, nat_tests, cases_eq, here, since, others, reaches, later.given, later.since, later.begun, later.reach, later.loads, newer.last, newer.kept, new-owns)
+    grind (arith, nat_tests, cases_eq, here, since, others, later.given, later.since, later.begun, later.reach, later.loads, newer.last, newer.kept, new-owns)
 
 pub later-begun : {t t' : Tables} → pager.IsWhole (plain_of t) → AreLater t → t' ≡ record t { workers = t'.workers; last_worker = t'.last_worker } → (v : ℕ) → v ≡ t.last_worker + 1
     → reach_at t'.workers v ≡ record { since = t.holdings.last_handle; beside = 0 } → ((u : ℕ) → u ≢ v → reach_at t'.workers u ≡ reach_at t.workers u) → AreLater t'
@@ -115,9 +114,7 @@ later-begun {t} {t'} whole later same v new here others =
     let working : (m : ℕ) (o : Owner) → is_owner (owner_worker m) o ≡ true → pager.MayOwnLoad (plain_of t) o → (plain_of t).workers m ≡ true = λ m o owns may. grind (arith, nat_tests) in
     let nobody : (q : ℕ) → owned (owner_worker v) q (plain_of t).rows ≡ true → ⊥ =
     λ q own. none-owned (plain_of t) (owner_worker v) q (λ h among of. at-rest v refl (whole.owners_there.workers h v among of)) own in
-    let free : (l : ℕ) (load : LoadRow) → load_at t.loads l ≡ Some load → is_owner (owner_worker v) load.owner ≡ true → ⊥ =
-    λ l load is owns. at-rest v refl (working v load.owner owns (whole.loads.owned l (load_in load) (ap (option_map load_in) is))) in
-    subst AreLater (sym same) (grind (arith, nat_tests, cases_eq, here, others, nobody, free, later.given, later.since, later.begun, later.reach, later.loads))
+    subst AreLater (sym same) (grind (arith, nat_tests, cases_eq, here, others, nobody, later.given, later.since, later.begun, later.reach, later.loads))
 
 -- ---- handles that come to a worker
 
@@ -126,10 +123,7 @@ module _ (t : Tables) (later : AreLater t) (s : ℕ → Bool) (me : Owner) (othe
   load-kept l q own = let o : Owner = Owner.Load (record { 0 = l }) in and-left (owned o q (plain_of t).rows) (not (s q)) (sym (ap (owned o q) are ∙ owned-moved s me o q (plain_of t).rows (other (record { 0 = l }))) ∙ own)
 
   pub worker-kept : (v q : ℕ) → owned (owner_worker v) q rows ≡ true → (owned (owner_worker v) q (plain_of t).rows ≡ true) ⊎ ((is_owner (owner_worker v) me ≡ true) × (s q ≡ true))
-  worker-kept v q own =
-      let is = found-map (λ x. if s x.number.0 then record x { owner = me } else x) (λ x. grind (arith, nat_tests)) q (plain_of t).rows in
-      let unmoved : s q ≡ false → owned (owner_worker v) q (moved s me (plain_of t).rows) ≡ owned (owner_worker v) q (plain_of t).rows = λ stays. grind (arith, nat_tests, found-among q (plain_of t).rows) in
-      grind (arith, nat_tests, and-left, owned-moved, unmoved)
+  worker-kept v q own = grind (arith, nat_tests, cases_eq, found-map, found-among, and-left, owned-moved)
 
   -- a load of the same owner hands handles of its own to it and is closed: they came after the worker began
   pub later-handed : {t' : Tables} (l : LoadNumber) (row : LoadRow) → load_at t.loads l.0 ≡ Some row → is_owner me row.owner ≡ true → ((q : ℕ) → s q ≡ true → is_owned_in (plain_of t) (Owner.Load l) q ≡ true)
@@ -206,8 +200,7 @@ module _ (t t1 : Tables) (stored : ℕ → Option Blob) (closed : Bool) (failure
   falls-made same plain new {given} {r} f spared =
       let ordered = subst (AllPairs IsHandleBefore) a.rows after.core.handles.ordered in
       let stays = stays-pinned before made (with_tables made new) given r (row_of (t.holdings.last_handle + 1) node mode me) refl ordered plain spared f in
-      subst (λ (z : Tables). Falls before made given r (core_of (record z { holdings = new }) stored closed failures)) (sym same)
-      (seen-before {b = made} {w = before} {u = made} made.places (record { handles = omega arith; entries = omega arith }) stays f)
+      grind (arith, nat_tests, cases_eq, seen-before)
 
 pub changed-push : (q : ℕ) (f : HandleRow → HandleRow) (rows : List HandleRow) (x : HandleRow) → q < x.number.0 → changed (is_handle q) f (rows ++ x ∷ []) ≡ changed (is_handle q) f rows ++ x ∷ []
 changed-push q f [] x less = let other : is_handle q x ≡ false = grind (arith, nat_tests) in rw other refl

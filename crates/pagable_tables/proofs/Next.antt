@@ -3,10 +3,10 @@ use Rattle.pagable_tables.proofs.Alive.{and_one, entries-more, entries-none, fou
 use Rattle.pagable_tables.proofs.Words.{Falls, GivesUp, HandleNumber, HandleRow, HasFallen, HasPlaces, Holdings, IndexMap, IsApart, IsClosed, IsFalling, IsLeast, IsListRefusal, IsUnlisted, IsWithin}
 use Rattle.pagable_tables.proofs.Words.{List, LoadNumber, MustList, NodeNumber, NodeRow, None, Option, Owner, Result, Sheds, SoFar, Some, Steps, TellsListing, ValueStays, [], and_parts, ap}
 use Rattle.pagable_tables.proofs.Words.{append-nil, append_assoc, arith, cases_Bool, cases_eq, cell_in, counts_at, entries_of, entry, fallen, falls_in, false, filter, filter-append, find_row}
-use Rattle.pagable_tables.proofs.Words.{has_value, held, if◌then◌else◌, inl, inr, is_at, is_handle, is_keyed, is_listing, is_outside, is_owned_by, is_owned_in, is_owner, is_pin, is_plain_pin}
-use Rattle.pagable_tables.proofs.Words.{is_share, is_shared, is_some, is_valued, left_rows, length, length-append, live, map-append, nat_tests, not, one, or_else, owner_value, owns}
-use Rattle.pagable_tables.proofs.Words.{owns_nothing, passes_in, pins, pins_in, refl, subst, sum_by, sum_by-cons, sum_by-le-sum_by, sym, times, told_by, true, valued, with_tables, ℕ, ◌&&◌, ◌++◌, ◌+◌}
-use Rattle.pagable_tables.proofs.{Alive.with-entry, Fitting.{cell-keyed, closed-is, counted, forced, listing-is, no-more, which}, Words.{Alike, AreNewEntries, Begins, Bool, Cell, Core, Counts, Error}}
+use Rattle.pagable_tables.proofs.Words.{has_value, held, if◌then◌else◌, inl, inr, is_at, is_handle, is_keyed, is_listing, is_owned_by, is_owned_in, is_owner, is_pin, is_plain_pin, is_share}
+use Rattle.pagable_tables.proofs.Words.{is_shared, is_some, is_valued, left_rows, length, length-append, live, map-append, nat_tests, not, one, or_else, owner_value, owns, owns_nothing, passes_in}
+use Rattle.pagable_tables.proofs.Words.{pins, pins_in, refl, subst, sum_by, sum_by-cons, sum_by-le-sum_by, sym, times, told_by, true, valued, with_tables, ℕ, ◌&&◌, ◌++◌, ◌+◌}
+use Rattle.pagable_tables.proofs.{Alive.with-entry, Fitting.{closed-is, counted, forced, listing-is, no-more, which}, Words.{Alike, AreNewEntries, Begins, Bool, Cell, Core, Counts, Error}}
 use Rattle.{pagable_tables.proofs.{Words.{◌<◌, ◌==◌, ◌||◌, ◌∙◌, ◌∷◌, ◌≡◌, ◌≢◌, ◌≤◌, ◌⊎◌}, Worlds.same-cache}, pagable_world.proofs.Elements.{at-most-sum, sum-none}}
 
 pub none-falls-in : (t : Holdings) → IsFalling t [] owns_nothing → (n : ℕ) → falls_in (counts_at t.nodes n) ≡ false
@@ -18,9 +18,8 @@ none-owned n rows none = sum-none (λ h. one (is_owned_by (owner_value n) h)) ro
 module _ (before w : Core) (given : ℕ → Bool) (lists : Bool) (t : Holdings) (f : SoFar before w given lists t) (whole : IsFalling t [] owns_nothing) where
   pub closed : IsClosed w.rows (is_keyed w) f.entries f.gone
   closed n lost =
-      let pinless = entries-none (is_pin n) (λ h mode owner. grind (arith, nat_tests)) w.last.handle f.entries f.new in
-      let fell : HasFallen (counts_at t.nodes) (live t.handles.places.items) n = grind (arith, nat_tests, cases_Bool (is_keyed w n), counted f (is_pin n), counted f (is_at n)) in
-      omega (arith, counted f (is_owned_by (owner_value n)), none-owned n (live t.handles.places.items) (λ q. grind (arith, nat_tests, whole.fits)))
+      let fell : HasFallen (counts_at t.nodes) (live t.handles.places.items) n = grind (arith, nat_tests, entries-none, cases_Bool (is_keyed w n), counted f (is_pin n), counted f (is_at n)) in
+      omega (arith, counted f (is_owned_by (owner_value n)), none-owned n (live t.handles.places.items) (λ q. grind (arith, nat_tests, entries-none, whole.fits)))
 
   -- what the world says of a cascade
   pub ended : Falls before w given (told_by t.unlisted) (with_tables w t)
@@ -126,13 +125,13 @@ module _ {before w : Core} {given : ℕ → Bool} {lists stays : Bool} {t new : 
       let n = x.node.0 in
       let pinned = no-more f (is_pin n) (λ h mode owner. grind (arith, nat_tests)) in
       let plain = no-more f (is_plain_pin n) (λ h mode owner. grind (arith, nat_tests)) in
-      grind (arith, nat_tests, closed-is, one-pin want, left n, f.begins.fewer n, here (is_plain_pin n), f.begins.uniform n, cell-keyed (counts_at t.nodes n) g.counts (w.cells n) is (f.cells n))
+      grind (arith, nat_tests, closed-is, one-pin want, left n, f.begins.fewer n, here (is_plain_pin n), f.begins.uniform n)
 
   -- a cell must be listed: its last pin had gone before, or it has gone now
   must-before : (n : ℕ) → MustList before w (with_tables w new) n → MustList before w (with_tables w t) n ⊎ ((n ≡ x.node.0) × (wanted ≡ true))
   must-before n must =
       let shares = no-more f (is_share n) (λ h mode owner. let m : is_shared h.mode ≡ false = ap is_shared mode in grind (arith, nat_tests)) in
-      grind (arith, nat_tests, cases_Bool (is_pin n x), here (is_share n), left n, must.unshared, must.unpinned, is, cell-keyed)
+      grind (arith, nat_tests, cases_Bool (is_pin n x), here (is_share n), left n, must.unshared, must.unpinned, is)
 
   must-kept : (n : ℕ) → MustList before w (with_tables w t) n → MustList before w (with_tables w new) n
   must-kept n m = let a = left n in let b = m.unpinned in record { pinned = m.pinned; unpinned = omega arith; unkeyed = m.unkeyed; unshared = m.unshared; stands_open = m.stands_open }
@@ -235,7 +234,6 @@ least-more {w = w} {t = t} {x = x} {n} f g owner fell s final bare has closed =
     let bare-before : (m : ℕ) → held m (live t.handles.places.items) ≡ 0 → held m final ≡ 0 = λ m none. bare m (none-comes g m none) in
     let rest = f.least s final bare-before has closed in
     let none = forced f s rest final n (bare-before n) fell closed in
-    let a = g.leaves.there (λ h. one (is_owned_by (owner_value n) h && is_outside s h)) in
     with-one f.gone s x.number.0 w.rows (let own : is_owned_by (owner_value n) x ≡ (n == n) = ap (λ o. is_owner (owner_value n) o) owner in grind (arith, nat_tests)) rest
 
 -- one handle more on both sides, or on the right
@@ -271,11 +269,10 @@ gives-unlisted {t} {new} shut g = grind (arith, nat_tests, append-nil)
 -- a set that has what was given, and no more but what has gone
 pub regiven : (before w : Core) (given given' : ℕ → Bool) (lists : Bool) (t : Holdings) (f : SoFar before w given lists t) → ((r : ℕ) → given' r ≡ true → (given r || f.gone r) ≡ true) → ((r : ℕ) → given r ≡ true → given' r ≡ true) → SoFar before w given' lists t
 regiven before w given given' lists t f less more =
-    let holds : IsWithin w.rows given' f.gone = within-less given' f.gone given f.gone w.rows (λ r. let h = less r in grind (arith, nat_tests)) f.holds in
     let least : (s : ℕ → Bool) (final : List HandleRow) → ((n : ℕ) → held n (live t.handles.places.items) ≡ 0 → held n final ≡ 0) → IsWithin w.rows given' s
     → IsClosed w.rows (is_keyed w) final s → IsWithin w.rows f.gone s =
-    λ s final bare has closed. f.least s final bare (within-less given s given' s w.rows (λ r. let h = more r in grind (arith, nat_tests)) has) closed in
-    grind (arith, nat_tests)
+    λ s final bare has closed. f.least s final bare (within-less given s given' s w.rows (λ r. let h = more r in grind (arith, nat_tests, within-less)) has) closed in
+    grind (arith, nat_tests, within-less)
 
 -- whether this one owns the handle of this number
 abbrev pub owned : Owner → ℕ → List HandleRow → Bool

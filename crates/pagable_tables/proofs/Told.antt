@@ -5,10 +5,10 @@ use Rattle.pagable_tables.proofs.Words.{Result, SameAt, Some, Suits, [], ap, ari
 use Rattle.pagable_tables.proofs.Words.{is_at, is_handle, is_loose, is_named_by, is_owned_by, is_owned_in, is_owner, is_pin, is_share, is_shared, is_some, is_valued, left_rows, length, map, moved}
 use Rattle.pagable_tables.proofs.Words.{nat_lt, nat_tests, next_node, not, one, option_map, or_else, owner_value, reference_fault, references_fault, refl, row_at, row_of, subst, sum_by-append}
 use Rattle.pagable_tables.proofs.Words.{sum_by_push, sym, times, true, updated, with_handle, with_mode, with_node, with_pin, ℕ, ◌&&◌, ◌++◌, ◌+◌, ◌<◌, ◌==◌, ◌∙◌, ◌∷◌, ◌≡◌, ◌≢◌, ◌≤◌, ◌⊎◌}
-use Rattle.pagable_tables.proofs.{Alive.{and-left, found-append, not-so, of_list}, Kept.{GoOn, HasLike, IsEntry, IsIn, IsNew, IsOld, among-both, among-changed, among-left, among-more, among-one}}
+use Rattle.pagable_tables.proofs.{Alive.{and-left, found-append, of_list}, Kept.{GoOn, HasLike, IsEntry, IsIn, IsNew, IsOld, among-both, among-changed, among-left, among-more, among-one}}
 use Rattle.pagable_tables.proofs.{Kept.{once, one-left, ordered-entries, ordered-map, ordered-push, same-rows, stays-old, sum-map, sum-none, there-then, type_in, within-goes}, Next.{no-entry, owned}}
 use Rattle.pagable_tables.proofs.{Next.{passes-left, unlisting}, Words.{Alike, AllPairs, AllPairs-filter, Among, ArcRef, ArePlaced, Bool, Cell, Core, Err, Error, Falls, HandleNumber, HandleRow}}
-use Rattle.{pagable_tables.proofs.Worlds.{found-map, owner-same}, std.proofs.lemmas.Option.slice_get-map}
+use Rattle.{pagable_tables.proofs.Worlds.{found-map, owner-same}, std.proofs.lemmas.{Bool.not-true, Option.slice_get-map}}
 
 -- ---- what loads and workers own is what they owned, or has come since
 
@@ -61,11 +61,10 @@ module _ {m : Core} (w' : Core) (whole : IsWhole m) (rows : w'.rows ≡ m.rows) 
   pub told-whole : ArePlaced (opened w') → IsWhole (opened w')
   told-whole placed =
       let v : Core = record m { cache = w'.cache; stored = w'.stored; closed = false; failures = w'.failures; places = w'.places } in
-      let on : GoOn m v = same-rows whole refl (λ n. refl) refl refl (omega arith) in
       let same : opened w' ≡ v = λ i. record w' { rows = rows i; cells = λ n. cells n i; list = list i; closed = false; loads = λ l. loads l i; workers = λ u. workers u i; last = last i } in
       let places : (length m.rows ≤ w'.places.handles) × (length m.list ≤ w'.places.entries) = (omega (arith, placed.rows, ap length rows), omega (arith, placed.list, ap length list)) in
       let known : (kind key n : ℕ) → w'.cache kind key ≡ Some n → IsEntryWhole m kind n = λ kind key n is. whole.cache kind key n (cache kind key n is) in
-      subst IsWhole (sym same) (keeps-whole whole (grind (arith, nat_tests, is-in whole, loads-stay)))
+      subst IsWhole (sym same) (keeps-whole whole (grind (arith, nat_tests, same-rows, whole, is-in whole, loads-stay)))
 
 pub roomy-whole : {w : Core} → IsWhole w → IsWhole (roomy w)
 roomy-whole {w} whole = told-whole (roomy w) whole refl (λ n. refl) refl (λ kind key n is. is) (λ l. refl) (λ v. refl) refl (record { rows = omega arith; list = omega arith })
@@ -227,7 +226,7 @@ module _ {before : Core} (m u : Core) {w' : Core} {given : ℕ → Bool} {r : Re
   left = left_rows f.gone m.rows
 
   was : (h : HandleRow) → Among left h → Among m.rows h × (f.gone h.number.0 ≡ false)
-  was h among = let a = among-left (λ (x : HandleRow). not (f.gone x.number.0)) m.rows h among in (a.0, not-so (f.gone h.number.0) a.1)
+  was h among = let a = among-left (λ (x : HandleRow). not (f.gone x.number.0)) m.rows h among in (a.0, not-true (f.gone h.number.0) a.1)
 
   -- a cell with an entry has a handle that isn't Shared
   entered : (n : ℕ) → 0 < held n f.entries → HasLike m.rows n false

@@ -1,30 +1,23 @@
 -- Two worlds that are told alike.
-use Rattle.pagable_tables.proofs.Words.{Adopts, Alike, ArcRef, AreHandlesFull, Bool, Cell, Core, Err, Error, FallsAnyhow, HandleNumber, HandleRow, HasRoom, Kind, LazyCall, List, LoadNumber}
-use Rattle.pagable_tables.proofs.Words.{LoadRow, Makes, Mode, NodeNumber, None, Ok, OnlyRoom, OpenLoad, Option, OptionalDataKey, Owner, OwnsLoad, Places, RecallCall, Refused, Result, SameAt}
-use Rattle.pagable_tables.proofs.Words.{SameCache, Some, [], add-one, adopt_fault, adopted, ap, arith, at_drop_all, at_drop_more, birth_fault, closed_fault, drop, drop-cons, drop_all}
-use Rattle.pagable_tables.proofs.Words.{earlier, early_fault, false, find_row, first_key, get_or, greatest, handle_fault, if_there, if◌then◌else◌, inl, inr, is_in, is_in_memory, is_loose_kind}
-use Rattle.pagable_tables.proofs.Words.{is_named_by, is_owner, is_pinned_kind, is_some, length, load_fault, load_in, map, mode_of, moved, named_at, named_fault, nat_tests, next_node}
-use Rattle.pagable_tables.proofs.Words.{node_fault, not, numbers_of, only_handle, option_map, or_else, pins, rank, reference_fault, references_fault, refl, refused_if, seen, spent, subst}
-use Rattle.pagable_tables.proofs.Words.{suc, sym, take, take-suc, take_all, true, type_of, usable, where_so, with_cached, with_handle, with_node, zero, ℕ, ◌&&◌, ◌++◌, ◌+◌, ◌<◌, ◌==◌, ◌||◌, ◌∙◌, ◌∷◌}
+use Rattle.pagable_tables.proofs.Words.{Adopts, Alike, ArcRef, AreHandlesFull, Bool, Core, Err, Error, FallsAnyhow, HandleNumber, HandleRow, HasRoom, Kind, LazyCall, List, LoadNumber, Makes, Mode}
+use Rattle.pagable_tables.proofs.Words.{NodeNumber, None, Ok, OnlyRoom, OpenLoad, Option, OptionalDataKey, Owner, OwnsLoad, RecallCall, Refused, Result, SameAt, SameCache, Some, [], add-one}
+use Rattle.pagable_tables.proofs.Words.{adopt_fault, adopted, ap, arith, at_drop_all, at_drop_more, birth_fault, closed_fault, drop, drop-cons, drop_all, earlier, early_fault, false, find_row}
+use Rattle.pagable_tables.proofs.Words.{first_key, get_or, greatest, handle_fault, if_there, if◌then◌else◌, inl, inr, is_in, is_loose_kind, is_named_by, is_owner, length, load_fault, map, mode_of}
+use Rattle.pagable_tables.proofs.Words.{moved, named_at, named_fault, nat_tests, next_node, node_fault, not, numbers_of, only_handle, option_map, or_else, rank, reference_fault, references_fault}
+use Rattle.pagable_tables.proofs.Words.{refl, refused_if, seen, spent, subst, suc, sym, take, take-suc, take_all, true, type_of, usable, where_so, with_cached, with_handle, with_node, zero, ℕ, ◌&&◌}
+use Rattle.pagable_tables.proofs.Words.{◌++◌, ◌+◌, ◌<◌, ◌==◌, ◌||◌, ◌∙◌, ◌∷◌}
 use Rattle.{pagable_tables.proofs.Words.{◌≡◌, ◌≢◌, ◌≤◌, ◌⊎◌}, pagable_world.specs.Calls.IsNext, std.{proofs.lemmas.List.map-id, specs.Result.IsErrAnd}}
 
--- what an entry of the cache gives where its node is this cell
-abbrev pub use-of : List HandleRow → ℕ → ℕ → Option Cell → Option ℕ
-use-of rows kind n cell = if_there (λ (cell : Cell). if is_pinned_kind kind && not (is_in_memory (pins n rows) cell.key) then None else Some n) None cell
-
-pub usable-same : (rows rows' : List HandleRow) (cells cells' : ℕ → Option Cell) (kind : ℕ) (found found' : Option ℕ) → rows' ≡ rows → SameAt cells cells' → found' ≡ found
-    → if_there (λ n. use-of rows' kind n (cells' n)) None found' ≡ if_there (λ n. use-of rows kind n (cells n)) None found
-usable-same rows rows' cells cells' kind found found' e same is = grind (arith, nat_tests)
-
 pub same-cache : (w w' : Core) → w'.rows ≡ w.rows → SameAt w.cells w'.cells → ((kind key : ℕ) → w'.cache kind key ≡ w.cache kind key) → SameCache w w'
-same-cache w w' e same is = grind (arith, nat_tests, usable-same)
+same-cache w w' e same is = grind (arith, nat_tests)
 
 pub still : (w : Core) → Alike w w
 still w = grind (arith, nat_tests, same-cache)
 
--- rows, cells and room may be told anew
-pub alike : (w w' : Core) → w'.rows ≡ w.rows → SameAt w.cells w'.cells → HasRoom w.places w'.places → w' ≡ record w { rows = w'.rows; cells = w'.cells; places = w'.places } → Alike w w'
-alike w w' rows cells places same = grind (arith, nat_tests, same-cache)
+-- rows, cells, list and room may be told anew
+pub alike : (w w' : Core) → w'.rows ≡ w.rows → SameAt w.cells w'.cells → w'.list ≡ w.list → HasRoom w.places w'.places
+    → w' ≡ record w { rows = w'.rows; cells = w'.cells; list = w'.list; places = w'.places } → Alike w w'
+alike w w' rows cells list places same = grind (arith, nat_tests, same-cache)
 
 -- what is answered where a call within was refused
 pub failed : {T E : Type 0} {e : E} (r : Result T E) → IsErrAnd r (λ y. y ≡ e) → r ≡ Err e
@@ -53,20 +46,13 @@ late None b m one two f is = two f is
 late (Some e) None m one two f is = one f is
 late (Some e) (Some g) m one two f is = grind (arith, nat_tests)
 
-pub kind-late : (b : Bool) (f : Error) → refused_if b Error.WrongKind ≡ Some f → 3 ≤ rank f
-kind-late b f is = grind (arith, nat_tests)
-
 -- a cause of numbers, where it is asked
 pub spent-late : (l : ℕ) (b : Bool) (f : Error) → where_so b (spent l) ≡ Some f → 4 ≤ rank f
 spent-late l b f is = grind (arith, nat_tests)
 
 -- why references are refused comes before numbers
-row-low : (at mine fits typed : Bool) (e : Error)
-    → (if not at then Some Error.NoSuchHandle else or_else (refused_if mine Error.NotYours) (if not fits then Some Error.WrongMode else refused_if (not typed) Error.WrongKind)) ≡ Some e → rank e ≤ 3
-row-low at mine fits typed e is = grind (arith, nat_tests)
-
 reference-low : (w : Core) (o : Owner) (seen : List ℕ) (r : ArcRef) (e : Error) → reference_fault w o seen r ≡ Some e → rank e ≤ 3
-reference-low w o seen r e is = search (arith, row-low)
+reference-low w o seen r e is = search arith
 
 pub references-low : (w : Core) (o : Owner) (seen : List ℕ) (refs : List ArcRef) (e : Error) → references_fault w o seen refs ≡ Some e → rank e ≤ 3
 unfolding references_fault
@@ -97,10 +83,6 @@ no-load-fault w me l load own = grind (arith, nat_tests, owner-self)
 pub told-later : {cause : Option Error} {full : Type 0} {w w' : Core} {e : Error} (me : Owner) (l : LoadNumber) → Refused cause (load_fault w me l) full w e w' → Refused cause (closed_fault w l) full w e w'
 told-later {cause} {full} {w} {w'} {e} me l r = grind (arith, nat_tests)
 
--- no load has a number that wasn't given yet
-pub none-yet : (o : Option LoadRow) (last : ℕ) → (is_some (option_map load_in o) ≡ true → last + 1 ≤ last) → o ≡ None
-none-yet x0 last h = grind (arith, nat_tests)
-
 module _ (w : Core) (me : Owner) (kind : Kind) (key : ℕ) (node : NodeNumber) (mode : Mode) (w' : Core)
     (is : usable w kind.0 key ≡ Some node.0) (fits : mode ≡ mode_of kind.0) where
   pub recalls : (k : HandleNumber) → Makes w node mode me (Ok k) w' → RecallCall w me kind key (Ok (Some k)) w'
@@ -115,15 +97,12 @@ pub room-alike : {w w' : Core} → OnlyRoom w w' → Alike w w'
 room-alike {w} {w'} o = grind (arith, nat_tests)
 
 -- room that was made before is nothing to what comes
-pub alike-past : {m w' : Core} (p : Places) → HasRoom m.places p → Alike (record m { places = p }) w' → Alike m w'
-alike-past {m} {w'} p more a = grind (arith, nat_tests)
-
 pub next-past : {w w' : Core} {k : HandleNumber} → OnlyRoom w w' → IsNext k w' → IsNext k w
 next-past {w} {w'} {k} o next = grind (arith, nat_tests)
 
 pub born-past : {w w1 w' : Core} (node_type : ℕ) (key : OptionalDataKey) (rs : List ArcRef) (mode : Mode) (me : Owner) → OnlyRoom w w1
     → Alike (with_handle (with_node w1 node_type key rs) (next_node w1) mode me) w' → Alike (with_handle (with_node w node_type key rs) (next_node w) mode me) w'
-born-past {w} {w1} {w'} node_type key rs mode me o a = grind (arith, nat_tests, alike-past)
+born-past {w} {w1} {w'} node_type key rs mode me o a = grind (arith, nat_tests)
 
 pub room-fault : {w w' : Core} (me : Owner) (rs : List ArcRef) → OnlyRoom w w' → references_fault w' me [] rs ≡ references_fault w me [] rs
 room-fault {w} {w'} me rs o = ap (λ (u : Core). references_fault u me [] rs) o.same ∙ fault-by w (record w { places = w'.places }) me [] rs
@@ -136,8 +115,8 @@ adopted-past {w} {w1} {w'} l kind key own rs o a = split w.closed (subst (λ (u 
     m = with_handle (with_node w (type_of kind.0) own rs) (next_node w) (mode_of kind.0) (Owner.Load l)
 
     split : (b : Bool) → Alike (if b then record m { places = w1.places } else with_cached (record m { places = w1.places }) kind key (next_node w)) w' → Alike (if b then m else with_cached m kind key (next_node w)) w'
-    split true a = alike-past w1.places o.more a
-    split false a = alike-past w1.places o.more a
+    split true a = grind (arith, nat_tests)
+    split false a = grind (arith, nat_tests)
 
 -- where nothing was looked at before, memory may be wanting all the more
 pub weaker : {cause before : Option Error} {w w' : Core} {e : Error} → Refused cause before (Unit {0}) w e w' → Refused cause None (Unit {0}) w e w'
@@ -246,9 +225,6 @@ module _ (w : Core) (me : Owner) (seen : List ℕ) (rs : List ArcRef) (i : ℕ) 
   pub fault-end : length rs ≤ i → references_fault w me seen (drop i rs) ≡ None
   unfolding references_fault
   fault-end past = ap (references_fault w me seen) (drop_all i rs past)
-
-pub alike-listed : (w w' : Core) → w'.rows ≡ w.rows → w'.list ≡ w.list → HasRoom w.places w'.places → w' ≡ record w { rows = w'.rows; list = w'.list; places = w'.places } → Alike w w'
-alike-listed w w' rows list places same = grind (arith, nat_tests, same-cache)
 
 pub at-work-still : {w w' : Core} {workers : ℕ → Bool} → Alike w w' → SameAt w'.workers workers → Alike w (record w' { workers = workers })
 at-work-still {w} {w'} {workers} a still = grind (arith, nat_tests)
@@ -361,7 +337,7 @@ module _ (w w' : Core) (kind : Kind) (key : ℕ) (n : NodeNumber) (cache : ℕ �
   same k q = grind (arith, nat_tests)
 
   pub learned : Alike (with_cached w kind key n) (record w' { cache = cache })
-  learned = grind (arith, nat_tests, same, usable-same)
+  learned = grind (arith, nat_tests, same)
 
 -- the cache learns while the storage is open
 pub if-open : (closed : Bool) (w w' : Core) (kind : Kind) (key : ℕ) (n : NodeNumber) → (closed ≡ true → Alike w w') → (closed ≡ false → Alike (with_cached w kind key n) w') → Alike (if closed then w else with_cached w kind key n) w'

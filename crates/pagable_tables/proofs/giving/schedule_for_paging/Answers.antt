@@ -1,5 +1,5 @@
 use Rattle.pagable_tables.proofs.{Calls.schedule-goes, Fitting.{begun-whole, closed-is}, Newer.{lazily-so, nothing-shed, sheds-with}, Next.sheds-still, Told.{alike-goes, not-a-value}, Words.{Err, Error, Ok, Owns}}
-use Rattle.pagable_tables.proofs.{Words.{ScheduleCall, ap, arith, core_of, inl, inr, is_unpinned, is_valued, nat_tests, not, plain_of, refl, rules, ◌∙◌}, Worlds.{alike-listed, failed, owner-same, still}}
+use Rattle.pagable_tables.proofs.{Words.{ScheduleCall, ap, arith, core_of, inl, inr, is_unpinned, is_valued, nat_tests, not, plain_of, refl, rules, ◌∙◌}, Worlds.{alike, failed, owner-same, still}}
 use Rattle.pagable_tables.proofs.giving.schedule_for_paging.Goals as goal
 
 pub returns-in_err-at : goal.returns-in_err-at
@@ -29,7 +29,7 @@ returns g c =
     let new = record t { holdings = record t.holdings { list = c.push.new.self; handles = c.hand_over.new.handles } } in
     sheds-with (lazily-so {lists = c.args.lists} {old = t} {new = new} {step = λ w w'. ScheduleCall w c.args.me c.args.handle (Ok tt) w'}
     (λ stored closed failures e.
-    grind (arith, nat_tests, owner-same, closed-is, alike-listed, c.in_ok-at.ensures.found, c.in_ok-at.ensures.owner, c.if-not-lists.false, c.hand_over.ensures.becomes.rows, c.in_ok-at.ensures.number))
+    grind (arith, nat_tests, owner-same, closed-is, alike, c.in_ok-at.ensures.found, c.in_ok-at.ensures.owner, c.if-not-lists.false, c.hand_over.ensures.becomes.rows, c.in_ok-at.ensures.number))
     steady (schedule-goes c.args.me c.args.handle c.requires.whole.core c.requires.holder) refl refl)
     (sheds-still c.args.t.now.holdings _ c.requires.whole.steady)
 
@@ -41,5 +41,5 @@ returns-in_err-reserve g c =
     let new = record t { holdings = record t.holdings { list = c.reserve.new.self } } in
     rw (failed c.from_residual-in_err-reserve.result c.from_residual-in_err-reserve.ensures.1) (sheds-with
     (lazily-so {lists = c.args.lists} {old = t} {new = new} {step = λ w w'. ScheduleCall w c.args.me c.args.handle (Err Error.OutOfMemory) w'}
-    (λ stored closed failures e1. grind (arith, nat_tests, closed-is, alike-listed, c.in_ok-at.ensures.found, c.in_ok-at.ensures.owner, c.if-not-lists.false, e.items, e.full, e.capacity))
+    (λ stored closed failures e1. grind (arith, nat_tests, closed-is, alike, c.in_ok-at.ensures.found, c.in_ok-at.ensures.owner, c.if-not-lists.false, e.items, e.full, e.capacity))
     (record { sound = w.sound; next = w.next; fits = w.fits }) (λ call. alike-goes c.requires.whole.core call.refused.stays) refl refl) (sheds-still t.holdings _ w))

@@ -1,6 +1,6 @@
 use Rattle.pagable_tables.proofs.{Alive.whole-so, Calls.take-whole, Fitting.{entry-lives, entry-unvalued}, Kept.found-among, Newer.{later-by, load-kept, worker-kept}, Told.not-a-value, Words.Blob}
 use Rattle.pagable_tables.proofs.Words.{Bool, InReach, None, Option, Some, TakeCall, ap, arith, core_of, false, inl, inr, live, moved, nat_tests, only_handle, plain_of, reach_at, refl, rules}
-use Rattle.pagable_tables.proofs.{Words.{slice_get_read, subst, ℕ, ◌<◌, ◌∙◌}, Worlds.{alike-listed, at-work-still}}
+use Rattle.pagable_tables.proofs.{Words.{slice_get_read, subst, ℕ, ◌<◌, ◌∙◌}, Worlds.{alike, at-work-still}}
 
 pub unreachable-requires : Rattle.pagable_tables.proofs.giving.take_pending.Goals.unreachable-requires
 unreachable-requires c =
@@ -19,7 +19,7 @@ returns c =
     λ stored closed failures.
     (let w' = core_of (record u { holdings = record t { handles = c.hand_over.new.handles; list = c.remove-handle.new.self } }) stored closed failures in (
       slice_get_read t.list.items _ c.args.place h refl (omega arith) c.remove-handle.ensures.value,
-      at-work-still (alike-listed _ w' given c.remove-handle.ensures.items (record { handles = omega arith; entries = omega arith }) refl) c.reach_to.ensures.at_work,
+      at-work-still (alike _ w' given (λ n. refl) c.remove-handle.ensures.items (record { handles = omega arith; entries = omega arith }) refl) c.reach_to.ensures.at_work,
     )) in
     let none = entry-unvalued t.list.items t.handles.places.items c.args.place h (omega arith) c.remove-handle.ensures.value (w.core.owners_there.listed h.0) in
     let unvalued = none c.in-Some.at.place c.in-Some.at.row w.steady.sound.ordered c.in-Some.ensures.place c.in-Some.ensures.number in

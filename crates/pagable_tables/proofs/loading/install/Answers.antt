@@ -1,9 +1,9 @@
-use Rattle.pagable_tables.proofs.{Alive.not-so, Calls.{installs-goes, may-hold}, Fitting.{fits-same, pins-le-held, rows-told, some-held, turned}, Installed.{ended, has-come, joined-fits, pins-here}}
-use Rattle.pagable_tables.proofs.{Installed.{ready-owner, so-then}, Newer.{closed-still, later-less, lazily-by, not-named, still-reaches}, Told.{none-named, not-a-value}, Words.{ArcRef, Bool}}
+use Rattle.pagable_tables.proofs.{Calls.{installs-goes, may-hold}, Fitting.{fits-same, pins-le-held, rows-told, some-held, turned}, Installed.{ended, has-come, joined-fits, pins-here}}
+use Rattle.pagable_tables.proofs.{Installed.ready-owner, Newer.{closed-still, later-less, lazily-by, not-named, still-reaches}, Told.{none-named, not-a-value}, Words.{ArcRef, Bool}}
 use Rattle.pagable_tables.proofs.Words.{Core, Error, Falls, FallsAnyhow, HandleRow, Holdings, IsFalling, List, LoadNumber, Mode, None, Owner, Result, Tables, [], and-true, ap, arith, cases_Bool}
 use Rattle.pagable_tables.proofs.Words.{cell_in, changed, core_of, counts_at, false, has_value, inl, inr, is_handle, is_here, is_named_by, is_owned_in, is_pin, live, load_at, load_in, moved}
 use Rattle.pagable_tables.proofs.Words.{nat_tests, not, one, option_map, owner_value, owns, owns_nothing, plain_of, references_fault, refl, refs_at, row_of, subst, sum_by, sym, true, with_pin}
-use Rattle.{pagable_tables.{proofs.{Words.{without_load, ℕ, ◌&&◌, ◌++◌, ◌+◌, ◌<◌, ◌∙◌, ◌∷◌, ◌≡◌, ◌⊎◌}, Worlds.named-none}, specs.Falling.coming}, std.proofs.lemmas.List.map-id}
+use Rattle.{pagable_tables.{proofs.{Words.{without_load, ℕ, ◌&&◌, ◌++◌, ◌+◌, ◌<◌, ◌∙◌, ◌∷◌, ◌≡◌, ◌⊎◌}, Worlds.named-none}, specs.Falling.coming}, std.proofs.lemmas.{Bool.{not-false, not-true}, List.map-id}}
 use Rattle.pagable_tables.proofs.loading.install.Goals as goal
 
 -- the load gives up what it owns, and what comes doesn't fall
@@ -12,8 +12,8 @@ falls-so : (b : Bool) (w : Core) (me : Owner) (l : LoadNumber) (row : HandleRow)
     → ((is_here w row.node.0 ≡ false)
     × FallsAnyhow w (with_pin (record (without_load w l) { rows = moved (is_named_by rs) (owner_value row.node.0) w.rows }) row.number row.node me) (λ q. is_owned_in w (Owner.Load l) q && not (is_named_by rs q)) w')
     ⊎ ((is_here w row.node.0 ≡ true) × FallsAnyhow w (with_pin (without_load w l) row.number row.node me) (is_owned_in w (Owner.Load l)) w')
-falls-so true w me l row rs r w' away falls = inl (not-so _ (sym away), record { told = r; falls = falls })
-falls-so false w me l row rs r w' away falls = inr (so-then _ (sym away), record { told = r; falls = simp (named-none, map-id, and-true) at falls })
+falls-so true w me l row rs r w' away falls = inl (not-true _ (sym away), record { told = r; falls = falls })
+falls-so false w me l row rs r w' away falls = inr (not-false _ (sym away), record { told = r; falls = simp (named-none, map-id, and-true) at falls })
 
 pub pin_here-requires : goal.pin_here-requires
 pin_here-requires g c =
@@ -54,7 +54,7 @@ give_all-requires-clause-steady g c =
     elim (cases_Bool c.args.ending.is_away) [
       | inr here ↦ subst (λ (h : Holdings). IsFalling h [] owns_nothing) (sym (j.none here)) whole.steady
       | inl comes ↦
-          (let away : is_here p n ≡ false = not-so (is_here p n) (sym r.away ∙ comes) in
+          (let away : is_here p n ≡ false = not-true (is_here p n) (sym r.away ∙ comes) in
           let none : (q : ℕ) → sum_by (λ h. owns h n q) (live t.holdings.handles.places.items) ≡ 0 =
           λ q. grind (arith, nat_tests, was.steady.fits.owned n q, was.steady.fits.right n, was.steady.fits.pinned n, away) in
           let unvalued = not-a-value p me (may-hold p me (ready-owner t me l c.args.node_type rs c.args.ending was r)) in

@@ -1,7 +1,7 @@
 use Rattle.pagable_tables.proofs.{Calls.begin-whole, Newer.{closed-still, does-by, later-less, later-opened, nothing-does, still-reaches}, Told.{newer-alike, newer-handle, newer-then, roomy-whole}}
 use Rattle.pagable_tables.proofs.{Told.settles, Words.{Alike, BeginCall, Core, Err, Error, HandleNumber, HandleRow, Mode, None, OptionalDataKey, Owner, Owns, Some, ap, arith, core_of, false}}
 use Rattle.pagable_tables.proofs.Words.{find_row, greatest, if_there, inl, inr, is_here, is_loose, is_owner, load_at, nat_tests, of_cell, plain_of, refl, rules, sym, true, type_at, with_handle}
-use Rattle.{pagable_tables.proofs.{Words.{with_load, ◌+◌, ◌<◌, ◌∙◌, ◌≡◌}, Worlds.{failed, handle-first, none-yet, owner-same, same-cache, still}}, pagable_world.specs.LoadCalls.begin_fault}
+use Rattle.{pagable_tables.proofs.{Words.{with_load, ◌+◌, ◌<◌, ◌∙◌, ◌≡◌}, Worlds.{failed, handle-first, owner-same, same-cache, still}}, pagable_world.specs.LoadCalls.begin_fault}
 use Rattle.pagable_world.specs.World.{key_at}
 use Rattle.pagable_tables.proofs.loading.load_begin.Goals as goal
 
@@ -33,7 +33,7 @@ returns-in-Err c =
     (λ stored closed failures.
     let a = (c.in-Err.ensures.made (core_of (record t { holdings = c.add.new.t; loads = c.close.new.rows }) stored closed failures)).refused.stays in
     unbegun c.args.me c.args.handle c.in_ok-at.at.row c.in_ok-at.ensures.found c.in_ok-at.ensures.owner (search rules) (search rules) (omega arith) left
-    (grind (arith, nat_tests, none-yet, c.requires.whole.core.loads.numbered, c.in_ok-open.ensures.others, c.close.ensures.gone, c.close.ensures.others)))
+    (grind (arith, nat_tests, c.requires.whole.core.loads.numbered, c.in_ok-open.ensures.others, c.close.ensures.gone, c.close.ensures.others)))
     c.add.ensures.steady (λ begins. settles (roomy-whole c.requires.whole.core) begins.refused.stays)
     (λ begins later. later-less later (newer-alike begins.refused.stays)
     (closed-still (load_at t.loads) (load_at c.close.new.rows) (t.last_load + 1) c.close.ensures.gone (λ q other. c.close.ensures.others q other ∙ c.in_ok-open.ensures.others q other)) (still-reaches refl)))
@@ -57,5 +57,5 @@ returns c =
     record { begins = (row, own, (away, key, record { above = refl; is_left = omega arith }, omega arith, (c.unwrap.result.node_type, typed, rw c.in_ok-at.ensures.number at opened))); refused = tt })
     c.add.ensures.steady (begin-whole c.args.me c.args.handle c.requires.whole.core c.requires.owner)
     (λ begins later. let n = newer-then (newer-handle (plain_of t) begins.begins.0.node Mode.LooseUnpinned (Owner.Load (record { 0 = l }))) (newer-alike begins.begins.2.4.2) in
-    later-opened c.requires.whole.core later n l _ (none-yet (load_at t.loads l) t.last_load (λ some. (c.requires.whole.core.loads.numbered l some).1))
+    later-opened c.requires.whole.core later n l _ (grind (arith, nat_tests))
     c.in_ok-open.ensures.here refl c.in_ok-open.ensures.others refl)

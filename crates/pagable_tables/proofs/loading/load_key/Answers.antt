@@ -1,5 +1,5 @@
-use Rattle.pagable_tables.proofs.{Calls.loaded-whole, Newer.{does-by, later-less, later-opened, still-reaches}, Told.{alike-goes, newer-alike, settles}, Words.{arith, inl, load_at, nat_tests, of_key}}
-use Rattle.pagable_tables.proofs.{Words.{refl, sym, ◌+◌, ◌∙◌}, Worlds.{failed, none-yet, same-cache}}
+use Rattle.pagable_tables.proofs.{Calls.loaded-whole, Newer.{does-by, later-less, later-opened, still-reaches}, Told.{alike-goes, newer-alike, settles}, Words.{arith, inl, nat_tests, of_key}}
+use Rattle.pagable_tables.proofs.{Words.{refl, sym, ◌+◌, ◌∙◌}, Worlds.{failed, same-cache}}
 
 pub returns : Rattle.pagable_tables.proofs.loading.load_key.Goals.returns
 returns c =
@@ -7,7 +7,7 @@ returns c =
     let l = t.last_load + 1 in
     does-by (λ stored closed failures. grind (arith, nat_tests, same-cache, c.in_ok-open.ensures.here, c.in_ok-open.ensures.others)) c.requires.whole.steady
     (λ begins. settles (loaded-whole c.args.key of_key c.args.me c.requires.whole.core c.requires.owner begins.begins.1.is_left (λ node t h is. absurd (cc))) begins.begins.2)
-    (λ begins later. later-opened c.requires.whole.core later (record { last = omega arith; kept = λ o q gives own. inl own }) l _ (none-yet (load_at t.loads l) t.last_load (λ some. (c.requires.whole.core.loads.numbered l some).1))
+    (λ begins later. later-opened c.requires.whole.core later (record { last = omega arith; kept = λ o q gives own. inl own }) l _ (grind (arith, nat_tests))
     c.in_ok-open.ensures.here refl c.in_ok-open.ensures.others refl)
 
 pub returns-in_err-open : Rattle.pagable_tables.proofs.loading.load_key.Goals.returns-in_err-open

@@ -1,5 +1,5 @@
 use Rattle.pagable_tables.proofs.{Calls.known-suits, Newer.{does-as, does-then, key-is, nothing-does}, Told.none-named, Words.{Alike, Core, None, OptionalDataKey, Owner, Suits, [], adopted, ap}}
-use Rattle.pagable_tables.proofs.{Words.{arith, core_of, false, greatest, is_loose_kind, key_in, load_in, not, plain_of, subst, sym, ◌<◌, ◌∙◌}, Worlds.{adopted-past, failed, kind-late, late}}
+use Rattle.pagable_tables.proofs.{Words.{arith, core_of, false, greatest, key_in, load_in, nat_tests, plain_of, subst, sym, ◌<◌, ◌∙◌}, Worlds.{adopted-past, failed, late}}
 use Rattle.pagable_tables.proofs.Worlds.{lazy-known, lazy-new, lazy-not-loose, lazy-not-new, next-past, node-late, not-own}
 use Rattle.pagable_tables.proofs.loading.load_lazy.Goals as goal
 
@@ -7,7 +7,7 @@ pub returns-in_err-_row : goal.returns-in_err-_row
 returns-in_err-_row c =
     rw (failed c.from_residual.result c.from_residual.ensures.1) (nothing-does c.requires.whole (λ stored closed failures e. let w = core_of c.args.t.now stored closed failures in record {
       makes = tt;
-      refused = not-own w c.args.me c.args.load _ _ (c.in_err-_row.ensures.fault stored closed failures) (late _ _ 3 (kind-late (not (is_loose_kind c.args.kind.0))) (λ f is. let a = node-late w c.args.kind c.args.key f is in omega arith));
+      refused = not-own w c.args.me c.args.load _ _ (c.in_err-_row.ensures.fault stored closed failures) (late _ _ 3 (grind (arith, nat_tests)) (λ f is. let a = node-late w c.args.kind c.args.key f is in omega arith));
     }))
 
 pub returns-then-not-is_loose_kind : goal.returns-then-not-is_loose_kind

@@ -1,9 +1,9 @@
-use Rattle.pagable_tables.proofs.{Words.{Core, Error, HandleNumber, Kind, Owner, Some, arith, core_of, fits_mode, handle_fault, offer_fault, ℕ, ◌≡◌}, Worlds.{failed, handle-first, kind-late, late}}
+use Rattle.pagable_tables.proofs.{Words.{Core, Error, HandleNumber, Kind, Owner, Some, arith, core_of, fits_mode, handle_fault, offer_fault, ℕ, ◌≡◌}, Worlds.{failed, handle-first, late}}
 use Rattle.pagable_tables.proofs.Worlds.{spent-late}
 
 -- a handle that can't be used is refused first
 offer-first : (w : Core) (me : Owner) (kind : Kind) (key : ℕ) (h : HandleNumber) (e : Error) → handle_fault w me h (fits_mode kind.0) ≡ Some e → offer_fault w me kind key h ≡ Some e
-offer-first w me kind key h e is = search (arith, handle-first, late, kind-late, spent-late)
+offer-first w me kind key h e is = search (arith, handle-first, late, spent-late)
 
 pub returns-in_err-at-clause-fault : Rattle.pagable_tables.proofs.lookups.offered.Goals.returns-in_err-at-clause-fault
 returns-in_err-at-clause-fault c =

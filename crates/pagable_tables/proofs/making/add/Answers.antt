@@ -16,7 +16,7 @@ returns c =
       made = λ w. record {
         made = (
           record { above = refl; is_left = search rules },
-          alike _ _ c.in_ok-push.ensures.rows (λ q. grind (arith, nat_tests, cases_eq q m, is, here, e.others q)) (record { handles = c.push.ensures.capacity; entries = omega arith }) refl,
+          alike _ _ c.in_ok-push.ensures.rows (λ q. grind (arith, nat_tests, cases_eq q m, is, here, e.others q)) refl (record { handles = c.push.ensures.capacity; entries = omega arith }) refl,
         );
         refused = tt;
       };

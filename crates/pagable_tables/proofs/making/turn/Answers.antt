@@ -13,7 +13,7 @@ returns-clause-does c =
     ∙ ap (λ p. record y { pins = y.pins + one (not p); holds = y.holds + 1 }) c.pins.ensures) in
     does-so
     (λ stored closed failures. alike _ _ (c.set.ensures.becomes.rows ∙ changed-known t.handles.places.items c.args.at.place x w.steady.sound.ordered c.requires.place turned)
-    (λ q. grind (arith, nat_tests, cases_eq q x.node.0, is, here, e.others q)) (record { handles = omega arith; entries = omega arith }) refl)
+    (λ q. grind (arith, nat_tests, cases_eq q x.node.0, is, here, e.others q)) refl (record { handles = omega arith; entries = omega arith }) refl)
     (record {
       sound = c.set.ensures.becomes.sound;
       next = c.set.ensures.becomes.next (t.last_handle + 1) w.steady.next;

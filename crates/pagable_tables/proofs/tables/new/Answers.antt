@@ -1,14 +1,10 @@
-use Rattle.pagable_tables.proofs.{Next.passes-none, Words.{Among, AreLater, HandleRow, NodeRow, None, Tables, [], ap, arith, counts_at, get, known_at, live, load_at, nat_eq, nat_tests, option_map}}
-use Rattle.pagable_tables.{proofs.Words.{refl, subst, worker_at, ℕ, ◌≡◌}, specs.Core.IsWhole}
+use Rattle.pagable_tables.proofs.{Next.passes-none, Words.{AreLater, None, Tables, [], ap, arith, get, known_at, live, load_at, nat_eq, nat_tests}}
+use Rattle.pagable_tables.{proofs.Words.{refl, worker_at, ℕ, ◌≡◌}, specs.Core.IsWhole}
 
 nothing-whole : (t : Tables) → t.holdings.handles.dead ≡ 0 → t.holdings.handles.places.items ≡ [] → ((n : ℕ) → get nat_eq t.holdings.nodes n ≡ None) → t.holdings.list.items ≡ []
     → ((kind key : ℕ) → known_at t.cache kind key ≡ None) → ((l : ℕ) → load_at t.loads l ≡ None) → ((v : ℕ) → worker_at t.workers v ≡ None)
     → (t.holdings.top ≡ 0) × (t.holdings.last_handle ≡ 0) × (t.last_node ≡ 0) × (t.last_load ≡ 0) → IsWhole t
-nothing-whole t dead rows found list cache loads workers last =
-    let none : (n : ℕ) → counts_at t.holdings.nodes n ≡ None = λ n. ap (option_map (λ (r : NodeRow). r.counts)) (found n) in
-    let empty : live t.holdings.handles.places.items ≡ [] = ap live rows in
-    let nobody : (h : HandleRow) → Among (live t.holdings.handles.places.items) h → ⊥ = λ h among. let a = subst (λ rs. Among rs h) empty among in absurd (cc) in
-    grind (arith, nat_tests, none, empty, nobody)
+nothing-whole t dead rows found list cache loads workers last = grind (arith, nat_tests)
 
 nothing-later : (t : Tables) → live t.holdings.handles.places.items ≡ [] → ((l : ℕ) → load_at t.loads l ≡ None) → ((v : ℕ) → worker_at t.workers v ≡ None) → AreLater t
 nothing-later t none loads workers = grind (arith, nat_tests, passes-none)
