@@ -1,9 +1,6 @@
 //! `pagectl HASH` keeps named texts in a pager, and answers one line for each line that it reads.
 #![tactic(auto)]
 
-#[cfg(test)]
-mod tests;
-
 use pagable::{KeyHash, Sha256Key, WeighHash};
 use pagable_examples::named_texts::serve::serve;
 use std::io::{BufReader, BufWriter};

@@ -3,8 +3,8 @@
 use crate::blobs::{blob, bytes_of};
 use crate::calls::Calls;
 use crate::carried::{text, written_bytes};
-use crate::{own, types};
-use pagable::WeighHash;
+use crate::{own, served, types};
+use pagable::{Error, Reason, SavedRegex, WeighHash};
 use pagable_examples::any::{AnyEnv, written};
 use pagable_examples::input_of;
 use serde_json::Value;
@@ -68,6 +68,29 @@ fn drawn(alloc: Global, name: &str, count: u32) -> anyhow::Result<String> {
     Ok(format!(in alloc; "{name} {} bytes wrote {:016x}", bytes.len(), sum_of(bytes))?)
 }
 
+/// Where a regular expression is found first in a text: from which byte up to which.
+fn find(alloc: Global, pattern: &str, text: &str) -> anyhow::Result<String> {
+    let saved = SavedRegex::new(alloc, pattern)?;
+    let mut matcher = saved.regex().matcher(alloc)?;
+    match matcher.find(text) {
+        Some(found) => Ok(format!(in alloc; "{} {}", found.start(), found.end())?),
+        None => Ok(String::from_str(alloc, "none")?),
+    }
+}
+
+/// The answer to an input of a verb that doesn't read.
+fn other(alloc: Global, name: &str, verb: &str, input: &str) -> anyhow::Result<String> {
+    match verb {
+        "find" => find(alloc, name, input),
+        "serve" => served::answer(alloc, name, input),
+        "reason" => Ok(format!(in alloc; "\"{}\"", Error::Custom(Reason::new(input)))?),
+        _ => {
+            let key = blob(alloc, input)?.compute_key::<WeighHash>();
+            Ok(format!(in alloc; "{}", key.get())?)
+        }
+    }
+}
+
 /// The answers to the inputs of a line, in their order.
 fn answer_all(alloc: Global, name: &str, verb: &str, inputs: &str) -> anyhow::Result<String> {
     let mut answers = String::new(alloc);
@@ -78,7 +101,7 @@ fn answer_all(alloc: Global, name: &str, verb: &str, inputs: &str) -> anyhow::Re
         let answer = match verb {
             "read" => read_bytes(alloc, name, bytes_of(alloc, input)?.as_slice())?,
             "cut" => cut(alloc, name, input)?,
-            _ => format!(in alloc; "{}", blob(alloc, input)?.compute_key::<WeighHash>().get())?,
+            _ => other(alloc, name, verb, input)?,
         };
         answers.push_str(answer.as_str())?;
     }
@@ -93,7 +116,9 @@ pub fn answer(alloc: Global, calls: &mut Calls, line: &str) -> anyhow::Result<St
     match verb {
         "write" => Ok(json(alloc, inputs)?),
         "drawn" => drawn(alloc, name, inputs.parse::<u32>()?),
-        "read" | "cut" | "weigh" if !name.ends_with(';') => answer_all(alloc, name, verb, inputs),
+        "read" | "cut" | "weigh" | "find" | "serve" | "reason" if !name.ends_with(';') => {
+            answer_all(alloc, name, verb, inputs)
+        }
         _ => calls.answer(alloc, line),
     }
 }

@@ -1,13 +1,16 @@
 //! `vectors FILE..` answers each line of each file with one line, but for comments and lines that only make a pager; of the file `worked.txt` it
-//! runs the rows, and prints a line for each. What it has to answer stands in `stdout`, and comes from outside the program.
+//! runs the rows, and prints a line for each. Before, it says whether sessions and bundles hold. What it has to answer stands in `stdout`, and comes from outside the program.
 //! `vectors time [ROW [RUNS]]` prints how long it takes to write and to read values.
 #![tactic(auto)]
 
 mod blobs;
+mod bundles;
 mod calls;
 mod carried;
 mod lines;
 mod own;
+mod served;
+mod sessions;
 mod times;
 mod types;
 mod worked;
@@ -45,10 +48,12 @@ fn answer_each(rt: &HostRuntime, calls: &mut Calls, words: &[String]) -> anyhow:
 }
 
 /// Does what the words after the program's name ask for: it answers the files of these names, from a new machine on, or times rows.
-fn run(rt: &HostRuntime, words: &[String]) -> anyhow::Result<()> {
+fn run(rt: &HostRuntime, words: &[String], sessions_hold: bool) -> anyhow::Result<()> {
     match words {
         [first, rest @ ..] if first.as_str() == "time" => times::run(rt, rest),
         _ => {
+            println!(rt; "sessions hold: {sessions_hold}")?;
+            println!(rt; "bundles hold: {}", bundles::hold(rt.alloc()))?;
             let mut calls = Calls::new(rt.alloc(), "");
             let done = answer_each(rt, &mut calls, words);
             let_go(calls);
@@ -59,5 +64,7 @@ fn run(rt: &HostRuntime, words: &[String]) -> anyhow::Result<()> {
 
 fn main(rt: HostRuntime) -> anyhow::Result<()> {
     let words: Vec<String> = env::args(&rt)?.skip(1).collect(rt.alloc())?;
-    run(&rt, words.as_slice())
+    // Only `main` has threads.
+    let sessions_hold = sessions::hold(&rt, rt.alloc());
+    run(&rt, words.as_slice(), sessions_hold)
 }

@@ -1,9 +1,9 @@
 //! Types of one's own, and static and tagged values by an environment's registries.
 
-use crate::carried::{Outcome, replay, replay_eagerly, replay_in, with_shown};
+use crate::carried::{Outcome, Taken, replay, replay_eagerly, replay_in, with_shown};
 use crate::types;
 use pagable::{StaticBytes, StaticStr};
-use pagable_examples::any::{AnyEnv, read};
+use pagable_examples::any::{AnyEnv, read, written};
 use pagable_examples::{Animal, AnimalReader, Dish, Expression, Size, Ticket, Zoo};
 use std::alloc::Global;
 
@@ -27,11 +27,23 @@ fn static_bytes(alloc: Global, zoo: &Zoo, input: &[u8]) -> Option<Outcome> {
     Some(with_shown(outcome, text))
 }
 
-/// An environment with four texts and three lists of bytes, in which these readers are registered.
-fn zoo(alloc: Global, readers: &[AnimalReader]) -> Option<Zoo> {
-    let words = ["alpha", "beta", "gamma", "delta"];
+/// An environment with texts and three lists of bytes, in which these readers are registered.
+fn zoo(alloc: Global, names: &str) -> Option<Zoo> {
+    let words: &[&'static str] = match names {
+        "twice" => &["b", "a", "b"],
+        _ => &["alpha", "beta", "gamma", "delta"],
+    };
     let blobs: [&'static [u8]; 3] = [b"hello", b"world", b""];
-    Zoo::new(alloc, &words, &blobs, readers).ok()
+    Zoo::new(alloc, words, &blobs, readers(names)).ok()
+}
+
+/// What a new animal is written as, a dog of an age or a cat, if it is registered or not.
+fn new_animal(alloc: Global, zoo: &Zoo, input: &[u8]) -> Outcome {
+    let animal = match input {
+        [age] => Animal::Dog(*age),
+        _ => Animal::Cat,
+    };
+    Ok(Taken::new(input.len(), written(alloc, zoo, &animal)))
 }
 
 /// The readers that a name tells behind a colon, in their order: a tag's later registration counts.
@@ -50,6 +62,7 @@ fn registered(alloc: Global, zoo: &Zoo, name: &str, input: &[u8]) -> Option<Outc
     match name {
         "StaticStr" => static_text(alloc, zoo, input),
         "StaticBytes" => static_bytes(alloc, zoo, input),
+        "NewAnimal" => Some(new_animal(alloc, zoo, input)),
         _ => Some(replay_in::<Zoo, Animal>(alloc, zoo, input)),
     }
 }
@@ -58,8 +71,8 @@ fn registered(alloc: Global, zoo: &Zoo, name: &str, input: &[u8]) -> Option<Outc
 pub fn answer(alloc: Global, name: &str, input: &[u8]) -> Option<Outcome> {
     let (word, names) = name.split_once(':').unwrap_or((name, ""));
     match word {
-        "StaticStr" | "StaticBytes" | "Animal" => {
-            let zoo = zoo(alloc, readers(names))?;
+        "StaticStr" | "StaticBytes" | "Animal" | "NewAnimal" => {
+            let zoo = zoo(alloc, names)?;
             registered(alloc, &zoo, word, input)
         }
         "Dish" => replay::<Dish>(alloc, input),

@@ -12,6 +12,7 @@ use pagable::{
     WeighHash,
 };
 use pagable_examples::any::{AnyEnv, written};
+use pagable_examples::quick_start::page_out_and_read_back;
 use serde_json::Value;
 use std::alloc::Global;
 use std::sync::Arc;
@@ -112,6 +113,7 @@ where
 {
     match number {
         6 => are_too_deep(alloc),
+        9 => Ok(page_out_and_read_back(alloc, "hello world")?),
         10 => is_item_paged_out(alloc, pager),
         14 => is_stored_once(alloc, pager),
         24 => Ok(write_over(alloc)?),
