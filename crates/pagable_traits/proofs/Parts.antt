@@ -168,8 +168,6 @@ module _ (context : Context Answer ArcRef) (rest last : Rest Answer) (given used
   unfolding read read_with
   reads_span r told = read_as never (λ d. (seconds_of d, nanos_of d)) (λ p. of_duration p.0 p.1) duration_at r told
 
-pub ruleset read_steps = (reads_unsigned, reads_signed, reads_flag, reads_letter, reads_span)
-
 -- ---- writing
 
 wrote_form : {X Y : Type 0} (r : Result Y Error) (n : Nesting) (s : Shape) (meaning : X → Meaning ArcRef) (x : X) (form : List ℕ) (old new : Out) (given bytes : List ℕ) → FormAt n s (meaning x) form [] → given ≡ old.bytes → new ≡ record old { bytes = bytes }
@@ -209,7 +207,7 @@ module _ (n : Nesting) (old new : Out) (given bytes : List ℕ) (same : given �
   pub wrote_letter : (c : ℕ) → IsScalar c → bytes ≡ given ++ char_form c → WritesSome (Is number c) n letter old new
   wrote_letter c scalar is = rw grown (writes_letter n c old bytes scalar (rw same at is))
 
-pub ruleset write_steps = (wrote_unsigned, wrote_signed, wrote_flag, wrote_letter)
+pub ruleset basic = (grows_bytes, refused_memory, reads_unsigned, reads_signed, reads_flag, reads_letter, reads_span, wrote_unsigned, wrote_signed, wrote_flag, wrote_letter)
 
 -- ---- spans of time
 
