@@ -7,7 +7,7 @@ use Rattle.pagable_model.specs.{Meaning.pattern, Numbers.{IsSigned, bound, signe
 use Rattle.{pagable_model.specs.Track.{GoesOn, Track, left}, pagable_traits.proofs.Words.{Answer, ArcRef, Bool, Context, Err, Error, FormAt, Gives, GivesSome, IfErr, Is, List, Meaning, MeansOption}}
 use Rattle.pagable_traits.proofs.Words.{MeansPair, Nesting, NoForm, None, Ok, OnOk, Option, Out, Read, Refused, Rest, Result, Shape, Some, SomeMeaning, String, WritesSome, Wrote, [], absent, added}
 use Rattle.pagable_traits.proofs.Words.{ap, arith, bool_at, bool_form, both, both-form, bytes_of, char_at, err-form, failure, false, grows_bytes, inr, integer, length, long_or}
-use Rattle.pagable_traits.proofs.Words.{long_or_memory, longest, means-err, means-none, means-ok, means-some, memory, memory_or, memory_refuses, moves_trans, nested_in, never, number, ok-form}
+use Rattle.pagable_traits.proofs.Words.{long_or_memory, longest, means-none, means-some, memory, memory_or, memory_refuses, moves_trans, nested_in, never, number, ok-form}
 use Rattle.pagable_traits.proofs.Words.{optional, outcome, pair, present, read, read_with, refl, refused_memory, signed, signed_at, some-form, string_bytes, success, text-form, text_form, then}
 use Rattle.pagable_traits.{proofs.Words.{to_z-of_z, true, unsigned_at, w32, w64, writes_bytes, writes_is, ℕ, ℤ, ◌*◌, ◌++◌, ◌+◌, ◌^◌, ◌∙◌, ◌∷◌, ◌≡◌, ◌≤◌}, specs.Clauses.value}
 use Rattle.std.{proofs.{Common.{FitsSigned, of_z, rules, suc, to_z, zero, ◌/◌, ◌<◌}, lemmas.{Bool.{Decides.nat_tests, le-ltb}, Nat.mod_below}}, specs.{Borrow.Bor, Char.IsScalar, Duration.as_nanos}}
@@ -133,7 +133,7 @@ pub ruleset steps = (ok_along, memory_refuses, refused_memory)
 
 pub ruleset alike = (ok_along, err_along, some_along, refused_along, pair_along)
 
-pub ruleset reads = (means-none, means-some, means-ok, means-err, moves_trans)
+pub ruleset reads = (means-none, means-some, moves_trans)
 
 -- ---- reading
 
