@@ -2,19 +2,19 @@
 -- What reading a JSON value gives: its case, and then its part.
 use Rattle.{pagable_codec.specs.declared.{env.Env.Ghosts as Environments, serializer.PagableSerializer.Ghosts as Serializers}, pagable_model.specs.Form.{json-array-form, json-flag-form}}
 use Rattle.pagable_model.specs.{Form.{json-null-form, json-number-form, json-object-form, json-text-form}, Keyed.text_is_ordered, Lifted.{list_single, pair_single}, Numbers.{IsSigned, unsigned_form}}
-use Rattle.{pagable_model.specs.{Numbers.varint, Reading.{below, json_case}}, pagable_traits.proofs.Items.{Wraps, gives-seen, refuses-items, refuses-long, wraps_list, writes-counted}}
-use Rattle.pagable_traits.proofs.{JsonSteps.{below as one_down, deeper, wrote-err}, Maps.{IsOrderOf, Written, key_like, reads-entries, sorted-map-put, viewed, wraps_sorted_map}, Parts.err_along}
-use Rattle.pagable_traits.proofs.{Parts.{ok_along, refuses_whole, writes_whole}, Words.{Answer, ArcRef, Bool, Context, Entry, Err, Error, FormAt, Gave, GivesSome, Global, Grows, IfErr, Is}}
+use Rattle.{pagable_model.specs.{Numbers.varint, Reading.{JsonCase, below, json_case}}, pagable_traits.proofs.Items.{Wraps, gives-seen, refuses-items, refuses-long, wraps_list, writes-counted}}
+use Rattle.pagable_traits.proofs.{JsonSteps.{below as one_down, deeper, wrote-err}, Maps.{IsOrderOf, Written, key_like, reads-entries, sorted-map-put, viewed, wraps_sorted_map}, Parts.refuses_whole}
+use Rattle.pagable_traits.proofs.{Parts.writes_whole, Words.{Answer, ArcRef, Bool, Entry, Err, Error, FormAt, Gave, GivesSome, Global, Grows, IfErr, Is}}
 use Rattle.pagable_traits.proofs.Words.{IsStrictlySortedBy, List, MeanAll, Meaning, MeansList, MeansPair, Nesting, NoForm, None, Ok, OnOk, Option, Out, Piece, Refused, Rest, Result, Shape, Some}
 use Rattle.pagable_traits.proofs.Words.{SomeMeaning, String, Value, Vec, WritesSome, Wrote, [], added, all, ap, arith, array_case, as_i64, bool_form, both, bytes, bytes_of, deepest, entry, false}
-use Rattle.pagable_traits.proofs.Words.{flag, flag-form, grows_refl, grows_trans, handles_at, inl, inr, integer, items, items_have_meanings, json, json_causes, keys_of, length, length_at, length_form}
+use Rattle.pagable_traits.proofs.Words.{flag, flag-form, grows_trans, handles_at, inl, inr, integer, items, items_have_meanings, json, json_causes, keys_of, length, length_at, length_form}
 use Rattle.pagable_traits.proofs.Words.{list, list-form, long_or, long_or_memory, longest, map, memory, memory_refuses, moves_trans, none, number_view, object_case, of_data, of_entries, of_key}
-use Rattle.pagable_traits.proofs.Words.{of_value, ordered, ordering_reverse, pair, pair_has_meaning, pos, put_all, put_sorted, read, read_with, refl, refused_memory, rules, seen, sequence, signed}
+use Rattle.pagable_traits.proofs.Words.{of_value, ordered, ordering_reverse, pair, pair_has_meaning, pos, put_all, put_sorted, read, read_with, refl, rules, seen, sequence, signed}
 use Rattle.pagable_traits.proofs.Words.{signed-form, sorted-map-form, sorted_map, string_bytes, string_cmp, subst, suc, sym, text, text-form, text_order, then, to_z-of_z, true, unsigned_at, variant}
 use Rattle.pagable_traits.{proofs.Words.{view, w64, ℕ, ℤ, ◌+◌, ◌-◌, ◌<◌, ◌^◌, ◌∙◌, ◌∷◌, ◌≡◌, ◌≤◌}, specs.{JsonData.long_or_no_memory, Clauses.{ObjectOf, front, part_of, value as form}}}
 use Rattle.serde_json.{proofs.Views.{view-Array, view-Object}, specs.{Data.{Data, Num, array, boolean, null, number, object, string}, Find.of_integer, View.{items_view, members_view}}}
 use Rattle.{serde_json.specs.declared.{number.Number.Number, value.Value.the_lemmas}, std.{proofs.{Common.BTreeMap, lemmas.Bool.{lt-ltb, ne_eqb}}, specs.Prelude.{nat_lt, negsuc}}}
-use Rattle.std.specs.String.{string_cmp_total}
+use Rattle.{pagable_traits.proofs.Words.{IsErrAnd, Read, bool_at, text_at}, std.specs.String.{string_cmp_total}}
 use Rattle.serde_json.specs.Data as kit
 use Rattle.serde_json.specs.declared.value.Value as values
 use Rattle.pagable_model.specs.Meaning as meanings
@@ -191,14 +191,17 @@ module _ (n : Nesting) (old mid new : Out) where
   text_written t e w =
       writes_whole n n (λ m. variant 3 m) text json (Is of_key t) (Is of_data (string (string_bytes t))) (λ m is. rw is refl) (3 ∷ []) old mid new (λ m b k f. text-up n f) (rw (case-byte 3 refl) at e) w
 
-pub refused_string : {Z : Type 0} (r : Result Z Error) (t : String Global) (n : Nesting) → IfErr r (Refused (Is of_key t) n text) → IfErr r (Refused (Is of_data (string (string_bytes t))) n json)
-refused_string r t n h = err_along r h (λ e k. refuses_whole n n (λ m. variant 3 m) text json (Is of_key t) (Is of_data (string (string_bytes t))) (λ m is. rw is refl) e (no-text n) k)
-
-pub ruleset leaves = (ok_along, err_along, grows_trans, grows_refl, memory_refuses, refused_memory, flag_written, number_written, text_written, refused_string, refuses-number, json-memory, json-text, to_z-of_z)
+pub refuses-string : (t : String Global) (n : Nesting) (e : Error) → Refused (Is of_key t) n text e → Refused (Is of_data (string (string_bytes t))) n json e
+refuses-string t n e l = refuses_whole n n (λ m. variant 3 m) text json (Is of_key t) (Is of_data (string (string_bytes t))) (λ m is. rw is refl) e (no-text n) l
 
 -- ---- steps of the code
 
 module _ {S E N H K V : Type 0} (env : Environments E N H K V) (s : Serializers S E N H K V) where
+  -- a case is refused for want of memory
+  pub case-err : {X Y : Type 0} {x y : S} {front : List ℕ} {e : Error} (d : Data) (r : Result Y Error) → IsErrAnd r (λ f. f ≡ e) → Wrote env s (bytes front) memory x y (let p : Result X Error = Err e in p)
+      → Wrote env s (form (Is of_data d) json) json_causes x y r
+  case-err d r is p = wrote-err env s r is p (λ n l h. memory_refuses _ _ n json h) (λ h. json-memory _ h)
+
   -- a value is what its data is
   pub as-value : {Y : Type 0} {x y : S} (v : Value) (d : Data) (r : Result Y Error) → view v ≡ d → Wrote env s (form (Is of_data d) json) json_causes x y r → Wrote env s (form (Is of_value v) json) json_causes x y r
   as-value {x = x} {y = y} v d r e h = let P : Data → Type 0 = λ z. Wrote env s (form (Is of_data z) json) json_causes x y r in subst P (sym e) h
@@ -211,10 +214,6 @@ module _ {S E N H K V : Type 0} (env : Environments E N H K V) (s : Serializers 
   pub count-wrote : {X Y : Type 0} {x y z : S} {u : X} (case count : ℕ) (r : Result Y Error) → Wrote env s (bytes (unsigned_form w64 case)) memory x y (Ok u) → OnOk r (s.out z ≡ added (s.out y) (length_form count) []) → OnOk r (count ≤ longest) → IfErr r (long_or_memory count) → Grows (s.out y) (s.out z)
       → s.environment z ≡ s.environment y → s.levels z ≡ s.levels y → Wrote env s (front case count) (long_or_no_memory count) x z r
   count-wrote case count r p ok within only err same_env same_levels = grind (arith, grows_trans, counts)
-
-pub ruleset write_cases = (null-value, as-value, seen-flag, seen-number, seen-text, seen-array, seen-object)
-
-pub ruleset fronts = (count-wrote, wrote-err)
 
 pub no-case : (n : ℕ) → 5 < n → json_case n ≡ Err Error.JsonCase
 no-case n lt = rw (ne_eqb n 0 (λ e. omega arith), ne_eqb n 1 (λ e. omega arith), ne_eqb n 2 (λ e. omega arith), ne_eqb n 3 (λ e. omega arith), ne_eqb n 4 (λ e. omega arith), ne_eqb n 5 (λ e. omega arith)) refl
@@ -236,10 +235,26 @@ is-whole v z m seen is = rw is (sym (ap of_data seen ∙ whole-means z))
 pub is-array : (v : Vec Value Global) (ms : List (Meaning ArcRef)) → MeanAll (Is of_value) v.items ms → Is of_value (values.Array v) (variant 4 (sequence ms))
 is-array v ms each = items-are v.items (sequence ms) (record { ms = ms; each = each; is = refl }) ∙ ap of_data (sym (seen-array (values.Array v) v refl))
 
-module _ (c : Context Answer ArcRef) (rest : Rest Answer) where
-  pub null-read : (v : Value) (n : ℕ) (mid : Rest Answer) → v ≡ values.Null → bytes_of (unsigned_at w64) (λ n. n) rest ≡ Ok (n, mid) → n ≡ 0 → Gave (Is of_value v) mid (read c json rest)
+bytes-viewed : {X : Type 0} (at : List ℕ → Read X) (f : X → Meaning ArcRef) (view : Meaning ArcRef → Meaning ArcRef) (rest : Rest Answer) → bytes_of at (λ x. view (f x)) rest ≡ viewed view (bytes_of at f rest)
+bytes-viewed at f view rest = grind arith
+
+-- after its case
+module _ (levels : ℕ) (parts : ℕ → Shape) (rest mid : Rest Answer) (n : ℕ) (told : bytes_of (unsigned_at w64) (λ n. n) rest ≡ Ok (n, mid)) where
+  pub null-part : n ≡ 0 → Gave (Is of_value values.Null) mid (read (handles_at levels parts) json rest)
   unfolding read read_with
-  null-read v n mid is e zero = record { m = variant 0 none; is = ap of_data (sym (seen-null v is)); gave = rw (e, zero) refl }
+  null-part zero = record { m = variant 0 none; is = ap of_data (sym (seen-null values.Null refl)); gave = rw (told, zero) refl }
+
+  pub flag-part : n ≡ 1 → read (handles_at levels parts) json rest ≡ viewed (λ m. variant 1 m) (read (handles_at levels parts) flag mid)
+  unfolding read read_with
+  flag-part one = rw (told, one) (bytes-viewed bool_at meanings.flag (λ m. variant 1 m) mid)
+
+  pub text-part : n ≡ 3 → read (handles_at levels parts) json rest ≡ viewed (λ m. variant 3 m) (read (handles_at levels parts) text mid)
+  unfolding read read_with
+  text-part three = rw (told, three) (bytes-viewed text_at meanings.text (λ m. variant 3 m) mid)
+
+  pub other-part : (case : JsonCase) → json_case n ≡ Ok case → read (handles_at levels parts) json rest ≡ part_of case (handles_at levels parts) mid
+  unfolding read read_with
+  other-part case is = rw (told, is) refl
 
 module _ (levels : ℕ) (parts : ℕ → Shape) (rest : Rest Answer) where
   module _ (count : ℕ) (mid : Rest Answer) (counted : bytes_of length_at (λ n. n) rest ≡ Ok (count, mid)) where
@@ -272,4 +287,4 @@ module _ (levels : ℕ) (parts : ℕ → Shape) (rest : Rest Answer) where
 
 pub ruleset read_parts = (array-deep, array-seen, object-deep, object-gives, moves_trans)
 
-pub ruleset read_cases = (moves_trans, null-read, no-case, is-flag, is-text, is-whole, to_z-of_z)
+pub ruleset read_cases = (moves_trans, no-case, is-whole, to_z-of_z)

@@ -113,6 +113,26 @@ module _ {D E R N H K V : Type 0} (env : Environments E N H K V) (d : Deserializ
       → d.environment b ≡ d.environment a → d.levels b ≡ d.levels a → (own → causes e) → (part ≡ Err e → whole (context_in env d a) (d.rest a) ≡ Err e) → Reads env d causes L whole a b r
   read-err {Y} {Z} {W} {own} {causes} {a} {b} {part} {e} r {L} {whole} is g moves same_env same_levels may same = grind arith
 
+  -- after a part of the whole, the rest of it is read as this part, seen by view
+  pub then-ok : {X Z : Type 0} {own causes : Error → Type 0} {M : X → Meaning ArcRef → Type 0} {N : Z → Meaning ArcRef → Type 0} {get whole : Context Answer ArcRef → Gets Answer (Meaning ArcRef)} {a b c : D} {x : X} (z : Z) (view : Meaning ArcRef → Meaning ArcRef)
+      → MovesOn (d.standing a) (d.standing b) → d.environment b ≡ d.environment a → d.levels b ≡ d.levels a → Reads env d own M get b c (Ok x)
+      → whole (context_in env d a) (d.rest a) ≡ viewed view (get (context_in env d a) (d.rest b)) → ((m : Meaning ArcRef) → M x m → N z (view m)) → Reads env d causes N whole a c (let r : Result Z Error = Ok z in r)
+  then-ok z view moves same_env same_levels q same is =
+      let g = rw (same_levels, same_env) at q.gives in
+      record { gives = record { m = view g.m; is = is g.m g.is; gave = same ∙ rw g.gave refl }; moves = moves_trans _ _ _ moves q.moves; same_env = q.same_env ∙ same_env; same_levels = q.same_levels ∙ same_levels }
+
+  pub then-err : {X Z : Type 0} {own causes : Error → Type 0} {M : X → Meaning ArcRef → Type 0} {N : Z → Meaning ArcRef → Type 0} {get whole : Context Answer ArcRef → Gets Answer (Meaning ArcRef)} {a b c : D} {e : Error} (r : Result Z Error) (view : Meaning ArcRef → Meaning ArcRef)
+      → IsErrAnd r (λ f. f ≡ e) → MovesOn (d.standing a) (d.standing b) → d.environment b ≡ d.environment a → d.levels b ≡ d.levels a → Reads env d own M get b c (let p : Result X Error = Err e in p)
+      → whole (context_in env d a) (d.rest a) ≡ viewed view (get (context_in env d a) (d.rest b)) → (own e → causes e) → Reads env d causes N whole a c r
+  then-err r view is moves same_env same_levels q same may =
+      read-err r is (rw (same_levels, same_env) at q.gives) (moves_trans _ _ _ moves q.moves) (q.same_env ∙ same_env) (q.same_levels ∙ same_levels) may (λ h. same ∙ rw h refl)
+
+  -- the rest of the whole is this part
+  pub then-is : {X Y : Type 0} {own : Error → Type 0} {M : X → Y → Type 0} {get whole : Context Answer ArcRef → Gets Answer Y} {a b c : D} (r : Result X Error) → MovesOn (d.standing a) (d.standing b) → d.environment b ≡ d.environment a → d.levels b ≡ d.levels a
+      → Reads env d own M get b c r → whole (context_in env d a) (d.rest a) ≡ get (context_in env d a) (d.rest b) → Reads env d own M whole a c r
+  then-is r moves same_env same_levels q same =
+      record { gives = rw same (rw (same_levels, same_env) at q.gives); moves = moves_trans _ _ _ moves q.moves; same_env = q.same_env ∙ same_env; same_levels = q.same_levels ∙ same_levels }
+
   -- want of memory, wherever the deserializer stands
   pub read-no-memory : {Z W : Type 0} {a b : D} (r : Result Z Error) {L : Z → W → Type 0} {whole : Context Answer ArcRef → Gets Answer W} → IsErrAnd r memory → MovesOn (d.standing a) (d.standing b) → d.environment b ≡ d.environment a → d.levels b ≡ d.levels a → Reads env d memory L whole a b r
   read-no-memory r is moves same_env same_levels = let q = err_from_is_err_and r is in rw q.1 (record { gives = inr q.2; moves = moves; same_env = same_env; same_levels = same_levels })

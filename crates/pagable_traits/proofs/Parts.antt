@@ -1,16 +1,17 @@
 -- What values, and their parts one after another, are written and read as: basic values, texts and patterns, what may be absent, successes and failures, tuples and
 -- cells. All that a reader and a writer owe, from what those of the bytes or of the parts tell.
-use Rattle.pagable_codec.{proofs.Writing.{writes_flag, writes_letter, writes_signed, writes_unsigned}, specs.declared.env.Env.Ghosts as Environments}
+use Rattle.pagable_codec.{proofs.Writing.{writes_flag, writes_letter, writes_signed, writes_unsigned}, specs.declared.{deserializer.PagableDeserializer.Ghosts as Deserializers, env.Env.Ghosts as Environments}}
 use Rattle.{pagable_codec.specs.declared.serializer.PagableSerializer.Ghosts as Serializers, pagable_flavors.specs.Calls.Appends, pagable_model.specs.Basic.{char_form, duration_at, duration_form}}
 use Rattle.pagable_model.specs.{Basic.{length_at, nanos_of_second, text_at}, Carried.{nanos_of, of_duration, of_span, seconds_of}, Form.{duration-form, none-form, pattern-form}, Lifted.MeansOnce}
 use Rattle.pagable_model.specs.{Meaning.pattern, Numbers.{IsSigned, bound, signed_form, unsigned_form, varint_at}, Refusals.is_reading_fault, Shape.{duration, flag as flag_shape, letter, unsigned}}
-use Rattle.{pagable_model.specs.Track.{Track, left}, pagable_traits.proofs.Words.{Answer, ArcRef, Bool, Context, Err, Error, FormAt, Gives, GivesSome, IfErr, Is, List, Meaning, MeansOption}}
+use Rattle.{pagable_model.specs.Track.{GoesOn, Track, left}, pagable_traits.proofs.Words.{Answer, ArcRef, Bool, Context, Err, Error, FormAt, Gives, GivesSome, IfErr, Is, List, Meaning, MeansOption}}
 use Rattle.pagable_traits.proofs.Words.{MeansPair, Nesting, NoForm, None, Ok, OnOk, Option, Out, Read, Refused, Rest, Result, Shape, Some, SomeMeaning, String, WritesSome, Wrote, [], absent, added}
-use Rattle.pagable_traits.proofs.Words.{ap, arith, bool_at, bool_form, both, both-form, bytes_of, char_at, err-form, failure, false, grows_bytes, grows_trans, inr, integer, length, long_or}
-use Rattle.pagable_traits.proofs.Words.{long_or_memory, longest, means-err, means-none, means-ok, means-some, memory, memory_or, memory_refuses, moves_trans, nested_in, never, number, ok-form}
+use Rattle.pagable_traits.proofs.Words.{ap, arith, bool_at, bool_form, both, both-form, bytes_of, char_at, err-form, failure, false, grows_bytes, inr, integer, length, long_or}
+use Rattle.pagable_traits.proofs.Words.{long_or_memory, longest, means-none, means-some, memory, memory_or, memory_refuses, moves_trans, nested_in, never, number, ok-form}
 use Rattle.pagable_traits.proofs.Words.{optional, outcome, pair, present, read, read_with, refl, refused_memory, signed, signed_at, some-form, string_bytes, success, text-form, text_form, then}
 use Rattle.pagable_traits.{proofs.Words.{to_z-of_z, true, unsigned_at, w32, w64, writes_bytes, writes_is, ℕ, ℤ, ◌*◌, ◌++◌, ◌+◌, ◌^◌, ◌∙◌, ◌∷◌, ◌≡◌, ◌≤◌}, specs.Clauses.value}
 use Rattle.std.{proofs.{Common.{FitsSigned, of_z, rules, suc, to_z, zero, ◌/◌, ◌<◌}, lemmas.{Bool.{Decides.nat_tests, le-ltb}, Nat.mod_below}}, specs.{Borrow.Bor, Char.IsScalar, Duration.as_nanos}}
+use Rattle.pagable_traits.proofs.Words.{Gets, MovesOn, Reads, context_in}
 use Rattle.std.specs.{Int.{Width, w8}, Prelude.◌≢◌, Str.IsUtf8, declared.time.Duration.Duration}
 use Rattle.pagable_model.specs.Meaning as meanings
 use Rattle.pagable_model.specs.Shape as shapes
@@ -105,7 +106,7 @@ writes_str (Err y) t n old last now w e f utf8 short h = tt
 
 -- ---- a flag and the part after it
 
-no-some : (n : Nesting) (s : Shape) (m : Meaning ArcRef) → NoForm n s m → NoForm n (optional s) (present m)
+pub no-some : (n : Nesting) (s : Shape) (m : Meaning ArcRef) → NoForm n s m → NoForm n (optional s) (present m)
 no-some n s m h b k (some-form l s' m' c k' f) = h c k' f
 
 pub no-success : (n : Nesting) (s t : Shape) (m : Meaning ArcRef) → NoForm n s m → NoForm n (outcome s t) (success m)
@@ -113,14 +114,6 @@ no-success n s t m h b k (ok-form l s' t' m' c k' f) = h c k' f
 
 pub no-failure : (n : Nesting) (s t : Shape) (m : Meaning ArcRef) → NoForm n t m → NoForm n (outcome s t) (failure m)
 no-failure n s t m h b k (err-form l s' t' m' c k' f) = h c k' f
-
-module _ {T : Type 0} (M : T → Meaning ArcRef → Type 0) (y : Option T) (x : T) (here : y ≡ Some x) (n : Nesting) (s : Shape) where
-  pub writes_present : (old mid new : Out) → mid ≡ added old (bool_form true) [] → WritesSome (M x) n s mid new → WritesSome (MeansOption M y) n (optional s) old new
-  writes_present old mid new e w =
-      rw here (writes_whole n n present s (optional s) (M x) (MeansOption M (Some x)) (λ m is. means-some x m is) (bool_form true) old mid new (λ m b k f. some-form _ s m b k f) e w)
-
-  pub refused_present : {Z : Type 0} (r : Result Z Error) → IfErr r (Refused (M x) n s) → IfErr r (Refused (MeansOption M y) n (optional s))
-  refused_present r h = rw here (err_along r h (λ e k. refuses_whole n n present s (optional s) (M x) (MeansOption M (Some x)) (λ m is. means-some x m is) e (no-some n s) k))
 
 -- ---- tuples
 
@@ -136,13 +129,11 @@ pub held_means : {T : Type 0} (M : T → Meaning ArcRef → Type 0) (held : Opti
 held_means M _ _ means-none = record { held = None; means = means-none }
 held_means M _ _ (means-some x m is) = record { held = Some x.now; means = means-some x.now m is }
 
-pub ruleset steps = (ok_along, err_along, grows_trans, memory_refuses, refused_memory)
-
-pub ruleset writes_option = (steps, writes_absent, writes_present, refused_present)
+pub ruleset steps = (ok_along, memory_refuses, refused_memory)
 
 pub ruleset alike = (ok_along, err_along, some_along, refused_along, pair_along)
 
-pub ruleset reads = (means-none, means-some, means-ok, means-err, moves_trans)
+pub ruleset reads = (means-none, means-some, moves_trans)
 
 -- ---- reading
 
@@ -176,8 +167,6 @@ module _ (context : Context Answer ArcRef) (rest last : Rest Answer) (given used
       → GivesSome never (Is of_span) last r (read context duration rest)
   unfolding read read_with
   reads_span r told = read_as never (λ d. (seconds_of d, nanos_of d)) (λ p. of_duration p.0 p.1) duration_at r told
-
-pub ruleset read_steps = (reads_unsigned, reads_signed, reads_flag, reads_letter, reads_span)
 
 -- ---- writing
 
@@ -218,7 +207,7 @@ module _ (n : Nesting) (old new : Out) (given bytes : List ℕ) (same : given �
   pub wrote_letter : (c : ℕ) → IsScalar c → bytes ≡ given ++ char_form c → WritesSome (Is number c) n letter old new
   wrote_letter c scalar is = rw grown (writes_letter n c old bytes scalar (rw same at is))
 
-pub ruleset write_steps = (wrote_unsigned, wrote_signed, wrote_flag, wrote_letter)
+pub ruleset basic = (grows_bytes, refused_memory, reads_unsigned, reads_signed, reads_flag, reads_letter, reads_span, wrote_unsigned, wrote_signed, wrote_flag, wrote_letter)
 
 -- ---- spans of time
 
@@ -252,12 +241,15 @@ refused_pattern r t n h = grind (arith, no-pattern n t, memory_refuses)
 
 -- ---- reading
 
-module _ {Z : Type 0} (r : Result (String Z) Error) (rest last : Rest Answer) (bytes after : List ℕ) (e : rest.bytes ≡ bytes) (f : last ≡ record rest { bytes = after }) (h : Gives memory (λ t. (string_bytes t, after)) r (text_at bytes)) where
-  pub gives_pattern : GivesSome memory (Is (λ t. pattern (string_bytes t))) last r (bytes_of text_at pattern rest)
-  gives_pattern = rw f (gives_bytes memory string_bytes pattern text_at r rest after (rw e h))
-
-  pub gives_text : GivesSome memory (Is (λ t. meanings.text (string_bytes t))) last r (bytes_of text_at meanings.text rest)
-  gives_text = rw f (gives_bytes memory string_bytes meanings.text text_at r rest after (rw e h))
+pub text-read : {D E R N H K V Z : Type 0} (env : Environments E N H K V) (d : Deserializers D E R N H K V) (meaning : List ℕ → Meaning ArcRef) (r : Result (String Z) Error) (whole : Context Answer ArcRef → Gets Answer (Meaning ArcRef)) {a b : D} {given used : Track}
+    → ((c : Context Answer ArcRef) (rest : Rest Answer) → whole c rest ≡ bytes_of text_at meaning rest) → (d.rest a).bytes ≡ left given → d.rest b ≡ record (d.rest a) { bytes = left used } → (GoesOn given used → MovesOn (d.standing a) (d.standing b))
+    → d.environment b ≡ d.environment a → d.levels b ≡ d.levels a → Gives memory (λ t. (string_bytes t, left used)) r (text_at (left given)) → GoesOn given used → Reads env d memory (Is (λ t. meaning (string_bytes t))) whole a b r
+text-read env d meaning r whole {a = a} {used = used} same e f moves same_env same_levels told goes = record {
+  gives = rw (same (context_in env d a) (d.rest a), f) (gives_bytes memory string_bytes meaning text_at r (d.rest a) (left used) (rw e told));
+  moves = moves goes;
+  same_env = same_env;
+  same_levels = same_levels;
+}
 
 -- ---- the faults of a text are faults of the input
 

@@ -2,7 +2,7 @@
 -- nothing is referred to.
 use Rattle.std.specs.{List.AllByRecursion, Prelude.{Bool, IsTrue, List, [], refl, ℕ, ◌∷◌, ◌≡◌}}
 use Rattle.pagable_model.specs.{Canonical.{HasNoReference, IsReadable, LiesIn}, Codes.one-meaning, Keyed.{RefersToNothing, same-by, throughout-alone}, Keys.same_key}
-use Rattle.pagable_model.specs.{Meaning.{Meaning, followed, integer, lifted, none, number, pair, pattern, plain, reference, rename, text, variant}, Shape.{Shape, static_value}, Statics.meanings_of}
+use Rattle.pagable_model.specs.{Meaning.{Meaning, followed, lifted, pair, plain, reference, rename, variant}, Shape.{Shape, static_value}, Statics.meanings_of}
 use Rattle.{pagable_model.specs.{Statics.{unregistered, unregistered_may_refuse_writing}, declared.numbers.ArcRef.ArcRef}, pagable_traits.specs.{OwnCauses.WriteCauses, ReadBack.IsReadThroughout}}
 
 -- a value that isn't registered is refused

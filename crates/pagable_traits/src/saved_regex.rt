@@ -146,7 +146,6 @@ impl<E: Env> PagableSerialize<E> for SavedRegex {
 }
 
 /// Reads the text of a pattern, and builds nothing.
-#[tactic(auto, unfolding(pagable_model::specs::Reading::read, pagable_model::specs::Reading::read_with), using(crate::proofs::Parts::text_not_refused, crate::proofs::Parts::gives_pattern))]
 fn read_text<E: Env, D: PagableDeserializer<E>>(
     alloc: Global,
     deserializer: &mut D,

@@ -188,7 +188,6 @@ fn last_reader<'r, T, F: ForTag>(
     None
 }
 
-#[tactic(auto, using(crate::proofs::Registered::text_is_read))]
 fn read_tag<E: Env, D: PagableDeserializer<E>>(
     alloc: Global,
     deserializer: &mut D,

@@ -30,7 +30,6 @@ impl<E: Env, T: OneMeaning<E>> OneMeaning<E> for Option<T> {
 impl<E: Env, T: PagableSerialize<E>> PagableSerialize<E> for Option<T> {
     ghost write_causes = { writes_memory_or T.write_causes };
 
-    #[tactic(auto, using(crate::proofs::Parts::writes_option))]
     fn pagable_serialize<S: PagableSerializer<E>>(&self, serializer: &mut S) -> Result<(), Error> {
         match self {
             None => write_flag(false, serializer),
@@ -151,7 +150,6 @@ impl<'de, E: Env, T: PagableDeserialize<'de, E>, X: PagableDeserialize<'de, E>> 
 > for Result<T, X> {
     ghost read_causes = { reads_either T.read_causes X.read_causes };
 
-    #[tactic(auto, unfolding(pagable_model::specs::Reading::read, pagable_model::specs::Reading::read_with), using(crate::proofs::Parts::reads))]
     fn pagable_deserialize<D: PagableDeserializer<E>>(
         alloc: Global,
         deserializer: &mut D,

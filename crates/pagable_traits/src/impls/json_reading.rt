@@ -35,7 +35,6 @@ impl<'de, E: Env> PagableDeserialize<'de, E> for Value {
     }
 }
 
-#[tactic(auto, using(pagable_codec::proofs::Reading::part_read))]
 fn read_case<E: Env, D: PagableDeserializer<E>>(deserializer: &mut D) -> Result<usize, Error>
     ensures gives { Gives never (λ n. (n, D.rest deserializer.new)) result (bytes_of (unsigned_at w64) (λ n. n) (D.rest deserializer.old)) }
     ensures moves { MovesOn (D.standing deserializer.old) (D.standing deserializer.new) }

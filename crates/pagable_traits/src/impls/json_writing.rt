@@ -28,7 +28,6 @@ fn write_case<E: Env, S: PagableSerializer<E>>(case: usize, serializer: &mut S) 
 }
 
 // Writes the case of an array or an object and its length. TooLong above 4,294,967,295 items or members.
-#[tactic(auto, using(crate::proofs::Json::fronts))]
 fn write_front<E: Env, S: PagableSerializer<E>>(
     case: usize,
     count: usize,
@@ -40,7 +39,6 @@ fn write_front<E: Env, S: PagableSerializer<E>>(
     parts::write_count(count, serializer)
 }
 
-#[tactic(auto, using(crate::proofs::Json::leaves))]
 fn write_flag<E: Env, S: PagableSerializer<E>>(flag: bool, serializer: &mut S) -> Result<(), Error>
     ensures { Wrote E.Env S.PagableSerializer (form (Is of_data (boolean flag)) json) json_causes serializer.old serializer.new result }
 {
@@ -49,7 +47,6 @@ fn write_flag<E: Env, S: PagableSerializer<E>>(flag: bool, serializer: &mut S) -
 }
 
 // Writes a number. JsonNumber, before anything was written, where it isn't whole or 64 bits with a sign don't hold it.
-#[tactic(auto, using(crate::proofs::Json::leaves))]
 fn write_number<E: Env, S: PagableSerializer<E>>(
     value: &Number,
     serializer: &mut S,
@@ -65,7 +62,6 @@ fn write_number<E: Env, S: PagableSerializer<E>>(
 }
 
 // Writes a text. TooLong where it has more than 4,294,967,295 bytes.
-#[tactic(auto, using(crate::proofs::Json::leaves))]
 fn write_text<E: Env, S: PagableSerializer<E>>(
     text: &String,
     serializer: &mut S,
@@ -79,7 +75,6 @@ fn write_text<E: Env, S: PagableSerializer<E>>(
 /// Writes a JSON value. TooLong above 4,294,967,295 bytes, items or members, JsonNumber for a float or a whole number
 /// that 64 bits with a sign don't hold, and TooDeep for an array or an object where 128 levels were entered.
 #[cycle(writing_json)]
-#[tactic(auto, using(crate::proofs::Json::write_cases))]
 pub fn write_value<E: Env, S: PagableSerializer<E>>(
     value: &Value,
     serializer: &mut S,

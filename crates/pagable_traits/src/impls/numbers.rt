@@ -1,5 +1,5 @@
 //! Whole numbers, flags, characters, nothing, and spans of time.
-#![tactic(auto, using(pagable_codec::proofs::Writing::parts, crate::proofs::Parts::read_steps, crate::proofs::Parts::write_steps))]
+#![tactic(auto, using(crate::proofs::Parts::basic))]
 
 ghost use Rattle.std.specs.{Int.{w8, w16, w32, w64, w128}, Prelude.{◌≡◌, ◌++◌, ◌<◌, ◌^◌, OnOk, IfErr}};
 ghost use Rattle.pagable_model.specs.{Meaning.{number, integer, none, flag as flag_meaning}, Shape.{unsigned, signed, flag, letter, nothing, duration}};

@@ -73,7 +73,6 @@ impl<E: Env> PagableSerialize<E> for String {
 impl<'de, E: Env> PagableDeserialize<'de, E> for String {
     ghost read_causes = { reads_memory };
 
-    #[tactic(auto, unfolding(pagable_model::specs::Reading::read, pagable_model::specs::Reading::read_with), using(crate::proofs::Parts::gives_text))]
     fn pagable_deserialize<D: PagableDeserializer<E>>(
         alloc: Global,
         deserializer: &mut D,

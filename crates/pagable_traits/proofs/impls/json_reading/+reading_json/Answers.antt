@@ -1,14 +1,68 @@
 use Rattle.{pagable_codec.proofs.Reading.moves_refl, pagable_traits.proofs.Items.{collected_more, collected_none, mean_last}}
-use Rattle.pagable_traits.proofs.{Json.{array-deep, is-array, object-deep}, JsonSteps.{all-read, either-memory, none-so-far, one-more, read-deep, refused-so-far, seen-same}}
-use Rattle.pagable_traits.proofs.Words.{Is, MeansPair, insert_entry, mean-none, of_key, of_value, refl, rules, sequence, string_cmp, variant, ◌≡◌}
+use Rattle.pagable_traits.proofs.Json.{array-deep, flag-part, is-array, is-flag, is-text, null-part, object-deep, other-part, text-part}
+use Rattle.pagable_traits.proofs.JsonSteps.{all-read, either-memory, none-so-far, one-more, read-deep, read-err, refused-so-far, seen-same, then-err, then-is, then-ok}
+use Rattle.pagable_traits.proofs.Words.{Is, MeansPair, array_case, insert_entry, mean-none, object_case, of_key, of_value, read, read_with, refl, rules, sequence, string_cmp, variant, ◌≡◌}
 use Rattle.serde_json.specs.declared.value.Value as values
 use Rattle.pagable_traits.proofs.impls.json_reading.+reading_json.Goals as goal
+
+pub read_value-returns-in_err-case : goal.read_value-returns-in_err-case
+unfolding read read_with
+read_value-returns-in_err-case g t c =
+    let told = c.in_err-case.ensures in
+    read-err g.E.Env g.D.PagableDeserializer c.from_residual.result c.from_residual.ensures.1 told.gives told.moves told.same_env told.same_levels (λ no. absurd no) (λ h. rw h refl)
+
+pub read_value-returns-in-0 : goal.read_value-returns-in-0
+read_value-returns-in-0 g t c =
+    let told = c.in_ok-case.ensures in
+    record { gives = null-part _ _ _ _ _ told.gives c.in-0.is; moves = told.moves; same_env = told.same_env; same_levels = told.same_levels }
+
+pub read_value-returns-in_err-flag-in-1 : goal.read_value-returns-in_err-flag-in-1
+read_value-returns-in_err-flag-in-1 g t c =
+    let told = c.in_ok-case.ensures in
+    then-err g.E.Env g.D.PagableDeserializer c.from_residual-in_err-flag-in-1.result (λ m. variant 1 m) c.from_residual-in_err-flag-in-1.ensures.1 told.moves told.same_env told.same_levels c.in_err-flag-in-1.ensures
+    (flag-part _ _ _ _ _ told.gives c.in-1.is) (λ no. absurd no)
+
+pub read_value-returns-in_ok-flag-in-1 : goal.read_value-returns-in_ok-flag-in-1
+read_value-returns-in_ok-flag-in-1 g t c =
+    let told = c.in_ok-case.ensures in
+    then-ok g.E.Env g.D.PagableDeserializer _ (λ m. variant 1 m) told.moves told.same_env told.same_levels c.in_ok-flag-in-1.ensures (flag-part _ _ _ _ _ told.gives c.in-1.is) (λ m is. is-flag _ m is)
+
+pub read_value-returns-in_err-text-in-3 : goal.read_value-returns-in_err-text-in-3
+read_value-returns-in_err-text-in-3 g t c =
+    let told = c.in_ok-case.ensures in
+    then-err g.E.Env g.D.PagableDeserializer c.from_residual-in_err-text-in-3.result (λ m. variant 3 m) c.from_residual-in_err-text-in-3.ensures.1 told.moves told.same_env told.same_levels c.in_err-text-in-3.ensures
+    (text-part _ _ _ _ _ told.gives c.in-3.is) (λ h. h)
+
+pub read_value-returns-in_ok-text-in-3 : goal.read_value-returns-in_ok-text-in-3
+read_value-returns-in_ok-text-in-3 g t c =
+    let told = c.in_ok-case.ensures in
+    then-ok g.E.Env g.D.PagableDeserializer _ (λ m. variant 3 m) told.moves told.same_env told.same_levels c.in_ok-text-in-3.ensures (text-part _ _ _ _ _ told.gives c.in-3.is) (λ m is. is-text _ m is)
+
+pub read_value-returns-in-4 : goal.read_value-returns-in-4
+read_value-returns-in-4 g t c =
+    let told = c.in_ok-case.ensures in
+    then-is g.E.Env g.D.PagableDeserializer c.array_part.result told.moves told.same_env told.same_levels c.array_part.ensures (other-part _ _ _ _ _ told.gives array_case (rw c.in-4.is refl))
+
+pub read_value-returns-in-5 : goal.read_value-returns-in-5
+read_value-returns-in-5 g t c =
+    let told = c.in_ok-case.ensures in
+    then-is g.E.Env g.D.PagableDeserializer c.object_part.result told.moves told.same_env told.same_levels c.object_part.ensures (other-part _ _ _ _ _ told.gives object_case (rw c.in-5.is refl))
+
+pub array_part-returns-in_err-count : goal.array_part-returns-in_err-count
+array_part-returns-in_err-count g t c =
+    let told = c.in_err-count.ensures in
+    read-err g.E.Env g.D.PagableDeserializer c.from_residual.result c.from_residual.ensures.1 told.gives told.moves told.same_env told.same_levels (λ no. absurd no) (λ h. rw h refl)
 
 pub array_part-returns-in_err-enter : goal.array_part-returns-in_err-enter
 array_part-returns-in_err-enter g t c =
     let told = c.in_ok-count.ensures in
     let down = c.in_err-enter.ensures in
     read-deep g.E.Env g.D.PagableDeserializer c.from_residual-in_err-enter.result c.from_residual-in_err-enter.ensures.1 told.moves told.same_env told.same_levels down.err down.same_standing down.same_env (array-deep _ _ _ _ _ told.gives)
+
+pub object_part-returns-in_err-count : goal.object_part-returns-in_err-count
+object_part-returns-in_err-count g t c =
+    let told = c.in_err-count.ensures in
+    read-err g.E.Env g.D.PagableDeserializer c.from_residual.result c.from_residual.ensures.1 told.gives told.moves told.same_env told.same_levels (λ no. absurd no) (λ h. rw h refl)
 
 pub object_part-returns-in_err-enter : goal.object_part-returns-in_err-enter
 object_part-returns-in_err-enter g t c =

@@ -1,8 +1,24 @@
-use Rattle.pagable_traits.proofs.{Items.{refuses_item, writes_item, writes_no_items}, Json.{arrays, as-value, json-deep, json-long, json-text, member-has, objects, seen-object, value-has}}
-use Rattle.pagable_traits.proofs.{JsonSteps.{pair-refused, pair-wrote, wrote-below, wrote-deep, wrote-err, wrote-is, wrote-more, wrote-nothing, wrote-then, wrote-then-err}, Maps.written-all}
+use Rattle.pagable_traits.proofs.{Items.{refuses_item, writes_item, writes_no_items}, Json.{arrays, as-value, json-deep, json-long, json-text, member-has, null-value, objects, seen-array}}
+use Rattle.pagable_traits.proofs.{Json.{seen-flag, seen-number, seen-object, seen-text, value-has}, JsonSteps.{pair-refused, pair-wrote, wrote-below, wrote-deep, wrote-err, wrote-is}}
+use Rattle.pagable_traits.proofs.{JsonSteps.{wrote-more, wrote-nothing, wrote-then, wrote-then-err}, Maps.written-all}
 use Rattle.pagable_traits.proofs.{Maps.{written-fewer, written-more, written-none, written-refused}, Words.{Is, MeansPair, both, json, of_key, of_value, refl, rules, sym, text, ◌∙◌}}
 use Rattle.pagable_traits.specs.Meanings.{exactly}
 use Rattle.pagable_traits.proofs.impls.json_writing.+writing_json.Goals as goal
+
+pub write_value-returns-in-Null : goal.write_value-returns-in-Null
+write_value-returns-in-Null g t c = null-value g.E.Env g.S.PagableSerializer c.args.value.now c.write_case.result c.in-Null.is c.write_case.ensures
+
+pub write_value-returns-in-Bool : goal.write_value-returns-in-Bool
+write_value-returns-in-Bool g t c = as-value g.E.Env g.S.PagableSerializer c.args.value.now _ c.write_flag.result (seen-flag c.args.value.now _ c.in-Bool.is) c.write_flag.ensures
+
+pub write_value-returns-in-Number : goal.write_value-returns-in-Number
+write_value-returns-in-Number g t c = as-value g.E.Env g.S.PagableSerializer c.args.value.now _ c.write_number.result (seen-number c.args.value.now _ c.in-Number.is) c.write_number.ensures
+
+pub write_value-returns-in-String : goal.write_value-returns-in-String
+write_value-returns-in-String g t c = as-value g.E.Env g.S.PagableSerializer c.args.value.now _ c.write_text.result (seen-text c.args.value.now _ _ c.in-String.is refl) c.write_text.ensures
+
+pub write_value-returns-in-Array : goal.write_value-returns-in-Array
+write_value-returns-in-Array g t c = as-value g.E.Env g.S.PagableSerializer c.args.value.now _ c.write_array.result (seen-array c.args.value.now _ c.in-Array.is) c.write_array.ensures
 
 pub write_value-returns-in-Object : goal.write_value-returns-in-Object
 write_value-returns-in-Object g t c = as-value g.E.Env g.S.PagableSerializer c.args.value.now _ c.write_object.result (seen-object c.args.value.now c.in-Object.members c.in-Object.is) c.write_object.ensures

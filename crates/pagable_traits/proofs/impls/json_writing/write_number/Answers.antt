@@ -1,7 +1,24 @@
-use Rattle.pagable_traits.proofs.{Json.{json-memory, number_written}, Parts.{err_along, ok_along}}
-use Rattle.{pagable_traits.proofs.Words.{Is, Some, as_i64, grows_trans, json, nested_in, number_view, of_data, refused_memory, rules, to_z-of_z, w64, ◌∙◌, ◌≡◌}, serde_json.specs.Data.number}
+use Rattle.pagable_traits.proofs.{Json.{case-err, json-memory, number_written, refuses-number}, JsonSteps.wrote-then-err, Parts.{err_along, ok_along}}
+use Rattle.{pagable_traits.proofs.Words.{Error, Is, None, Option, Some, [], as_i64, bytes, grows_refl, grows_trans, inl, inr, json, memory, memory_refuses, nested_in, number_view, of_data, refl}}
+use Rattle.{pagable_traits.proofs.Words.{refused_memory, rules, to_z-of_z, w64, ℤ, ◌∙◌, ◌≡◌}, serde_json.specs.Data.number}
+use Rattle.pagable_traits.proofs.impls.json_writing.write_number.Goals as goal
 
-pub returns : Rattle.pagable_traits.proofs.impls.json_writing.write_number.Goals.returns
+pub returns-in_default : goal.returns-in_default
+returns-in_default g c =
+    let none : as_i64 (number_view c.args.value.now) ≡ (let o : Option ℤ = None in o) = search rules in
+    record { ok = tt; refused = refuses-number _ _ Error.JsonNumber none; only = inr (inr (inl refl)); err = grows_refl _; same_env = refl; same_levels = refl }
+
+pub returns-in_err-write_case : goal.returns-in_err-write_case
+returns-in_err-write_case g c = case-err g.E.Env g.S.PagableSerializer (number (number_view c.args.value.now)) c.from_residual.result c.from_residual.ensures.1 c.in_err-write_case.ensures
+
+pub returns-in_err-write_flag : goal.returns-in_err-write_flag
+returns-in_err-write_flag g c =
+    let flag = c.in_err-write_flag.ensures in
+    let left = c.from_residual-in_err-write_flag in
+    wrote-then-err g.E.Env g.S.PagableSerializer {Z = Unit {0}} {Q = bytes []} {second = memory} left.result left.ensures.1 c.in_ok-write_case.ensures
+    (record { ok = tt; refused = tt; only = flag.only; err = flag.err; same_env = flag.same_env; same_levels = flag.same_levels }) (λ n old mid e l h. memory_refuses _ _ n json h) (λ h. json-memory _ h)
+
+pub returns : goal.returns
 returns g c =
     let whole : as_i64 (number_view c.args.value.now) ≡ Some c.in-Some.whole = search rules in
     let first = c.in_ok-write_case.ensures in
