@@ -330,8 +330,6 @@ pub ruleset finishing = (nat_tests, common_steps, stored-way)
 
 pub ruleset backs = (acts_map, acts_all, back-none, back-some)
 
-pub ruleset releasing = (nat_tests, acts_map, release-gives, release-ends)
-
 pub ruleset turning = (nat_tests, acts_all, publishes)
 
 -- ---- a turn with the worker's end is its step, and steps of a worker's walk are joined to a run

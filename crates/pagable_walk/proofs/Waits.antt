@@ -178,8 +178,6 @@ module _ (s : Shelf) where
       let is : n.0 ≡ suc m.0 = ∥∥₁_elim n.1 (ℕ_set _ _) (λ a. ∥∥₁_elim m.1 (ℕ_set _ _) (λ b. same-long n.0 (suc m.0) u a (w, e, b))) in
       omega (arith, is)
 
-pub ruleset empty = (nat_tests, common_steps, no-waits, none-some)
-
 -- ---- what a worker's failure makes of its claims, one row after another
 
 module _ {E : Type 0} {g : Ghosts E} (v : ℕ) where

@@ -172,14 +172,12 @@ impl<E: Trees> SlotTable<E> {
     }
 
     /// A table of no claims. It takes no memory.
-    #[tactic(auto, using(crate::proofs::Waits::empty))]
     pub fn new(alloc: Global) -> SlotTable<E>
         ensures { SameShelf no_shelf (shelf_of result) }
     {
-        SlotTable {
-            slots: IndexMap::new(alloc),
-            waits: IndexMap::new(alloc),
-        }
+        let slots = IndexMap::new(alloc);
+        let waits = IndexMap::new(alloc);
+        SlotTable { slots, waits }
     }
 
     /// A worker claims an identity at this place on a path, or learns what is known there. It waits only for a worker that doesn't come to wait for it. Refused with TooDeep where the path is too
