@@ -1,9 +1,9 @@
 -- What a load needs next, what the calls of its steps did, and whole pins and readings.
 use Rattle.{either.specs.declared.Either.Either, pagable_core.specs.{Context.at_front, Data.blob_of}, pagable_loads.specs.{Decoding.{IsReadAs, Needs}, Frames.{IsLoadOf, frame_of}}}
-use Rattle.pagable_loads.specs.{Frames.{frames_of, onto, reading_of}, Got.{Lends, LendsEach, answer_at, lent_at}, Starting.{PinsFirst, Shares, StartsPin, TakesBack, Unpins}}
+use Rattle.pagable_loads.specs.{Frames.{frames_of, onto, reading_of}, Got.{AreLater, Lends, LendsEach, answer_at, lent_at}, Starting.{PinsFirst, Shares, StartsPin, TakesBack, Unpins}}
 use Rattle.pagable_loads.specs.{Stepping.{Drops, HasGone, IsSameLoad, Met, Runs, Tries}, Telling.{Acting, Acts, ActsThen, AdoptsValue, AsksFor, Brings, IsMade, TakesLazily, Tells}}
 use Rattle.{pagable_loads.specs.declared.{reading.{Frame.Frame as Held, Need.Need, Reading.Reading as Own}, access.PinStart.PinStart}, pagable_model.specs.Blob.Blob}
-use Rattle.pagable_model.specs.{Deep.{is_eager, longest_path}, Meaning.Meaning, Reading.{Rest, read_typed}, Shape.Shape, Standing.{Answer, GivesSome, Standing, handles_at, rest_at}}
+use Rattle.pagable_model.specs.{Deep.longest_path, Meaning.Meaning, Reading.{Rest, read_typed}, Shape.Shape, Standing.{Answer, GivesSome, Standing, handles_at, rest_at}}
 use Rattle.{pagable_model.specs.declared.{error.Error.Error, numbers.{ArcRef.ArcRef, HandleNumber.HandleNumber, Kind.Kind, LoadNumber.LoadNumber}}, pagable_world.specs.Access.{Called, IsUnpinnedBack}}
 use Rattle.pagable_world.specs.Access.{LoadRun, PinRun, PinsOver, ReadingStep, ReadsOver, Told, load-ends, load-fails, load-goes-on, load-is-refused, load-pins, load-reads, pin-is-refused}
 use Rattle.pagable_world.specs.{Access.{pins-at-once, reading-fails, reading-is-refused}, Calls.{PinCall, ReleaseCall}, Kinds.{is_loose, is_unpinned}, LoadCalls.{AskCall, BeginCall, BeginKeyCall}}
@@ -13,7 +13,7 @@ use Rattle.pagable_world.specs.{Pager.{IsCellOf, IsNewNode, Moves, PagerState, R
 use Rattle.pagable_world.specs.{World.{Values, of_key, one_more, row_at}, declared.{answers.{Beginning.Beginning, Pinning.Pinning}, calls.Want.Want, events.LoadAnswer.LoadAnswer}}
 use Rattle.{pagable_world.specs.declared.handles.{HandleRow.HandleRow, Owner.Owner}, std.proofs.Common.{Bool, Err, List, None, Ok, Option, Result, Some, [], ap, arith, false, inl, inr, length, refl}}
 use Rattle.std.proofs.{Common.{rules, slice_get, subst, suc, sym, true, zero, ℕ, ◌++◌, ◌+◌, ◌<◌, ◌∙◌, ◌∷◌, ◌≡◌, ◌≢◌, ◌≤◌, ◌⊎◌}, lemmas.{Bool.Decides.nat_tests, Grind.common_steps}}
-use Rattle.std.{proofs.lemmas.{List.nil_from_length, Map.Keys.any_passes_from_place, Option.slice_get_within}, specs.{Arc.arc_value, List.list_any, Option.option_map}}
+use Rattle.std.{proofs.lemmas.{List.nil_from_length, Option.slice_get_within}, specs.{Arc.arc_value, Option.option_map}}
 use Rattle.pagable_core.specs.Context as context
 
 -- answers by place, key and kind are those of the references got
@@ -246,8 +246,8 @@ module _ {A N E : Type 0} (see : A → N) (s : PagerState N E) (got : List ArcRe
   LentTo i lent = (place : ℕ) (r : ArcRef) → place < i → slice_get got place ≡ Some r → Lends s r (lent_at see lent place)
 
   -- none is read together with its value
-  pub none_lent : list_any (λ (r : ArcRef). is_eager r.kind.0) got ≡ false → LendsEach see s got []
-  none_lent is = grind (arith, nat_tests, any_passes_from_place, slice_get)
+  pub none_lent : AreLater (length got) got → LendsEach see s got []
+  none_lent later = grind (arith, nat_tests, slice_get_within, slice_get)
 
   pub more_lent : (i : ℕ) (r : ArcRef) (lent : List (Option A)) (o : Option A) → length lent ≡ i → slice_get got i ≡ Some r → LentTo i lent → Lends s r (option_map see o) → LentTo (i + 1) (lent ++ o ∷ [])
   more_lent i r lent o same here to lends = grind (arith, nat_tests, pushed_at)

@@ -1,5 +1,5 @@
 -- What those who answer from a list of got references stand for, and what a load lends to them.
-use Rattle.std.specs.{Option.option_map, Prelude.{Bool, Err, IfNone, IfSome, IsSome, List, None, Ok, Option, Result, Some, false, if◌then◌else◌, option_and_then, slice_get, true, ℕ, ◌==◌, ◌≡◌, ◌⊎◌}}
+use Rattle.std.specs.{Option.option_map, Prelude.{Bool, Err, IfNone, IfSome, IsSome, List, None, Ok, Option, Result, Some, false, if◌then◌else◌, option_and_then, slice_get, true, ℕ, ◌<◌, ◌==◌, ◌≡◌, ◌⊎◌}}
 use Rattle.{pagable_world.specs.{Loads.answer_of, Pager.{PagerState, ValueCall}, Plain.if_there, Refusals.live_fault, World.row_at}, pagable_model.specs.declared.{error.Error.Error, numbers.ArcRef.ArcRef}}
 use Rattle.pagable_model.specs.{Deep.is_eager, Refusals.may_refuse_reference}
 
@@ -18,6 +18,10 @@ lent_by see got lent place r = if if_there (λ (found : ArcRef). found.handle.0 
 pub record Lends {N E : Type 0} (s : PagerState N E) (r : ArcRef) (found : Option N) : Type 0 where
   pub value : IfSome found (λ x. (is_eager r.kind.0 ≡ true) × ValueCall s r.handle (Ok (Some x)))
   pub none : IfNone found ((is_eager r.kind.0 ≡ false) ⊎ ValueCall s r.handle (Ok None) ⊎ IsSome (live_fault (row_at s.core r.handle)))
+
+-- none of the first of these is read together with its value
+abbrev pub AreLater : ℕ → List ArcRef → Type 0
+AreLater count got = (place : ℕ) (r : ArcRef) → place < count → slice_get got place ≡ Some r → is_eager r.kind.0 ≡ false
 
 -- each reference lends its own, by its place
 pub record LendsEach {A N E : Type 0} (see : A → N) (s : PagerState N E) (got : List ArcRef) (lent : List (Option A)) : Type 0 where

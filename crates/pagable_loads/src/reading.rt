@@ -1,7 +1,7 @@
 //! How far a load is: the blobs that it reads, what it needs next, and the values of the references that were got, which it lends to the reader of its innermost blob.
 
-ghost use Rattle.std.specs.{Arc.arc_value, List.list_any, Option.option_map, Prelude.{IfErr, IfOk, IsSome, OnOk, [], length, vec_capacity, vec_len, ◌++◌, ◌<◌, ◌^◌, ◌∷◌, ◌≡◌, ◌≤◌}};
-ghost use Rattle.{pagable_core.specs.Data.blob_of, pagable_loads.specs.{Frames.{frame_of, frames_of, onto, reading_of}, Got.{Lends, LendsEach}, Stepping.{IsSameLoad, TakenOff, TakenTwo}}};
+ghost use Rattle.std.specs.{Arc.arc_value, Option.option_map, Prelude.{true, IfErr, IfOk, IsSome, OnOk, [], length, vec_capacity, vec_len, ◌++◌, ◌<◌, ◌^◌, ◌∷◌, ◌≡◌, ◌≤◌}};
+ghost use Rattle.{pagable_core.specs.Data.blob_of, pagable_loads.specs.{Frames.{frame_of, frames_of, onto, reading_of}, Got.{AreLater, Lends, LendsEach}, Stepping.{IsSameLoad, TakenOff, TakenTwo}}};
 ghost use Rattle.{pagable_loads.specs.{Decoding.Needs, Telling.{Tells, values_at}}, pagable_model.specs.Deep.{is_eager, longest_path}};
 ghost use Rattle.pagable_world.specs.Loads.{handles_of, nested_frame, root_frame};
 
@@ -105,10 +105,16 @@ fn value_of<E: Env<Node: NodeSet<E>>, A: Access<E>>(
     }
 }
 
-fn is_any_read_at_once(got: &[ArcRef]) -> bool
-    ensures { result ≡ list_any (λ r. is_eager r.kind.0) got.now }
+// Whether none of these is read together with what holds it.
+fn are_read_later(got: &[ArcRef]) -> bool
+    ensures { result ≡ true → AreLater (length got.now) got.now }
 {
-    got.iter().any(|reference| is_read_at_once(reference.kind))
+    for reference in got {
+        if is_read_at_once(reference.kind) {
+            return false;
+        }
+    }
+    true
 }
 
 // The values of these references, each at its reference's place; no list is made where none of them is read together with its value. Refused with OutOfMemory.
@@ -121,7 +127,7 @@ pub(crate) fn lend<E: Env<Node: NodeSet<E>>, A: Access<E>>(
     ensures only { IfErr result (λ e. e ≡ Error.OutOfMemory) }
 {
     let mut lent = Vec::new(alloc);
-    if !is_any_read_at_once(got) {
+    if are_read_later(got) {
         return Ok(lent);
     }
     for reference in got {
@@ -220,7 +226,7 @@ impl Reading {
     {
         // (by this count its references are known to be fewer than numbers go)
         let _count = blob.as_ref().arcs.len();
-        self.below = Vec::new(alloc);
+        self.below.clear();
         self.top = Some(Frame {
             kind: Kind(3),
             key: self.key,
@@ -270,6 +276,9 @@ pub(crate) fn all_handles(alloc: Global, references: &[ArcRef]) -> Result<Vec<Ha
     ensures ok { IfOk result (λ handles. handles.items ≡ handles_of references.now) }
     ensures only { IfErr result (λ e. e ≡ Error.OutOfMemory) }
 {
-    let handles = references.iter().map(|r| r.handle).collect(alloc)?;
+    let mut handles = Vec::with_capacity(alloc, references.len())?;
+    for reference in references {
+        handles.push(reference.handle)?;
+    }
     Ok(handles)
 }

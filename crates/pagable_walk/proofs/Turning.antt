@@ -268,7 +268,7 @@ module _ {X : Type 0} {g : Ghosts X} {N E : Type 0} (v : Values N) (me : Owner) 
         → TurnsTo v me n shelf (Task.Load r place through own) below shelf moved after s t
     load-reads-none x frames moved after uncounted s t call = grind (arith, nat_tests, common_steps, stepped, same_some)
 
-pub ruleset pinning = (nat_tests, acts_map, pin-fails, load-reads-none)
+pub ruleset pinning = (nat_tests, acts_map, load-reads-none)
 
 -- ---- a turn at what was written is the worker's
 
@@ -329,8 +329,6 @@ module _ {N E : Type 0} (v : Values N) (me : Owner) where
 pub ruleset finishing = (nat_tests, common_steps, stored-way)
 
 pub ruleset backs = (acts_map, acts_all, back-none, back-some)
-
-pub ruleset releasing = (nat_tests, acts_map, set-fails, release-gives, release-ends)
 
 pub ruleset turning = (nat_tests, acts_all, publishes)
 

@@ -4,8 +4,8 @@ use Rattle.{pagable_world.specs.Workers.{IsOpenSlot, waits-back, is_open_outcome
 use Rattle.std.{specs.Map.{values_of, lookup}, proofs.Common.{true, ℕ, inr, ◌&&◌, Some, ◌⊎◌, None, suc, if◌then◌else◌, ap, cond, sym, slice_get, ◌∷◌, List, ◌<◌, [], Option, ◌≤◌, length, Bool, false}}
 use Rattle.{std.proofs.{Common.{nat_eq, ◌∙◌, zero, ◌≡◌, inl, arith, subst, refl}, lemmas.{Grind.{common_steps, merely}, Bool.Decides.nat_tests, Option.none-some}}, pagable_laws.proofs.Trees.same_some}
 use Rattle.{indexmap.specs.IndexMap.{set_value_at, get, IndexMap}, pagable_walk.specs.Slots.{failed_by, ends-at, FailedTo, slots_in, AreNamed, Ends, Leads, open_worker, EachEnds, is_same, waits_for}}
-use Rattle.pagable_walk.specs.Slots.{Stands, shelf_in, after_failure, SlotIs, Changes, slot_of, claimed_by, IsNamed}
-use Rattle.pagable_walk.specs.declared.{results.Trees.Ghosts, slots.{Standing.Standing, ArcSerSlot.ArcSerSlot}}
+use Rattle.pagable_walk.specs.Slots.{shelf_in, after_failure, SlotIs, Changes, slot_of, claimed_by, IsNamed}
+use Rattle.pagable_walk.specs.declared.{results.Trees.Ghosts, slots.ArcSerSlot.ArcSerSlot}
 use mathlib.Core.{HLevel.Σ_prop_path, Logic.{∥∥₁_elim, ∥∥₁_map, ∥∥₁_prop}}
 use native.Mathlib.Nat.{ℕ_set}
 
@@ -16,14 +16,19 @@ pub closed : (slot : Option Slot) → is_open_slot slot ≡ false → (w : ℕ) 
 closed None h w e = none-some w e
 closed (Some x) h w e = none-some w (sym (ap (λ b. if b then Some x.worker else None) h) ∙ e)
 
--- where a slot isn't found to be open it isn't
-pub not-open : {E : Type 0} {g : Ghosts E} (i : Identity) (slot : Option Slot) (st : Standing E g) → Stands i slot st → ((w : ℕ) → st ≡ Standing.Open w → ⊥) → is_open_slot slot ≡ false
-not-open i slot st stands none = grind (arith, nat_tests)
+-- where the worker that it waits for leads, it does; and where it waits for none it goes no further
+pub leads-on : (s : Shelf) (v u w : ℕ) → waits_for s u ≡ Some w → nat_eq u v ≡ false → (b : Bool) → Leads s v w b → Leads s v u b
+leads-on s v u w is differs b h = grind (arith, nat_tests, same_some, waits-back, waits-on)
 
--- where the worker that it waits for leads, it does
-pub leads-on : (s : Shelf) (v u : ℕ) (i : Identity) → s.waits u ≡ Some i → nat_eq u v ≡ false → (w : ℕ)
-    → (x : Slot) × (s.slots i ≡ Some x) × (x.outcome ≡ no_result) × (x.worker ≡ w) → (b : Bool) → Leads s v w b → Leads s v u b
-leads-on s v u i waits differs w there b h = grind (arith, nat_tests, waits-back, waits-on)
+pub leads-no-more : (s : Shelf) (v u : ℕ) → waits_for s u ≡ None → nat_eq u v ≡ false → Leads s v u false
+leads-no-more s v u none differs = by (s.waits u) refl none
+  where
+    not-open : (slot : Option Slot) → open_worker slot ≡ None → is_open_slot slot ≡ false
+    not-open slot none = grind (arith, nat_tests)
+
+    by : (found : Option Identity) → s.waits u ≡ found → if_there (λ i. open_worker (s.slots i)) None found ≡ None → ComesToEnd s v u
+    by None is none = works u differs is
+    by (Some i) is none = may-go-on u i differs is (not-open (s.slots i) none)
 
 -- once its wait is forgotten
 module _ (s s1 s2 : Shelf) (v : ℕ) (i : Identity) (same : SameShelf (with_wait s v None) s1) where
@@ -172,8 +177,6 @@ module _ (s : Shelf) where
       let m = how-long ends w in
       let is : n.0 ≡ suc m.0 = ∥∥₁_elim n.1 (ℕ_set _ _) (λ a. ∥∥₁_elim m.1 (ℕ_set _ _) (λ b. same-long n.0 (suc m.0) u a (w, e, b))) in
       omega (arith, is)
-
-pub ruleset empty = (nat_tests, common_steps, no-waits, none-some)
 
 -- ---- what a worker's failure makes of its claims, one row after another
 

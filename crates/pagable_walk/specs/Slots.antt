@@ -4,7 +4,7 @@ use Rattle.std.specs.{Arc.arc_value, Option.option_map, Prelude.{Bool, IfErr, If
 use Rattle.pagable_world.specs.{Workers.{ComesBack, ComesToEnd, IsOpenSlot, IsPublished, IsTooDeep, is_open_outcome, with_outcome, with_slot, with_wait}, World.{SameShelf, Shelf, Slot, Written}}
 use Rattle.pagable_world.specs.{World.{failed, is_identity, no_result, published}, declared.events.Claim.Claim}
 use Rattle.{indexmap.specs.IndexMap.{IndexMap, get}, pagable_core.specs.declared.context.writing.SerializedData.SerializedData, pagable_walk.specs.declared.results.SlotResult.SlotResult}
-use Rattle.{pagable_walk.specs.declared.{results.Trees.Ghosts, slots.{ArcSerSlot.ArcSerSlot, Outcome.Outcome, Standing.Standing}}, pagable_world.specs.Plain.{Error, Identity, if_there, longest_path}}
+use Rattle.{pagable_walk.specs.declared.{results.Trees.Ghosts, slots.{ArcSerSlot.ArcSerSlot, Outcome.Outcome}}, pagable_world.specs.Plain.{Error, Identity, if_there, longest_path}}
 use Rattle.pagable_world.specs.World as world
 
 abbrev pub is_same : ℕ × ℕ → ℕ × ℕ → Bool
@@ -69,17 +69,6 @@ module _ {E : Type 0} {g : Ghosts E} where
   FailedTo v (suc n) [] new = new ≡ []
   FailedTo v (suc n) (e ∷ es) [] = ⊥
   FailedTo v (suc n) (e ∷ es) (f ∷ fs) = FailedRow v e f × FailedTo v n es fs
-
-  -- the row of this place is failed besides
-  pub record FailsAt (v place : ℕ) (old new : List ((ℕ × ℕ) × ArcSerSlot E g)) : Type 0 where
-    pub more : (first : List ((ℕ × ℕ) × ArcSerSlot E g)) → FailedTo v place first old → FailedTo v (suc place) first new
-
-  -- what stands at an identity, whose slot is this
-  abbrev pub Stands : Identity → Option Slot → Standing E g → Type 0
-  Stands i slot Standing.Free = slot ≡ None
-  Stands i slot (Standing.Open w) = (x : Slot) × (slot ≡ Some x) × (x.outcome ≡ no_result) × (x.worker ≡ w)
-  Stands i slot (Standing.Known r) = (r.identity ≡ i) × ((x : Slot) × (slot ≡ Some x) × (x.outcome ≡ published r.key r.height))
-  Stands i slot Standing.Failed = (x : Slot) × (slot ≡ Some x) × (x.outcome ≡ failed)
 
 -- the slots with this one at an identity
 abbrev pub SlotIs : (Identity → Option Slot) → Identity → Option Slot → (Identity → Option Slot) → Type 0

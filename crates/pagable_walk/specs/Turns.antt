@@ -111,12 +111,8 @@ module _ {X : Type 0} {g : Ghosts X} where
     pub counts : moved.counted ≡ is_counted (todo_of task ∷ below) (plain_took moved.took)
 
   -- with an answer the worker ends
-  abbrev pub Closing : {N E : Type 0} → Values N → ℕ → Turn X g → PagerState N E → PagerState N E → Type 0
-  Closing v n (Turn.Goes t) s s' = s' ≡ s
-  Closing v n (Turn.Answers a) s s' = Called v (λ w'. WorkerEnds s.core n w') s s'
-
   pub record Closes {N E : Type 0} (v : Values N) (n : ℕ) (turn : Turn X g) (s s' : PagerState N E) : Type 0 where
-    pub closes : Closing v n turn s s'
+    pub closes : MatchOption (answer_in turn) (s' ≡ s) (λ a. Called v (λ w'. WorkerEnds s.core n w') s s')
 
   abbrev pub acting_then : {E : Type 0} → Turn X g → Acting E → Acting E
   acting_then (Turn.Goes t) a = a

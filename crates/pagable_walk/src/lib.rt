@@ -10,7 +10,7 @@ pub mod tasks;
 pub mod turns;
 
 pub use results::{SlotResult, Trees};
-pub use slots::{ArcSerSlot, Outcome, Standing};
+pub use slots::{ArcSerSlot, Outcome};
 pub use step::{page_out_item_over, page_out_pending_over};
 pub use table::{Found, PageOutError, SlotTable};
 pub use tasks::{Done, Moved, Node, Task, Turn, Waiting};

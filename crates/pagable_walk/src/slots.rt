@@ -3,7 +3,7 @@
 ghost use Rattle.std.specs.{Arc.arc_value, Prelude.{IfErr, IfOk, None, OnErr, OnOk, Some, ◌≡◌}};
 ghost use Rattle.pagable_world.specs.{Workers.{with_changed_slot, with_failed, with_slot, IsOpenSlot, with_wait, ComesToEnd, with_outcome}, World.{Slot, failed, SameShelf, published}};
 ghost use Rattle.{pagable_world.specs.Events.no_shelf, pagable_model.specs.declared.numbers.Identity.Identity as Named, pagable_walk.specs.{Table.{IsFoundOf, shelf_of, found_as}, Slots.written_of}};
-ghost use Rattle.pagable_walk.specs.Slots.{AreNamed, with_written, after_failure, RefusesClaim, ClaimsThere, claimed_by, slot_of, Would, IsNamed, Stands, FailsAt, failed_by, slots_in, Leads};
+ghost use Rattle.pagable_walk.specs.Slots.{AreNamed, with_written, after_failure, RefusesClaim, ClaimsThere, claimed_by, slot_of, Would, IsNamed, failed_by, slots_in, Leads, waits_for};
 
 use crate::{Found, SlotResult, SlotTable, Trees};
 use indexmap::IndexMap;
@@ -29,19 +29,6 @@ pub struct ArcSerSlot<E: Trees> {
     pub worker: WorkerNumber,
     pub written: Option<Arc<SerializedData>>,
     pub outcome: Outcome<E>,
-}
-
-/// What stands at an identity.
-#[derive(Drop)]
-pub enum Standing<E: Trees> {
-    /// Nobody has claimed it.
-    Free,
-    /// The worker of this number has, and there is no result yet.
-    Open(u64),
-    /// Its result.
-    Known(SlotResult<E>),
-    /// Its worker failed.
-    Failed,
 }
 
 impl<E: Trees> ArcSerSlot<E> {
@@ -76,34 +63,6 @@ impl<E: Trees> ArcSerSlot<E> {
     }
 }
 
-/// What stands at an identity.
-pub fn look_up<E: Trees>(
-    slots: &IndexMap<(u32, u64), ArcSerSlot<E>>,
-    identity: Identity,
-) -> Standing<E>
-    requires { AreNamed slots.now }
-    ensures { Stands identity (slots_in slots.now identity) result }
-{
-    match slots.get(&(identity.kind.0, identity.node.0)) {
-        None => Standing::Free,
-        Some(slot) => match &slot.outcome {
-            Outcome::Open => Standing::Open(slot.worker.0),
-            Outcome::Published(found) => Standing::Known(found.again()),
-            Outcome::Failed => Standing::Failed,
-        },
-    }
-}
-
-// The claim of this place is failed, if it is this worker's and has no result yet.
-#[tactic(auto, using(crate::proofs::Waits::failing))]
-fn fail_at<E: Trees>(slots: &mut IndexMap<(u32, u64), ArcSerSlot<E>>, place: usize, worker: u64)
-    ensures { FailsAt worker place slots.old.entries slots.new.entries }
-{
-    if let Some(slot) = slots.get_index_mut(place) {
-        slot.fail_of(worker);
-    }
-}
-
 /// A worker's claims without a result are failed. It takes no memory.
 #[tactic(auto, using(crate::proofs::Waits::failing))]
 pub fn fail_all<E: Trees>(slots: &mut IndexMap<(u32, u64), ArcSerSlot<E>>, worker: u64)
@@ -112,11 +71,26 @@ pub fn fail_all<E: Trees>(slots: &mut IndexMap<(u32, u64), ArcSerSlot<E>>, worke
     ensures own { AreNamed slots.new }
 {
     for place in 0..slots.len() {
-        fail_at(slots, place, worker);
+        let Some(slot) = slots.get_index_mut(place) else {
+            continue;
+        };
+        slot.fail_of(worker);
     }
 }
 
 impl<E: Trees> SlotTable<E> {
+    // Whom a worker waits for.
+    fn waits_for(&self, worker: u64) -> Option<u64>
+        ensures { result ≡ waits_for (shelf_of self.now) worker }
+    {
+        let identity = self.waits.get(&worker)?;
+        let slot = self.slots.get(&(identity.kind.0, identity.node.0))?;
+        if matches!(&slot.outcome, Outcome::Open) {
+            return Some(slot.worker.0);
+        }
+        None
+    }
+
     /// Whether the worker `start` waits for one that waits, and so on, for the worker `asker`. As no workers wait in a ring, that comes to an end.
     pub fn comes_back(&self, asker: u64, start: u64) -> bool
         ensures { Leads (shelf_of self.now) asker start result }
@@ -126,10 +100,7 @@ impl<E: Trees> SlotTable<E> {
             if worker == asker {
                 return true;
             }
-            let Some(identity) = self.waits.get(&worker) else {
-                return false;
-            };
-            let Standing::Open(next) = look_up(&self.slots, *identity) else {
+            let Some(next) = self.waits_for(worker) else {
                 return false;
             };
             worker = next;
@@ -145,17 +116,19 @@ impl<E: Trees> SlotTable<E> {
         if place > 128 {
             return Err(Error::TooDeep);
         }
-        match look_up(&self.slots, identity) {
-            Standing::Free => Ok(Found::Claimed),
-            Standing::Failed => Ok(Found::AlreadyFailed),
-            Standing::Known(found) => {
+        let Some(slot) = self.slots.get(&(identity.kind.0, identity.node.0)) else {
+            return Ok(Found::Claimed);
+        };
+        match &slot.outcome {
+            Outcome::Failed => Ok(Found::AlreadyFailed),
+            Outcome::Published(found) => {
                 if found.height > 128 - place {
                     return Err(Error::TooDeep);
                 }
-                Ok(Found::Known(found))
+                Ok(Found::Known(found.again()))
             }
-            Standing::Open(other) => {
-                if self.comes_back(worker.0, other) {
+            Outcome::Open => {
+                if self.comes_back(worker.0, slot.worker.0) {
                     return Err(Error::TooDeep);
                 }
                 Ok(Found::Waiting)
@@ -199,14 +172,12 @@ impl<E: Trees> SlotTable<E> {
     }
 
     /// A table of no claims. It takes no memory.
-    #[tactic(auto, using(crate::proofs::Waits::empty))]
     pub fn new(alloc: Global) -> SlotTable<E>
         ensures { SameShelf no_shelf (shelf_of result) }
     {
-        SlotTable {
-            slots: IndexMap::new(alloc),
-            waits: IndexMap::new(alloc),
-        }
+        let slots = IndexMap::new(alloc);
+        let waits = IndexMap::new(alloc);
+        SlotTable { slots, waits }
     }
 
     /// A worker claims an identity at this place on a path, or learns what is known there. It waits only for a worker that doesn't come to wait for it. Refused with TooDeep where the path is too

@@ -87,7 +87,7 @@ pub fn after_claim<E: Trees>(
 }
 
 /// Pins what was claimed, or begins a load of it.
-#[tactic(auto, using(crate::proofs::Turning::pinning))]
+#[tactic(auto, using(std::proofs::lemmas::Bool::Decides::nat_tests))]
 pub fn pin<E: Env<Node: NodeSet<E>>, A: WorkerAccess<E>>(
     access: &mut A,
     alloc: Global,
@@ -356,7 +356,7 @@ pub fn finish<E: Env<Node: NodeSet<E>>, A: WorkerAccess<E>>(
 }
 
 /// Sets the key of a node whose blob was stored.
-#[tactic(auto, using(crate::proofs::Turning::releasing))]
+#[tactic(auto, using(std::proofs::lemmas::Bool::Decides::nat_tests))]
 pub fn set_key<E: Env<Node: NodeSet<E>>, A: WorkerAccess<E>>(
     access: &mut A,
     path: &mut Vec<Waiting<E>>,
@@ -383,7 +383,7 @@ pub fn set_key<E: Env<Node: NodeSet<E>>, A: WorkerAccess<E>>(
 }
 
 /// Gives up the worker's handles of a node that is done. Its result goes to what waits for it; where nothing does, its key is answered.
-#[tactic(auto, using(crate::proofs::Turning::releasing, crate::proofs::Stacks::ways))]
+#[tactic(auto, using(std::proofs::lemmas::Bool::Decides::nat_tests, crate::proofs::Stacks::ways))]
 pub fn release<E: Env<Node: NodeSet<E>>, A: WorkerAccess<E>>(
     access: &mut A,
     worker: WorkerNumber,

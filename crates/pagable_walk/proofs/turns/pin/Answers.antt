@@ -1,4 +1,4 @@
-use Rattle.{pagable_loads.proofs.Stepped.acts_map, pagable_walk.{proofs.Turning.{pin-begins, pin-holds}, specs.Tasks.todos}}
+use Rattle.{pagable_loads.proofs.Stepped.acts_map, pagable_walk.{proofs.Turning.{pin-begins, pin-fails, pin-holds}, specs.Tasks.todos}}
 
 pub returns-in-Held-clause-acts : Rattle.pagable_walk.proofs.turns.pin.Goals.returns-in-Held-clause-acts
 returns-in-Held-clause-acts g c n shelf =
@@ -8,3 +8,7 @@ pub returns-in-Begun-clause-acts : Rattle.pagable_walk.proofs.turns.pin.Goals.re
 returns-in-Begun-clause-acts g c n shelf =
     let says = c.new-reading.ensures in
     rw c.named-identity.ensures (acts_map (rw c.in-Begun.is at c.in-Ok.ensures) (pin-begins _ _ n shelf c.args.reference c.args.place (todos c.args.path.now.items) c.in-Begun.through c.in-Begun.load c.in-Begun.key c.new-reading.result says.reading says.key says.for_cell))
+
+pub returns-in-Err-clause-acts : Rattle.pagable_walk.proofs.turns.pin.Goals.returns-in-Err-clause-acts
+returns-in-Err-clause-acts g c n shelf = rw c.named-identity.ensures (acts_map c.in-Err.ensures
+    (pin-fails _ _ n shelf c.args.reference c.args.place (todos c.args.path.now.items) c.in-Err.e c.refuse.result _ c.refuse.ensures.plain c.refuse.ensures.todo))
