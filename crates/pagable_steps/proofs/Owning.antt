@@ -326,8 +326,7 @@ module _ {N E : Type 0} {v : Values N} {s : PagerState N E} (s' : PagerState N E
       ap is_some (values n) ∙ (valued ∙ sym (like.spares.holds n))) right.counted (right.whole like.shut)
 
   comes-with : (x : N) → v.node_type x ≡ t → v.references x ≡ references → is_pinning mode ≡ true → ((n : ℕ) → s'.values n ≡ (if n == next then Some x else s.values n)) → IsRight s' → WellFormed v s'
-  comes-with x is_typed named pinning = comes (Some x) (receives-it.value x named (ap (λ c. if_there (λ (cell : Cell). Some cell.node_type) None c) new-cell ∙ ap (λ u. Some u) (sym is_typed)))
-      (sym (pinned-here made next (let p = pins-made next in let q = self-number next in grind (arith, nat_tests))))
+  comes-with x is_typed named pinning = grind (arith, nat_tests, comes, receives-it, new-cell, pinned-here, pins-made, self-number)
 
   comes-away : (key : ℕ) → own ≡ OptionalDataKey.Some key → references ≡ [] → is_pinning mode ≡ false → ((n : ℕ) → s'.values n ≡ s.values n) → IsRight s' → WellFormed v s'
   unfolding is_named_by
