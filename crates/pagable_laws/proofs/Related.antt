@@ -3,8 +3,8 @@
 use Rattle.pagable_laws.proofs.{Again.{Under, alone, here, narrowed, part_of}, Trees.{AllTwo, Along, EntryAlong, entries-two, flag-same, followed-along, form-along, integer-along, lifted-along}}
 use Rattle.pagable_laws.proofs.Trees.{more-two, no-two, none-along, number-along, one-two, pair-along, pattern-along, plain-along, put_all-two, reference-along, sequence-two, sorted-two, text-along}
 use Rattle.pagable_laws.proofs.{Trees.variant-along, Words.{Bool, Err, Error, Form, IsReadable, LiesIn, List, Meaning, None, Ok, Option, Result, Shape, Some, Throughout, [], ap, append-nil}}
-use Rattle.pagable_laws.proofs.Words.{append_assoc, arith, cases_Bool, cases_lt, drop, followed, if◌then◌else◌, inl, inr, length, length-append, map, nat_tests, none, pair, put_all, read, refl}
-use Rattle.pagable_laws.{proofs.Words.{rename, rest, rules, subst, suc, sym, true, variant, zero, ℕ, ◌*◌, ◌++◌, ◌+◌, ◌==◌, ◌∙◌, ◌∷◌, ◌≡◌, ◌≤◌, ◌⊎◌}, specs.FormLaws.{IsLasting, IsLocal, IsNatural}}
+use Rattle.pagable_laws.proofs.Words.{append_assoc, arith, cases_Bool, cases_lt, followed, if◌then◌else◌, inl, inr, length, length-append, map, nat_tests, none, pair, put_all, read, refl}
+use Rattle.pagable_laws.{proofs.Words.{rename, rest, rules, subst, suc, sym, true, variant, zero, ℕ, ◌*◌, ◌++◌, ◌+◌, ◌==◌, ◌∙◌, ◌∷◌, ◌≡◌, ◌⊎◌}, specs.FormLaws.{IsLasting, IsLocal, IsNatural}}
 use Rattle.{pagable_laws.specs.FormLaws.{IsReadOver, IsReadThrough, IsRenamed, IsUsed, KeepsForms, at, with_more}, pagable_model.specs.Basic.{bool_at, bytes_at, carried, char_at, duration_at}}
 use Rattle.pagable_model.specs.{Basic.{length_at, longest, nanos_of_second, text_at}, Canonical.HasNoReference, Carried.{of_entries, of_hash_map, of_tagged}, Keys.{code_order, put_placed_item}}
 use Rattle.pagable_model.specs.{Keys.{put_sorted, put_sorted_item, text_order}, Meaning.{absent, entry, failure, lifted, present, sequence, success}, Numbers.{Read, byte_at, last_of, more_of}}
@@ -75,11 +75,9 @@ bytes_join = record { assoc = append_assoc; start = λ a. refl }
 pub byte_tame : Tame ◌++◌ Sober byte_at
 byte_tame = record { comes = elim [ [] ↦ (tt, inl (inl refl)) | b ∷ bs ↦ record { used = b ∷ []; whole = refl; reads = λ y. refl } ] }
 
-front_of : (n : ℕ) (bs : List ℕ) → n ≤ length bs → Front ◌++◌ (bytes_at n) bs (take n bs) (drop n bs)
-front_of n bs le = record { used = take n bs; whole = sym (take-append-drop n bs); reads = λ y. grind (arith, nat_tests, le-ltb, length-append, take_at, drop_at, length-take-le n bs le) }
-
 pub bytes_tame : (n : ℕ) → Tame ◌++◌ Sober (bytes_at n)
-bytes_tame n = record { comes = λ bs. elim (cases_lt (length bs) n) [ inl lt ↦ rw (lt-ltb (length bs) n lt) (tt, inl (inl refl)) | inr le ↦ rw (le-ltb (length bs) n le) (front_of n bs le) ] }
+bytes_tame n = record { comes = λ bs. elim (cases_lt (length bs) n) [ inl lt ↦ rw (lt-ltb (length bs) n lt) (tt, inl (inl refl)) | inr le ↦ rw (le-ltb (length bs) n le)
+    (record { used = take n bs; whole = sym (take-append-drop n bs); reads = λ y. grind (arith, nat_tests, le-ltb, length-append, take_at, drop_at, length-take-le n bs le) }) ] }
 
 varint_tame : (more last : ℕ) → Tame ◌++◌ Sober (varint_at more last)
 unfolding varint_at
@@ -138,15 +136,12 @@ module _ {A : Type 0} where
   seen_tame : {X Y U : Type 0} {get : Gets A Y} (view : X → Y → U) → Tame more Any get → (v : X) → Tame more Any (λ i. seen (view v) get i)
   seen_tame view h v = and_then joins (λ y i. Ok (view v y, i)) _ (λ i. refl) h (λ y. gives joins (view v y))
 
-module _ {A X Y : Type 0} (read : List ℕ → Read X) (view : X → Y) (h : Tame ◌++◌ Sober read) where
+module _ {A X Y : Type 0} (read : List ℕ → Read X) (view : X → Y) where
   bytes_come : (i : Rest A) (first : Read X) → Comes ◌++◌ Sober read i.bytes first → Comes more Any (bytes_of read view) i
       (first >>= λ p. let z : Result (Y × Rest A) Error = Ok (view p.0, record i { bytes = p.1 }) in z)
   bytes_come i (Ok p) g = record { used = rest g.used []; whole = ap (λ (b : List ℕ). rest b i.refs) g.whole; reads = λ y. rw g.reads refl }
   bytes_come i (Err e) (sober, inl ends) = (tt, inl ends)
   bytes_come i (Err e) (sober, inr stays) = (tt, inr (λ x. rw stays refl))
-
-  pub of_bytes : Tame (more {A = A}) Any (bytes_of read view)
-  of_bytes = record { comes = λ i. bytes_come i (read i.bytes) (h.comes i.bytes) }
 
 module _ {A B : Type 0} (look : Look A B) where
   reference_comes : (kind : ℕ) (bytes : List ℕ) (refs : List A) → Comes more Any (λ i. reference_at look kind i.refs i) (rest bytes refs) (reference_at look kind refs (rest bytes refs))
@@ -204,7 +199,8 @@ module _ {A B : Type 0} {E : Error → Error → Type 0} {T : List A → List B 
 
   pub bytes_par : {X Y Z : Type 0} {V : X → Y → Type 0} (read : List ℕ → Read Z) → Tame ◌++◌ Sober read → (view : Z → X) (view2 : Z → Y) → ((z : Z) → V (view z) (view2 z))
       → Par E T V (bytes_of read view) (bytes_of read view2)
-  bytes_par {X} {Y} {Z} {V} read t view view2 h = record { out = λ r q s. rw s.bytes (by r q s.refs (read r.bytes) (t.comes r.bytes)); tame = of_bytes read view t }
+  bytes_par {X} {Y} {Z} {V} read t view view2 h =
+      record { out = λ r q s. rw s.bytes (by r q s.refs (read r.bytes) (t.comes r.bytes)); tame = record { comes = λ i. bytes_come read view i (read i.bytes) (t.comes i.bytes) } }
     where
       by : (r : Rest A) (q : Rest B) → T r.refs q.refs → (first : Read Z) → Comes ◌++◌ Sober read r.bytes first
           → Out E T V (first >>= λ z. let o : Result (X × Rest A) Error = Ok (view z.0, record r { bytes = z.1 }) in o)
