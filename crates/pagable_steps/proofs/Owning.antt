@@ -7,7 +7,7 @@ use Rattle.pagable_steps.proofs.Values.{same-value, settled, shut-alike, sits-on
 use Rattle.pagable_world.{proofs.Elements.among-left, specs.Calls.{AwayBirthCall, BirthCall, CloseCall, OfferCall, ReleaseCall, ScheduleCall, SetKeyCall, UnpinCall, is_named_by, moved, next_node}}
 use Rattle.pagable_world.specs.{Calls.{row_of, with_handle, with_key, with_mode, with_node}, Cascade.{AreNewEntries, Falls, FallsAnyhow, fallen, is_keyed, is_outside, left_rows, loses_value}}
 use Rattle.pagable_world.specs.{Cascade.{only_handle, owned_outside}, Kinds.{held, is_at, is_loose, is_owned_by, is_owner, is_pin, is_pinning, mode_of, owner_value, owner_worker, pins}}
-use Rattle.pagable_world.specs.{LoadCalls.{Adopts, DropCall, HandOverCall, Installs, LazyCall, LoadCloses, MayEnd, is_owned_in, numbers_of, with_pin, without_load}, Pager.{IsWhole, PagerState}}
+use Rattle.pagable_world.specs.{LoadCalls.{Adopts, DropCall, HandOverCall, Installs, LazyCall, LoadCloses, MayEnd, is_owned_in, numbers_of, with_pin, without_load}, Pager.PagerState}
 use Rattle.pagable_world.specs.{Pager.WellFormed, Plain.{Among, ArcRef, Error, HandleNumber, Kind, LoadNumber, NodeNumber, OptionalDataKey, if_there, is_in, one, times, type_of, updated}}
 use Rattle.pagable_world.specs.{Refusals.{Owns, references_fault}, Workers.{WorkerEnds, is_load_of, is_workers_at}, World.{Alike, Cell, Core, OpenLoad, Values, is_here, type_at, usable}}
 use Rattle.{pagable_world.specs.declared.{handles.{HandleRow.HandleRow, Owner.Owner}, rows.Mode.Mode}, std.proofs.Common.{Bool, Err, List, None, Ok, Option, Some, [], ap, arith, false, if◌then◌else◌}}
