@@ -343,9 +343,12 @@ headline_law E m start moments whole idle chain =
     record {
       chain = chain;
       work = record {
-        claims_right = record { distinct = grind (arith, nat_tests, one-small, all.claims); met = λ t i is.
-            let c : (slot : Slot) × ((end.work.shelves t).slots i ≡ Some slot) = grind (arith, nat_tests) in
-            let a = all.work.slots t i c.0 c.1 in record { n = c.0.worker; walking = a.walking; there = a.there; on_table = a.on_table; meets = a.meets } };
+        claims_right = record {
+          distinct = grind (arith, nat_tests, one-small, all.claims);
+          met = λ t i is.
+              let c : (slot : Slot) × ((end.work.shelves t).slots i ≡ Some slot) = grind (arith, nat_tests) in
+              let a = all.work.slots t i c.0 c.1 in record { n = c.0.worker; walking = a.walking; there = a.there; on_table = a.on_table; meets = a.meets };
+        };
         workers = worker m start end (events_of moments) (replies_of moments) idle all;
         loads = steps-left m.values end all.loads;
       };

@@ -379,12 +379,15 @@ low-handle w m node mode owner low a h among =
 module _ {N B W : Type 0} (m : Seen N B W) (v : ℕ) (s s' : Site) (low : AreLow s.core) where
   held : (todo : List Todo) (i : Identity) (k : HandleNumber) → workers.Does m v s todo (Took.Pin i (Ok (PinStep.Held k))) s'
       → HasPin s'.core k × (answer_after {W = W} todo (Took.Pin i (Ok (PinStep.Held k))) ≡ None)
-  held (to_pin r place ∷ below) i k (is, p) = (elim p.pins.1 [
-    | inl (sort, same, clone) ↦
-        let c = clone-call s.core s'.core low (owner_worker v) r.handle k clone in
-        (pins-by s'.core k (s.core.last.handle + 1) clone.made.2.above c.2 (not-loose c.0.mode (rw (same_some _ _ (sym sort.live ∙ c.1)) at sort.sort))).pin
-    | inr (sort, (mid, clone, pin)) ↦ (pin-call mid s'.core (low-handle s.core mid _ _ _ low clone.made.3) (owner_worker v) p.pins.0 k pin).pin
-  ], refl)
+  held (to_pin r place ∷ below) i k (is, p) = (
+    elim p.pins.1 [
+      | inl (sort, same, clone) ↦
+          let c = clone-call s.core s'.core low (owner_worker v) r.handle k clone in
+          (pins-by s'.core k (s.core.last.handle + 1) clone.made.2.above c.2 (not-loose c.0.mode (rw (same_some _ _ (sym sort.live ∙ c.1)) at sort.sort))).pin
+      | inr (sort, (mid, clone, pin)) ↦ (pin-call mid s'.core (low-handle s.core mid _ _ _ low clone.made.3) (owner_worker v) p.pins.0 k pin).pin
+    ],
+    refl,
+  )
   held (to_load r place through reading ∷ below) i k (is, p) =
       let e = p.goes.0.does.0 in ((end-call s.core s'.core low (owner_worker v) reading.load e.x _ _ k (λ n is. absurd (cc)) e.ended).pin, refl)
   held _ i k does = absurd does

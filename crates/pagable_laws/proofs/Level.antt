@@ -327,7 +327,7 @@ pages zero x xs few ok rest = rest
 pages (suc n) x xs few (works, asks, counts, ends, passes, at_work, ok) rest =
     let a = two.next_step x.core x.shelf x.todo in let y = two.next x in let few_then = few-next x.core x.shelf x.todo y.answer few in
     let (moments, premised) = pages n y xs few_then ok rest in (
-      does _ _ _ y.core two.two_values y.shelf (Some (two.walking y)) None 
+      does _ _ _ y.core two.two_values y.shelf (Some (two.walking y)) None
           (let d = does-so x.core x.shelf x.todo asks in let e = ends-so _ _ ends in search (arith, d, e, works, counts, none-there, again, same-shelf)) (λ n x is. inl is)
           (writes-so x.core x.shelf (two.work_of x.shelf (Some (two.walking x)) None) x.todo asks) (few_then, passes) (refl, at_work) tt ⨾ moments,
       asked _ _ tt (λ trees w is. subst (λ (w : Walking). TodoTakesWell two.sample (two.at_work x).pager w.todo) (same_some _ _ is) (grind (arith, nat_tests))) ⨾ premised,

@@ -3,8 +3,8 @@
 use Rattle.pagable_laws.proofs.{Again.{Under, alone, here, narrowed, part_of}, Trees.{AllTwo, Along, EntryAlong, entries-two, flag-same, followed-along, form-along, integer-along, lifted-along}}
 use Rattle.pagable_laws.proofs.Trees.{more-two, no-two, none-along, number-along, one-two, pair-along, pattern-along, plain-along, put_all-two, reference-along, sequence-two, sorted-two, text-along}
 use Rattle.pagable_laws.proofs.{Trees.variant-along, Words.{Bool, Err, Error, Form, IsReadable, LiesIn, List, Meaning, None, Ok, Option, Result, Shape, Some, Throughout, [], ap, append-nil}}
-use Rattle.pagable_laws.proofs.Words.{append_assoc, arith, cases_Bool, cases_lt, followed, if◌then◌else◌, inl, inr, length, length-append, map, nat_tests, none, pair, put_all, read, refl}
-use Rattle.pagable_laws.{proofs.Words.{rename, rest, rules, subst, suc, sym, true, variant, zero, ℕ, ◌*◌, ◌++◌, ◌+◌, ◌==◌, ◌∙◌, ◌∷◌, ◌≡◌, ◌⊎◌}, specs.FormLaws.{IsLasting, IsLocal, IsNatural}}
+use Rattle.pagable_laws.proofs.Words.{append_assoc, arith, cases_Bool, cases_lt, drop, followed, if◌then◌else◌, inl, inr, length, length-append, map, nat_tests, none, pair, put_all, read, refl}
+use Rattle.pagable_laws.{proofs.Words.{rename, rest, rules, subst, suc, sym, true, variant, zero, ℕ, ◌*◌, ◌++◌, ◌+◌, ◌==◌, ◌∙◌, ◌∷◌, ◌≡◌, ◌≤◌, ◌⊎◌}, specs.FormLaws.{IsLasting, IsLocal, IsNatural}}
 use Rattle.{pagable_laws.specs.FormLaws.{IsReadOver, IsReadThrough, IsRenamed, IsUsed, KeepsForms, at, with_more}, pagable_model.specs.Basic.{bool_at, bytes_at, carried, char_at, duration_at}}
 use Rattle.pagable_model.specs.{Basic.{length_at, longest, nanos_of_second, text_at}, Canonical.HasNoReference, Carried.{of_entries, of_hash_map, of_tagged}, Keys.{code_order, put_placed_item}}
 use Rattle.pagable_model.specs.{Keys.{put_sorted, put_sorted_item, text_order}, Meaning.{absent, entry, failure, lifted, present, sequence, success}, Numbers.{Read, byte_at, last_of, more_of}}
@@ -75,9 +75,11 @@ bytes_join = record { assoc = append_assoc; start = λ a. refl }
 pub byte_tame : Tame ◌++◌ Sober byte_at
 byte_tame = record { comes = elim [ [] ↦ (tt, inl (inl refl)) | b ∷ bs ↦ record { used = b ∷ []; whole = refl; reads = λ y. refl } ] }
 
+front_of : (n : ℕ) (bs : List ℕ) → n ≤ length bs → Front ◌++◌ (bytes_at n) bs (take n bs) (drop n bs)
+front_of n bs le = record { used = take n bs; whole = sym (take-append-drop n bs); reads = λ y. grind (arith, nat_tests, le-ltb, length-append, take_at, drop_at, length-take-le n bs le) }
+
 pub bytes_tame : (n : ℕ) → Tame ◌++◌ Sober (bytes_at n)
-bytes_tame n = record { comes = λ bs. elim (cases_lt (length bs) n) [ inl lt ↦ rw (lt-ltb (length bs) n lt) (tt, inl (inl refl)) | inr le ↦ rw (le-ltb (length bs) n le)
-    (record { used = take n bs; whole = sym (take-append-drop n bs); reads = λ y. grind (arith, nat_tests, le-ltb, length-append, take_at, drop_at, length-take-le n bs le) }) ] }
+bytes_tame n = record { comes = λ bs. elim (cases_lt (length bs) n) [ inl lt ↦ rw (lt-ltb (length bs) n lt) (tt, inl (inl refl)) | inr le ↦ rw (le-ltb (length bs) n le) (front_of n bs le) ] }
 
 varint_tame : (more last : ℕ) → Tame ◌++◌ Sober (varint_at more last)
 unfolding varint_at

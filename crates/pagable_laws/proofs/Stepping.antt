@@ -141,7 +141,7 @@ module _ {N : Type 0} (v : Values N) (g : Ground) (shelf : Shelf) (task : Task) 
         so-far-more shelf o.height new _ _ r more key height (omega arith) (omega arith) e known p,
         -- of two heights that are there the greater one is
         (let second : IsAttained shelf (above r.kind.0 height) o.written.references =
-        inr (record { r = r; among = next-among shelf o.written.references o.keys r more e; key = key; below = height; known = p; least = omega arith }) in grind arith),
+            inr (record { r = r; among = next-among shelf o.written.references o.keys r more e; key = key; below = height; known = p; least = omega arith }) in grind arith),
         place,
         omega arith,
         expects,
