@@ -14,7 +14,7 @@ use Rattle.pagable_laws.proofs.Words.{append_assoc, cases_Bool, false, give, hel
 use Rattle.pagable_laws.proofs.Words.{of_item, one, refl, subst, sum_by-cons, sym, times, to_fail, to_finish, to_item, to_load, to_pin, to_release, to_set, to_start, to_write, true, with_handle, ◌+◌}
 use Rattle.pagable_laws.{proofs.Words.{world_of, ◌&&◌, ◌++◌, ◌==◌, ◌∙◌, ◌∷◌, ◌≡◌, ◌≤◌}, specs.TreeSteps.{AllHold, Ground, HasHandle, IsDone, KeyIsSet, KeysHeld, Waits, Walks, ground_of}}
 use Rattle.{pagable_model.specs.Merkle.KeyOfItem, pagable_world.specs.Access.{AccessState, AllHaveResults, LoadAsksWell, LoadRun, PinLaw, ReadLaw, ReadingStep, WalkStep, WorkerRun, load-ends}}
-use Rattle.pagable_world.specs.{Access.{load-goes-on, worker-ends, worker-goes-on}, Headline.{AnswerIsKey, AnswerLeavesAll, AreKeysOf, FailedElsewhere, IsKeyOfTask, IsLeftPagedOut, IsMetFailure}}
+use Rattle.pagable_world.specs.{Access.{load-goes-on, worker-ends, worker-goes-on}, Headline.{AnswerIsKey, AnswerLeavesAll, AreKeysOf, FailedElsewhere, IsKeyOfTask, IsMetFailure}}
 use Rattle.pagable_world.specs.{Headline.{LeavesAll, Meets, PublishIsKey, ReadIsRight, meets-below, meets-entry, meets-of-item}, Kinds.has_key, LoadCalls.with_load, Loads.{Does as LoadDoes, gone_on}}
 use Rattle.pagable_world.specs.{Order.{Follows, Leads, is_claim_of, is_later_of}, Pager.{Moves, SameTrees, StandsFor, kids_of}, Plain.{is_loose_kind, longest_path}, Runs.TakesWell, Workers.fresh}
 use Rattle.{pagable_world.specs.{Workers.{first_todo, is_open_outcome, next_start}, World.{Fault, Root, is_identity, of_key, to_publish}}, std.{proofs.Math.Nat.zero-add, specs.Prelude.nat_le}}
@@ -231,11 +231,6 @@ module _ {N E : Type 0} (v : Values N) (s : MachineState N E) (trees : ℕ → T
       let w : b.0 ≡ written = same_some _ _ (sym b.1 ∙ ap (λ (z : Slot). z.written) same ∙ wrote) in
       let p = known-of shelf written.references b.2.keys (subst (λ (z : Written). AreKeysOf shelf z.references b.2.keys) w b.2.known) r among in (p.0, p.1)
 
-  left-paged-out : (i : Identity) (key height : ℕ) → IsPublished shelf i key height → IsLeftPagedOut v s.pager shelf trees i
-  left-paged-out i key height p =
-      let f = fit.slots t i p.slot p.claimed in let b = f.publishes key height p.known in let w = f.writes b.0 b.1 in
-      search (p.claimed, b.1, p, b.2.is_stored, b.2.known, w.is, tree-form w)
-
 -- a live cell whose key was set has one
 key-known : (w : Core) (n : ℕ) → KeyIsSet w n → is_some (w.cells n) ≡ true → (key : ℕ) × (key_at w n ≡ OptionalDataKey.Some key)
 key-known w n set live = elim (key_at w n) as (λ own. has_key own ≡ true → (key : ℕ) × (own ≡ OptionalDataKey.Some key))
@@ -264,7 +259,10 @@ module _ {N B W E : Type 0} (m : Seen N B W) (s s' : MachineState N E) (trees tr
 
   left-all : (t : ℕ) (task : Task) (key : ℕ) → IsDone m.values (s'.work.shelves t) task key → LeavesAll m.values s'.pager (s'.work.shelves t) trees' task
   left-all t task key done = record {
-    blobs = λ i meets. let p = met m.values s' trees' after t task key done i meets in left-paged-out m.values s' trees' after t i p.0 p.1.0 p.1.1;
+    blobs = λ i meets.
+        let (k, rest) = met m.values s' trees' after t task key done i meets in let (height, p) = rest in
+        let f = after.slots t i p.slot p.claimed in let b = f.publishes k height p.known in let w = f.writes b.0 b.1 in
+        search (p.claimed, b.1, p, b.2.is_stored, b.2.known, w.is, tree-form w);
     cells = λ i meets kind live.
         let p = met m.values s' trees' after t task key done i meets in let k = key-known s'.pager.core i.node.0 (held.slots t i p.0 p.1.0 p.1.1 kind) live in
         let handles = whole.pager.whole.handles in let represents = stands.pager in record { key = k.0; set = k.1; reads = (grind (arith, nat_tests)) };

@@ -117,26 +117,23 @@ begin-goes r x = (begins {lists = false} {Asks = Unit {0}} {Leaves = Unit {0}} r
 
 -- ---- what trees feel of each call that doesn't close the storage, by the call and its reply
 
--- a change, with what is done and how it is felt
-pub record CallGoes {N B W : Type 0} (m : Seen N B W) (w : Core) (me : Owner) (call : Call N B) (reply : Reply N B) (w' : Core) : Type 0 where
-  pub change : Change
-  pub does : Effect me true (Unit {0}) (LeavesCache {N = N} {B = B} {W = W} (Event.Call call)) false change w w'
-  pub feels : CallFeels m.values w me call reply w' change
-
 module _ {N B W : Type 0} (m : Seen N B W) (w : Core) (me : Owner) (free : NotLoads me) (w' : Core) where
-  abbrev CG : Call N B → Reply N B → Type 0
-  CG call reply = CallGoes m w me call reply w'
+  -- a change, with what is done and how it is felt
+  pub record CallGoes (call : Call N B) (reply : Reply N B) : Type 0 where
+    pub change : Change
+    pub does : Effect me true (Unit {0}) (LeavesCache {N = N} {B = B} {W = W} (Event.Call call)) false change w w'
+    pub feels : CallFeels m.values w me call reply w' change
 
-  so : {call : Call N B} {reply : Reply N B} (c : Change) → Effect me true (Unit {0}) (LeavesCache {N = N} {B = B} {W = W} (Event.Call call)) false c w w' → CallFeels m.values w me call reply w' c → CG call reply
+  so : {call : Call N B} {reply : Reply N B} (c : Change) → Effect me true (Unit {0}) (LeavesCache {N = N} {B = B} {W = W} (Event.Call call)) false c w w' → CallFeels m.values w me call reply w' c → CallGoes call reply
   so c does feels = record { change = c; does = does; feels = feels }
 
   -- nothing is felt, and the call brings no value
   quiet : {call : Call N B} {reply : Reply N B} → ((n : ℕ) (x : N) → CallBrings w call n x → IsNewNode w n ⊎ StaysAway w w' n)
-      → Effect me true (Unit {0}) (LeavesCache {N = N} {B = B} {W = W} (Event.Call call)) false nothing_felt w w' → CG call reply
+      → Effect me true (Unit {0}) (LeavesCache {N = N} {B = B} {W = W} (Event.Call call)) false nothing_felt w w' → CallGoes call reply
   quiet brings s = so nothing_felt s (feels-nothing brings)
 
   births : (call : Call N B) (x : N) (mode : Mode) → ((n : ℕ) (y : N) → CallBrings w call n y → (y ≡ x) × IsNewNode w n) → (r : Result HandleNumber (Error × N))
-      → BirthCall w me x (m.values.node_type x) (m.values.references x) mode r w' → CG call (Reply.Made r)
+      → BirthCall w me x (m.values.node_type x) (m.values.references x) mode r w' → CallGoes call (Reply.Made r)
   births call x mode brings (Ok k) c =
       let references = m.values.references x in
       let t = m.values.node_type x in
@@ -145,7 +142,7 @@ module _ {N B W : Type 0} (m : Seen N B W) (w : Core) (me : Owner) (free : NotLo
       (feels-birth x brings right)
   births call x mode brings (Err e) c = quiet (λ n y b. inl (brings n y b).1) (stays c.refused.1.stays)
 
-  pub calls-go : (call : Call N B) (reply : Reply N B) → KeepsOpen {N = N} {B = B} {W = W} (Event.Call call) → Does m w me call reply w' → CG call reply
+  pub calls-go : (call : Call N B) (reply : Reply N B) → KeepsOpen {N = N} {B = B} {W = W} (Event.Call call) → Does m w me call reply w' → CallGoes call reply
   calls-go (Call.NewPagedOut t key) (Reply.Handle (Ok k)) still c = so (bears_node t (OptionalDataKey.Some key))
       (like (handle (node w t (OptionalDataKey.Some key) [] (refl, refl) (own-named w [] (none-named w me))) (next_node w) Mode.LooseUnpinned me) c.made.2) (feels-away t key k)
   calls-go (Call.Clone h) (Reply.Handle r) still c = quiet (λ n x b. absurd b) (clones r c)

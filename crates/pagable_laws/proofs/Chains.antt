@@ -1,5 +1,5 @@
 -- A handle goes on to stand for its reference, as a clone does; a key that was set stays. And each event keeps trees: what it brings fits some trees afterwards, with all that its loads read.
-use Rattle.pagable_world.specs.{Headline.{HasLetGo, HeadlineLaw, IsRight, PinGives, StepsAreWithin, TableMeets, WorkerIsRight, claims_made, is_on_table}, Plain.is_loose_kind}
+use Rattle.pagable_world.specs.{Headline.{HasLetGo, HeadlineLaw, IsRight, PinGives, StepsAreWithin, WorkerIsRight, claims_made, is_on_table}, Plain.is_loose_kind}
 use Rattle.pagable_world.specs.{Calls.{SetKeyCall, row_of, with_key}, Kinds.fits_mode, World.{SameShelf, published, to_publish, type_at}, declared.{answers.Pinning.Pinning, events.PinStep.PinStep}}
 use Rattle.pagable_world.specs.{Kinds.is_loose, Pager.{EventBrings, IsReadingOf, StandsFor}, Runs.{Does as DoesMoment, Fact, IsPremised, TakesWell, TreesAfter, TreesAlong, events_of, replies_of}}
 use Rattle.pagable_world.specs.{Events.Ends, Order.{InOrder, OnceEach, is_claim_of, steps_of}, Refusals.Owns, Workers.{claim_fault, give_known, next_start, with_changed_slot, with_outcome}}
@@ -278,16 +278,13 @@ module _ {N B W : Type 0} (walkings : ℕ → Option Walking) (t : ℕ) (i : Ide
     is-still : one (is_some ((u.work.shelves t).slots i)) ≤ one (is_some ((u'.work.shelves t).slots i))
     is-still = let more = grow t i in grind (arith, nat_tests)
 
-    step-claims : {v : WorkerNumber} (reply : WorkerReply W) → WorkerSteps m u v reply u'
-        → one (is_some ((u.work.shelves t).slots i)) + one (is_on_table t (walkings v.0) && is_claim_of i reply.took) ≤ one (is_some ((u'.work.shelves t).slots i))
-    step-claims {v = v} reply s =
-        let k = keeps v.0 s.walking s.at in
-        let after = (s.work.same_shelves s.walking.table).slots i ∙ ap (λ (x : Shelf). x.slots i) (updated-at s.walking.table s.after.shelf u.work.shelves) in
-        grind (arith, nat_tests, is-still, puts-slot, is-same)
-
     pub event-claims : (event : Event N B W) (reply : EventReply N B W) → Happens m u event reply u'
         → one (is_some ((u.work.shelves t).slots i)) + claim_made walkings t i event reply ≤ one (is_some ((u'.work.shelves t).slots i))
-    event-claims x0 x1 h = grind (arith, nat_tests, step-claims, is-still)
+    event-claims (Event.WorkerStep v) (EventReply.WorkerMoved (Ok reply)) h =
+        let s = h.moves in let k = keeps v.0 s.walking s.at in
+        let after = (s.work.same_shelves s.walking.table).slots i ∙ ap (λ (x : Shelf). x.slots i) (updated-at s.walking.table s.after.shelf u.work.shelves) in
+        grind (arith, nat_tests, is-still, puts-slot, is-same)
+    event-claims x0 x1 h = grind (arith, nat_tests, is-still)
 
 module _ {N E B W : Type 0} (m : Seen N B W) where
   -- what a chain of these events comes to
@@ -321,25 +318,16 @@ module _ {N E B W : Type 0} (m : Seen N B W) where
       let cons = λ (q : ℕ) (i : Identity). claims-cons last q i x.event x.reply (events_of xs) (replies_of xs) in let now = step-within m s x.after whole loads x.event x.reply does.step.happens in
       (record { work = rest.work; whole = rest.whole; loads = rest.loads; keeps = on; gone = gone; claims = λ q i. omega (arith, cons q i, each q i, rest.claims q i) }, (now, within))
 
-module _ {N E B W : Type 0} (m : Seen N B W) (s : MachineState N E) (work : StandsIn (world_of s)) (whole : IsMachineWhole m.values s) where
-  is-met : (t : ℕ) (i : Identity) → is_some ((s.work.shelves t).slots i) ≡ true → TableMeets (world_of s) t i
-  is-met t i is =
-      let c : (slot : Slot) × ((s.work.shelves t).slots i ≡ Some slot) = grind (arith, nat_tests) in
-      let a = work.slots t i c.0 c.1 in
-      record { n = c.0.worker; walking = a.walking; there = a.there; on_table = a.on_table; meets = a.meets }
-
-  has-let-go : (n : ℕ) (walking : Walking) (answer : WorkerAnswer) → s.work.walkings n ≡ Some walking → walking.answer ≡ Some answer → HasLetGo (world_of s) n (s.work.shelves walking.table)
-  has-let-go n walking answer there is =
-      let rests : s.pager.core.workers n ≡ false = (whole.walkings n walking there).at_work ∙ ap is_none is in
-      let own : (h : HandleRow) → Among s.pager.core.rows h → (b : Bool) → is_owner (owner_worker n) h.owner ≡ b → one (is_owner (owner_worker n) h.owner) ≡ 0 =
-      λ h among b e. grind (arith, nat_tests, true-false, whole.pager.whole.owners_there.workers h n among, rests) in
-      grind (arith, nat_tests, own, work.workers n walking there, sum-zero, false_from_ne_true, true-false, rests)
-
 -- all that steps have come to
 module _ {N E B W : Type 0} (m : Seen N B W) (s end : MachineState N E) (happened : List (Event N B W)) (replied : List (EventReply N B W)) (idle : IsIdle s)
     (all : Arrives m s end happened replied) where
   worker : (n : ℕ) (walking : Walking) → end.work.walkings n ≡ Some walking → WorkerIsRight m.written_of (world_of end) n walking (steps_of n happened replied)
   worker n walking there =
+      let let_go : (answer : WorkerAnswer) → walking.answer ≡ Some answer → HasLetGo (world_of end) n (end.work.shelves walking.table) = λ answer is.
+      let rests : end.pager.core.workers n ≡ false = (all.whole.walkings n walking there).at_work ∙ ap is_none is in
+      let own : (h : HandleRow) → Among end.pager.core.rows h → (b : Bool) → is_owner (owner_worker n) h.owner ≡ b → one (is_owner (owner_worker n) h.owner) ≡ 0 =
+      λ h among b e. grind (arith, nat_tests, true-false, all.whole.pager.whole.owners_there.workers h n among, rests) in
+      grind (arith, nat_tests, own, all.work.workers n walking there, sum-zero, false_from_ne_true, true-false, rests) in
       let nobody : HasGone m.written_of n s.work.shelves (s.work.walkings n) [] = subst (λ o. HasGone m.written_of n s.work.shelves o []) (sym (idle.walkings n)) refl in
       let went = rw there at (all.gone n [] nobody) in
       let order : InOrder m.written_of walking.task (steps_of n happened replied) = record { left = walking.todo; leads = went.leads } in
@@ -347,7 +335,6 @@ module _ {N E B W : Type 0} (m : Seen N B W) (s end : MachineState N E) (happene
       λ i. le_trans (own-claims end.work.walkings walking.table i n walking there refl happened replied) (grind (arith, nat_tests, one-small)) in
       let once : OnceEach (steps_of n happened replied) =
       record { claim = few; later = λ stage i. at-once stage i m.written_of walking.task (steps_of n happened replied) walking.todo went.leads (few i) } in
-      let let_go = λ (answer : WorkerAnswer) (is : walking.answer ≡ Some answer). has-let-go m end all.work all.whole n walking answer there is in
       let within = went.within in record { order = order; once = once; bounded = omega arith; met = went.met; let_go = let_go }
 
 pub headline_law : {N B W : Type 0} (E : Type 0) (m : Seen N B W) → HeadlineLaw E m
@@ -356,7 +343,12 @@ headline_law E m start moments whole idle chain =
     record {
       chain = chain;
       work = record {
-        claims_right = record { distinct = grind (arith, nat_tests, one-small, all.claims); met = is-met m end all.work all.whole };
+        claims_right = record {
+          distinct = grind (arith, nat_tests, one-small, all.claims);
+          met = λ t i is.
+              let c : (slot : Slot) × ((end.work.shelves t).slots i ≡ Some slot) = grind (arith, nat_tests) in
+              let a = all.work.slots t i c.0 c.1 in record { n = c.0.worker; walking = a.walking; there = a.there; on_table = a.on_table; meets = a.meets };
+        };
         workers = worker m start end (events_of moments) (replies_of moments) idle all;
         loads = steps-left m.values end all.loads;
       };

@@ -65,17 +65,15 @@ rows-once q (h ∷ hs) apart =
     let off : h.number.0 ≡ q → times (is_handle q) hs ≡ 0 = λ same. sum-zero (λ x. one (is_handle q x)) hs (λ x (i, there). let lt = apart 0 (suc i) h x (omega arith) refl there in grind (arith, nat_tests, same-number)) in
     grind (arith, nat_tests, one, same-number)
 
-pub handles-once : {w : Core} → HandlesAreWhole w → (q : ℕ) → times (is_handle q) w.rows ≤ 1
-handles-once {w} whole q = rows-once q w.rows (λ i j a b lt at there.
-    rw (get_or_from_slice_get w.rows i a a at, get_or_from_slice_get w.rows j b a there) at (whole.ordered i j a lt (slice_get_within w.rows j b there)))
-
 pub one-less : (a b : Bool) → one (a && b) ≤ one a
 one-less x0 x1 = grind (arith, nat_tests)
 
 -- and an owner's once at most
 pub owned-once : {w : Core} → HandlesAreWhole w → (o : Owner) (q : ℕ) → times (λ h. is_handle q h && is_owned_by o h) w.rows ≤ 1
 owned-once {w} whole o q =
-    le_trans (sum-le (λ h. one (is_handle q h && is_owned_by o h)) (λ h. one (is_handle q h)) w.rows (λ h among. one-less (is_handle q h) (is_owned_by o h))) (handles-once whole q)
+    le_trans (sum-le (λ h. one (is_handle q h && is_owned_by o h)) (λ h. one (is_handle q h)) w.rows (λ h among. one-less (is_handle q h) (is_owned_by o h)))
+    (rows-once q w.rows (λ i j a b lt at there.
+    rw (get_or_from_slice_get w.rows i a a at, get_or_from_slice_get w.rows j b a there) at (whole.ordered i j a lt (slice_get_within w.rows j b there))))
 
 -- what is so of each of both lists is so of each of the one, and of the other
 pub halves : {X : Type 0} {P : X → Type 0} (xs ys : List X) → ((x : X) → Among (xs ++ ys) x → P x) → ((x : X) → Among xs x → P x) × ((x : X) → Among ys x → P x)
@@ -105,9 +103,6 @@ stands-leads f k h = search (number-leads, integer-leads, text-leads, pattern-le
 
 module _ {N E : Type 0} {v : Values N} {s : PagerState N E} {trees : ℕ → Tree} (represents : Represents v s trees) (whole : WellFormed v s) (settled : HoldsSettled v s)
     (reads : ReadsItsTypes v.types) (lawful : IsLawful v) where
-  names-once : (n : ℕ) (x : N) (own : Meaning ArcRef) → s.values n ≡ Some x → v.means x own → (q : ℕ) → times (λ (r : ArcRef). r.handle.0 == q) (references_in own) ≤ 1
-  names-once n x own there means q = omega (arith, lawful.refers x own means (λ r. r.handle.0 == q), whole.inside n x q there, owned-once whole.whole.handles (owner_value n) q)
-
   refers : (n : ℕ) (x : N) (r : ArcRef) → s.values n ≡ Some x → Among (v.references x) r
       → (r.node.0 ≤ s.core.last.node) × ((b : Meaning ⊥) → NodeStands v s r.node.0 (tree (type_of r.kind.0) b) → (trees r.node.0).meaning ≡ b)
   refers n x r there among =
@@ -127,7 +122,9 @@ module _ {N E : Type 0} {v : Values N} {s : PagerState N E} {trees : ℕ → Tre
       let follows : FollowsTo trees written.references w.form.own (trees n).meaning =
       stands-leads meant alone.1 (λ r own c among b stands. (among, (refers n w.x r w.held (of-value r among)).1 b stands)) in
       let given : (r : ArcRef) → Among written.references r → r.node.0 ≤ s.core.last.node = λ r among. (refers n w.x r w.held (of-value r among)).0 in
-      search (shape_is, w.form.form, follows, given, names-once n w.x w.form.own w.held w.form.means)
+      let once : (q : ℕ) → times (λ (r : ArcRef). r.handle.0 == q) (references_in w.form.own) ≤ 1 =
+      λ q. omega (arith, lawful.refers w.x w.form.own w.form.means (λ r. r.handle.0 == q), whole.inside n w.x q w.held, owned-once whole.whole.handles (owner_value n) q) in
+      search (shape_is, w.form.form, follows, given, once)
   wrote-of n written t is (away n2 key t2 none_there keyed fits) w = let f = w.held in absurd (cc)
 
   pub wrote : (n : ℕ) (written : Written) → IsWrittenOf v s n written → WroteTree v.types (record { stored = s.core.stored; last = s.core.last.node; trees = trees }) n written

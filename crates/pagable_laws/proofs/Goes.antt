@@ -7,7 +7,7 @@ use Rattle.pagable_laws.proofs.Words.{owner_value, owner_worker, pins, reference
 use Rattle.pagable_laws.{proofs.Words.{ℕ, ◌&&◌, ◌++◌, ◌+◌, ◌<◌, ◌==◌, ◌∙◌, ◌∷◌, ◌≡◌, ◌≤◌, ◌⊎◌}, specs.TreeSteps.{AreGood, Bears, BeginsWell, HasPin, Knows, PinHolds, StaysAway, sets_key}}
 use Rattle.pagable_world.{proofs.Elements.{among-left, found-among}, specs.{Calls.{row_of, with_cached, with_key, with_mode, with_node}, Cascade.{AreNewEntries, Falls, FallsAnyhow, fallen, is_keyed}}}
 use Rattle.pagable_world.specs.{Cascade.left_rows, Kinds.{is_loose, is_pin}, LoadCalls.{EndCall, is_owned_in, with_load, with_pin, without_load}, Plain.{changed, or_else}, Refusals.reference_fault}
-use Rattle.pagable_world.specs.{Workers.PinsAtOnce, World.{Cell, Root}, declared.{answers.Pinning.Pinning, events.PinStep.PinStep}}
+use Rattle.pagable_world.specs.{World.{Cell, Root}, declared.{answers.Pinning.Pinning, events.PinStep.PinStep}}
 use Rattle.pagable_world.specs.Workers as workers
 pub use Rattle.{pagable_laws.specs.TreeSteps.{CoreGoes as Goes, IsShut, Kept, RowsGo, Was}, pagable_world.proofs.Elements.{among-map as among-changed, among-one as only-one, once}}
 
@@ -377,17 +377,17 @@ low-handle w m node mode owner low a h among =
     grind (arith, nat_tests, among-either w.rows (row_of (w.last.handle + 1) node mode owner ∷ []) there.0 h there.1, only-one, low h)
 
 module _ {N B W : Type 0} (m : Seen N B W) (v : ℕ) (s s' : Site) (low : AreLow s.core) where
-  at-once : (r : ArcRef) (through k : HandleNumber) → PinsAtOnce s.core (owner_worker v) r through k s'.core → HasPin s'.core k
-  at-once r through k does = elim does [
-    | inl (is, same, clone) ↦
-        let c = clone-call s.core s'.core low (owner_worker v) r.handle k clone in
-        (pins-by s'.core k (s.core.last.handle + 1) clone.made.2.above c.2 (not-loose c.0.mode (rw (same_some _ _ (sym is.live ∙ c.1)) at is.sort))).pin
-    | inr (is, (mid, clone, pin)) ↦ (pin-call mid s'.core (low-handle s.core mid _ _ _ low clone.made.3) (owner_worker v) through k pin).pin
-  ]
-
   held : (todo : List Todo) (i : Identity) (k : HandleNumber) → workers.Does m v s todo (Took.Pin i (Ok (PinStep.Held k))) s'
       → HasPin s'.core k × (answer_after {W = W} todo (Took.Pin i (Ok (PinStep.Held k))) ≡ None)
-  held (to_pin r place ∷ below) i k (is, p) = (at-once r p.pins.0 k p.pins.1, refl)
+  held (to_pin r place ∷ below) i k (is, p) = (
+    elim p.pins.1 [
+      | inl (sort, same, clone) ↦
+          let c = clone-call s.core s'.core low (owner_worker v) r.handle k clone in
+          (pins-by s'.core k (s.core.last.handle + 1) clone.made.2.above c.2 (not-loose c.0.mode (rw (same_some _ _ (sym sort.live ∙ c.1)) at sort.sort))).pin
+      | inr (sort, (mid, clone, pin)) ↦ (pin-call mid s'.core (low-handle s.core mid _ _ _ low clone.made.3) (owner_worker v) p.pins.0 k pin).pin
+    ],
+    refl,
+  )
   held (to_load r place through reading ∷ below) i k (is, p) =
       let e = p.goes.0.does.0 in ((end-call s.core s'.core low (owner_worker v) reading.load e.x _ _ k (λ n is. absurd (cc)) e.ended).pin, refl)
   held _ i k does = absurd does

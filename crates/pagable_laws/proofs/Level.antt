@@ -301,13 +301,6 @@ none-there x0 x is = grind (arith, nat_tests)
 pub again : {X : Type 0} (n : ℕ) (x y : X) (f : ℕ → X) (q : ℕ) → updated n y f q ≡ updated n y (updated n x f) q
 again n x y f q = grind (arith, nat_tests)
 
--- the worker's next step
-moves-so : (x : two.Working) → x.answer ≡ None → Asks x.core x.shelf x.todo
-    → let a = two.next_step x.core x.shelf x.todo in let y = two.next x in y.steps ≡ steps_after x.steps (is_counted x.todo a.0) → EndsSo y.answer a.1
-    → Happens two.sample_seen (world_of (two.at_work x)) (Event.WorkerStep (record { 0 = 1 }))
-    (EventReply.WorkerMoved (Ok (record { took = a.0; answer = y.answer; steps = y.steps }))) (world_of (two.at_work y))
-moves-so x works asks counts ends = let d = does-so x.core x.shelf x.todo asks in let e = ends-so _ _ ends in search (arith, d, e, works, counts, none-there, again, same-shelf)
-
 -- what happens, what values come, and that the machine is good afterwards
 does : (s : MachineState two.Sample (Unit {0})) (event : Event two.Sample Blob Written) (reply : EventReply two.Sample Blob Written) (w : Core) (vs : List (Option two.Sample)) (shelf : Shelf)
     (walking : Option Walking) (reading : Option Reading) → let s' = two.machine w vs (two.work_of shelf walking reading) in Happens two.sample_seen (world_of s) event reply (world_of s')
@@ -334,7 +327,8 @@ pages zero x xs few ok rest = rest
 pages (suc n) x xs few (works, asks, counts, ends, passes, at_work, ok) rest =
     let a = two.next_step x.core x.shelf x.todo in let y = two.next x in let few_then = few-next x.core x.shelf x.todo y.answer few in
     let (moments, premised) = pages n y xs few_then ok rest in (
-      does _ _ _ y.core two.two_values y.shelf (Some (two.walking y)) None (moves-so x works asks counts ends) (λ n x is. inl is)
+      does _ _ _ y.core two.two_values y.shelf (Some (two.walking y)) None
+          (let d = does-so x.core x.shelf x.todo asks in let e = ends-so _ _ ends in search (arith, d, e, works, counts, none-there, again, same-shelf)) (λ n x is. inl is)
           (writes-so x.core x.shelf (two.work_of x.shelf (Some (two.walking x)) None) x.todo asks) (few_then, passes) (refl, at_work) tt ⨾ moments,
       asked _ _ tt (λ trees w is. subst (λ (w : Walking). TodoTakesWell two.sample (two.at_work x).pager w.todo) (same_some _ _ is) (grind (arith, nat_tests))) ⨾ premised,
     )

@@ -8,8 +8,8 @@ use Rattle.pagable_laws.proofs.Words.{Event, EventReply, Frame, FramesFit, GetsK
 use Rattle.pagable_laws.proofs.Words.{LoadNumber, MachineState, Mode, Moment, NodeNumber, None, OpenLoad, Option, OptionalDataKey, Owner, Reading, ReadsItsTypes, Reply, Seen, Some, Tree, Values, []}
 use Rattle.pagable_laws.proofs.Words.{above, adopted, ap, arith, false, false_from_ne_true, find_row, held, if_there, inl, inr, is_in, is_named_by, is_some, mode_of, nat_tests, next_node, of_cell, ℕ}
 use Rattle.pagable_laws.proofs.Words.{owner_value, references_fault, refl, root_frame, row_at, rules, slice_get, subst, suc, sym, type_of, with_handle, world_of, zero, ◌+◌, ◌<◌, ◌==◌, ◌∙◌, ◌∷◌, ◌≡◌}
-use Rattle.{pagable_laws.{proofs.Words.◌⊎◌, specs.{DeepLaws.{HasBegun, IsBeginOf, SoundLaw}, TreeSteps.FramesHeld}}, pagable_world.specs.{Calls.{Asked, row_of, with_node}, Events.{LoadSteps, Stays}}}
-use Rattle.pagable_world.specs.{Events.{ReadingsAre, reading_at}, LoadCalls.BeginCall, Loads.{Does, GetsLazy, GoesOn, IsDecoded, MakesNode, gone_on, with_got}, OneWorker.{IsLoadOfPagedOut, of_load}}
+use Rattle.{pagable_laws.{proofs.Words.◌⊎◌, specs.{DeepLaws.{HasBegun, IsBeginOf, SoundLaw}, TreeSteps.FramesHeld}}, pagable_world.specs.{Calls.{Asked, row_of, with_node}, Events.LoadSteps}}
+use Rattle.pagable_world.specs.{Events.{ReadingsAre, reading_at}, LoadCalls.BeginCall, Loads.{Does, GoesOn, IsDecoded, MakesNode, gone_on, with_got}, OneWorker.{IsLoadOfPagedOut, of_load}}
 use Rattle.pagable_world.specs.{OneWorker.{IsOfChance, LoadIsSound, StandTogether, of_nobody, turn_of}, Refusals.Refused, declared.events.LoadReply.LoadReply}
 
 -- each handle was got in one place
@@ -109,15 +109,6 @@ module _ {N : Type 0} (v : Values N) (lawful : IsLawful v) (readable : ReadsItsT
       let new = stands-alike c.leaves (new-handle w (record { 0 = c.n }) (mode_of kind.0) (Owner.Load l) (low-whole whole)) in
       got-ready reading.frames kind row k _ made c.next.above new refl small (all-ready (λ q x free own s. stands-alike c.leaves (with-one w (record { 0 = c.n }) (mode_of kind.0) (Owner.Load l) s)))
 
-  lazy-ready : (frames : List Frame) (g : GetsLazy v.types w Owner.Caller reading frames w') → LoadReady w' l load (with_got g.kind g.row reading.frames)
-  unfolding is_named_by
-  lazy-ready frames g = elim g.asked.makes.3 [
-    | inl c ↦ known-ready g.kind g.key g.k g.row c g.made
-    | inr (none, few, next, a) ↦
-        got-ready reading.frames g.kind g.row g.k _ g.made next.above (adopted-new w w' l g.kind g.key (OptionalDataKey.Some g.key) [] whole a) refl small
-        (all-ready (λ q x free own s. adopted-keeps w w' l g.kind g.key (OptionalDataKey.Some g.key) [] a refl s))
-  ]
-
   -- what was read became a node: its references go, and what was got for the blobs below stays
   node-ready : (frames : List Frame) (g : MakesNode v w Owner.Caller reading frames w') → LoadReady w' l load (with_got g.reads_node.top.kind g.row g.reads_node.below)
   node-ready frames g =
@@ -149,10 +140,16 @@ module _ {N : Type 0} (v : Values N) (lawful : IsLawful v) (readable : ReadsItsT
       search (still.begun, all-new (λ r. Has w' (Owner.Load l) r.handle) frame reading.frames none still.live, once)
 
   pub goes-ready : (frames : List Frame) → GoesOn v w Owner.Caller reading frames w' → LoadReady w' l load frames
+  unfolding is_named_by
   goes-ready frames (inl g) = rw g.goes (rw g.first at (asked-ready g.asked.gives.2.asked (root_frame g.load.key reading.node_type g.blob) refl))
   goes-ready frames (inr (inl g)) = subst (λ fs. LoadReady w' l load fs) (sym g.goes) (known-ready g.kind g.key g.k g.row g.asked.gives.2 g.made)
   goes-ready frames (inr (inr (inl g))) = subst (λ fs. LoadReady w' l load fs) (sym g.goes) (asked-ready g.asked.gives.2.1.asked _ refl)
-  goes-ready frames (inr (inr (inr (inl g)))) = subst (λ fs. LoadReady w' l load fs) (sym g.goes) (lazy-ready frames g)
+  goes-ready frames (inr (inr (inr (inl g)))) = subst (λ fs. LoadReady w' l load fs) (sym g.goes) (elim g.asked.makes.3 [
+    | inl c ↦ known-ready g.kind g.key g.k g.row c g.made
+    | inr (none, few, next, a) ↦
+        got-ready reading.frames g.kind g.row g.k _ g.made next.above (adopted-new w w' l g.kind g.key (OptionalDataKey.Some g.key) [] whole a) refl small
+        (all-ready (λ q x free own s. adopted-keeps w w' l g.kind g.key (OptionalDataKey.Some g.key) [] a refl s))
+  ])
   goes-ready frames (inr (inr (inr (inr g)))) = subst (λ fs. LoadReady w' l load fs) (sym g.goes) (node-ready frames g)
 
 begin-turn : {N B W : Type 0} (n : ℕ) (event : Event N B W) (reply : EventReply N B W) → IsBeginOf n event reply → turn_of event reply ≡ of_load n
@@ -203,13 +200,6 @@ module _ {N B W E : Type 0} (m : Seen N B W) (lawful : IsLawful m.values) (reada
       let now = (rw (open_load, e) at (x.readings l.0)) ∙ updated-at l.0 (Some (gone_on x.reading x.frames)) s.work.readings in
       let same = same_some _ _ (rw now at at) in rw (← same, ← number) after
 
-  stays-ready : (l : LoadNumber) → Stays (world_of s) (world_of s') → Ready s l → Ready s' l
-  stays-ready l st ready reading load at open_load =
-      let was : core.loads l.0 ≡ Some load = sym (st.core.loads l.0) ∙ open_load in
-      let same : s'.work.readings l.0 ≡ s.work.readings l.0 = st.readings l.0 ∙ ap (λ (o : Option OpenLoad). if_there (λ (z : OpenLoad). s.work.readings l.0) None o) open_load in
-      let here : reading_at (world_of s) l ≡ Some reading = rw (same, st.core.loads l.0) at at in
-      let b = ready reading load here was in search (rules, has-alike, st.core, b.begun, b.live, b.once)
-
   references-fine : (l : LoadNumber) (reading : Reading) (load : OpenLoad) → reading_at (world_of s) l ≡ Some reading → core.loads l.0 ≡ Some load → LoadReady core l load reading.frames
       → (frame : Frame) (below : List Frame) (x : N) → reading.frames ≡ frame ∷ below
       → (decoded : IsDecoded m.values frame x) → IsForm m.values frame → references_fault core (Owner.Load reading.load) [] (m.values.references x) ≡ None
@@ -239,9 +229,14 @@ module _ {N B W E : Type 0} (m : Seen N B W) (lawful : IsLawful m.values) (reada
       ]
 
   load-step-ready : (l : LoadNumber) (reply : EventReply N B W) → Happens m (world_of s) (Event.LoadStep l) reply (world_of s') → Ready s l → Ready s' l
-  load-step-ready l (EventReply.LoadMoved (Ok reply)) is ready = step-ready l reply _ refl is.moves ready
-  load-step-ready l (EventReply.LoadMoved (Err e)) is ready = stays-ready l is.refused.1 ready
-  load-step-ready l reply is ready = absurd is
+  load-step-ready l (EventReply.LoadMoved (Ok reply)) is ready reading load at open_load = step-ready l reply _ refl is.moves ready reading load at open_load
+  load-step-ready l (EventReply.LoadMoved (Err e)) is ready reading load at open_load =
+      let st = is.refused.1 in
+      let was : core.loads l.0 ≡ Some load = sym (st.core.loads l.0) ∙ open_load in
+      let same : s'.work.readings l.0 ≡ s.work.readings l.0 = st.readings l.0 ∙ ap (λ (o : Option OpenLoad). if_there (λ (z : OpenLoad). s.work.readings l.0) None o) open_load in
+      let here : reading_at (world_of s) l ≡ Some reading = rw (same, st.core.loads l.0) at at in
+      let b = ready reading load here was in search (rules, has-alike, st.core, b.begun, b.live, b.once)
+  load-step-ready l reply is ready reading load at open_load = absurd is
 
   turn-ready : (l : LoadNumber) (event : Event N B W) (reply : EventReply N B W) → Happens m (world_of s) event reply (world_of s') → turn_of event reply ≡ of_load l.0 → Ready s l → Ready s' l
   turn-ready l event reply is turn ready = let cases : IsBeginOf l.0 event reply ⊎ ((k : LoadNumber) × (k.0 ≡ l.0) × (event ≡ Event.LoadStep k)) = grind (arith, nat_tests) in elim cases [

@@ -255,14 +255,6 @@ module _ {N B W : Type 0} (m : Seen N B W) (v : ℕ) (s s' : Site) where
       → s'.todo ≡ next → (WaitsWell todo → front_reading next ≡ None) → WE todo nothing_felt → WalkFelt m v s s' todo
   rests next none is other e = quiet none (λ front well. no-load s' next is (other well)) e
 
-  -- the load at the front makes its step
-  loads-on : (r : ArcRef) (place : ℕ) (through : HandleNumber) (reading : Reading) (below : List Todo) (step : Took W)
-      → Does m v s (to_load r place through reading ∷ below) step s' → WalkFelt m v s s' (to_load r place through reading ∷ below)
-  loads-on r place through reading below step does =
-      let t : LoadsTodo m.values (owner_worker v) s s' reading = grind (arith, nat_tests) in
-      let f = reading-feels m s.core (owner_worker v) (works-free v) s'.core reading t.answer t.frames t.does in
-      record { change = f.change; does = f.does; goes = f.does.goes; feels = λ front well. walk-loads f.change r place through reading below refl t f.opens f.feels; knows = λ whole. reading-knows (f.feels whole) }
-
   sets : (r : ArcRef) (through : HandleNumber) (key height : ℕ) (below next : List Todo) (told : Result (Unit {0}) Error)
       → SetKeyCall s.core (owner_worker v) through key told s'.core → s'.todo ≡ next → front_reading next ≡ None → WalkFelt m v s s' (to_set r through key height ∷ below)
   sets r through key height below next told c is other = elim c.does [
@@ -292,6 +284,10 @@ module _ {N B W : Type 0} (m : Seen N B W) (v : ℕ) (s s' : Site) where
     | inr (row, (mid, through, clone, inl pin)) ↦ then-clone v clone (pins (works-free v) (Err f) pin)
     | inr (row, (mid, through, clone, inr begin)) ↦ then-clone v clone (begins (Err f) begin)
   ])
+  walk-goes (to_load r place through reading ∷ below) step does =
+      let t : LoadsTodo m.values (owner_worker v) s s' reading = grind (arith, nat_tests) in
+      let f = reading-feels m s.core (owner_worker v) (works-free v) s'.core reading t.answer t.frames t.does in
+      record { change = f.change; does = f.does; goes = f.does.goes; feels = λ front well. walk-loads f.change r place through reading below refl t f.opens f.feels; knows = λ whole. reading-knows (f.feels whole) }
   walk-goes (to_set r through key height ∷ below) (Took.SetKey i (Ok u)) (is, p) = sets r through key height below _ (Ok u) p.sets p.goes.list_is refl
   walk-goes (to_set r through key height ∷ below) (Took.SetKey i (Err f)) (is, p) = sets r through key height below _ (Err f) p.sets p.refused.list_is refl
   walk-goes (to_release r key height ∷ below) (Took.Release i) (is, falls, g) = rests _ (λ n x b. b) g.list_is (given r key height below) (fell (none s.core) falls.falls (λ mine o. released-free mine o.apart v o.other s.core r.node.0))
@@ -301,7 +297,7 @@ module _ {N B W : Type 0} (m : Seen N B W) (v : ℕ) (s s' : Site) where
       let unmoved : Alike s.core s'.core → Effect (owner_worker v) false (Unit {0}) (Unit {0}) false nothing_felt s.core s'.core = stays in
       let stored : (blob : Blob) (r : Result ℕ Error) → StoreCall (digest m.values) s.core blob r s'.core → Effect (owner_worker v) false (Unit {0}) (Unit {0}) false nothing_felt s.core s'.core =
       λ blob r c. stores r c in
-      grind (arith, nat_tests, rests, unmoved, stored, given, loads-on, started)
+      grind (arith, nat_tests, rests, unmoved, stored, given, started)
 
 -- What trees feel of each event that doesn't close the storage.
 

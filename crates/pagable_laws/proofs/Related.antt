@@ -138,15 +138,12 @@ module _ {A : Type 0} where
   seen_tame : {X Y U : Type 0} {get : Gets A Y} (view : X → Y → U) → Tame more Any get → (v : X) → Tame more Any (λ i. seen (view v) get i)
   seen_tame view h v = and_then joins (λ y i. Ok (view v y, i)) _ (λ i. refl) h (λ y. gives joins (view v y))
 
-module _ {A X Y : Type 0} (read : List ℕ → Read X) (view : X → Y) (h : Tame ◌++◌ Sober read) where
+module _ {A X Y : Type 0} (read : List ℕ → Read X) (view : X → Y) where
   bytes_come : (i : Rest A) (first : Read X) → Comes ◌++◌ Sober read i.bytes first → Comes more Any (bytes_of read view) i
       (first >>= λ p. let z : Result (Y × Rest A) Error = Ok (view p.0, record i { bytes = p.1 }) in z)
   bytes_come i (Ok p) g = record { used = rest g.used []; whole = ap (λ (b : List ℕ). rest b i.refs) g.whole; reads = λ y. rw g.reads refl }
   bytes_come i (Err e) (sober, inl ends) = (tt, inl ends)
   bytes_come i (Err e) (sober, inr stays) = (tt, inr (λ x. rw stays refl))
-
-  pub of_bytes : Tame (more {A = A}) Any (bytes_of read view)
-  of_bytes = record { comes = λ i. bytes_come i (read i.bytes) (h.comes i.bytes) }
 
 module _ {A B : Type 0} (look : Look A B) where
   reference_comes : (kind : ℕ) (bytes : List ℕ) (refs : List A) → Comes more Any (λ i. reference_at look kind i.refs i) (rest bytes refs) (reference_at look kind refs (rest bytes refs))
@@ -204,7 +201,8 @@ module _ {A B : Type 0} {E : Error → Error → Type 0} {T : List A → List B 
 
   pub bytes_par : {X Y Z : Type 0} {V : X → Y → Type 0} (read : List ℕ → Read Z) → Tame ◌++◌ Sober read → (view : Z → X) (view2 : Z → Y) → ((z : Z) → V (view z) (view2 z))
       → Par E T V (bytes_of read view) (bytes_of read view2)
-  bytes_par {X} {Y} {Z} {V} read t view view2 h = record { out = λ r q s. rw s.bytes (by r q s.refs (read r.bytes) (t.comes r.bytes)); tame = of_bytes read view t }
+  bytes_par {X} {Y} {Z} {V} read t view view2 h =
+      record { out = λ r q s. rw s.bytes (by r q s.refs (read r.bytes) (t.comes r.bytes)); tame = record { comes = λ i. bytes_come read view i (read i.bytes) (t.comes i.bytes) } }
     where
       by : (r : Rest A) (q : Rest B) → T r.refs q.refs → (first : Read Z) → Comes ◌++◌ Sober read r.bytes first
           → Out E T V (first >>= λ z. let o : Result (X × Rest A) Error = Ok (view z.0, record r { bytes = z.1 }) in o)

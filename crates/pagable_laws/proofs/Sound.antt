@@ -1,12 +1,12 @@
 -- Why a load is refused whose key a page-out has published: by chance, or by a handle. And as too deep one is refused only where the reading of its key comes to a
 -- blob that lies too deep, or to one that enters a level too many.
 use Rattle.pagable_laws.proofs.{Chains.IsGoingOn, Decoding.{Ahead, FramesAsked, GotAsked, IsFormOf, all-done, asks-by-kinds, at-place, comes-to, faulty-by-kinds, kinds_of, one-left}}
-use Rattle.pagable_laws.proofs.{Deeply.along-first, Following.known-of, ReadingSteps.{reading-number, reading-open, reading-stands}, Taking.{Going, adopted-over, asked, eager-nested, going-of}}
+use Rattle.pagable_laws.proofs.{Following.known-of, ReadingSteps.{reading-number, reading-open, reading-stands}, Taking.{Going, adopted-over, asked, eager-nested, going-of}}
 use Rattle.pagable_laws.proofs.{Trees.{same_some, self-number}, Words.{ArcRef, Blob, Bool, Core, Err, Error, Event, EventReply, Frame, FramesFit, HandleNumber, HandleRow, Happens, Identity, Kind, ℕ}}
 use Rattle.pagable_laws.proofs.Words.{IsLawful, IsPublished, List, LoadAnswer, LoadNumber, MachineState, Meaning, Mode, NodeNumber, None, Ok, OpenLoad, Option, Owner, Reading, ReadsItsTypes, Seen}
 use Rattle.pagable_laws.proofs.Words.{Shelf, Some, Tree, Types, Values, WorkFits, Written, [], above, adopted, any_mode, ap, arith, blob_of, false, identity_of, inl, inr, is_eager, length, nat_tests}
 use Rattle.pagable_laws.proofs.Words.{next_in, not, of_cell, owner_worker, references_fault, refl, rules, slice_get, subst, sym, true, type_of, world_of, ◌+◌, ◌<◌, ◌==◌, ◌∙◌, ◌∷◌, ◌≡◌, ◌≤◌, ◌⊎◌}
-use Rattle.{pagable_laws.specs.{DeepLaws.{HoldsAlong, IsOfHandles, LoadIsDeep, LoadIsFaultless}, TreeSteps.{AllLow, IsFresh, Needs}}, pagable_world.specs.Events.{LoadSteps, reading_at}}
+use Rattle.{pagable_laws.specs.{DeepLaws.{IsOfHandles, LoadIsDeep, LoadIsFaultless}, TreeSteps.{AllLow, IsFresh, Needs}}, pagable_world.specs.Events.{LoadSteps, reading_at}}
 use Rattle.pagable_world.specs.{Headline.AreKeysOf, LoadCalls.{AskCall, LazyCall, ask_fault, is_known, node_fault}, Loads.{Does, Fails, IsDecoded, IsOfKey, RefusesNested, RefusesNode, RefusesRoot}}
 use Rattle.pagable_world.specs.{Loads.{asks, handles_of, is_broken, need_of, needs_lazy, needs_nested, reads}, OneWorker.{IsLoadOfPagedOut, IsOfChance, IsPagedOutAs}, Order.{LeadsDown, ReadsTooDeep}}
 use Rattle.pagable_world.specs.{Order.{after_kinds, goes-down, is-there}, Pager.{IsReadingOf, of_worker}, Plain.longest_path, Refusals.{AreHandlesFull, Refused, earlier, handle_fault, load_fault}}
@@ -323,14 +323,6 @@ module _ {N B W : Type 0} (m : Seen N B W) (lawful : IsLawful m.values) (w : Cor
   by-references-not : (x : N) → Only NotDeep (references_fault w (Owner.Load reading.load) [] (m.values.references x))
   by-references-not x e is = let of = by-all w (Owner.Load reading.load) [] (m.values.references x) e is in grind (arith, nat_tests)
 
-  root-not : (u : Core) → RefusesRoot m.values w me reading Error.TooDeep u → ⊥
-  root-not u r = elim r.refuses [
-    | inl (is, ended) ↦ not-refused ended.refused.1 (only-earlier _ _ (only-load w me reading.load)
-        (only-earlier _ _ (λ e is. grind (arith, nat_tests, only-earlier {P = NotDeep}, only-if NotDeep)) (by-references-not r.x)))
-    | inr (is, handed) ↦ only-earlier {P = NotDeep} _ _ (only-load w me reading.load) (only-earlier _ _ (λ e is. grind (arith, nat_tests)) (only-named w (Owner.Load reading.load) [] (handles_of
-        (m.values.references r.x)))) Error.TooDeep handed.refused.0
-  ]
-
   pub fails-deep : (w' : Core) → Fails m.values w me reading Error.TooDeep w' → Deep
   fails-deep w' (inr ended) = absurd (by-handle-row w me ended.ended.refused.h any_mode Error.TooDeep ended.ended.refused.why)
   fails-deep w' (inl gives) = elim gives.meets [
@@ -339,7 +331,12 @@ module _ {N B W : Type 0} (m : Seen N B W) (lawful : IsLawful m.values) (w : Cor
     | inr (inr (inl nested)) ↦ nested-deep gives.mid nested
     | inr (inr (inr (inl (kind, key, needs, c)))) ↦ absurd (not-refused c.refused (search (rules, only-earlier {P = NotDeep}, only-load, only-if NotDeep, only-node NotDeep)))
     | inr (inr (inr (inr (inl node)))) ↦ absurd (not-refused node.adopted.refused.1 (search (rules, only-earlier {P = NotDeep}, only-load, only-if NotDeep, by-references-not, only-node NotDeep)))
-    | inr (inr (inr (inr (inr root)))) ↦ absurd (root-not gives.mid root)
+    | inr (inr (inr (inr (inr root)))) ↦ absurd (elim root.refuses [
+      | inl (is, ended) ↦ not-refused ended.refused.1 (only-earlier _ _ (only-load w me reading.load)
+          (only-earlier _ _ (λ e is. grind (arith, nat_tests, only-earlier {P = NotDeep}, only-if NotDeep)) (by-references-not root.x)))
+      | inr (is, handed) ↦ only-earlier {P = NotDeep} _ _ (only-load w me reading.load) (only-earlier _ _ (λ e is. grind (arith, nat_tests))
+          (only-named w (Owner.Load reading.load) [] (handles_of (m.values.references root.x)))) Error.TooDeep handed.refused.0
+    ])
   ]
 
 module _ {N B W E : Type 0} (m : Seen N B W) (lawful : IsLawful m.values) (readable : ReadsItsTypes m.values.types) (s s' : MachineState N E) (trees trees' : ℕ → Tree)
@@ -350,7 +347,7 @@ module _ {N B W E : Type 0} (m : Seen N B W) (lawful : IsLawful m.values) (reada
       let fails = subst (λ a. Does m.values s.pager.core Owner.Caller x.reading a x.frames s'.pager.core) is x.does.does in
       cause m.values s trees on lawful readable l x.reading load x.at x.may open_load paged s'.pager.core e fails.0
 
-  load-faultless : (event : Event N B W) (reply : EventReply N B W) → Happens m (world_of s) event reply (world_of s') → LoadIsFaultless s trees event reply s' trees'
+  pub load-faultless : (event : Event N B W) (reply : EventReply N B W) → Happens m (world_of s) event reply (world_of s') → LoadIsFaultless s trees event reply s' trees'
   load-faultless (Event.LoadStep l) (EventReply.LoadMoved (Ok reply)) is = λ load e open_load paged ended.
       let why = load-cause l reply is.moves load e open_load paged ended in grind (arith, nat_tests, by-all, by-handle-row)
   load-faultless event reply is = tt
@@ -368,6 +365,3 @@ module _ {N B W E : Type 0} (m : Seen N B W) (lawful : IsLawful m.values) (reada
       let x = is.moves in let same : x.walking ≡ walking = same_some _ _ (sym x.at ∙ there) in let step = rw (same, todo, taken) at x.does.does in
       by-reading (owner_worker n.0) reading load (inl (of_worker n.0 place walking r through below there todo)) open_load x.after.core step.1.refused.0.does.0
   load-deep event reply is = tt
-
-pub faultless_law : {N B W : Type 0} (E : Type 0) (m : Seen N B W) → HoldsAlong E m LoadIsFaultless
-faultless_law E m start moments trees whole idle chain stands lawful readable settled = search (rules, along-first, load-faultless)

@@ -16,7 +16,7 @@ use Rattle.pagable_laws.proofs.{Effects.{can-use, list-apart, named, stays-alike
 use Rattle.pagable_laws.proofs.{Called.releases, Goes.{among-found, fell-anyhow, found-number, goes-quiet, none-found, quiet-goes, quiet-then, same-owner, stands-changed, stands-fell, stands-whole}}
 use Rattle.{pagable_laws.proofs.Called.gets-known as was-known, std.proofs.{Common.get_or, lemmas.{List.{Edits.length-remove, Sums.sum_by-remove}, Option.{get_or_from_slice_get, slice_get-get_or}}}}
 use Rattle.{pagable_world.specs.{Loads.{Does as LoadDoes, asks, gone_on, handles_of, need_of, needs_nested, nested_frame, to_adopt, with_got}, Pager.FrameFits, Runs.Does}, std.specs.List.remove}
-use Rattle.pagable_world.specs.{Events.{Ends, LoadSteps}, OneWorker.GetsReference, Pager.{IsReadingOf, IsWhole, NodeStands, OwnersAreThere, SameTrees, StandsFor}, declared.events.LoadReply.LoadReply}
+use Rattle.pagable_world.specs.{Events.Ends, OneWorker.GetsReference, Pager.{IsReadingOf, IsWhole, NodeStands, OwnersAreThere, SameTrees, StandsFor}}
 use Rattle.pagable_world.specs.{Headline.{LoadsHaveStepsLeft, ReadGives, ReadIsRight, StepIsWithin}, OneWorker.{IsFilledByReading, LeavesCache, OneIdentityLaw, StaysAlive}, World.{type_at, usable}}
 use Rattle.pagable_world.specs.{Calls.{ReleaseCall, with_node}, LoadCalls.{HandOverCall, is_owned_in, numbers_of}, Order.{IsWithinBound, Unfolds, UnfoldsFrom, after_kinds, unfolds}}
 use Rattle.pagable_world.specs.Workers as workers
@@ -210,17 +210,6 @@ module _ {N E B W : Type 0} (m : Seen N B W) (s s' : MachineState N E) (whole : 
   all-on goes all = readings-on (λ r. IsBounded m.values.types (world_of s') r) (λ r is. kept-bounded goes r (all r is)) (fresh-bounded m.values.types (world_of s'))
       (λ r frames load stands at feels. let before = bounded-of all r stands in kept-bounded goes (gone_on r frames) (before.0, λ load was. bounded-step r load frames was (before.1 load was) feels))
 
-  -- a load that makes a step was bounded, and is where it goes on
-  steps-within : AllBounded m.values.types (world_of s) → {l : LoadNumber} {reply : LoadReply N} (x : LoadSteps m.values (world_of s) l reply (world_of s')) (load : OpenLoad)
-      → s.pager.core.loads l.0 ≡ Some load → IsWithinBound m.values.types s.pager.core.stored x.reading.node_type load.key reply
-  steps-within all {l} {reply} x load open_load =
-      let is_open = reading-open s whole l x.reading x.at open_load in
-      let was : Bounded m.values.types s.pager.core.stored load.key x.reading = (bounded-of all x.reading (reading-stands (world_of s) whole.pager.whole l x.reading x.at)).1 load is_open in
-      let f = reading-feels m s.pager.core Owner.Caller caller-free s'.pager.core x.reading reply.ended x.frames x.does in
-      let after : reply.ended ≡ None → Bounded m.values.types s.pager.core.stored load.key (gone_on x.reading x.frames) = λ none. bounded-step x.reading load x.frames is_open was
-      (subst (λ a. ReadingFeels m.values s.pager.core x.reading a x.frames s'.pager.core f.change) none (f.feels whole.pager.whole.handles)) in
-      let counts = x.counts in λ many longest under. search (rules, owes-some)
-
   pub event-on : (event : Event N B W) (reply : EventReply N B W) → Happens m (world_of s) event reply (world_of s') → AllWaitWell (world_of s) → LoadsStand m.values.types (world_of s)
       → LoadsStand m.values.types (world_of s')
   event-on event reply h waits stands = let cases : KeepsOpen event ⊎ (event ≡ Event.Call Call.Close) = grind (arith, nat_tests) in elim cases [
@@ -231,9 +220,15 @@ module _ {N E B W : Type 0} (m : Seen N B W) (s s' : MachineState N E) (whole : 
 
   pub step-within : LoadsStand m.values.types (world_of s) → (event : Event N B W) (reply : EventReply N B W) → Happens m (world_of s) event reply (world_of s') → StepIsWithin m.values s event reply
   step-within (inl shut) (Event.LoadStep l) (EventReply.LoadMoved (Ok reply)) h = λ reading load at open_load many longest under. absurd (nothing-unfolds shut.1 under)
+  -- a load that makes a step was bounded, and is where it goes on
   step-within (inr all) (Event.LoadStep l) (EventReply.LoadMoved (Ok reply)) h = λ reading load at open_load.
-      let same : h.moves.reading ≡ reading = same_some _ _ (sym h.moves.at ∙ at) in
-      subst (λ (r : Reading). IsWithinBound m.values.types s.pager.core.stored r.node_type load.key reply) same (steps-within all h.moves load open_load)
+      let x = h.moves in let is_open = reading-open s whole l x.reading x.at open_load in
+      let was : Bounded m.values.types s.pager.core.stored load.key x.reading = (bounded-of all x.reading (reading-stands (world_of s) whole.pager.whole l x.reading x.at)).1 load is_open in
+      let f = reading-feels m s.pager.core Owner.Caller caller-free s'.pager.core x.reading reply.ended x.frames x.does in
+      let after : reply.ended ≡ None → Bounded m.values.types s.pager.core.stored load.key (gone_on x.reading x.frames) = λ none. bounded-step x.reading load x.frames is_open was
+      (subst (λ a. ReadingFeels m.values s.pager.core x.reading a x.frames s'.pager.core f.change) none (f.feels whole.pager.whole.handles)) in
+      let within : IsWithinBound m.values.types s.pager.core.stored x.reading.node_type load.key reply = let counts = x.counts in λ many longest under. search (rules, owes-some) in
+      subst (λ (r : Reading). IsWithinBound m.values.types s.pager.core.stored r.node_type load.key reply) (same_some _ _ (sym x.at ∙ at)) within
   step-within stands event reply h = tt
 
 pub steps-left : {N E : Type 0} (v : Values N) (s : MachineState N E) → LoadsStand v.types (world_of s) → LoadsHaveStepsLeft v (world_of s)

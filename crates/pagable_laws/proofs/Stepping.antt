@@ -116,10 +116,6 @@ module _ (shelf : Shelf) where
   pub next-among : (rs : List ArcRef) (ks : List ℕ) (r : ArcRef) (more : List ArcRef) → drop (length ks) rs ≡ r ∷ more → Among rs r
   next-among rs ks r more e = among-drop (length ks) rs r (subst (λ (xs : List ArcRef). Among xs r) (sym e) (zero, refl))
 
-  -- of two heights that are there the greater one is
-  more-attained : (a b : ℕ) (rs : List ArcRef) → IsAttained shelf a rs → IsAttained shelf b rs → IsAttained shelf (max a b) rs
-  more-attained a b rs first second = grind arith
-
 -- what a reference adds is within the place's reach
 adds : (b : Bool) (place height limit : ℕ) → (if b then place + 1 else 0) + height ≤ limit → place ≤ limit → place + (if b then height + 1 else 0) ≤ limit
 adds x0 place height limit le few = grind (arith, nat_tests)
@@ -141,10 +137,11 @@ module _ {N : Type 0} (v : Values N) (g : Ground) (shelf : Shelf) (task : Task) 
   given r key height p (to_finish o ∷ below) reach (more, e) (known, attained, place, fits, expects, waits) =
       let new : ℕ = max o.height (above r.kind.0 height) in
       let a = adds (is_eager r.kind.0) o.place height longest_path reach (omega arith) in
-      started-node _ below _ refl (
+      started-node (record o { keys = o.keys ++ key ∷ []; height = new }) below _ refl (
         so-far-more shelf o.height new _ _ r more key height (omega arith) (omega arith) e known p,
-        more-attained shelf o.height (above r.kind.0 height) o.written.references attained
-            (inr (record { r = r; among = next-among shelf o.written.references o.keys r more e; key = key; below = height; known = p; least = omega arith })),
+        -- of two heights that are there the greater one is
+        (let second : IsAttained shelf (above r.kind.0 height) o.written.references =
+            inr (record { r = r; among = next-among shelf o.written.references o.keys r more e; key = key; below = height; known = p; least = omega arith }) in grind arith),
         place,
         omega arith,
         expects,
@@ -263,9 +260,6 @@ module _ {N B W E : Type 0} (m : Seen N B W) (s s' : MachineState N E) (trees tr
   abbrev g' : Ground
   g' = ground_of s' trees'
 
-  claimable : (r : ArcRef) → claim_fault s.pager.core r ≡ None → (r.node.0 ≤ s.pager.core.last.node) × ((trees r.node.0).type ≡ type_of r.kind.0)
-  claimable r may = grind (arith, nat_tests)
-
   starts-well : (shelf : Shelf) (task : Task) → Walks m.values g' shelf task (first_todo task)
   unfolding Waits
   starts-well shelf (of_item written) = started-item m.values g' shelf (of_item written) written [] [] _ refl (refl, tt)
@@ -281,7 +275,7 @@ module _ {N B W E : Type 0} (m : Seen N B W) (s s' : MachineState N E) (trees tr
       (λ n shelf t task. starts-well shelf task) (λ k r w one more.
       let ends : answer_after w.walking.todo r.took ≡ None → (key : ℕ) (b : Blob) → w.after.core.stored key ≡ Some b → s'.pager.core.stored key ≡ Some b =
       λ none key b is. (let e = subst (λ a. Ends a k.0 w.after.core s'.pager.core) (w.answers ∙ none) w.ends in e.stored key ∙ is) in
-      stepped m k.0 w.walking.task (site_of (world_of s) w.walking) w.after goes more (fit.slots w.walking.table) claimable
+      stepped m k.0 w.walking.task (site_of (world_of s) w.walking) w.after goes more (fit.slots w.walking.table) (λ r may. grind (arith, nat_tests))
       r.took (λ i out is. wrote represents whole.pager settled reads lawful i.node.0 (m.written_of out)
       (subst (λ (t : Took W). TookWrites m.values m.written_of s.pager t) is (grind (arith, nat_tests))))
       ends w.walking.todo refl r.took refl w.does.does (work.workers k.0 w.walking w.at).all (fit.walks k.0 w.walking w.at)) turns.own in

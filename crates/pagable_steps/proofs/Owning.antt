@@ -7,7 +7,7 @@ use Rattle.pagable_steps.proofs.Values.{same-value, settled, shut-alike, sits-on
 use Rattle.pagable_world.{proofs.Elements.among-left, specs.Calls.{AwayBirthCall, BirthCall, CloseCall, OfferCall, ReleaseCall, ScheduleCall, SetKeyCall, UnpinCall, is_named_by, moved, next_node}}
 use Rattle.pagable_world.specs.{Calls.{row_of, with_handle, with_key, with_mode, with_node}, Cascade.{AreNewEntries, Falls, FallsAnyhow, fallen, is_keyed, is_outside, left_rows, loses_value}}
 use Rattle.pagable_world.specs.{Cascade.{only_handle, owned_outside}, Kinds.{held, is_at, is_loose, is_owned_by, is_owner, is_pin, is_pinning, mode_of, owner_value, owner_worker, pins}}
-use Rattle.pagable_world.specs.{LoadCalls.{Adopts, DropCall, HandOverCall, Installs, LazyCall, LoadCloses, MayEnd, is_owned_in, numbers_of, with_pin, without_load}, Pager.{IsWhole, PagerState}}
+use Rattle.pagable_world.specs.{LoadCalls.{Adopts, DropCall, HandOverCall, Installs, LazyCall, LoadCloses, MayEnd, is_owned_in, numbers_of, with_pin, without_load}, Pager.PagerState}
 use Rattle.pagable_world.specs.{Pager.WellFormed, Plain.{Among, ArcRef, Error, HandleNumber, Kind, LoadNumber, NodeNumber, OptionalDataKey, if_there, is_in, one, times, type_of, updated}}
 use Rattle.pagable_world.specs.{Refusals.{Owns, references_fault}, Workers.{WorkerEnds, is_load_of, is_workers_at}, World.{Alike, Cell, Core, OpenLoad, Values, is_here, type_at, usable}}
 use Rattle.{pagable_world.specs.declared.{handles.{HandleRow.HandleRow, Owner.Owner}, rows.Mode.Mode}, std.proofs.Common.{Bool, Err, List, None, Ok, Option, Some, [], ap, arith, false, if◌then◌else◌}}
@@ -61,9 +61,6 @@ module _ {before w w' : Core} {given : ℕ → Bool} {r : _} (f : Falls before w
   same-type : (n : ℕ) → is_some (w'.cells n) ≡ true → type_at w' n ≡ type_at w n
   same-type n is = ap (λ o. if_there (λ (cell : Cell). Some cell.node_type) None o) (same-cell n is)
 
-  held-there : (n : ℕ) (t : ℕ) → type_at w n ≡ Some t → 0 < held n w'.rows → is_some (w'.cells n) ≡ true
-  held-there n t typed some = let c = typed-cell w n t typed in grind (arith, nat_tests, held, nat_lt, left_rows, is_some)
-
   pub shut-fell : IsShut w → IsShut w'
   shut-fell shut closed =
       let e : w.closed ≡ true = sym f.leaves.closed ∙ closed in
@@ -108,7 +105,8 @@ module _ {before w w' : Core} {given : ℕ → Bool} {r : _} (f : Falls before w
               names = λ r among.
                   let is = (a.names r among).is in
                   let s = stands-left f (kept n x e still r among) (a.names r among).stands in
-                  let there = held-there r.node.0 _ is.typed (subst (λ (k : _). 0 < held k w'.rows) (ap (λ k. k.0) is.at) (row-held w' r.handle is.row s.live)) in
+                  let c = typed-cell w r.node.0 _ is.typed in let some = subst (λ (k : _). 0 < held k w'.rows) (ap (λ k. k.0) is.at) (row-held w' r.handle is.row s.live) in
+                  let there : is_some (w'.cells r.node.0) ≡ true = grind (arith, nat_tests, held, nat_lt, left_rows, is_some) in
                   record { is = record { row = is.row; live = s.live; at = is.at; owned = is.owned; fits = is.fits; typed = same-type r.node.0 there ∙ is.typed }; stands = s };
               once = a.once;
               owned = λ h among own. a.owned h (was n h among own).0 own;
@@ -136,18 +134,6 @@ pub fell : {N E : Type 0} {v : Values N} {s s' : PagerState N E} {before m : Cor
     → AreFree s.core given → Leaves s.values s' → WellFormed v s'
 fell {v = v} {s} {s'} is k f shut free =
     fell-from (λ n. sits-on v (k.owns n) (s.values n) (sits is n)) (λ n held. is.valued n ∙ k.held n held) s' f shut (λ h among given n own. free h ((k.owns n.0).owned h among own) given n own)
-
-unpin-keeps : {w : Core} {me : Owner} {fits : Mode → Bool} → IsWhole w → (h : HandleNumber) (row : HandleRow) → NotValues me → Owns w me h fits row → row.mode ≡ Mode.LoosePinned
-    → Keeps w (with_mode w h Mode.LooseUnpinned)
-unpin-keeps {w} whole h row none owns pinned =
-    let s = stands-whole whole.handles h.0 row owns.live in
-    record {
-      owns = mode-owns w h Mode.LooseUnpinned row s (subst NotValues (sym owns.own) none);
-      held = λ n is. (let here = row-here w h row owns.live (ap is_pinning pinned) in let other = mode-others w h Mode.LooseUnpinned row s n in grind (arith, nat_tests, same-number));
-    }
-
-keyed-keeps : (w : Core) (node : NodeNumber) (key : ℕ) → Keeps w (with_key w node key)
-keyed-keeps w node key = record { owns = λ n. owns-same refl refl (λ p t is. grind (arith, nat_tests)); held = λ n is. grind (arith, nat_tests) }
 
 module _ {N E : Type 0} {v : Values N} {s s' : PagerState N E} (is : WellFormed v s) (left : Leaves s.values s') where
   stays : Alike s.core s'.core → WellFormed v s'
@@ -191,14 +177,22 @@ module _ {N E : Type 0} {v : Values N} {s s' : PagerState N E} (is : WellFormed 
     unpinned {h} c = elim c.does [
       | inl refused ↦ stays refused.stays
       | inr (row, owns, inl (mode, told, a)) ↦ stays a
-      | inr (row, owns, inr (mode, f)) ↦ fell is (unpin-keeps is.whole h row none owns mode) f is.whole.shut (λ x among e. absurd (cc)) left
+      | inr (row, owns, inr (mode, f)) ↦
+          let stood = stands-whole is.whole.handles h.0 row owns.live in
+          let keeps : Keeps s.core (with_mode s.core h Mode.LooseUnpinned) = record {
+            owns = mode-owns s.core h Mode.LooseUnpinned row stood (subst NotValues (sym owns.own) none);
+            held = λ n e. (let here = row-here s.core h row owns.live (ap is_pinning mode) in let other = mode-others s.core h Mode.LooseUnpinned row stood n in grind (arith, nat_tests, same-number));
+          } in
+          fell is keeps f is.whole.shut (λ x among e. absurd (cc)) left
     ]
 
     pub key_set : {h : HandleNumber} {key : ℕ} {r : Result (Unit {0}) Error} → SetKeyCall s.core me h key r s'.core → WellFormed v s'
     key_set {key = key} c = elim c.does [
       | inl refused ↦ stays refused.stays
       | inr (row, owns, inl (mode, told, a)) ↦ stays a
-      | inr (row, owns, inr (loose, f)) ↦ fell is (keyed-keeps s.core row.node key) f is.whole.shut (λ x among e. absurd (cc)) left
+      | inr (row, owns, inr (loose, f)) ↦
+          let keeps : Keeps s.core (with_key s.core row.node key) = record { owns = λ n. owns-same refl refl (λ p t e. grind (arith, nat_tests)); held = λ n e. grind (arith, nat_tests) } in
+          fell is keeps f is.whole.shut (λ x among e. absurd (cc)) left
     ]
 
     pub scheduled : {h : HandleNumber} (r : Result (Unit {0}) Error) → ScheduleCall s.core me h r s'.core → WellFormed v s'
@@ -332,8 +326,7 @@ module _ {N E : Type 0} {v : Values N} {s : PagerState N E} (s' : PagerState N E
       ap is_some (values n) ∙ (valued ∙ sym (like.spares.holds n))) right.counted (right.whole like.shut)
 
   comes-with : (x : N) → v.node_type x ≡ t → v.references x ≡ references → is_pinning mode ≡ true → ((n : ℕ) → s'.values n ≡ (if n == next then Some x else s.values n)) → IsRight s' → WellFormed v s'
-  comes-with x is_typed named pinning = comes (Some x) (receives-it.value x named (ap (λ c. if_there (λ (cell : Cell). Some cell.node_type) None c) new-cell ∙ ap (λ u. Some u) (sym is_typed)))
-      (sym (pinned-here made next (let p = pins-made next in let q = self-number next in grind (arith, nat_tests))))
+  comes-with x is_typed named pinning = grind (arith, nat_tests, comes, receives-it, new-cell, pinned-here, pins-made, self-number)
 
   comes-away : (key : ℕ) → own ≡ OptionalDataKey.Some key → references ≡ [] → is_pinning mode ≡ false → ((n : ℕ) → s'.values n ≡ s.values n) → IsRight s' → WellFormed v s'
   unfolding is_named_by

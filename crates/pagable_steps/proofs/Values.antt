@@ -187,8 +187,7 @@ unmoved a shut = rests-then (spares-same refl (λ n. refl) refl) a shut
 
 -- the cache may learn a node
 pub rests-cached : {m w' : Core} (kind : Kind) (key : ℕ) (n : NodeNumber) (b : Bool) → Alike (if b then m else with_cached m kind key n) w' → m.closed ≡ b → IsShut m → Rests m w'
-rests-cached kind key n true a e shut = unmoved a shut
-rests-cached kind key n false a e shut = rests-then (spares-same refl (λ n. refl) refl) a (λ closed. absurd (let x : true ≡ false = sym closed ∙ e in cc))
+rests-cached kind key n x3 a e shut = grind (arith, nat_tests, unmoved, rests-then, spares-same)
 
 pub spared : {N E : Type 0} {v : Values N} {s s' : PagerState N E} → WellFormed v s → Rests s.core s'.core → ((n : ℕ) → s'.values n ≡ s.values n) → IsRight s' → WellFormed v s'
 spared {v = v} {s} {s'} is rests same right =
