@@ -1,7 +1,7 @@
 //! Texts, and values that refer to others, which are paged out and pinned again. Keys are made by SHA-256.
 
 use crate::calls::nodes::{CellNode, lists};
-use crate::calls::pager_over;
+use crate::calls::{let_go, pager_over};
 use crate::times::Outcome;
 use anyhow::Context;
 use pagable::{
@@ -69,14 +69,25 @@ impl<E: Env<Node: NodeSet<E>>, S: PagableStorage<E>> Filling<E, S> {
         key.ok().context("an item isn't paged out")
     }
 
-    /// Pages out items on one table: their keys.
-    fn keys_of(&mut self, items: Vec<Arc<SerializedData>>) -> anyhow::Result<Vec<DataKey>> {
-        let mut table = SlotTable::new(self.alloc);
+    /// The keys of items that are paged out on this table.
+    fn keys_on(
+        &mut self,
+        table: &mut SlotTable<E>,
+        items: Vec<Arc<SerializedData>>,
+    ) -> anyhow::Result<Vec<DataKey>> {
         let mut keys = Vec::with_capacity(self.alloc, items.len())?;
         for item in items {
-            keys.push(self.key_of(&mut table, item)?)?;
+            keys.push(self.key_of(table, item)?)?;
         }
         Ok(keys)
+    }
+
+    /// The same on a new table.
+    fn keys_of(&mut self, items: Vec<Arc<SerializedData>>) -> anyhow::Result<Vec<DataKey>> {
+        let mut table = SlotTable::new(self.alloc);
+        let keys = self.keys_on(&mut table, items);
+        let_go(table);
+        keys
     }
 }
 
@@ -197,27 +208,21 @@ where
         let read = start.elapsed(clock)?;
         Ok(Outcome { write, read })
     }
-}
 
-/// Makes what a row pages out in this pager, pages it out, and reads it back.
-fn once_in<E: Env<Node = CellNode> + Drop, S: PagableStorage<E> + Drop>(
-    clock: &impl Clock,
-    alloc: Global,
-    pager: Pager<E, S>,
-    row: &str,
-    count: u32,
-) -> anyhow::Result<Outcome>
-where
-    E::Node: NodeSet<E>,
-{
-    let mut filling = Filling { alloc, pager };
-    if row == "items" {
-        return filling.lists_out_and_in(clock, count);
+    /// Makes what a row pages out, pages it out, and reads it back.
+    fn out_and_in(&mut self, clock: &impl Clock, row: &str, count: u32) -> anyhow::Result<Outcome> {
+        match row {
+            "items" => self.lists_out_and_in(clock, count),
+            _ => self.cells_out_and_in(clock, row, count),
+        }
     }
-    filling.cells_out_and_in(clock, row, count)
 }
 
-/// As `once_in`, in a new pager.
+/// As `out_and_in`, by a new pager.
 pub fn once(clock: &impl Clock, alloc: Global, row: &str, count: u32) -> anyhow::Result<Outcome> {
-    once_in(clock, alloc, pager_over::<Sha256Key>(alloc, ""), row, count)
+    let pager = pager_over::<Sha256Key>(alloc, "");
+    let mut filling = Filling { alloc, pager };
+    let outcome = filling.out_and_in(clock, row, count);
+    let_go(filling);
+    outcome
 }
