@@ -8,7 +8,7 @@ use Rattle.pagable_steps.proofs.Owning.{IsRight, IsShut, Leaves, Rests, Spares, 
 use Rattle.{pagable_steps.proofs.Owning.{not-load, pinned-here, recalls, rests-then, spared, spares-same, starts-listed, stayed, unmoved}, pagable_tables.proofs.Worlds.adopted-past}
 use Rattle.pagable_tables.proofs.Worlds.{adopts-new as made-new, born-past, early-past, fault-by, next-past, no-load-fault, refused-memory, refused-new, room-alike, room-fault, still, told-later}
 use Rattle.pagable_tables.specs.{Core.{AreLater, Bears, BeginsWorker, Does, DoesShed, IsWhole}, Ready.{AsksKnown, IsReady, IsVain, ShedsBeside, early_fault, has_come}, declared.tables.Counts.Counts}
-use Rattle.pagable_tables.{proofs.Installed.{installs-wider, may-wider, so-then}, specs.{Core.{OnlyRoom, TakesWorker, core_of, plain_of}, declared.{loading.Ending.Ending, tables.Tables.Tables}}}
+use Rattle.pagable_tables.{proofs.Installed.{installs-wider, may-wider}, specs.{Core.{OnlyRoom, TakesWorker, core_of, plain_of}, declared.{loading.Ending.Ending, tables.Tables.Tables}}}
 use Rattle.{pagable_laws.proofs.{Following.cell-of, Trees.same_some}, pagable_tables.specs.Falling.{AreKept, Sheds, cell_in, counts_at, has_value, key_in, known_at, load_at, pins_in, worker_at}}
 use Rattle.pagable_world.specs.{Access.{Called, Told}, Kinds.{HasKinds, find_row, has_key, is_handle, is_loose, is_owner, is_pinning, loose_kind, mode_of, pins}, declared.answers.Beginning.Beginning}
 use Rattle.pagable_pager.specs.View.{Calls, FewerValues, IsPager, OnlyLess, PagerView, SameValues, TakesEntry, Telling, ValuesByNode, core_in, is_at_work, state_in, value_in, with_value}
@@ -319,7 +319,7 @@ module _ {N S E : Type 0} {tells : Telling S} {says : E → Values N} {p : Pager
       let q = plain_of t1 in
       let ready = prepared (λ key. None) false 0 in
       let some = cell-of room.whole.core.handles n (row-held q r.row.number r.row ready.owned.live) in
-      sym (here-told (counts_at t1.holdings.nodes n) q n refl (sym (room.whole.steady.fits.pinned n))) ∙ ap (λ b. b && is_here q n) some ∙ so-then (is_here q n) (sym ready.away ∙ here)
+      sym (here-told (counts_at t1.holdings.nodes n) q n refl (sym (room.whole.steady.fits.pinned n))) ∙ ap (λ b. b && is_here q n) some ∙ (let goes = sym ready.away ∙ here in grind (arith, nat_tests, goes))
 
   left : (n : ℕ) → value_in values n ≡ (if has_value (counts_at t2.holdings.nodes n) then with_value r.is_away r.row.node.0 x (value_in p.values) n else None)
   left n =
