@@ -41,7 +41,6 @@ pub fn write_count<E: Env, S: PagableSerializer<E>>(
 }
 
 /// Reads a flag: BadBool where the byte is neither 0 nor 1.
-#[tactic(auto, using(crate::proofs::Reading::part_read))]
 pub fn read_flag<E: Env, D: PagableDeserializer<E>>(deserializer: &mut D) -> Result<bool, Error>
     ensures gives { Gives never (λ b. (b, D.rest deserializer.new)) result (bytes_of bool_at (λ b. b) (D.rest deserializer.old)) }
     ensures moves { MovesOn (D.standing deserializer.old) (D.standing deserializer.new) }
@@ -52,7 +51,6 @@ pub fn read_flag<E: Env, D: PagableDeserializer<E>>(deserializer: &mut D) -> Res
 }
 
 /// Reads how many items follow: TooLong above 4,294,967,295.
-#[tactic(auto, using(crate::proofs::Reading::part_read))]
 pub fn read_count<E: Env, D: PagableDeserializer<E>>(deserializer: &mut D) -> Result<usize, Error>
     ensures gives { Gives never (λ n. (n, D.rest deserializer.new)) result (bytes_of length_at (λ n. n) (D.rest deserializer.old)) }
     ensures moves { MovesOn (D.standing deserializer.old) (D.standing deserializer.new) }
