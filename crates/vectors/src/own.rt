@@ -7,11 +7,14 @@ use pagable_examples::any::{AnyEnv, read, written};
 use pagable_examples::{Animal, AnimalReader, Dish, Expression, Size, Ticket, Zoo};
 use std::alloc::Global;
 
-/// What comes of a static text, which is shown.
+/// What comes of a static text, which is shown with the least index of an equal one.
 fn static_text(alloc: Global, zoo: &Zoo, input: &[u8]) -> Option<Outcome> {
     let outcome = replay_in::<Zoo, StaticStr>(alloc, zoo, input);
     let text = match read::<Zoo, StaticStr>(alloc, zoo, input) {
-        Ok(value) => String::from_str(alloc, value.as_str()).ok(),
+        Ok(value) => {
+            let index = zoo.words.index_of(&value.as_str())?;
+            format!(in alloc; "{} {index}", value.as_str()).ok()
+        }
         Err(_) => None,
     };
     Some(with_shown(outcome, text))
