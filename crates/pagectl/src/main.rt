@@ -1,8 +1,10 @@
 //! `pagectl HASH` keeps named texts in a pager, and answers one line for each line that it reads.
 #![tactic(auto)]
 
+mod named_texts;
+
+use crate::named_texts::serve::serve;
 use pagable::{KeyHash, Sha256Key, WeighHash};
-use pagable_examples::named_texts::serve::serve;
 use std::io::{BufReader, BufWriter};
 use std::process::ExitCode;
 use std::{env, io};

@@ -1,6 +1,6 @@
 -- What the values of the rows mean, and how they are spelled.
 use Rattle.std.specs.{Global.Vec, Int.w8, Prelude.{◌≡◌, None, Option, Some, String, refl, suc, true, zero, ℕ}, String.string_bytes, declared.alloc.Global.Global}
-use Rattle.{pagable.specs.traits.Meanings.{AreSingle, Meanings, exactly, lists, lists_single, options, options_single, pairs, pairs_single, seen_by}, pagable_examples.specs.Linked.{Case, referring}}
+use Rattle.{pagable.specs.traits.Meanings.{AreSingle, Meanings, exactly, lists, lists_single, options, options_single, pairs, pairs_single, seen_by}, vectors.specs.Linked.{Case, referring}}
 use Rattle.{pagable.specs.traits.OwnCauses.{WriteCauses, writes_either, writes_long_or, writes_memory, writes_memory_or}, pagable_model.specs.{Form.unsigned-form, Meaning.{Meaning, number}}}
 use Rattle.pagable_model.specs.{References.references_in, Refusals.may_refuse_writing, Shape.{Shape, both, list, nothing, optional, reference, text, unsigned}, declared.numbers.ArcRef.ArcRef}
 use Rattle.{pagable_traits.specs.{References.plain_means, Refers.ListsInOrder, declared.plain.OfKind.OfKind}, vectors.specs.declared.calls.nodes.CellNode.CellNode}

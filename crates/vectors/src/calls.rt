@@ -12,7 +12,7 @@ use pagable::{
     Call, Env, Event, InMemoryBlobs, KeyHash, Machine, NodeSet, PagableData, PagableStorage, Pager,
     SerializedData, Sha256Key, WeighHash,
 };
-use pagable_examples::FailingStorage;
+use pagable_rows::FailingStorage;
 use std::alloc::Global;
 
 type CellStorage<H> = FailingStorage<InMemoryBlobs<CellEnv<H>>>;

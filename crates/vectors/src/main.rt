@@ -3,16 +3,14 @@
 //! `vectors time [ROW [RUNS]]` prints how long it takes to write and to read values.
 #![tactic(auto)]
 
-mod blobs;
 mod bundles;
 mod calls;
-mod carried;
+mod examples;
 mod lines;
 mod own;
-mod served;
+mod quick_start;
 mod sessions;
 mod times;
-mod types;
 mod worked;
 
 use crate::calls::{Calls, let_go};

@@ -1,10 +1,10 @@
 //! Types of one's own, and static and tagged values by an environment's registries.
 
-use crate::carried::{Outcome, Taken, replay, replay_eagerly, replay_in, with_shown};
-use crate::types;
+use crate::examples::{Animal, AnimalReader, Dish, Expression, Sheet, Size, Ticket, Zoo};
 use pagable::{StaticBytes, StaticStr};
-use pagable_examples::any::{AnyEnv, read, written};
-use pagable_examples::{Animal, AnimalReader, Dish, Expression, Size, Ticket, Zoo};
+use pagable_rows::any::{AnyEnv, read, written};
+use pagable_rows::carried::{Outcome, Taken, replay, replay_eagerly, replay_in, with_shown};
+use pagable_rows::types;
 use std::alloc::Global;
 
 /// What comes of a static text, which is shown with the least index of an equal one.
@@ -80,7 +80,7 @@ pub fn answer(alloc: Global, name: &str, input: &[u8]) -> Option<Outcome> {
         }
         "Dish" => replay::<Dish>(alloc, input),
         "Size" => replay::<Size>(alloc, input),
-        "Expression" => replay::<Expression>(alloc, input),
+        "Expression" => Some(replay_in::<Sheet, Expression>(alloc, &Sheet, input)),
         "Ticket" => Some(replay_eagerly::<AnyEnv, Ticket>(alloc, &AnyEnv, input)),
         _ => types::answer(alloc, name, input),
     }

@@ -4,7 +4,7 @@ use pagable::{
     NoReferences, PagableDeserializer, PagableDeserializerImpl, PagableSerializer,
     PagableSerializerImpl, SerializerForPaging, SessionContext,
 };
-use pagable_examples::any::AnyEnv;
+use pagable_rows::any::AnyEnv;
 use std::alloc::Global;
 use std::sync::Wait;
 use std::thread::{Threads, join};

@@ -5,14 +5,14 @@ use crate::calls::asked::item;
 use crate::calls::nodes::{CellNode, node};
 use crate::calls::{Calls, let_go, pager_over};
 use crate::lines;
+use crate::quick_start::page_out_and_read_back;
 use anyhow::{Context, ensure};
 use pagable::paging::{page_out_item, page_out_pending, pin};
 use pagable::{
     DataKey, Env, Error, NodeSet, PagableStorage, PagableVecFlavor, PageOutError, Pager, SlotTable,
     WeighHash,
 };
-use pagable_examples::any::{AnyEnv, written};
-use pagable_examples::quick_start::page_out_and_read_back;
+use pagable_rows::any::{AnyEnv, written};
 use serde_json::Value;
 use std::alloc::Global;
 use std::sync::Arc;

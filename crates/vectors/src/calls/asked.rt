@@ -1,6 +1,5 @@
 //! What a row asks for: events, parted by semicolons.
 
-use crate::blobs::{blob, bytes_of};
 use crate::calls::nodes::node;
 use crate::calls::references::references;
 use crate::calls::{CellCall, CellEvent};
@@ -9,6 +8,7 @@ use pagable::{
     Call, DataKey, Event, HandleNumber, Kind, LoadNumber, NodeNumber, SerializedData, TableNumber,
     Want, WorkerNumber,
 };
+use pagable_rows::blobs::{blob, bytes_of};
 use std::alloc::Global;
 
 /// A word, and what stands behind it.

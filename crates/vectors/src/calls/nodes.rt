@@ -1,13 +1,13 @@
 //! The values of the rows, by the numbers of their types.
 
-use crate::blobs::bytes_of;
 use crate::calls::references::{of_kind, of_kinds, of_two_kinds, push_references, references};
+use crate::examples::linked::write_listed;
 use anyhow::{bail, ensure};
 use pagable::{
     ArcRef, Env, Error, KeyHash, NodeSet, OfKind, PagableDeserialize, PagableDeserializer,
     PagableSerialize, PagableSerializer, Reason, Refers, WeighHash, references_of,
 };
-use pagable_examples::linked::write_listed;
+use pagable_rows::blobs::bytes_of;
 use std::alloc::Global;
 use std::marker::PhantomData;
 

@@ -1,3 +1,0 @@
-pub mod Expressions
-pub mod Levels
-pub mod Refusing

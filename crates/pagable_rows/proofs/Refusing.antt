@@ -1,0 +1,33 @@
+-- The refusals of a storage that fails once, and of a node that is read.
+use Rattle.{pagable_rows.specs.Failing.failures_of, pagable_model.specs.{Blob.Blob, Stored.{HasFailed, RefusesFetch, RefusesStore, RefusesFlush}, declared.error.Error.Error}}
+use Rattle.std.{proofs.{Common.{◌≡◌, ◌+◌, ◌-◌, ◌^◌, ◌<◌, ◌⊎◌, ℕ, Bool, true, false, min, arith, Option, Result, inl, inr}, lemmas.Bool.cases_lt}, specs.{Int.from_bool, Prelude.IfErr}}
+
+-- counts that are cut off at the greatest
+cut : (before after : ℕ) → before < after → HasFailed (min (2 ^ 64 - 1) before) (min (2 ^ 64 - 1) after)
+cut before after lt = elim (cases_lt before (2 ^ 64 - 1)) [ inl small ↦ inl (omega arith) | inr great ↦ inr (omega arith, omega arith) ]
+
+pub own_failure : (inner : ℕ) (before after : Bool) → before ≡ false → after ≡ true → HasFailed (failures_of before inner) (failures_of after inner)
+own_failure inner before after is_not is = rw (is_not, is) (cut (inner + 0) (inner + 1) (omega arith))
+
+passed-on : (failed : Bool) (before after : ℕ) → HasFailed before after → HasFailed (failures_of failed before) (failures_of failed after)
+passed-on failed before after (inl lt) = cut (before + from_bool failed) (after + from_bool failed) (omega arith)
+passed-on failed before after (inr h) = inr (omega (arith, h.0, h.1), omega (arith, h.0, h.1))
+
+module _ {X : Type 0} (failed : Bool) (before after : ℕ) where
+  pub fetch_refused : (r : Result X Error) (key : ℕ) (found : Option Blob) → IfErr r (RefusesFetch key found before after)
+      → IfErr r (RefusesFetch key found (failures_of failed before) (failures_of failed after))
+  fetch_refused x0 key found h = grind (arith, passed-on)
+
+  pub store_refused : (r : Result X Error) (blob : Blob) (found : Option Blob) (closed : Bool) → IfErr r (RefusesStore blob found closed before after)
+      → IfErr r (RefusesStore blob found closed (failures_of failed before) (failures_of failed after))
+  store_refused x0 blob found closed h = grind (arith, passed-on)
+
+  pub flush_refused : (r : Result X Error) → IfErr r (RefusesFlush before after) → IfErr r (RefusesFlush (failures_of failed before) (failures_of failed after))
+  flush_refused x0 h = grind (arith, passed-on)
+
+pub ruleset refusing = (own_failure, fetch_refused, store_refused, flush_refused)
+
+-- a cause of a value's own is one of its node's
+pub or_memory : {A B C : Type 0} → A ⊎ C → A ⊎ (B ⊎ C)
+or_memory (inl a) = inl a
+or_memory (inr c) = inr (inr c)

@@ -1,0 +1,41 @@
+//! Inputs and blobs as rows spell them.
+
+use anyhow::Context;
+use pagable_core::PagableData;
+use pagable_flavors::DataKey;
+use std::alloc::Global;
+
+/// The bytes of an input: parts in hex, each perhaps with how often it stands, as `0401*127+0400`. `-` is none.
+pub fn bytes_of(alloc: Global, input: &str) -> anyhow::Result<Vec<u8>> {
+    let mut bytes = Vec::new(alloc);
+    if input == "-" {
+        return Ok(bytes);
+    }
+    for part in input.split('+') {
+        let (hex, times) = part.split_once('*').unwrap_or((part, "1"));
+        let once = hex::decode(alloc, hex)?;
+        for _ in 0..times.parse::<u32>()? {
+            bytes.extend_from_slice(once.as_slice())?;
+        }
+    }
+    Ok(bytes)
+}
+
+/// The child keys, which are parted by commas.
+fn children_of(alloc: Global, text: &str) -> anyhow::Result<Vec<DataKey>> {
+    let mut children = Vec::new(alloc);
+    for child in text.split(',') {
+        children.push(DataKey::new(child.parse::<u128>()?).context("0 is no key")?)?;
+    }
+    Ok(children)
+}
+
+/// A blob: its bytes as an input, and behind a colon its child keys, if it has some.
+pub fn blob(alloc: Global, text: &str) -> anyhow::Result<PagableData> {
+    let (bytes, arcs) = match text.split_once(':') {
+        Some((bytes, children)) => (bytes, children_of(alloc, children)?),
+        None => (text, Vec::new(alloc)),
+    };
+    let bytes = bytes_of(alloc, bytes)?;
+    Ok(PagableData { bytes, arcs })
+}

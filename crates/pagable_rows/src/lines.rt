@@ -1,0 +1,69 @@
+//! Lines of input, and answering them.
+
+use std::alloc::Global;
+use std::io;
+use std::io::{BufRead, Read, Write};
+
+/// The greatest length of a line in bytes, its LF not counted.
+const LONGEST_LINE: usize = 65_536;
+
+/// What the next line is.
+#[derive(Clone, Copy)]
+enum Line {
+    /// There is none: the input has ended.
+    End,
+    /// A line, which is in the buffer without its LF.
+    Whole,
+    /// A line above the greatest length.
+    TooLong,
+}
+
+/// Reads the next line into the buffer. The last line may lack its LF. Of a line that is too long no more than one byte
+/// above the greatest length is held.
+fn next_line<R: BufRead>(reader: &mut R, line: &mut Vec<u8>) -> io::Result<Line> {
+    line.clear();
+    let most = LONGEST_LINE as u64 + 1;
+    let count = (&mut *reader).take(most).read_until(b'\n', line)?;
+    if count == 0 {
+        return Ok(Line::End);
+    }
+    if line.last() == Some(&b'\n') {
+        line.truncate(count - 1);
+    } else if line.len() > LONGEST_LINE {
+        reader.skip_until(b'\n')?;
+        return Ok(Line::TooLong);
+    }
+    Ok(Line::Whole)
+}
+
+/// What answers lines.
+pub trait Answering {
+    /// Writes the answer to a line; None is one that isn't text, or is too long. Refused where writing fails.
+    fn answer<W: Write>(
+        &mut self,
+        alloc: Global,
+        line: Option<&str>,
+        writer: &mut W,
+    ) -> io::Result<()>;
+}
+
+/// Has each line of the input answered, one after the other. Refused where reading or writing fails, or the buffer for a line can't be made; nothing
+/// more is written then.
+pub fn serve<A: Answering, R: BufRead, W: Write>(
+    alloc: Global,
+    answering: &mut A,
+    reader: &mut R,
+    writer: &mut W,
+) -> io::Result<()> {
+    // The buffer never grows, so that reading lines takes no memory.
+    let mut line = Vec::with_capacity(alloc, LONGEST_LINE + 1)?;
+    for _ in 0..u64::MAX {
+        let text = match next_line(reader, &mut line)? {
+            Line::End => break,
+            Line::TooLong => None,
+            Line::Whole => str::from_utf8(line.as_slice()).ok(),
+        };
+        answering.answer(alloc, text, writer)?;
+    }
+    Ok(())
+}

@@ -1,0 +1,73 @@
+//! What `serve` writes to lines, where its reader and its writer may fail.
+
+use crate::blobs::bytes_of;
+use crate::lines::{Answering, serve};
+use anyhow::Context;
+use std::alloc::Global;
+use std::io;
+use std::io::{BufReader, Read, Write};
+
+/// Answers a line with the count of its bytes.
+#[derive(Clone, Copy)]
+struct Counting;
+
+impl Answering for Counting {
+    fn answer<W: Write>(
+        &mut self,
+        _alloc: Global,
+        line: Option<&str>,
+        writer: &mut W,
+    ) -> io::Result<()> {
+        match line {
+            Some(text) => writeln!(writer, "{}", text.len()),
+            None => writeln!(writer, "none"),
+        }
+    }
+}
+
+/// Gives its bytes three at a time, and fails once they are used up, if it isn't to end there.
+#[derive(Drop)]
+struct Source<'a> {
+    bytes: &'a [u8],
+    ends: bool,
+}
+
+impl<'a> Read for Source<'a> {
+    fn read(&mut self, buf: &mut [u8]) -> io::Result<usize> {
+        let count = self.bytes.len().min(buf.len()).min(3);
+        if count == 0 && !self.ends {
+            return Err(io::Error::from(io::ErrorKind::BrokenPipe));
+        }
+        let (front, rest) = self.bytes.split_at(count);
+        buf[..count].copy_from_slice(front);
+        self.bytes = rest;
+        Ok(count)
+    }
+}
+
+/// Whether lines are answered to their end, and how many bytes are left of the room that the answers are written to.
+fn serve_into(alloc: Global, source: Source<'_>, room: &mut [u8]) -> io::Result<(bool, usize)> {
+    let mut reader = BufReader::new(alloc, source)?;
+    let mut writer = room;
+    let outcome = serve(alloc, &mut Counting, &mut reader, &mut writer);
+    Ok((outcome.is_ok(), writer.len()))
+}
+
+/// What is written to lines, as a text in hex, and whether they are answered to their end. An input is how many bytes the writer has room for, and
+/// behind a colon the bytes that are read; behind those reading `ends` or `fails`.
+pub fn answer(alloc: Global, behind: &str, input: &str) -> anyhow::Result<String> {
+    let (room, lines) = input.split_once(':').context("no room")?;
+    let lines = bytes_of(alloc, lines)?;
+    let source = Source {
+        bytes: lines.as_slice(),
+        ends: behind == "ends",
+    };
+    let room = room.parse::<usize>()?;
+    let mut written = [0; 64];
+    let part = written.get_mut(..room).context("too much room")?;
+    let (is_whole, left) = serve_into(alloc, source, part)?;
+    let word = if is_whole { "ok" } else { "failed" };
+    let bytes = written.get(..room.saturating_sub(left));
+    let hex = hex::encode(alloc, bytes.unwrap_or_default())?;
+    Ok(format!(in alloc; "{word} {hex}")?)
+}

@@ -1,0 +1,196 @@
+//! The carried types by their names. Each function knows a few, since the check of one grows faster than their number, and
+//! hands the other names on; for an unknown name the answer is None.
+
+use crate::any::{AnyEnv, finished, read, written};
+use crate::carried::{Outcome, Taken, replay, shown};
+use indexmap::{IndexMap, IndexSet};
+use pagable_core::{NoReferences, PagableDeserializerImpl, PagableSerializerImpl};
+use pagable_flavors::{PagableSlice, PagableVecFlavor};
+use pagable_traits::{
+    PagableBoxDeserialize, PagableDeserializer, PathText, SavedRegex, SessionContext, Thin,
+    serialize_slice,
+};
+use serde_json::Value;
+use smallvec::SmallVec;
+use std::alloc::Global;
+use std::boxed::{BoxedSlice, BoxedStr};
+use std::collections::{BTreeMap, BTreeSet, HashMap};
+use std::marker::PhantomData;
+use std::sync::OnceLock;
+use std::sync::atomic::AtomicI64;
+use std::time::Duration;
+
+/// What a hash map wrote, read again as a map in the order of its keys and written as that one: it must be as long.
+fn sorted(alloc: Global, taken: &Taken) -> Option<Outcome> {
+    let bytes = taken.written.as_ref().ok()?;
+    let map: BTreeMap<String, i32> = read(alloc, &AnyEnv, bytes.as_slice()).ok()?;
+    let sorted = written(alloc, &AnyEnv, &map).ok()?;
+    if sorted.len() == bytes.len() {
+        return Some(Ok(Taken::new(taken.used, Ok(sorted))));
+    }
+    Some(Err(None))
+}
+
+/// What comes of a hash map, whose entries may be written in any order.
+fn hash_map(alloc: Global, input: &[u8]) -> Option<Outcome> {
+    match replay::<HashMap<String, i32>>(alloc, input)? {
+        Ok(taken) => sorted(alloc, &taken),
+        refused => Some(refused),
+    }
+}
+
+// ---- calls that read or write in a way of their own: lent slices, boxes, byte arrays
+
+/// What `serialize_slice` writes.
+fn serialized(alloc: Global, numbers: &[i32]) -> Result<Vec<u8>, u32> {
+    let mut out = PagableSerializerImpl::testing_new(alloc, &AnyEnv);
+    let done = serialize_slice(numbers, &mut out);
+    finished(done, out)
+}
+
+/// A list as it is written without its count: as a lent slice, or by `serialize_slice`.
+fn slice(alloc: Global, input: &[u8], is_lent: bool) -> Option<Outcome> {
+    let used = replay::<Vec<i32>>(alloc, input)?.ok()?.used;
+    let numbers: Vec<i32> = read(alloc, &AnyEnv, input).ok()?;
+    let bytes = if is_lent {
+        written(alloc, &AnyEnv, &numbers.as_slice())
+    } else {
+        serialized(alloc, numbers.as_slice())
+    };
+    Some(Ok(Taken::new(used, bytes)))
+}
+
+/// What comes of a number that is read into a box.
+fn boxed(alloc: Global, input: &[u8]) -> Outcome {
+    let session = SessionContext::new(alloc);
+    let mut source = PagableDeserializerImpl::new(input, &[], NoReferences::new(&AnyEnv, &session));
+    match <u16 as PagableBoxDeserialize<AnyEnv>>::deserialize_box(alloc, &mut source) {
+        Err(refusal) => Err(Some(refusal.number())),
+        Ok(number) => {
+            let used = PagableDeserializer::<AnyEnv>::position(&source).byte_pos;
+            Ok(Taken::new(used, written(alloc, &AnyEnv, &*number)))
+        }
+    }
+}
+
+/// What comes of a byte array, of which the reader lends the bytes.
+fn bytes(alloc: Global, input: &[u8]) -> Outcome {
+    let mut reader = PagableSlice::new(input);
+    let found = match reader.read_bytes() {
+        Ok(found) => found,
+        Err(refusal) => return Err(Some(refusal.number())),
+    };
+    let mut writer = PagableVecFlavor::default(alloc);
+    let written = match writer.write_bytes(found) {
+        Ok(()) => Ok(writer.finalize()),
+        Err(refusal) => Err(refusal.number()),
+    };
+    Ok(Taken::new(reader.position(), written))
+}
+
+// ---- the names
+
+/// What comes of a map or a set.
+fn map(alloc: Global, name: &str, input: &[u8]) -> Option<Outcome> {
+    match name {
+        "HashMap<String,i32>" => hash_map(alloc, input),
+        "BTreeMap<u8,u8>" => replay::<BTreeMap<u8, u8>>(alloc, input),
+        "BTreeMap<u64,BTreeMap<u64,u64>>" => {
+            replay::<BTreeMap<u64, BTreeMap<u64, u64>>>(alloc, input)
+        }
+        "BTreeMap<(u8,bool),Vec<String>>" => {
+            replay::<BTreeMap<(u8, bool), Vec<String>>>(alloc, input)
+        }
+        "BTreeSet<i16>" => replay::<BTreeSet<i16>>(alloc, input),
+        "IndexSet<u64>" => replay::<IndexSet<u64>>(alloc, input),
+        "IndexMap<String,u8>" => replay::<IndexMap<String, u8>>(alloc, input),
+        "IndexMap<String,u32>" => replay::<IndexMap<String, u32>>(alloc, input),
+        "IndexMap<String,BTreeSet<Option<i8>>>" => {
+            replay::<IndexMap<String, BTreeSet<Option<i8>>>>(alloc, input)
+        }
+        _ => None,
+    }
+}
+
+/// Arrays, headers with lists, lists that aren't vectors and calls of their own, and what comes after them.
+fn array(alloc: Global, name: &str, input: &[u8]) -> Option<Outcome> {
+    match name {
+        "[u16;2]" => replay::<[u16; 2]>(alloc, input),
+        "[String;3]" => replay::<[String; 3]>(alloc, input),
+        "Thin<u8,u8>" => replay::<Thin<u8, u8>>(alloc, input),
+        "Box<[u32]>" => replay::<BoxedSlice<u32>>(alloc, input),
+        "SmallVec<[String;4]>" => replay::<SmallVec<String, 4>>(alloc, input),
+        "&[i32]" => slice(alloc, input, true),
+        "[i32]" => slice(alloc, input, false),
+        "Boxed<u16>" => Some(boxed(alloc, input)),
+        "bytes" => Some(bytes(alloc, input)),
+        _ => map(alloc, name, input),
+    }
+}
+
+/// What comes of an option, a result, a box or a tuple; other names are handed on.
+fn holder(alloc: Global, name: &str, input: &[u8]) -> Option<Outcome> {
+    match name {
+        "Option<u8>" => replay::<Option<u8>>(alloc, input),
+        "Option<Option<i32>>" => replay::<Option<Option<i32>>>(alloc, input),
+        "Box<u16>" => replay::<Box<u16>>(alloc, input),
+        "Result<String,String>" => replay::<Result<String, String>>(alloc, input),
+        "(bool,String)" => replay::<(bool, String)>(alloc, input),
+        "(u8,u16,i32)" => replay::<(u8, u16, i32)>(alloc, input),
+        "(u8,String,Vec<u64>,Option<i8>)" => {
+            replay::<(u8, String, Vec<u64>, Option<i8>)>(alloc, input)
+        }
+        "(u128,i128,char,bool,())" => replay::<(u128, i128, char, bool, ())>(alloc, input),
+        _ => array(alloc, name, input),
+    }
+}
+
+/// Texts, cells, spans of time, regular expressions and JSON values, and what comes after them.
+fn text(alloc: Global, name: &str, input: &[u8]) -> Option<Outcome> {
+    match name {
+        "char" => replay::<char>(alloc, input),
+        "String" => replay::<String>(alloc, input),
+        "Box<str>" => replay::<BoxedStr>(alloc, input),
+        "PathBuf" => replay::<PathText>(alloc, input),
+        "AtomicI64" => replay::<AtomicI64>(alloc, input),
+        "OnceLock<u16>" => replay::<OnceLock<u16>>(alloc, input),
+        "Duration" => replay::<Duration>(alloc, input),
+        "Regex" => replay::<SavedRegex>(alloc, input),
+        "Json" => replay::<Value>(alloc, input),
+        _ => holder(alloc, name, input),
+    }
+}
+
+/// Numbers without a sign and what holds no value, and what comes after them.
+fn unsigned(alloc: Global, name: &str, input: &[u8]) -> Option<Outcome> {
+    match name {
+        "u8" => replay::<u8>(alloc, input),
+        "u16" => shown::<u16>(alloc, input),
+        "u32" => replay::<u32>(alloc, input),
+        "u64" => replay::<u64>(alloc, input),
+        "u128" => shown::<u128>(alloc, input),
+        "usize" => replay::<usize>(alloc, input),
+        "()" => replay::<()>(alloc, input),
+        "PhantomData" => replay::<PhantomData<u8>>(alloc, input),
+        "bool" => replay::<bool>(alloc, input),
+        _ => text(alloc, name, input),
+    }
+}
+
+/// What comes of a number with a sign or of a vector; other names are handed on.
+pub fn answer(alloc: Global, name: &str, input: &[u8]) -> Option<Outcome> {
+    match name {
+        "i8" => replay::<i8>(alloc, input),
+        "i16" => replay::<i16>(alloc, input),
+        "i32" => replay::<i32>(alloc, input),
+        "i64" => replay::<i64>(alloc, input),
+        "i128" => shown::<i128>(alloc, input),
+        "Vec<()>" => replay::<Vec<()>>(alloc, input),
+        "Vec<u8>" => replay::<Vec<u8>>(alloc, input),
+        "Vec<i32>" => replay::<Vec<i32>>(alloc, input),
+        "Vec<u64>" => replay::<Vec<u64>>(alloc, input),
+        "Vec<String>" => replay::<Vec<String>>(alloc, input),
+        "Vec<[u64;32]>" => replay::<Vec<[u64; 32]>>(alloc, input),
+        _ => unsigned(alloc, name, input),
+    }
+}

@@ -1,0 +1,72 @@
+//! Lines about values that need no environment, but for those that are read.
+
+use crate::any::{AnyEnv, written};
+use crate::blobs::blob;
+use crate::carried::written_bytes;
+use crate::drawn::input_of;
+use crate::{served, types};
+use pagable_core::WeighHash;
+use pagable_flavors::{Error, Reason};
+use pagable_traits::SavedRegex;
+use serde_json::Value;
+use std::alloc::{AllocError, Global};
+
+/// What the JSON value of a text is written as.
+fn json(alloc: Global, text: &str) -> Result<String, AllocError> {
+    let Ok(value) = Value::from_str(alloc, text) else {
+        return String::from_str(alloc, "no JSON");
+    };
+    match written(alloc, &AnyEnv, &value) {
+        Ok(bytes) => hex::encode(alloc, bytes.as_slice()),
+        Err(number) => format!(in alloc; "refused {number}"),
+    }
+}
+
+/// One step of FNV-1a of 64 bits, with a number in place of a byte.
+fn summed(sum: u64, number: u64) -> u64 {
+    (sum ^ number).wrapping_mul(0x0000_0100_0000_01b3)
+}
+
+/// The check sum of bytes, with their count before them.
+fn sum_of(bytes: &[u8]) -> u64 {
+    let mut sum = summed(0xcbf2_9ce4_8422_2325, bytes.len() as u64);
+    for byte in bytes {
+        sum = summed(sum, u64::from(*byte));
+    }
+    sum
+}
+
+/// What comes of so many drawn values: `NAME N bytes wrote SUM`.
+fn drawn(alloc: Global, name: &str, count: u32) -> anyhow::Result<String> {
+    let Some((name_of_type, input)) = input_of(alloc, name, count)? else {
+        return Ok(String::from_str(alloc, "no such values")?);
+    };
+    let outcome = types::answer(alloc, name_of_type, input.as_slice());
+    let bytes = outcome.as_ref().and_then(written_bytes).unwrap_or_default();
+    Ok(format!(in alloc; "{name} {} bytes wrote {:016x}", bytes.len(), sum_of(bytes))?)
+}
+
+/// Where a regular expression is found first in a text: from which byte up to which.
+fn find(alloc: Global, pattern: &str, text: &str) -> anyhow::Result<String> {
+    let saved = SavedRegex::new(alloc, pattern)?;
+    let mut matcher = saved.regex().matcher(alloc)?;
+    match matcher.find(text) {
+        Some(found) => Ok(format!(in alloc; "{} {}", found.start(), found.end())?),
+        None => Ok(String::from_str(alloc, "none")?),
+    }
+}
+
+/// The answer to an input of a verb that doesn't read.
+pub fn answer(alloc: Global, name: &str, verb: &str, input: &str) -> anyhow::Result<String> {
+    match verb {
+        "write" => Ok(json(alloc, input)?),
+        "drawn" => drawn(alloc, name, input.parse::<u32>()?),
+        "find" => find(alloc, name, input),
+        "serve" => served::answer(alloc, name, input),
+        "reason" => Ok(format!(in alloc; "\"{}\"", Error::Custom(Reason::new(input)))?),
+        _ => {
+            let key = blob(alloc, input)?.compute_key::<WeighHash>();
+            Ok(format!(in alloc; "{}", key.get())?)
+        }
+    }
+}

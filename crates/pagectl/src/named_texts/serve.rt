@@ -1,0 +1,55 @@
+//! Lines about named texts, and their answers.
+
+use crate::named_texts::command::parse;
+use crate::named_texts::session::{Answer, Refusal, Session};
+use pagable::KeyHash;
+use pagable_rows::lines;
+use pagable_rows::lines::Answering;
+use std::alloc::Global;
+use std::io;
+use std::io::{BufRead, Write};
+
+/// Answers each line of the input with one line, by a pager over blobs in memory whose keys the hash `H` makes. Bad
+/// input is answered and never ends it. Refused where reading or writing fails, or the buffer for a line can't be made;
+/// nothing more is written then.
+pub fn serve<H: KeyHash, R: BufRead, W: Write>(
+    alloc: Global,
+    reader: &mut R,
+    writer: &mut W,
+) -> io::Result<()> {
+    let mut session: Session<H> = Session::new(alloc);
+    lines::serve(alloc, &mut session, reader, writer)
+}
+
+impl<H: KeyHash> Answering for Session<H> {
+    /// An empty line gets no answer.
+    fn answer<W: Write>(
+        &mut self,
+        alloc: Global,
+        line: Option<&str>,
+        writer: &mut W,
+    ) -> io::Result<()> {
+        if line == Some("") {
+            return Ok(());
+        }
+        match line.and_then(parse) {
+            None => writer.write_all(b"bad line\n")?,
+            Some(command) => {
+                let outcome = self.run(alloc, command);
+                write(&outcome, writer)?
+            }
+        }
+        writer.flush()
+    }
+}
+
+/// Writes an answer, or why there is none.
+fn write<W: Write>(outcome: &Result<Answer<'_>, Refusal>, writer: &mut W) -> io::Result<()> {
+    match outcome {
+        Ok(Answer::Text(text)) => writeln!(writer, "{text}"),
+        Ok(Answer::Number(number)) => writeln!(writer, "{number}"),
+        Err(Refusal::BadName) => writeln!(writer, "bad name"),
+        Err(Refusal::NoName) => writeln!(writer, "no name"),
+        Err(Refusal::Error(e)) => writeln!(writer, "error {}", e.number()),
+    }
+}

@@ -1,0 +1,13 @@
+-- What a dish means: its name and its weight, one after the other. So it means one thing, and may be a key; and it is read again.
+use Rattle.std.specs.{Int.w16, Prelude.{refl, ℕ}, String.string_bytes}
+use Rattle.pagable.specs.{model.{Meaning.{number, text}, Shape.{Shape, both, text as text_shape, unsigned}}, traits.Meanings.{AreSingle, Meanings, exactly, pairs, seen_by}}
+use Rattle.{pagable.specs.traits.ReadBack.{IsReadThroughout, basic_is_read, two_is_read}, vectors.specs.declared.examples.dish.Dish.Dish}
+
+abbrev pub dish_means : Meanings Dish
+dish_means = seen_by (λ d. (d.name, d.grams)) (pairs (exactly (λ s. text (string_bytes s))) (exactly number))
+
+pub dish_single : AreSingle dish_means
+dish_single d m h = rw (h.is, h.is_first, h.is_second) refl
+
+pub dish_is_read : (parts : ℕ → Shape) → IsReadThroughout parts (both text_shape (unsigned w16))
+dish_is_read parts = two_is_read (refl, refl) (basic_is_read tt) (basic_is_read tt)
