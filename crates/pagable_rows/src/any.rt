@@ -9,12 +9,8 @@ use std::alloc::Global;
 #[derive(Drop)]
 pub struct AnyEnv;
 
-/// No node.
-#[derive(Drop)]
-pub struct NoNode;
-
 impl Env for AnyEnv {
-    type Node = NoNode;
+    type Node = ();
 
     type Hash = WeighHash;
 

@@ -8,7 +8,6 @@ use pagable::{
     Carried, Env, Error, PagableDeserialize, PagableDeserializer, PagableSerialize,
     PagableSerializer, WeighHash,
 };
-use pagable_rows::any::NoNode;
 use std::alloc::Global;
 
 /// A number, or the sum of two expressions. Each of the two is one level further down, and at most 128 levels can be
@@ -24,7 +23,7 @@ pub enum Expression {
 pub struct Sheet;
 
 impl Env for Sheet {
-    type Node = NoNode;
+    type Node = ();
 
     type Hash = WeighHash;
 

@@ -8,7 +8,6 @@ use pagable::{
     Env, Error, HasStaticValueRegistry, HasTypetagRegistry, StaticValueEntry, StaticValueRegistry,
     TypetagRegistration, TypetagRegistry, WeighHash,
 };
-use pagable_rows::any::NoNode;
 use std::alloc::{AllocError, Global};
 
 /// An environment without nodes, whose fields are its registries.
@@ -69,7 +68,7 @@ impl Zoo {
 }
 
 impl Env for Zoo {
-    type Node = NoNode;
+    type Node = ();
 
     type Hash = WeighHash;
 
