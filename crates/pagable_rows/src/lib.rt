@@ -1,5 +1,6 @@
 //! What rows are made of, beside the pager: blobs and values of the carried types as lines spell them, and what comes of these; an environment of texts and one
-//! that no value needs; inputs that are drawn; a storage over another storage, which fails once; and lines of input, which are answered one by one.
+//! that no value needs; inputs that are drawn; a storage over another storage, which fails once; lines of input, which are answered one by one; and what a
+//! session shares.
 #![tactic(auto)]
 
 pub mod any;
@@ -8,6 +9,7 @@ pub mod carried;
 pub mod drawn;
 pub mod lines;
 mod served;
+pub mod sessions;
 pub mod storages;
 pub mod text;
 pub mod types;

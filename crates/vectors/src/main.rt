@@ -9,12 +9,12 @@ mod examples;
 mod lines;
 mod own;
 mod quick_start;
-mod sessions;
 mod times;
 mod worked;
 
 use crate::calls::{Calls, let_go};
 use anyhow::Context;
+use pagable_rows::sessions;
 use std::{env, fs};
 
 /// Answers the lines of a file, or runs the worked rows that stand in it.

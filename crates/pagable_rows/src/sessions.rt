@@ -1,10 +1,10 @@
 //! What one session shares among its values: from one thread, from two, and through what values are written to and read from.
 
-use pagable::{
-    NoReferences, PagableDeserializer, PagableDeserializerImpl, PagableSerializer,
-    PagableSerializerImpl, SerializerForPaging, SessionContext,
+use crate::any::AnyEnv;
+use pagable_core::{
+    NoReferences, PagableDeserializerImpl, PagableSerializerImpl, SerializerForPaging,
 };
-use pagable_rows::any::AnyEnv;
+use pagable_traits::{PagableDeserializer, PagableSerializer, SessionContext};
 use std::alloc::Global;
 use std::sync::Wait;
 use std::thread::{Threads, join};
