@@ -1,6 +1,6 @@
--- The refusals of a storage that fails once, and of a node that is read.
+-- The refusals of a storage that fails once.
 use Rattle.{pagable_rows.specs.Failing.failures_of, pagable_model.specs.{Blob.Blob, Stored.{HasFailed, RefusesFetch, RefusesStore, RefusesFlush}, declared.error.Error.Error}}
-use Rattle.std.{proofs.{Common.{◌≡◌, ◌+◌, ◌-◌, ◌^◌, ◌<◌, ◌⊎◌, ℕ, Bool, true, false, min, arith, Option, Result, inl, inr}, lemmas.Bool.cases_lt}, specs.{Int.from_bool, Prelude.IfErr}}
+use Rattle.std.{proofs.{Common.{◌≡◌, ◌+◌, ◌-◌, ◌^◌, ◌<◌, ℕ, Bool, true, false, min, arith, Option, Result, inl, inr}, lemmas.Bool.cases_lt}, specs.{Int.from_bool, Prelude.IfErr}}
 
 -- counts that are cut off at the greatest
 cut : (before after : ℕ) → before < after → HasFailed (min (2 ^ 64 - 1) before) (min (2 ^ 64 - 1) after)
@@ -26,8 +26,3 @@ module _ {X : Type 0} (failed : Bool) (before after : ℕ) where
   flush_refused x0 h = grind (arith, passed-on)
 
 pub ruleset refusing = (own_failure, fetch_refused, store_refused, flush_refused)
-
--- a cause of a value's own is one of its node's
-pub or_memory : {A B C : Type 0} → A ⊎ C → A ⊎ (B ⊎ C)
-or_memory (inl a) = inl a
-or_memory (inr c) = inr (inr c)

@@ -3,7 +3,7 @@ use Rattle.pagable.{proofs.Parts.{no-failure, no-success, refused_second, refuse
 use Rattle.pagable.specs.model.{Form.ok-form, Gives.{deep_or, memory}, Lifted.MeansPair, Meaning.{Meaning, failure, number, pair, success}, Reading.deepest, Shape.{both, nested, unsigned}}
 use Rattle.pagable_model.specs.declared.{error.Error.Error, numbers.ArcRef.ArcRef}
 use Rattle.{pagable.specs.model.{Standing.Is, Writing.nesting}, pagable_codec.specs.declared.{env.Env.Ghosts as Environments, serializer.PagableSerializer.Ghosts as Serializers}}
-use Rattle.vectors.{proofs.Levels.{refused-down, writes-down}, specs.{Expressions.{expression, node, nodes, of_expression, written}, declared.expression.Expression.{Expression, Number}}}
+use Rattle.vectors.{proofs.Levels.{refused-down, writes-down}, specs.{Expressions.{expression, node, nodes, of_expression, written}, declared.examples.expression.Expression.{Expression, Number}}}
 use Rattle.{pagable_traits.{proofs.JsonSteps.{wrote-below, wrote-nothing, wrote-then, wrote-then-err}, specs.Clauses.{Piece, Wrote, bytes}}, std.proofs.Common.{Err, Ok, Result, false, inr, refl}}
 use Rattle.std.{proofs.Common.{true, ℕ, ◌+◌, ◌-◌, ◌<◌, ◌≡◌}, specs.{Int.w64, Result.IsErrAnd}}
 

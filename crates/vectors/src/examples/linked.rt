@@ -103,7 +103,7 @@ impl NodeSet<Linked> for LinkedNode {
         }
     }
 
-    #[tactic(auto, using(crate::proofs::Refusing::or_memory))]
+    #[tactic(auto, using(crate::proofs::Listed::or_memory))]
     fn read<D: PagableDeserializer<Linked>>(
         node_type: u32,
         alloc: Global,

@@ -1,5 +1,5 @@
 use Rattle.{pagable.specs.model.Reading.deepest, std.proofs.Common.{◌*◌, ◌+◌, ◌-◌}}
-use Rattle.vectors.proofs.expression.+reading.Given as goal
+use Rattle.vectors.proofs.examples.expression.+reading.Given as goal
 
 abbrev pub decreases-read_below : goal.decreases-read_below
 decreases-read_below g l = 2 * (deepest - g.D.PagableDeserializer.levels l.deserializer.now)

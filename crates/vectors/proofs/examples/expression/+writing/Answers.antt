@@ -1,6 +1,6 @@
 use Rattle.{pagable.specs.model.Gives.memory, vectors.proofs.{Expressions.{left_unwritten, nothing, number_written, sum_written, written_down}, Levels.refused-deep}}
 use Rattle.{vectors.specs.Expressions.nodes, pagable_traits.proofs.JsonSteps.{wrote-deep, wrote-nothing}, std.proofs.Common.{inl, refl}}
-use Rattle.vectors.proofs.expression.+writing.Goals as goal
+use Rattle.vectors.proofs.examples.expression.+writing.Goals as goal
 
 pub write_below-returns-in_err-enter : goal.write_below-returns-in_err-enter
 write_below-returns-in_err-enter g t c =

@@ -1,5 +1,5 @@
 use Rattle.{pagable.specs.model.Reading.deepest, std.proofs.Common.{◌*◌, ◌+◌, ◌-◌}}
-use Rattle.vectors.proofs.expression.+writing.Given as goal
+use Rattle.vectors.proofs.examples.expression.+writing.Given as goal
 
 abbrev pub decreases-write_below : goal.decreases-write_below
 decreases-write_below g l = 2 * (deepest - g.S.PagableSerializer.levels l.serializer.now)

@@ -1,2 +1,2 @@
-pub returns : Rattle.vectors.proofs.animal.AnimalPagableSerializeZoo.pagable_serialize.Goals.returns
+pub returns : Rattle.vectors.proofs.examples.animal.AnimalPagableSerializeZoo.pagable_serialize.Goals.returns
 returns g c = c.serialize_tagged.ensures _ _

@@ -1,6 +1,6 @@
 use Rattle.{pagable.{proofs.Parts.basic_written, specs.model.{Form.unsigned-form, Meaning.number, Shape.unsigned}}, std.{proofs.Common.rules, specs.Int.w16}}
 
-pub returns-clause-wrote : Rattle.vectors.proofs.ticket.TicketPagableEagerSerialize.eager_pagable_serialize.Goals.returns-clause-wrote
+pub returns-clause-wrote : Rattle.vectors.proofs.examples.ticket.TicketPagableEagerSerialize.eager_pagable_serialize.Goals.returns-clause-wrote
 returns-clause-wrote g c =
     let law = g.met.S.PagableSerializer in
     let old = c.args.serializer.now in
