@@ -50,5 +50,3 @@ module _ (before after : ℕ → ℕ → ℕ → Result ArcRef Error) (old new r
 
 -- a place within the keys is a place within the answers, and back
 pub ruleset placing = (length-answers)
-
-pub ruleset taking = (none_left, used_of_none, took_one, took_moves)

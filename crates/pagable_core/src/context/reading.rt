@@ -89,7 +89,6 @@ impl<'de, E: Env, B: Reader, R: References<E>> PagableDeserializer<E>
         &mut self.reader
     }
 
-    #[tactic(auto, using(crate::proofs::Taking::taking))]
     fn deserialize_arc(&mut self, kind: Kind) -> Result<ArcRef, Error> {
         let place = self.keys.position();
         match self.keys.next_key() {
