@@ -18,16 +18,13 @@ fn varint_of(bytes: &[u8], more: usize, last: u8) -> Result<(u64, usize), Error>
     let mut low = 0u64;
     let mut scale = 1u64;
     for (place, byte) in bytes.iter().enumerate() {
-        if place == more {
-            if *byte > last {
-                return Err(Error::BadVarint);
-            }
-            return Ok((low + scale * u64::from(*byte), place + 1));
+        if (place == more) & (*byte > last) {
+            return Err(Error::BadVarint);
         }
+        low += scale * u64::from(*byte % 128);
         if *byte < 128 {
-            return Ok((low + scale * u64::from(*byte), place + 1));
+            return Ok((low, place + 1));
         }
-        low += scale * u64::from(*byte - 128);
         scale *= 128;
     }
     Err(Error::UnexpectedEnd)
@@ -44,16 +41,13 @@ fn wide_varint_of(bytes: &[u8], more: usize, last: u8) -> Result<(u128, usize), 
     let mut low = 0u128;
     let mut scale = 1u128;
     for (place, byte) in bytes.iter().enumerate() {
-        if place == more {
-            if last < *byte {
-                return Err(Error::BadVarint);
-            }
-            return Ok((low + scale * u128::from(*byte), place + 1));
+        if (place == more) & (last < *byte) {
+            return Err(Error::BadVarint);
         }
+        low += scale * u128::from(*byte % 128);
         if *byte < 128 {
-            return Ok((low + scale * u128::from(*byte), place + 1));
+            return Ok((low, place + 1));
         }
-        low += scale * u128::from(*byte - 128);
         scale *= 128;
     }
     Err(Error::UnexpectedEnd)

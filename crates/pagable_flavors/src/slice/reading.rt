@@ -98,11 +98,10 @@ impl Reader for PagableSlice<'_> {
     fn read_char(&mut self) -> Result<char, Error> {
         let text = self.read_str()?;
         let mut characters = text.chars();
-        let character = characters.next().ok_or(Error::BadChar)?;
-        if characters.next().is_some() {
-            return Err(Error::BadChar);
+        match (characters.next(), characters.next()) {
+            (Some(character), None) => Ok(character),
+            _ => Err(Error::BadChar),
         }
-        Ok(character)
     }
 
     #[tactic(auto, unfolding(pagable_model::specs::Basic::length_at))]
