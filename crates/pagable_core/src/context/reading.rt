@@ -48,8 +48,7 @@ impl<'de, R> PagableDeserializerImpl<'de, PagableSlice<'de>, R> {
     pub fn finish(self) -> R
         ensures { result ≡ self.entry.references }
     {
-        let PagableDeserializerImpl { references, .. } = self;
-        references
+        self.references
     }
 }
 
