@@ -107,7 +107,7 @@ impl<'de, E: Env, B: Reader, R: References<E>> PagableDeserializer<E>
         }
     }
 
-    #[tactic(auto, using(crate::proofs::Taking::placing))]
+    #[tactic(auto, using(crate::proofs::Taking::length_of_answers))]
     fn position(&self) -> PagableCursor {
         PagableCursor {
             byte_pos: self.reader.position(),
@@ -115,7 +115,7 @@ impl<'de, E: Env, B: Reader, R: References<E>> PagableDeserializer<E>
         }
     }
 
-    #[tactic(auto, using(crate::proofs::Taking::placing))]
+    #[tactic(auto, using(crate::proofs::Taking::length_of_answers))]
     fn seek(&mut self, cursor: PagableCursor) {
         self.reader.set_position(cursor.byte_pos);
         self.keys.set_position(cursor.arc_index);
