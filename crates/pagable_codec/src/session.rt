@@ -75,20 +75,6 @@ impl<K: Ord + Drop, V: SessionValue> SessionMap<K, V> {
         }
     }
 
-    // Keeps a value that was made for a key that has none, and answers a clone of it.
-    fn keep_made(&mut self, key: K, value: V) -> Result<V, (Error, K, V)>
-        ensures kept { IfOk result (λ y. V.is_clone value y × Updates K.cmp self.old.values self.new.values key (Some value)) }
-        ensures err { OnErr result (IsUnchanged self.old.values self.new.values) }
-        ensures only { IfErr result (λ e. memory e.0) }
-        ensures back { IfErr result (λ e. (e.1 ≡ key) × (e.2 ≡ value)) }
-    {
-        let Ok(answer) = value.clone() else {
-            return Err((Error::OutOfMemory, key, value));
-        };
-        self.set(key, value)?;
-        Ok(answer)
-    }
-
     /// A clone of the key's value, which is made where there is none. Refused by want of memory alone; then nothing
     /// changes, and the key comes back, with the value if one was made.
     pub fn get_or_insert_with<F: FnOnce() -> V>(
@@ -104,12 +90,17 @@ impl<K: Ord + Drop, V: SessionValue> SessionMap<K, V> {
         ensures back { IfErr result (λ e. (e.1 ≡ key) × IsBack (F.post make) (get K.cmp self.old.values key) e.2) }
     {
         match self.get(&key) {
-            Err(refusal) => Err((refusal, key, None)),
-            Ok(Some(value)) => Ok(value),
-            Ok(None) => match self.keep_made(key, make()) {
-                Ok(answer) => Ok(answer),
-                Err((refusal, key, value)) => Err((refusal, key, Some(value))),
-            },
+            Err(refusal) => return Err((refusal, key, None)),
+            Ok(Some(value)) => return Ok(value),
+            Ok(None) => {}
+        }
+        let value = make();
+        let Ok(answer) = value.clone() else {
+            return Err((Error::OutOfMemory, key, Some(value)));
+        };
+        match self.set(key, value) {
+            Ok(()) => Ok(answer),
+            Err((refusal, key, value)) => Err((refusal, key, Some(value))),
         }
     }
 }

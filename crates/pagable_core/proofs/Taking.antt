@@ -6,12 +6,12 @@ use Rattle.pagable_model.specs.declared.error.Error.TheVariants as errors
 use Rattle.pagable_model.specs.Meaning as meanings
 
 module _ (answer : ℕ → ℕ → ℕ → Result ArcRef Error) where
-  pub length-answers : (place : ℕ) (keys : List ℕ) → length (answers_from answer place keys) ≡ length keys
-  length-answers place [] = refl
-  length-answers place (key ∷ keys) = ap (λ (n : ℕ). suc n) (length-answers (place + 1) keys)
+  pub length_of_answers : (place : ℕ) (keys : List ℕ) → length (answers_from answer place keys) ≡ length keys
+  length_of_answers place [] = refl
+  length_of_answers place (key ∷ keys) = ap (λ (n : ℕ). suc n) (length_of_answers (place + 1) keys)
 
   none_from : (place at : ℕ) (keys : List ℕ) → length keys ≤ at → drop at (answers_from answer place keys) ≡ []
-  none_from place at keys h = drop_all at (answers_from answer place keys) (omega (arith, h, length-answers place keys))
+  none_from place at keys h = drop_all at (answers_from answer place keys) (omega (arith, h, length_of_answers place keys))
 
   some_from : (place at key : ℕ) (keys : List ℕ) → slice_get keys at ≡ Some key
       → drop at (answers_from answer place keys) ≡ (λ kind. answer (place + at) key kind) ∷ drop (at + 1) (answers_from answer place keys)
@@ -46,9 +46,4 @@ module _ (before after : ℕ → ℕ → ℕ → Result ArcRef Error) (old new r
   took_one = rw (same, moved, from) refl
 
   pub took_moves : old.position < length old.all → MovesOn (standing_of before old reader) (standing_of after new reader)
-  took_moves h = grind (arith, length-answers)
-
--- a place within the keys is a place within the answers, and back
-pub ruleset placing = (length-answers)
-
-pub ruleset taking = (none_left, used_of_none, took_one, took_moves)
+  took_moves h = grind (arith, length_of_answers)

@@ -1,6 +1,6 @@
 -- Weighing one more byte, and what the preimage of a blob is made of.
 use Rattle.std.proofs.Common.{◌≡◌, ℕ, ◌+◌, ◌*◌, ◌%◌, ◌^◌, ◌<◌, List, [], ◌∷◌, ◌++◌, length, take, get_or, arith, refl, sym, append_assoc, length-append}
-use Rattle.std.{proofs.{Math.Nat.{add-mod-mod, mod-add-mod}, lemmas.{Nat.mul-mod_first, List.{take_more, append-nil, take_all, flat_map_more}}}, specs.Int.{w64, w128}}
+use Rattle.std.{proofs.{Math.Nat.{add-mod-mod, mod-add-mod}, lemmas.{Nat.mul-mod_first, List.{take_more, flat_map_more}}}, specs.Int.{w64, w128}}
 use Rattle.{std.specs.{Int.to_le_bytes, List.flat_map}, pagable_core.specs.{Data.IsWeighed, declared.storage.weigh.WeighHash.WeighHash}, pagable_model.specs.Blob.{weight, preimage}}
 
 pub weight-more : (i b : ℕ) (bs : List ℕ) → weight i (bs ++ b ∷ []) ≡ weight i bs + (i + length bs) * b
@@ -26,12 +26,6 @@ pub preimage_is : (bytes keys : List ℕ) → (to_le_bytes w64 (length keys) ++ 
 unfolding preimage
 preimage_is bytes keys = append_assoc (to_le_bytes w64 (length keys)) bytes (flat_map (to_le_bytes w128) keys)
 
--- before the first key
-pub begins : (count counted bytes written : List ℕ) (f : ℕ → List ℕ) → counted ≡ count → written ≡ bytes → counted ++ written ≡ (count ++ bytes) ++ flat_map f []
-begins count counted bytes written f e h = rw (e, h) (sym (append-nil (count ++ bytes)))
-
 -- one key more
 pub continues : (f : ℕ → List ℕ) (keys : List ℕ) (i key : ℕ) (front more : List ℕ) → i < length keys → key ≡ get_or keys i key → more ≡ f key → (front ++ flat_map f (take i keys)) ++ more ≡ front ++ flat_map f (take (i + 1) keys)
 continues f keys i key front more h is e = rw (e, take_more keys i key h, ← is) (flat_map_more f front (take i keys) key)
-
-pub ruleset keying = (begins, continues, preimage_is, take_all)

@@ -47,12 +47,13 @@ one-left : {more last : ℕ} {bytes : List ℕ} {place low scale : ℕ} → Read
 one-left r p = omega (arith, r.turn)
 
 -- a byte that may stand here leaves the number below its limit
-pub ReadsOn_below : {more last : ℕ} {bytes : List ℕ} {place low scale : ℕ} (byte : ℕ) → ReadsOn more last bytes place low scale → place ≢ more → byte < 128 → low + scale * byte < varint_limit more last
+stands : (left last byte : ℕ) → (left ≡ 0 → byte ≤ last) → byte % 128 < varint_limit left last
 unfolding varint_limit
-ReadsOn_below {more} {last} {bytes} {place} byte r p small = r.room byte (rw (one-left r p) (omega (arith, limit-above (more - (place + 1)) last)))
+stands zero last byte p = let small : byte ≤ last = p refl in omega arith
+stands (suc left) last byte p = omega (arith, limit-above left last)
 
-pub ReadsOn_below_end : {more last : ℕ} {bytes : List ℕ} {place low scale : ℕ} (byte : ℕ) → ReadsOn more last bytes place low scale → byte ≤ last → low + scale * byte < varint_limit more last
-ReadsOn_below_end {more} {last} {bytes} {place} byte r small = r.room byte (omega (arith, limit-above (more - place) last))
+pub ReadsOn_fits : {more last : ℕ} {bytes : List ℕ} {place low scale : ℕ} (byte : ℕ) → ReadsOn more last bytes place low scale → (place ≡ more → byte ≤ last) → low + scale * (byte % 128) < varint_limit more last
+ReadsOn_fits {more} {last} {bytes} {place} byte r p = r.room (byte % 128) (stands (more - place) last byte (λ none. p (omega (arith, r.turn))))
 
 pub ReadsOn_scale : {more last : ℕ} {bytes : List ℕ} {place low scale : ℕ} → ReadsOn more last bytes place low scale → place ≢ more → 0 < last → low + scale * 255 < varint_limit more last
 unfolding varint_limit
@@ -78,16 +79,16 @@ ReadsOn_more {more} {last} {bytes} {place} {low} {scale} byte r h apart e long s
     }
 
 -- how reading ends
-pub ReadsOn_end : {more last : ℕ} {bytes : List ℕ} {place low scale : ℕ} (byte : ℕ) → ReadsOn more last bytes place low scale → place < length bytes → byte ≡ get_or bytes place 0 → place ≢ more → byte < 128
-    → varint_at more last bytes ≡ Ok (low + scale * byte, drop (place + 1) bytes)
-ReadsOn_end {more} {last} {bytes} {place} byte r h e apart small =
-    at_byte byte (Ok (byte, drop (place + 1) bytes)) r h e (rw (one-left r apart) (varint_at-short (more - (place + 1)) last byte (drop (place + 1) bytes) small))
-
-pub ReadsOn_last : {more last : ℕ} {bytes : List ℕ} {place low scale : ℕ} (byte : ℕ) → ReadsOn more last bytes place low scale → place < length bytes → byte ≡ get_or bytes place 0 → place ≡ more → byte ≤ last
-    → varint_at more last bytes ≡ Ok (low + scale * byte, drop (place + 1) bytes)
+ends : (left last byte : ℕ) (xs : List ℕ) → (left ≡ 0 → byte ≤ last) → byte < 128 → varint_at left last (byte ∷ xs) ≡ Ok (byte, xs)
 unfolding varint_at
-ReadsOn_last {more} {last} {bytes} {place} byte r h e whole small =
-    let none : more - place ≡ 0 = omega arith in at_byte byte (Ok (byte, drop (place + 1) bytes)) r h e (rw (none, le-leb byte last small) refl)
+ends zero last byte xs p small = rw (le-leb byte last (p refl)) refl
+ends (suc left) last byte xs p small = varint_at-short left last byte xs small
+
+pub ReadsOn_end : {more last : ℕ} {bytes : List ℕ} {place low scale : ℕ} (byte : ℕ) → ReadsOn more last bytes place low scale → place < length bytes → byte ≡ get_or bytes place 0 → (place ≡ more → byte ≤ last) → byte < 128
+    → varint_at more last bytes ≡ Ok (low + scale * (byte % 128), drop (place + 1) bytes)
+ReadsOn_end {more} {last} {bytes} {place} byte r h e p small =
+    let same : byte % 128 ≡ byte = omega arith in
+    rw same (at_byte byte (Ok (byte, drop (place + 1) bytes)) r h e (ends (more - place) last byte _ (λ none. p (omega (arith, r.turn))) small))
 
 pub ReadsOn_bad : {more last : ℕ} {bytes : List ℕ} {place low scale : ℕ} → ReadsOn more last bytes place low scale → place < length bytes → place ≡ more → last < get_or bytes place 0 → varint_at more last bytes ≡ Err errors.BadVarint
 unfolding varint_at
@@ -137,6 +138,6 @@ WritesOn_last {start} {here} {next} {number} {rest} w l e = record {
   appends = λ more h. let s = w.still more h in e ∙ ap (λ xs. here ++ xs) (sym (varint-short s.0 rest l)) ∙ sym s.2;
 }
 
-pub ruleset reading = (ReadsOn_below, ReadsOn_below_end, ReadsOn_scale, ReadsOn_end, ReadsOn_bad, ReadsOn_short)
+pub ruleset reading = (ReadsOn_fits, ReadsOn_scale, ReadsOn_end, ReadsOn_bad, ReadsOn_short)
 
 pub ruleset writing = (WritesOn_none, WritesOn_last, Extends_twice, Extends_end)

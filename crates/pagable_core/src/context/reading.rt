@@ -48,8 +48,7 @@ impl<'de, R> PagableDeserializerImpl<'de, PagableSlice<'de>, R> {
     pub fn finish(self) -> R
         ensures { result ≡ self.entry.references }
     {
-        let PagableDeserializerImpl { references, .. } = self;
-        references
+        self.references
     }
 }
 
@@ -89,7 +88,6 @@ impl<'de, E: Env, B: Reader, R: References<E>> PagableDeserializer<E>
         &mut self.reader
     }
 
-    #[tactic(auto, using(crate::proofs::Taking::taking))]
     fn deserialize_arc(&mut self, kind: Kind) -> Result<ArcRef, Error> {
         let place = self.keys.position();
         match self.keys.next_key() {
@@ -109,7 +107,7 @@ impl<'de, E: Env, B: Reader, R: References<E>> PagableDeserializer<E>
         }
     }
 
-    #[tactic(auto, using(crate::proofs::Taking::placing))]
+    #[tactic(auto, using(crate::proofs::Taking::length_of_answers))]
     fn position(&self) -> PagableCursor {
         PagableCursor {
             byte_pos: self.reader.position(),
@@ -117,7 +115,7 @@ impl<'de, E: Env, B: Reader, R: References<E>> PagableDeserializer<E>
         }
     }
 
-    #[tactic(auto, using(crate::proofs::Taking::placing))]
+    #[tactic(auto, using(crate::proofs::Taking::length_of_answers))]
     fn seek(&mut self, cursor: PagableCursor) {
         self.reader.set_position(cursor.byte_pos);
         self.keys.set_position(cursor.arc_index);

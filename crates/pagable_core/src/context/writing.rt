@@ -63,8 +63,7 @@ impl<'e, E: Env> SerializerForPaging<'e, E> {
     pub fn finish(self) -> (Vec<u8>, Vec<ArcRef>)
         ensures { pair_out result ≡ ⟦<SerializerForPaging<'e, E> as PagableSerializer<E>>⟧.out self.entry }
     {
-        let SerializerOver { writer, arcs, .. } = self;
-        (writer.finalize(), arcs)
+        (self.writer.finalize(), self.arcs)
     }
 }
 
@@ -83,8 +82,7 @@ impl<'e, E: Env> PagableSerializerImpl<'e, E> {
         ensures ok { IsOk result }
         ensures data { IfOk result (λ d. out_of d ≡ ⟦<PagableSerializerImpl<'e, E> as PagableSerializer<E>>⟧.out self.entry) }
     {
-        let SerializerOver { writer, arcs, .. } = self;
-        let bytes = writer.finalize();
+        let (arcs, bytes) = (self.arcs, self.writer.finalize());
         Ok(SerializedData { bytes, arcs })
     }
 }

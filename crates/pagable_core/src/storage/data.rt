@@ -16,7 +16,6 @@ pub struct PagableData {
 impl PagableData {
     /// The key under which the blob stands: the hash of its preimage as a number of 128 bits, low bytes first, where 0 becomes 1. The preimage is the count of
     /// child keys as 8 bytes, the bytes, and each child key as 16 bytes, low bytes first throughout. It takes no memory.
-    #[tactic(auto, using(crate::proofs::Weighing::keying))]
     pub fn compute_key<H: KeyHash>(&self) -> DataKey
         ensures { result ≡ key_of H.digest (blob_of self.now) }
     {

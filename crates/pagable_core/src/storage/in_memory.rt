@@ -53,7 +53,10 @@ fn is_same(left: &PagableData, right: &PagableData) -> bool
 fn stored_under(blobs: &HashMap<DataKey, Arc<PagableData>>, key: DataKey) -> Option<&PagableData>
     ensures { option_map (λ found. blob_of found.now) result ≡ stored_in blobs.now key }
 {
-    Some(blobs.get(&key)?.as_ref())
+    match blobs.get(&key) {
+        None => None,
+        Some(found) => Some(found),
+    }
 }
 
 /// Puts a blob under a key where nothing stands.
@@ -84,8 +87,10 @@ impl<E: Env> PagableStorage<E> for InMemoryBlobs<E> {
         _alloc: Global,
         key: DataKey,
     ) -> Result<Arc<PagableData>, Error> {
-        let found = self.blobs.get(&key).ok_or(Error::NoData(key))?;
-        Ok(found.clone()?)
+        match self.blobs.get(&key) {
+            None => Err(Error::NoData(key)),
+            Some(found) => Ok(found.clone()?),
+        }
     }
 
     #[tactic(auto, using(crate::proofs::Adding::adding))]

@@ -1,7 +1,7 @@
 //! Numbers of several bytes, byte by byte.
 
-ghost use Rattle.std.specs.{Int.w128, Prelude.◌≡◌, Prelude.◌≤◌, Prelude.◌<◌, Prelude.◌^◌, Prelude.IfOk, Prelude.MatchOption, Prelude.drop, Prelude.length};
-ghost use Rattle.{pagable_flavors.specs.Calls.Reads, pagable_model.specs.{Gives.{Gives, never}, Numbers.{byte_at, varint_at, varint_limit, unsigned_at}, Track.{left, GoesOn}}};
+ghost use Rattle.std.specs.Prelude.{◌≡◌, ◌≤◌, ◌<◌, ◌^◌, IfOk, MatchOption, drop, length};
+ghost use Rattle.{pagable_flavors.specs.Calls.Reads, pagable_model.specs.{Gives.{Gives, never}, Numbers.{byte_at, varint_at, varint_limit}, Track.{left, GoesOn}}};
 
 use super::PagableSlice;
 use pagable_model::Error;
@@ -18,16 +18,13 @@ fn varint_of(bytes: &[u8], more: usize, last: u8) -> Result<(u64, usize), Error>
     let mut low = 0u64;
     let mut scale = 1u64;
     for (place, byte) in bytes.iter().enumerate() {
-        if place == more {
-            if *byte > last {
-                return Err(Error::BadVarint);
-            }
-            return Ok((low + scale * u64::from(*byte), place + 1));
+        if (place == more) & (*byte > last) {
+            return Err(Error::BadVarint);
         }
+        low += scale * u64::from(*byte % 128);
         if *byte < 128 {
-            return Ok((low + scale * u64::from(*byte), place + 1));
+            return Ok((low, place + 1));
         }
-        low += scale * u64::from(*byte - 128);
         scale *= 128;
     }
     Err(Error::UnexpectedEnd)
@@ -35,7 +32,7 @@ fn varint_of(bytes: &[u8], more: usize, last: u8) -> Result<(u64, usize), Error>
 
 // The same of 128 bits.
 #[tactic(auto, using(crate::proofs::Varint::reading))]
-fn wide_varint_of(bytes: &[u8], more: usize, last: u8) -> Result<(u128, usize), Error>
+pub(super) fn wide_varint_of(bytes: &[u8], more: usize, last: u8) -> Result<(u128, usize), Error>
     requires ends { (0 < last) × (last < 128) }
     requires fits { varint_limit more last ≤ 2 ^ 128 }
     ensures gives { Gives never (λ n. (n.0, drop n.1 bytes.now)) result (varint_at more last bytes.now) }
@@ -44,16 +41,13 @@ fn wide_varint_of(bytes: &[u8], more: usize, last: u8) -> Result<(u128, usize), 
     let mut low = 0u128;
     let mut scale = 1u128;
     for (place, byte) in bytes.iter().enumerate() {
-        if place == more {
-            if last < *byte {
-                return Err(Error::BadVarint);
-            }
-            return Ok((low + scale * u128::from(*byte), place + 1));
+        if (place == more) & (last < *byte) {
+            return Err(Error::BadVarint);
         }
+        low += scale * u128::from(*byte % 128);
         if *byte < 128 {
-            return Ok((low + scale * u128::from(*byte), place + 1));
+            return Ok((low, place + 1));
         }
-        low += scale * u128::from(*byte - 128);
         scale *= 128;
     }
     Err(Error::UnexpectedEnd)
@@ -83,16 +77,6 @@ impl<'de> PagableSlice<'de> {
         ensures bound { IfOk result (λ n. n < varint_limit more last) }
     {
         let (number, count) = varint_of(&self.bytes[self.position..], more, last)?;
-        self.position += count;
-        Ok(number)
-    }
-
-    // The next number of 128 bits.
-    #[tactic(auto, unfolding(pagable_model::specs::Numbers::varint_limit))]
-    pub(super) fn wide_varint(&mut self) -> Result<u128, Error>
-        ensures { Reads (unsigned_at w128) result self.old self.new }
-    {
-        let (number, count) = wide_varint_of(&self.bytes[self.position..], 18, 3)?;
         self.position += count;
         Ok(number)
     }

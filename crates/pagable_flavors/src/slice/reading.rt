@@ -4,6 +4,7 @@ ghost use Rattle.pagable_model.specs.{Basic.{byte_array_at, text_at}, Gives.{Giv
 ghost use Rattle.std.specs.Prelude.{◌≡◌};
 
 use super::PagableSlice;
+use super::numbers::wide_varint_of;
 use crate::reader::Reader;
 use crate::vec_flavor::LONGEST;
 use crate::zigzag;
@@ -62,12 +63,14 @@ impl Reader for PagableSlice<'_> {
         Ok(self.varint(9, 1)?)
     }
 
-    #[tactic(auto, using(crate::proofs::Varint::varint_at_first))]
+    #[tactic(auto, using(crate::proofs::Varint::varint_at_first), unfolding(pagable_model::specs::Numbers::varint_limit))]
     fn read_u128(&mut self) -> Result<u128, Error> {
         if let Some(byte) = self.short() {
             return Ok(u128::from(byte));
         }
-        Ok(self.wide_varint()?)
+        let (number, count) = wide_varint_of(&self.bytes[self.position..], 18, 3)?;
+        self.position += count;
+        Ok(number)
     }
 
     fn read_usize(&mut self) -> Result<usize, Error> {
@@ -98,11 +101,10 @@ impl Reader for PagableSlice<'_> {
     fn read_char(&mut self) -> Result<char, Error> {
         let text = self.read_str()?;
         let mut characters = text.chars();
-        let character = characters.next().ok_or(Error::BadChar)?;
-        if characters.next().is_some() {
-            return Err(Error::BadChar);
+        match (characters.next(), characters.next()) {
+            (Some(character), None) => Ok(character),
+            _ => Err(Error::BadChar),
         }
-        Ok(character)
     }
 
     #[tactic(auto, unfolding(pagable_model::specs::Basic::length_at))]
