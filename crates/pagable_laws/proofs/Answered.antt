@@ -183,10 +183,7 @@ module _ (k : ℕ) (i : Identity) where
     -- the entry of a listed cell, which may be known already
     entry : (r : ArcRef) (place : ℕ) (steps : List (Took W)) (last : List Todo) → Leads f (to_start r place ∷ []) steps last → times (is_claim_of i) steps ≤ 1 → times (is_later_of k i) steps ≤ 1
     entry r place [] last leads few = omega arith
-    entry r place (Took.Claim j (Ok Claim.Claimed) ∷ steps) last (mid, (is, e), leads) few =
-        let few_left : one (at r) + times (is_claim_of i) steps ≤ 1 = subst (λ j. one (is_identity i j) + times (is_claim_of i) steps ≤ 1) is
-        (few-claims (Took.Claim j (Ok Claim.Claimed)) steps few) in
-        grind (arith, nat_tests, once-more, bounded, along)
+    entry r place (Took.Claim j (Ok Claim.Claimed) ∷ steps) last (mid, (is, e), leads) few = grind (arith, nat_tests, once-more, bounded, along, few-claims (Took.Claim j (Ok Claim.Claimed)) steps few)
     entry r place (Took.Claim j (Ok Claim.Waiting) ∷ steps) last (mid, (is, e), leads) few =
         let less : times (is_claim_of i) steps ≤ 1 = let c = few-claims (Took.Claim j (Ok Claim.Waiting)) steps few in omega arith in
         grind (arith, nat_tests, once-more, entry r place steps last (subst (λ m. Leads f m steps last) e leads) less)
