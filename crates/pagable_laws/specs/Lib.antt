@@ -1,5 +1,4 @@
 pub mod FormLaws
-pub mod Rows
 pub mod FallLaws
 pub mod TreeSteps
 pub mod TwoLevels
