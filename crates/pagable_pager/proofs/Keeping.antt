@@ -10,8 +10,8 @@ use Rattle.pagable_tables.proofs.Worlds.{adopts-new as made-new, born-past, earl
 use Rattle.pagable_tables.specs.{Core.{AreLater, Bears, BeginsWorker, Does, DoesShed, IsWhole}, Ready.{AsksKnown, IsReady, IsVain, ShedsBeside, early_fault, has_come}, declared.tables.Counts.Counts}
 use Rattle.pagable_tables.{proofs.Installed.{installs-wider, may-wider}, specs.{Core.{OnlyRoom, TakesWorker, core_of, plain_of}, declared.{loading.Ending.Ending, tables.Tables.Tables}}}
 use Rattle.{pagable_laws.proofs.{Following.cell-of, Trees.same_some}, pagable_tables.specs.Falling.{AreKept, Sheds, cell_in, counts_at, has_value, key_in, known_at, load_at, pins_in, worker_at}}
-use Rattle.pagable_world.specs.{Access.{Called, Told}, Kinds.{HasKinds, find_row, has_key, is_handle, is_loose, is_owner, is_pinning, loose_kind, mode_of, pins}, declared.answers.Beginning.Beginning}
-use Rattle.pagable_pager.specs.View.{Calls, FewerValues, IsPager, OnlyLess, PagerView, SameValues, TakesEntry, Telling, ValuesByNode, core_in, is_at_work, state_in, value_in, with_value}
+use Rattle.pagable_world.specs.{Access.Called, Kinds.{HasKinds, find_row, has_key, is_handle, is_loose, is_owner, is_pinning, loose_kind, mode_of, pins}, declared.answers.Beginning.Beginning}
+use Rattle.pagable_pager.specs.View.{Calls, FewerValues, IsPager, OnlyLess, PagerView, SameValues, Settles, TakesEntry, Telling, ValuesByNode, core_in, is_at_work, state_in, value_in, with_value}
 use Rattle.pagable_world.specs.{Pager.{HandlesAreWhole, IsCellOf, IsNew, IsNewNode, MayOwnLoad, Moves, PagerState, ValueCall, WellFormed}, Plain.{Blob, Error, if_there, or_else, type_of, updated}}
 use Rattle.pagable_world.specs.{Refusals.{Refused, load_fault, references_fault}, World.{Alike, Core, OpenLoad, Reading, Values, greatest, is_here, row_at, seen_as, usable}}
 use Rattle.pagable_world.specs.{Calls.{Asked, BirthCall, CloseCall, FetchCall, IsNext, Looks, StoreCall, birth_fault, is_named_by, next_node, row_of, with_handle, with_node}, declared.calls.Want.Want}
@@ -49,7 +49,8 @@ pub here-told : (o : Option Counts) (w : Core) (n : ℕ) → w.cells n ≡ cell_
 here-told o w n cell pinned = grind (arith, nat_tests, has-key)
 
 pub some-map : {X Y : Type 0} (f : X → Y) (o : Option X) → is_some (option_map f o) ≡ is_some o
-some-map f o = grind (arith, nat_tests)
+some-map f None = refl
+some-map f (Some x) = refl
 
 pub left-map : {X Y : Type 0} (f : X → Y) (b : Bool) (old new : Option X) → ((new ≡ old) ⊎ (new ≡ None)) → is_some new ≡ b → option_map f new ≡ (if b then option_map f old else None)
 left-map f b old new which some = grind (arith, nat_tests)
@@ -102,8 +103,9 @@ module _ {N S E : Type 0} {tells : Telling S} {says : E → Values N} {p : Pager
       pub shed-by : (Leaves (value_in p.values) (state_in tells gone) → step (core_in tells p) (core_in tells gone) → WellFormed (says p.environment) (state_in tells gone)) → IsPager tells says gone
       shed-by state = shed call.whole (call.later is.later) call.sheds (λ left. state left (call.does _ _ _ (ap not opens)))
 
-      pub less-called : Calls OnlyLess tells p step gone
-      less-called = record { step = call.does _ _ _ (ap not opens); only = only-less call.sheds }
+      pub settled-by : IsPager tells says gone → Settles OnlyLess tells says p step gone
+      settled-by after =
+          record { called = record { step = call.does _ _ _ (ap not opens); moves = less-moves tells p gone (only-less call.sheds); whole = after.state }; only = only-less call.sheds }
 
     module _ (whole : IsWhole t) (later : AreLater t) (sheds : Goes) where
       same-so : Alike (core_in tells p) (core_in tells gone) → IsPager tells says gone
@@ -167,7 +169,8 @@ module _ {N S E : Type 0} {tells : Telling S} {says : E → Values N} {p : Pager
     stored-so = told-in (let c = store-call in grind (arith, nat_tests, spares-asked, spares-same))
 
 pub fetch-call : {X : Type 0} (see : X → Blob) (w w' : Core) (key : ℕ) (r : Result X Error) → Asked w w' → IfOk r (λ x. w.stored key ≡ Some (see x)) → IfErr r (RefusesFetch key (w.stored key) w.failures w'.failures) → FetchCall w key (seen_as see r) w'
-fetch-call see w w' key r asks found only = grind (arith, nat_tests)
+fetch-call see w w' key (Ok x) asks found only = record { asked = asks; found = found; refused = tt }
+fetch-call see w w' key (Err e) asks found only = record { asked = asks; found = tt; refused = only }
 
 -- ---- what comes with a value: a node, what a load has read, and the value of a load's cell
 
@@ -372,18 +375,18 @@ no-room is values room back ready =
 -- what a call does to a pager of which no value comes
 module _ {N S E : Type 0} (tells : Telling S) (v : E → Values N) (p q : PagerView N S E) where
   pub called_fewer : (D : Core → Type 0) → D (core_in tells q) → FewerValues p q → WellFormed (v q.environment) (state_in tells q) → Called (v p.environment) D (state_in tells p) (state_in tells q)
-  called_fewer D step only whole = grind (arith, nat_tests)
+  called_fewer D step only whole = record {
+    step = step;
+    moves = record { each = λ n x has. inl (only.values n x has); environment = only.environment };
+    whole = subst (λ (e : E). WellFormed (v e) (state_in tells q)) only.environment whole;
+  }
 
   pub all_there : SameValues p q → FewerValues p q
   all_there only = record { values = λ n x has. subst (λ (values : ValuesByNode N). value_in values n ≡ Some x) only.values has; environment = only.environment }
 
-pub told_less : {N S E : Type 0} {tells : Telling S} (v : E → Values N) {p q : PagerView N S E} {makes : Core → Core → Type 0} → Calls OnlyLess tells p makes q → WellFormed (v q.environment)
-    (state_in tells q) → Told (Some (state_in tells p)) (Some (state_in tells q)) (λ s t. Called (v p.environment) (λ w'. makes s.core w') s t)
-told_less {tells = tells} v {p} {q} {makes} call whole =
-    record { holds = called_fewer tells v p q (makes (core_in tells p)) call.step (record { values = call.only.values; environment = call.only.environment }) whole }
-
 pub stored_key : {digest : Blob → ℕ} {w w' : Core} {blob : Blob} (r : Result ℕ Error) → StoreCall digest w blob r w' → IfOk r (λ key. key ≡ digest blob)
-stored_key r c = grind (arith, nat_tests)
+stored_key (Ok key) c = c.stores.0
+stored_key (Err e) c = tt
 
 -- ---- the handle that a load gets is live
 

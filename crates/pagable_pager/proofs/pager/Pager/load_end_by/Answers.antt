@@ -13,7 +13,7 @@ returns-in-Refused-clause-step g c = rw (← c.self.view_is) (unended c.args.val
 
 pub returns-in-InVain-clause-step : goal.returns-in-InVain-clause-step
 returns-in-InVain-clause-step g c = rw (← c.self.view_is) (vain c.args.value c.node_type-node_type.ensures.value (c.deref.ensures.value ∙ c.in-Ok.ensures.ok) c.load_drop_by.result
-    ((rw c.in-InVain.is at c.in-Err.ensures.unended) _ _ _) c.load_drop_by.ensures.step)
+    ((rw c.in-InVain.is at c.in-Err.ensures.unended) _ _ _) c.load_drop_by.ensures.called.step)
 
 pub returns-in-InVain-clause-moves : goal.returns-in-InVain-clause-moves
 returns-in-InVain-clause-moves g c = let less = c.load_drop_by.ensures.only in rw (← c.self.view_is) (record { each = λ n x has. inl (less.values n x has); environment = less.environment })
