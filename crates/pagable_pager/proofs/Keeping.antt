@@ -17,7 +17,7 @@ use Rattle.pagable_world.specs.{Refusals.{Refused, load_fault, references_fault}
 use Rattle.pagable_world.specs.{Calls.{Asked, BirthCall, CloseCall, FetchCall, IsNext, Looks, StoreCall, birth_fault, is_named_by, next_node, row_of, with_handle, with_node}, declared.calls.Want.Want}
 use Rattle.{pagable_world.specs.{Events.{IsEntry, reading_of_load}, Workers.RowIs, declared.{handles.{HandleRow.HandleRow, Owner.Owner}, rows.Mode.Mode}}, std.proofs.Common.{Bool, Err, List, None}}
 use Rattle.std.proofs.Common.{Ok, Option, Result, Some, [], ap, arith, false, if◌then◌else◌, inl, inr, nat_eq, not, refl, rules, subst, sym, true, ℕ, ◌&&◌, ◌++◌, ◌+◌, ◌<◌, ◌==◌, ◌∙◌, ◌∷◌, ◌≡◌, ◌≤◌}
-use Rattle.std.{proofs.lemmas.{Bool.{Decides.nat_tests, cases_Bool, cases_eq, false_from_ne_true}, Option.slice_get_within}, specs.{Arc.arc_value, HashMap.get, Prelude.{IfErr, IfNone, IfOk, IfSome}}}
+use Rattle.std.{proofs.lemmas.{Bool.{Decides.nat_tests, cases_Bool, cases_eq, false_from_ne_true}, Option.slice_get_within}, specs.{Arc.arc_value, HashMap.get, Prelude.{IfErr, IfOk}}}
 use Rattle.std.specs.Prelude.{IsSome, OnErr, OnOk, is_some, nat_lt, ◌⊎◌}
 use Rattle.pagable_world.specs.Pager as pager
 
@@ -49,8 +49,7 @@ pub here-told : (o : Option Counts) (w : Core) (n : ℕ) → w.cells n ≡ cell_
 here-told o w n cell pinned = grind (arith, nat_tests, has-key)
 
 pub some-map : {X Y : Type 0} (f : X → Y) (o : Option X) → is_some (option_map f o) ≡ is_some o
-some-map f None = refl
-some-map f (Some x) = refl
+some-map f o = grind (arith, nat_tests)
 
 pub left-map : {X Y : Type 0} (f : X → Y) (b : Bool) (old new : Option X) → ((new ≡ old) ⊎ (new ≡ None)) → is_some new ≡ b → option_map f new ≡ (if b then option_map f old else None)
 left-map f b old new which some = grind (arith, nat_tests)
@@ -100,25 +99,27 @@ module _ {N S E : Type 0} {tells : Telling S} {says : E → Values N} {p : Pager
 
     -- by a call of the tables
     module _ {b : Bool} {step : Core → Core → Type 0} (call : DoesShed (not b) p.tables p.values step t values) (opens : b ≡ tells.closed p.storage) where
-      pub shed-by : (Leaves (value_in p.values) (state_in tells gone) → step (core_in tells p) (core_in tells gone) → WellFormed (says p.environment) (state_in tells gone)) → IsPager tells says gone
-      shed-by state = shed call.whole (call.later is.later) call.sheds (λ left. state left (call.does _ _ _ (ap not opens)))
-
-      pub settled-by : IsPager tells says gone → Settles OnlyLess tells says p step gone
-      settled-by after =
-          record { called = record { step = call.does _ _ _ (ap not opens); moves = less-moves tells p gone (only-less call.sheds); whole = after.state }; only = only-less call.sheds }
+      pub shed-by : (Leaves (value_in p.values) (state_in tells gone) → step (core_in tells p) (core_in tells gone) → WellFormed (says p.environment) (state_in tells gone))
+          → IsPager tells says gone × Settles OnlyLess tells says p step gone
+      shed-by state =
+          let after : IsPager tells says gone = shed call.whole (call.later is.later) call.sheds (λ left. state left (call.does _ _ _ (ap not opens))) in (
+            after,
+            record {
+              called = record { step = call.does _ _ _ (ap not opens); moves = less-moves tells p gone (only-less call.sheds); whole = after.state };
+              only = only-less call.sheds;
+            },
+          )
 
     module _ (whole : IsWhole t) (later : AreLater t) (sheds : Goes) where
-      same-so : Alike (core_in tells p) (core_in tells gone) → IsPager tells says gone
+      pub same-so : Alike (core_in tells p) (core_in tells gone) → IsPager tells says gone
       same-so a = shed whole later sheds (stayed is.state (unmoved a is.state.whole.shut))
 
-      pub found-so : (me : Owner) (l : LoadNumber) (kind : Kind) (key u : ℕ) (rs : List ArcRef) (r : Result (Option HandleNumber) Error)
-          → IfOk r (λ found. IfSome found (λ k. Adopts (core_in tells p) me l kind key u rs k (core_in tells gone)))
-          → IfOk r (λ found. IfSome found (λ k. (n : ℕ) × (usable (core_in tells p) kind.0 key ≡ Some n))) → IfOk r (λ found. IfNone found (t ≡ p.tables))
-          → IfErr r (λ e. Refused (adopt_fault (core_in tells p) me l kind key u rs) (load_fault (core_in tells p) me l) (Unit {0}) (core_in tells p) e (core_in tells gone)) → IsPager tells says gone
-      found-so me l kind key u rs (Ok (Some k)) known given same refused = shed whole later sheds (λ left. adopted_known is.state left known given.1)
-      found-so me l kind key u rs (Ok None) known given same refused =
-          same-so (subst (λ (x : Tables). Alike (core_in tells p) (core_in tells (record p { tables = x; values = values }))) (sym same) (still (core_in tells p)))
-      found-so me l kind key u rs (Err e) known given same refused = same-so refused.stays
+      pub known-so : {me : Owner} {l : LoadNumber} {kind : Kind} {key u : ℕ} {rs : List ArcRef} {k : HandleNumber} → Adopts (core_in tells p) me l kind key u rs k (core_in tells gone)
+          → (n : ℕ) × (usable (core_in tells p) kind.0 key ≡ Some n) → IsPager tells says gone
+      known-so adopts given = shed whole later sheds (λ left. adopted_known is.state left adopts given.1)
+
+      pub none-so : t ≡ p.tables → IsPager tells says gone
+      none-so same = same-so (subst (λ (x : Tables). Alike (core_in tells p) (core_in tells (record p { tables = x; values = values }))) (sym same) (still (core_in tells p)))
 
 pub caller-free : NotValues Owner.Caller
 caller-free n is = absurd (cc)
@@ -169,8 +170,7 @@ module _ {N S E : Type 0} {tells : Telling S} {says : E → Values N} {p : Pager
     stored-so = told-in (let c = store-call in grind (arith, nat_tests, spares-asked, spares-same))
 
 pub fetch-call : {X : Type 0} (see : X → Blob) (w w' : Core) (key : ℕ) (r : Result X Error) → Asked w w' → IfOk r (λ x. w.stored key ≡ Some (see x)) → IfErr r (RefusesFetch key (w.stored key) w.failures w'.failures) → FetchCall w key (seen_as see r) w'
-fetch-call see w w' key (Ok x) asks found only = record { asked = asks; found = found; refused = tt }
-fetch-call see w w' key (Err e) asks found only = record { asked = asks; found = tt; refused = only }
+fetch-call see w w' key r asks found only = grind (arith, nat_tests)
 
 -- ---- what comes with a value: a node, what a load has read, and the value of a load's cell
 
@@ -224,6 +224,10 @@ module _ {N S E : Type 0} {tells : Telling S} {says : E → Values N} {p : Pager
 
 -- ---- what a load has read becomes a new node
 
+pub not-adopted : {N : Type 0} {w w' : Core} {me : Owner} {l : LoadNumber} {kind : Kind} {key t u : ℕ} {qs refs : List ArcRef} {x y : N} {e : Error} → t ≡ u → qs ≡ refs → y ≡ x
+    → Refused (adopt_fault w me l kind key t qs) (load_fault w me l) (Unit {0}) w e w' → AdoptCall w me l kind key x u refs (Err (e, y)) w'
+not-adopted {me = me} {l} typed named back r = rw (← typed, ← named) (record { adopts = tt; refused = (back, told-later me l r) })
+
 module _ {N S E : Type 0} {tells : Telling S} {says : E → Values N} {p q : PagerView N S E} (is : IsPager tells says p) (viewed : p ≡ q) (me : Owner) (l : LoadNumber) (kind : Kind) (key : ℕ) (x : N)
     {rs : List ArcRef} (listed : rs ≡ (says p.environment).references x) (fresh : (stored : ℕ → Option Blob) (closed : Bool) (failures : ℕ) → early_fault (core_of q.tables stored closed failures) me l kind
     ((says p.environment).node_type x) rs ≡ None) (unknown : usable (plain_of q.tables) kind.0 key ≡ None) where
@@ -233,13 +237,9 @@ module _ {N S E : Type 0} {tells : Telling S} {says : E → Values N} {p q : Pag
   unknown-in : usable (plain_of p.tables) kind.0 key ≡ None
   unknown-in = subst (λ (v : PagerView N S E). usable (plain_of v.tables) kind.0 key ≡ None) (sym viewed) unknown
 
-  not-adopted : {w' : Core} {y : N} {e : Error} → y ≡ x → Refused (adopt_fault (core_in tells p) me l kind key ((says p.environment).node_type x) rs) (load_fault (core_in tells p) me l) (Unit {0}) (core_in tells p) e w'
-      → AdoptCall (core_in tells p) me l kind key x ((says p.environment).node_type x) ((says p.environment).references x) (Err (e, y)) w'
-  not-adopted {w'} {e = e} back r = grind (arith, nat_tests, told-later)
-
   pub new-refused : {w' : Core} {e : Error} → Refused (birth_fault (core_in tells p)) (birth_fault (core_in tells p)) (Unit {0}) (core_in tells p) e w'
       → AdoptCall (core_in tells p) me l kind key x ((says p.environment).node_type x) ((says p.environment).references x) (Err (e, x)) w'
-  new-refused r = not-adopted refl (refused-new (core_in tells p) me l kind key ((says p.environment).node_type x) rs (fresh-in _ _ _) unknown-in r)
+  new-refused r = not-adopted refl listed refl (refused-new (core_in tells p) me l kind key ((says p.environment).node_type x) rs (fresh-in _ _ _) unknown-in r)
 
   pub new-asked : {t1 : Tables} → Does p.tables OnlyRoom t1 → early_fault (plain_of t1) me l kind ((says p.environment).node_type x) rs ≡ None
   new-asked room = early-past me l kind ((says p.environment).node_type x) rs (room.does (λ key. None) false 0) ∙ fresh-in (λ key. None) false 0
@@ -249,7 +249,7 @@ module _ {N S E : Type 0} {tells : Telling S} {says : E → Values N} {p q : Pag
 
   module _ {t1 : Tables} (values : ValuesByNode N) (room : Does p.tables OnlyRoom t1) where
     pub new-memory : {y : N} → y ≡ x → AdoptCall (core_in tells p) me l kind key x ((says p.environment).node_type x) ((says p.environment).references x) (Err (Error.OutOfMemory, y)) (core_in tells (record p { tables = t1; values = values }))
-    new-memory back = not-adopted back (refused-memory (core_in tells p) me l kind key ((says p.environment).node_type x) rs (fresh-in _ _ _) (only-room is values room))
+    new-memory back = not-adopted refl listed back (refused-memory (core_in tells p) me l kind key ((says p.environment).node_type x) rs (fresh-in _ _ _) (only-room is values room))
 
     module _ (placed : (n : ℕ) → value_in values n ≡ updated (t1.last_node + 1) (Some x) (value_in p.values) n) (t2 : Tables) {k : HandleNumber} {b : Bool} (opens : b ≡ tells.closed p.storage)
         (left : t1.last_node < greatest) (does : Does t1 (λ w w'. IsNext k w × (not b ≡ not w.closed → Alike (adopted w l kind key (first_key kind.0 key) rs) w')) t2) where
@@ -375,18 +375,13 @@ no-room is values room back ready =
 -- what a call does to a pager of which no value comes
 module _ {N S E : Type 0} (tells : Telling S) (v : E → Values N) (p q : PagerView N S E) where
   pub called_fewer : (D : Core → Type 0) → D (core_in tells q) → FewerValues p q → WellFormed (v q.environment) (state_in tells q) → Called (v p.environment) D (state_in tells p) (state_in tells q)
-  called_fewer D step only whole = record {
-    step = step;
-    moves = record { each = λ n x has. inl (only.values n x has); environment = only.environment };
-    whole = subst (λ (e : E). WellFormed (v e) (state_in tells q)) only.environment whole;
-  }
+  called_fewer D step only whole = grind (arith, nat_tests)
 
   pub all_there : SameValues p q → FewerValues p q
   all_there only = record { values = λ n x has. subst (λ (values : ValuesByNode N). value_in values n ≡ Some x) only.values has; environment = only.environment }
 
 pub stored_key : {digest : Blob → ℕ} {w w' : Core} {blob : Blob} (r : Result ℕ Error) → StoreCall digest w blob r w' → IfOk r (λ key. key ≡ digest blob)
-stored_key (Ok key) c = c.stores.0
-stored_key (Err e) c = tt
+stored_key r c = grind (arith, nat_tests)
 
 -- ---- the handle that a load gets is live
 
