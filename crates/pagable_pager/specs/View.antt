@@ -3,8 +3,8 @@ use Rattle.std.specs.declared.{hash.{BuildHasherDefault.BuildHasherDefault, Fold
 use Rattle.std.specs.{Arc.arc_value, Global.Global, HashMap.{HashMap, get}, Option.option_map, Prelude.{Bool, None, Option, Some, false, nat_eq, true, ℕ, ◌+◌, ◌≡◌}}
 use Rattle.{either.specs.declared.Either.Either, pagable_model.specs.declared.numbers.{ArcRef.ArcRef, HandleNumber.HandleNumber, LoadNumber.LoadNumber, WorkerNumber.WorkerNumber}}
 use Rattle.{pagable_tables.specs.{Core.{AreLater, core_of}, Falling.{counts_at, pins_in}, declared.tables.Tables.Tables}, pagable_world.specs.Kinds.{HasKinds, loose_kind}}
-use Rattle.pagable_world.specs.{Access.Called, Events.{IsEntry, with_entry_taken, with_worker}, LoadCalls.{Given, from_cache, from_store}, Pager.{PagerState, WellFormed}, Plain.{Blob, updated}, Refusals.OwnsLoad}
-use Rattle.pagable_world.specs.{World.{Alike, Core, OpenLoad, Root, Values, of_cell, of_key}, declared.handles.{HandleRow.HandleRow, Owner.Owner}}
+use Rattle.pagable_world.specs.{Events.{IsEntry, with_entry_taken, with_worker}, LoadCalls.{Given, from_cache, from_store}, Pager.{PagerState, WellFormed}, Plain.{Blob, updated}, Refusals.OwnsLoad}
+use Rattle.pagable_world.specs.{Access.Called, World.{Alike, Core, OpenLoad, Root, Values, of_cell, of_key}, declared.handles.{HandleRow.HandleRow, Owner.Owner}}
 use Rattle.pagable_tables.specs.Core as tables
 
 abbrev pub ValuesByNode : Type 0 → Type 0

@@ -239,13 +239,11 @@ impl<E: Env<Node: NodeSet<E>>, S: PagableStorage<E>> Pager<E, S> {
         let tables = &mut self.tables;
         let ready = match loading::prepare_end(tables, me, load, node_type, &references) {
             Ok(ready) => ready,
-            Err(unended) => match unended {
-                Unended::Refused(e) => return Err((e, Some(value))),
-                Unended::InVain(e) => {
-                    let _ = self.load_drop_by(me, load);
-                    return Err((e, None));
-                }
-            },
+            Err(Unended::Refused(e)) => return Err((e, Some(value))),
+            Err(Unended::InVain(e)) => {
+                let _ = self.load_drop_by(me, load);
+                return Err((e, None));
+            }
         };
         let node = ready.row.node.0;
         if let Err(value) = place(&mut self.values, alloc, node, ready.is_away, value) {
