@@ -4,7 +4,7 @@ use Rattle.{pagable_laws.proofs.Taking.{row-held, row-pins}, pagable_loads.{proo
 use Rattle.{pagable_loads.specs.Telling.IsMade, pagable_model.specs.{Stored.{Adds, RefusesFetch, RefusesStore}, declared.{data_key.OptionalDataKey.OptionalDataKey, numbers.WorkerNumber.WorkerNumber}}}
 use Rattle.pagable_world.specs.LoadCalls.{AdoptCall, Adopts, AskCall, BeginCall, DropCall, EndCall, EndRefused, GetsKnown, Installs, LazyCall, MayEnd, adopt_fault, adopted, end_fault, first_key, from_cache}
 use Rattle.{pagable_loads.specs.Starting.StartsPin, pagable_model.specs.declared.numbers.{ArcRef.ArcRef, HandleNumber.HandleNumber, Kind.Kind, LoadNumber.LoadNumber, NodeNumber.NodeNumber}}
-use Rattle.pagable_steps.proofs.Owning.{IsRight, IsShut, Leaves, Rests, Spares, adopted_known, adopts-new, asked as spares-asked, born, closed, installed_away, installed_there, known-here}
+use Rattle.pagable_steps.proofs.Owning.{IsRight, IsShut, Leaves, Rests, Spares, adopts-new, asked as spares-asked, born, closed, installed_away, installed_there, known-here}
 use Rattle.{pagable_steps.proofs.Owning.{not-load, pinned-here, recalls, rests-then, spared, spares-same, starts-listed, stayed, unmoved}, pagable_tables.proofs.Worlds.adopted-past}
 use Rattle.pagable_tables.proofs.Worlds.{adopts-new as made-new, born-past, early-past, fault-by, next-past, no-load-fault, refused-memory, refused-new, room-alike, room-fault, still, told-later}
 use Rattle.pagable_tables.specs.{Core.{AreLater, Bears, BeginsWorker, Does, DoesShed, IsWhole}, Ready.{AsksKnown, IsReady, IsVain, ShedsBeside, early_fault, has_come}, declared.tables.Counts.Counts}
@@ -113,10 +113,6 @@ module _ {N S E : Type 0} {tells : Telling S} {says : E → Values N} {p : Pager
     module _ (whole : IsWhole t) (later : AreLater t) (sheds : Goes) where
       pub same-so : Alike (core_in tells p) (core_in tells gone) → IsPager tells says gone
       same-so a = shed whole later sheds (stayed is.state (unmoved a is.state.whole.shut))
-
-      pub known-so : {me : Owner} {l : LoadNumber} {kind : Kind} {key u : ℕ} {rs : List ArcRef} {k : HandleNumber} → Adopts (core_in tells p) me l kind key u rs k (core_in tells gone)
-          → (n : ℕ) × (usable (core_in tells p) kind.0 key ≡ Some n) → IsPager tells says gone
-      known-so adopts given = shed whole later sheds (λ left. adopted_known is.state left adopts given.1)
 
       pub none-so : t ≡ p.tables → IsPager tells says gone
       none-so same = same-so (subst (λ (x : Tables). Alike (core_in tells p) (core_in tells (record p { tables = x; values = values }))) (sym same) (still (core_in tells p)))

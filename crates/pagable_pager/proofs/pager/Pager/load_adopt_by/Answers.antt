@@ -1,4 +1,5 @@
-use Rattle.{pagable_pager.proofs.Keeping.{known-so, known-valued, none-so, not-adopted, only-less, same-so}, pagable_tables.proofs.Newer.eager-pins, std.proofs.Common.{ap, inl, not, refl, ◌∙◌}}
+use Rattle.{pagable_pager.proofs.Keeping.{known-valued, none-so, not-adopted, only-less, same-so, shed}, pagable_steps.proofs.Owning.adopted_known}
+use Rattle.{pagable_tables.proofs.Newer.eager-pins, std.proofs.Common.{ap, inl, not, refl, ◌∙◌}}
 use Rattle.pagable_pager.proofs.pager.Pager.load_adopt_by.Goals as goal
 
 pub adopt_if_known-requires-clause-valued : goal.adopt_if_known-requires-clause-valued
@@ -7,7 +8,8 @@ adopt_if_known-requires-clause-valued g c n known eager = known-valued c.self.in
 pub invariant_of-self : goal.invariant_of-self
 invariant_of-self g c =
     let e = c.in-Ok-Some.ensures in
-    known-so c.self.invariant _ _ e.whole e.later e.sheds ((rw c.in-Ok-Some.field-0-is at e.known) _ _ _ (ap not c.has_closed-lists.ensures)) (rw c.in-Ok-Some.field-0-is at e.given)
+    shed c.self.invariant _ _ e.whole e.later e.sheds
+    (λ left. adopted_known c.self.invariant.state left ((rw c.in-Ok-Some.field-0-is at e.known) _ _ _ (ap not c.has_closed-lists.ensures)) (rw c.in-Ok-Some.field-0-is at e.given).1)
 
 pub returns-in-Ok-Some : goal.returns-in-Ok-Some
 returns-in-Ok-Some g c =
