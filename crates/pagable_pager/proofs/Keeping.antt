@@ -4,20 +4,20 @@ use Rattle.{pagable_laws.proofs.Taking.{row-held, row-pins}, pagable_loads.{proo
 use Rattle.{pagable_loads.specs.Telling.IsMade, pagable_model.specs.{Stored.{Adds, RefusesFetch, RefusesStore}, declared.{data_key.OptionalDataKey.OptionalDataKey, numbers.WorkerNumber.WorkerNumber}}}
 use Rattle.pagable_world.specs.LoadCalls.{AdoptCall, Adopts, AskCall, BeginCall, DropCall, EndCall, EndRefused, GetsKnown, Installs, LazyCall, MayEnd, adopt_fault, adopted, end_fault, first_key, from_cache}
 use Rattle.{pagable_loads.specs.Starting.StartsPin, pagable_model.specs.declared.numbers.{ArcRef.ArcRef, HandleNumber.HandleNumber, Kind.Kind, LoadNumber.LoadNumber, NodeNumber.NodeNumber}}
-use Rattle.pagable_steps.proofs.Owning.{IsRight, IsShut, Leaves, Rests, Spares, adopted_known, adopts-new, asked as spares-asked, born, closed, installed_away, installed_there, known-here}
+use Rattle.pagable_steps.proofs.Owning.{IsRight, IsShut, Leaves, Rests, Spares, adopts-new, asked as spares-asked, born, closed, installed_away, installed_there, known-here}
 use Rattle.{pagable_steps.proofs.Owning.{not-load, pinned-here, recalls, rests-then, spared, spares-same, starts-listed, stayed, unmoved}, pagable_tables.proofs.Worlds.adopted-past}
 use Rattle.pagable_tables.proofs.Worlds.{adopts-new as made-new, born-past, early-past, fault-by, next-past, no-load-fault, refused-memory, refused-new, room-alike, room-fault, still, told-later}
 use Rattle.pagable_tables.specs.{Core.{AreLater, Bears, BeginsWorker, Does, DoesShed, IsWhole}, Ready.{AsksKnown, IsReady, IsVain, ShedsBeside, early_fault, has_come}, declared.tables.Counts.Counts}
 use Rattle.pagable_tables.{proofs.Installed.{installs-wider, may-wider}, specs.{Core.{OnlyRoom, TakesWorker, core_of, plain_of}, declared.{loading.Ending.Ending, tables.Tables.Tables}}}
 use Rattle.{pagable_laws.proofs.{Following.cell-of, Trees.same_some}, pagable_tables.specs.Falling.{AreKept, Sheds, cell_in, counts_at, has_value, key_in, known_at, load_at, pins_in, worker_at}}
-use Rattle.pagable_world.specs.{Access.{Called, Told}, Kinds.{HasKinds, find_row, has_key, is_handle, is_loose, is_owner, is_pinning, loose_kind, mode_of, pins}, declared.answers.Beginning.Beginning}
-use Rattle.pagable_pager.specs.View.{Calls, FewerValues, IsPager, OnlyLess, PagerView, SameValues, TakesEntry, Telling, ValuesByNode, core_in, is_at_work, state_in, value_in, with_value}
+use Rattle.pagable_world.specs.{Access.Called, Kinds.{HasKinds, find_row, has_key, is_handle, is_loose, is_owner, is_pinning, loose_kind, mode_of, pins}, declared.answers.Beginning.Beginning}
+use Rattle.pagable_pager.specs.View.{Calls, FewerValues, IsPager, OnlyLess, PagerView, SameValues, Settles, TakesEntry, Telling, ValuesByNode, core_in, is_at_work, state_in, value_in, with_value}
 use Rattle.pagable_world.specs.{Pager.{HandlesAreWhole, IsCellOf, IsNew, IsNewNode, MayOwnLoad, Moves, PagerState, ValueCall, WellFormed}, Plain.{Blob, Error, if_there, or_else, type_of, updated}}
 use Rattle.pagable_world.specs.{Refusals.{Refused, load_fault, references_fault}, World.{Alike, Core, OpenLoad, Reading, Values, greatest, is_here, row_at, seen_as, usable}}
 use Rattle.pagable_world.specs.{Calls.{Asked, BirthCall, CloseCall, FetchCall, IsNext, Looks, StoreCall, birth_fault, is_named_by, next_node, row_of, with_handle, with_node}, declared.calls.Want.Want}
 use Rattle.{pagable_world.specs.{Events.{IsEntry, reading_of_load}, Workers.RowIs, declared.{handles.{HandleRow.HandleRow, Owner.Owner}, rows.Mode.Mode}}, std.proofs.Common.{Bool, Err, List, None}}
 use Rattle.std.proofs.Common.{Ok, Option, Result, Some, [], ap, arith, false, if◌then◌else◌, inl, inr, nat_eq, not, refl, rules, subst, sym, true, ℕ, ◌&&◌, ◌++◌, ◌+◌, ◌<◌, ◌==◌, ◌∙◌, ◌∷◌, ◌≡◌, ◌≤◌}
-use Rattle.std.{proofs.lemmas.{Bool.{Decides.nat_tests, cases_Bool, cases_eq, false_from_ne_true}, Option.slice_get_within}, specs.{Arc.arc_value, HashMap.get, Prelude.{IfErr, IfNone, IfOk, IfSome}}}
+use Rattle.std.{proofs.lemmas.{Bool.{Decides.nat_tests, cases_Bool, cases_eq, false_from_ne_true}, Option.slice_get_within}, specs.{Arc.arc_value, HashMap.get, Prelude.{IfErr, IfOk}}}
 use Rattle.std.specs.Prelude.{IsSome, OnErr, OnOk, is_some, nat_lt, ◌⊎◌}
 use Rattle.pagable_world.specs.Pager as pager
 
@@ -99,24 +99,23 @@ module _ {N S E : Type 0} {tells : Telling S} {says : E → Values N} {p : Pager
 
     -- by a call of the tables
     module _ {b : Bool} {step : Core → Core → Type 0} (call : DoesShed (not b) p.tables p.values step t values) (opens : b ≡ tells.closed p.storage) where
-      pub shed-by : (Leaves (value_in p.values) (state_in tells gone) → step (core_in tells p) (core_in tells gone) → WellFormed (says p.environment) (state_in tells gone)) → IsPager tells says gone
-      shed-by state = shed call.whole (call.later is.later) call.sheds (λ left. state left (call.does _ _ _ (ap not opens)))
-
-      pub less-called : Calls OnlyLess tells p step gone
-      less-called = record { step = call.does _ _ _ (ap not opens); only = only-less call.sheds }
+      pub shed-by : (Leaves (value_in p.values) (state_in tells gone) → step (core_in tells p) (core_in tells gone) → WellFormed (says p.environment) (state_in tells gone))
+          → IsPager tells says gone × Settles OnlyLess tells says p step gone
+      shed-by state =
+          let after : IsPager tells says gone = shed call.whole (call.later is.later) call.sheds (λ left. state left (call.does _ _ _ (ap not opens))) in (
+            after,
+            record {
+              called = record { step = call.does _ _ _ (ap not opens); moves = less-moves tells p gone (only-less call.sheds); whole = after.state };
+              only = only-less call.sheds;
+            },
+          )
 
     module _ (whole : IsWhole t) (later : AreLater t) (sheds : Goes) where
-      same-so : Alike (core_in tells p) (core_in tells gone) → IsPager tells says gone
+      pub same-so : Alike (core_in tells p) (core_in tells gone) → IsPager tells says gone
       same-so a = shed whole later sheds (stayed is.state (unmoved a is.state.whole.shut))
 
-      pub found-so : (me : Owner) (l : LoadNumber) (kind : Kind) (key u : ℕ) (rs : List ArcRef) (r : Result (Option HandleNumber) Error)
-          → IfOk r (λ found. IfSome found (λ k. Adopts (core_in tells p) me l kind key u rs k (core_in tells gone)))
-          → IfOk r (λ found. IfSome found (λ k. (n : ℕ) × (usable (core_in tells p) kind.0 key ≡ Some n))) → IfOk r (λ found. IfNone found (t ≡ p.tables))
-          → IfErr r (λ e. Refused (adopt_fault (core_in tells p) me l kind key u rs) (load_fault (core_in tells p) me l) (Unit {0}) (core_in tells p) e (core_in tells gone)) → IsPager tells says gone
-      found-so me l kind key u rs (Ok (Some k)) known given same refused = shed whole later sheds (λ left. adopted_known is.state left known given.1)
-      found-so me l kind key u rs (Ok None) known given same refused =
-          same-so (subst (λ (x : Tables). Alike (core_in tells p) (core_in tells (record p { tables = x; values = values }))) (sym same) (still (core_in tells p)))
-      found-so me l kind key u rs (Err e) known given same refused = same-so refused.stays
+      pub none-so : t ≡ p.tables → IsPager tells says gone
+      none-so same = same-so (subst (λ (x : Tables). Alike (core_in tells p) (core_in tells (record p { tables = x; values = values }))) (sym same) (still (core_in tells p)))
 
 pub caller-free : NotValues Owner.Caller
 caller-free n is = absurd (cc)
@@ -221,6 +220,10 @@ module _ {N S E : Type 0} {tells : Telling S} {says : E → Values N} {p : Pager
 
 -- ---- what a load has read becomes a new node
 
+pub not-adopted : {N : Type 0} {w w' : Core} {me : Owner} {l : LoadNumber} {kind : Kind} {key t u : ℕ} {qs refs : List ArcRef} {x y : N} {e : Error} → t ≡ u → qs ≡ refs → y ≡ x
+    → Refused (adopt_fault w me l kind key t qs) (load_fault w me l) (Unit {0}) w e w' → AdoptCall w me l kind key x u refs (Err (e, y)) w'
+not-adopted {me = me} {l} typed named back r = rw (← typed, ← named) (record { adopts = tt; refused = (back, told-later me l r) })
+
 module _ {N S E : Type 0} {tells : Telling S} {says : E → Values N} {p q : PagerView N S E} (is : IsPager tells says p) (viewed : p ≡ q) (me : Owner) (l : LoadNumber) (kind : Kind) (key : ℕ) (x : N)
     {rs : List ArcRef} (listed : rs ≡ (says p.environment).references x) (fresh : (stored : ℕ → Option Blob) (closed : Bool) (failures : ℕ) → early_fault (core_of q.tables stored closed failures) me l kind
     ((says p.environment).node_type x) rs ≡ None) (unknown : usable (plain_of q.tables) kind.0 key ≡ None) where
@@ -230,13 +233,9 @@ module _ {N S E : Type 0} {tells : Telling S} {says : E → Values N} {p q : Pag
   unknown-in : usable (plain_of p.tables) kind.0 key ≡ None
   unknown-in = subst (λ (v : PagerView N S E). usable (plain_of v.tables) kind.0 key ≡ None) (sym viewed) unknown
 
-  not-adopted : {w' : Core} {y : N} {e : Error} → y ≡ x → Refused (adopt_fault (core_in tells p) me l kind key ((says p.environment).node_type x) rs) (load_fault (core_in tells p) me l) (Unit {0}) (core_in tells p) e w'
-      → AdoptCall (core_in tells p) me l kind key x ((says p.environment).node_type x) ((says p.environment).references x) (Err (e, y)) w'
-  not-adopted {w'} {e = e} back r = grind (arith, nat_tests, told-later)
-
   pub new-refused : {w' : Core} {e : Error} → Refused (birth_fault (core_in tells p)) (birth_fault (core_in tells p)) (Unit {0}) (core_in tells p) e w'
       → AdoptCall (core_in tells p) me l kind key x ((says p.environment).node_type x) ((says p.environment).references x) (Err (e, x)) w'
-  new-refused r = not-adopted refl (refused-new (core_in tells p) me l kind key ((says p.environment).node_type x) rs (fresh-in _ _ _) unknown-in r)
+  new-refused r = not-adopted refl listed refl (refused-new (core_in tells p) me l kind key ((says p.environment).node_type x) rs (fresh-in _ _ _) unknown-in r)
 
   pub new-asked : {t1 : Tables} → Does p.tables OnlyRoom t1 → early_fault (plain_of t1) me l kind ((says p.environment).node_type x) rs ≡ None
   new-asked room = early-past me l kind ((says p.environment).node_type x) rs (room.does (λ key. None) false 0) ∙ fresh-in (λ key. None) false 0
@@ -246,7 +245,7 @@ module _ {N S E : Type 0} {tells : Telling S} {says : E → Values N} {p q : Pag
 
   module _ {t1 : Tables} (values : ValuesByNode N) (room : Does p.tables OnlyRoom t1) where
     pub new-memory : {y : N} → y ≡ x → AdoptCall (core_in tells p) me l kind key x ((says p.environment).node_type x) ((says p.environment).references x) (Err (Error.OutOfMemory, y)) (core_in tells (record p { tables = t1; values = values }))
-    new-memory back = not-adopted back (refused-memory (core_in tells p) me l kind key ((says p.environment).node_type x) rs (fresh-in _ _ _) (only-room is values room))
+    new-memory back = not-adopted refl listed back (refused-memory (core_in tells p) me l kind key ((says p.environment).node_type x) rs (fresh-in _ _ _) (only-room is values room))
 
     module _ (placed : (n : ℕ) → value_in values n ≡ updated (t1.last_node + 1) (Some x) (value_in p.values) n) (t2 : Tables) {k : HandleNumber} {b : Bool} (opens : b ≡ tells.closed p.storage)
         (left : t1.last_node < greatest) (does : Does t1 (λ w w'. IsNext k w × (not b ≡ not w.closed → Alike (adopted w l kind key (first_key kind.0 key) rs) w')) t2) where
@@ -376,11 +375,6 @@ module _ {N S E : Type 0} (tells : Telling S) (v : E → Values N) (p q : PagerV
 
   pub all_there : SameValues p q → FewerValues p q
   all_there only = record { values = λ n x has. subst (λ (values : ValuesByNode N). value_in values n ≡ Some x) only.values has; environment = only.environment }
-
-pub told_less : {N S E : Type 0} {tells : Telling S} (v : E → Values N) {p q : PagerView N S E} {makes : Core → Core → Type 0} → Calls OnlyLess tells p makes q → WellFormed (v q.environment)
-    (state_in tells q) → Told (Some (state_in tells p)) (Some (state_in tells q)) (λ s t. Called (v p.environment) (λ w'. makes s.core w') s t)
-told_less {tells = tells} v {p} {q} {makes} call whole =
-    record { holds = called_fewer tells v p q (makes (core_in tells p)) call.step (record { values = call.only.values; environment = call.only.environment }) whole }
 
 pub stored_key : {digest : Blob → ℕ} {w w' : Core} {blob : Blob} (r : Result ℕ Error) → StoreCall digest w blob r w' → IfOk r (λ key. key ≡ digest blob)
 stored_key r c = grind (arith, nat_tests)

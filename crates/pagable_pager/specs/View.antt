@@ -4,7 +4,7 @@ use Rattle.std.specs.{Arc.arc_value, Global.Global, HashMap.{HashMap, get}, Opti
 use Rattle.{either.specs.declared.Either.Either, pagable_model.specs.declared.numbers.{ArcRef.ArcRef, HandleNumber.HandleNumber, LoadNumber.LoadNumber, WorkerNumber.WorkerNumber}}
 use Rattle.{pagable_tables.specs.{Core.{AreLater, core_of}, Falling.{counts_at, pins_in}, declared.tables.Tables.Tables}, pagable_world.specs.Kinds.{HasKinds, loose_kind}}
 use Rattle.pagable_world.specs.{Events.{IsEntry, with_entry_taken, with_worker}, LoadCalls.{Given, from_cache, from_store}, Pager.{PagerState, WellFormed}, Plain.{Blob, updated}, Refusals.OwnsLoad}
-use Rattle.pagable_world.specs.{World.{Alike, Core, OpenLoad, Root, Values, of_cell, of_key}, declared.handles.{HandleRow.HandleRow, Owner.Owner}}
+use Rattle.pagable_world.specs.{Access.Called, World.{Alike, Core, OpenLoad, Root, Values, of_cell, of_key}, declared.handles.{HandleRow.HandleRow, Owner.Owner}}
 use Rattle.pagable_tables.specs.Core as tables
 
 abbrev pub ValuesByNode : Type 0 → Type 0
@@ -90,6 +90,12 @@ is_at_work w _ = false
 -- a call's step in the plain world, and what else it may change
 pub record Calls {N S E : Type 0} (Only : PagerView N S E → PagerView N S E → Type 0) (tells : Telling S) (old : PagerView N S E) (makes : Core → Core → Type 0) (new : PagerView N S E) : Type 0 where
   pub step : makes (core_in tells old) (core_in tells new)
+  pub only : Only old new
+
+-- the same of a call by which no value comes, and after which the pager is whole
+pub record Settles {N S E : Type 0} (Only : PagerView N S E → PagerView N S E → Type 0) (tells : Telling S) (says : E → Values N) (old : PagerView N S E) (makes : Core → Core → Type 0)
+    (new : PagerView N S E) : Type 0 where
+  pub called : Called (says old.environment) (makes (core_in tells old)) (state_in tells old) (state_in tells new)
   pub only : Only old new
 
 -- ---- what an open load reads

@@ -14,6 +14,7 @@ use pagable_model::{
     ArcRef, DataKey, Error, HandleNumber, Kind, LoadNumber, NodeNumber, OptionalDataKey,
     WorkerNumber,
 };
+use pagable_tables::lookups;
 use pagable_world::handles::Owner;
 use pagable_world::{Beginning, Want};
 use std::alloc::Global;
@@ -69,7 +70,6 @@ fn settled<E: Env<Node: NodeSet<E>>, S: PagableStorage<E>, X: Drop>(
 impl<'a, E: Env<Node: NodeSet<E>>, S: PagableStorage<E>> Access<E> for Lent<'a, E, S> {
     ghost use Rattle.std.specs.Prelude.{Some};
     ghost use Rattle.pagable_pager.specs.View.{state_in, telling};
-    ghost use Rattle.pagable_world.specs.declared.handles.Owner.TheVariants as owners;
 
     ghost told = { λ l. Some (state_in (telling S.stored S.is_closed S.failed) l.pager.now) };
 
@@ -92,15 +92,15 @@ impl<'a, E: Env<Node: NodeSet<E>>, S: PagableStorage<E>> Access<E> for Lent<'a, 
     }
 
     fn set_data_key(&mut self, handle: HandleNumber, key: DataKey) -> Result<(), Error> {
-        settled(self.pager.set_data_key_by(self.me, handle, key), self.pager)
+        self.pager.set_data_key_by(self.me, handle, key)
     }
 
     fn unpin(&mut self, handle: HandleNumber) -> Result<(), Error> {
-        settled(self.pager.unpin_by(self.me, handle), self.pager)
+        self.pager.unpin_by(self.me, handle)
     }
 
     fn release(&mut self, handle: HandleNumber) -> Result<(), Error> {
-        settled(self.pager.release_by(self.me, handle), self.pager)
+        self.pager.release_by(self.me, handle)
     }
 
     fn load_key(&mut self, key: DataKey) -> Result<LoadNumber, Error> {
@@ -143,7 +143,10 @@ impl<'a, E: Env<Node: NodeSet<E>>, S: PagableStorage<E>> Access<E> for Lent<'a, 
     ) -> Result<ArcRef, Error> {
         let taken = self.pager.load_lazy_by(self.me, alloc, load, kind, key);
         self.pager.is_whole();
-        Ok(self.pager.reference(kind, taken?))
+        match taken {
+            Ok(handle) => Ok(self.pager.reference(kind, handle)),
+            Err(e) => Err(e),
+        }
     }
 
     fn load_adopt(
@@ -173,17 +176,18 @@ impl<'a, E: Env<Node: NodeSet<E>>, S: PagableStorage<E>> Access<E> for Lent<'a, 
     }
 
     fn load_take(&mut self, load: LoadNumber, named: &[HandleNumber]) -> Result<(), Error> {
-        settled(self.pager.load_take_by(self.me, load, named), self.pager)
+        self.pager.load_take_by(self.me, load, named)
     }
 
     fn load_drop(&mut self, load: LoadNumber) -> Result<(), Error> {
-        settled(self.pager.load_drop_by(self.me, load), self.pager)
+        self.pager.load_drop_by(self.me, load)
     }
 }
 
 impl<'a, E: Env<Node: NodeSet<E>>, S: PagableStorage<E>> WorkerAccess<E> for Lent<'a, E, S> {
     fn check_reference(&self, reference: ArcRef) -> Result<(), Error> {
-        match self.pager.claim_fault(reference) {
+        let pager = &*self.pager;
+        match lookups::claim_fault(&pager.tables, reference) {
             Some(e) => Err(e),
             None => Ok(()),
         }
@@ -195,12 +199,10 @@ impl<'a, E: Env<Node: NodeSet<E>>, S: PagableStorage<E>> WorkerAccess<E> for Len
 
     fn give_up(&mut self, worker: WorkerNumber, node: NodeNumber) {
         self.pager.release_node(worker, node);
-        self.pager.is_whole();
     }
 
     fn schedule_for_paging(&mut self, handle: HandleNumber) -> Result<(), Error> {
-        let told = self.pager.schedule_for_paging_by(self.me, handle);
-        settled(told, self.pager)
+        self.pager.schedule_for_paging_by(self.me, handle)
     }
 
     fn worker_begin(&mut self) -> Result<WorkerNumber, Error> {
@@ -217,7 +219,6 @@ impl<'a, E: Env<Node: NodeSet<E>>, S: PagableStorage<E>> WorkerAccess<E> for Len
 
     fn worker_end(&mut self, worker: WorkerNumber) {
         self.pager.worker_end(worker);
-        self.pager.is_whole();
         self.me = Owner::Caller;
     }
 

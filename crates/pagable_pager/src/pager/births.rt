@@ -1,8 +1,8 @@
 //! Nodes that come, what loads have read becomes nodes, and loads of cells that end with a value.
 
-ghost use Rattle.std.specs.Prelude.{Bool, IfErr, IfNone, IfOk, IfSome, None, OnErr, OnOk, Option, true, ℕ, ◌≡◌};
-ghost use Rattle.{pagable_pager.specs.View.{Calls, OnlyLess, OnlyTables, core_in, state_in, telling, value_in, with_value}, pagable_tables.specs.{Core.{core_of, plain_of}, Ready.early_fault}};
-ghost use Rattle.pagable_world.specs.{Calls.{AwayBirthCall, BirthCall}, Kinds.is_pinning, LoadCalls.{AdoptCall, Adopts, EndCall, adopt_fault}, Pager.{IsCellOf, IsNewNode, Moves}};
+ghost use Rattle.std.specs.Prelude.{Bool, IfErr, None, OnErr, OnOk, Option, true, ℕ, ◌≡◌};
+ghost use Rattle.{pagable_pager.specs.View.{Calls, OnlyTables, core_in, state_in, telling, value_in, with_value}, pagable_tables.specs.{Core.{core_of, plain_of}, Ready.early_fault}};
+ghost use Rattle.pagable_world.specs.{Calls.{AwayBirthCall, BirthCall}, Kinds.is_pinning, LoadCalls.{AdoptCall, EndCall}, Pager.{IsCellOf, IsNewNode, Moves}};
 ghost use Rattle.pagable_world.specs.{Plain.{Blob, Error}, Refusals.{Refused, closed_fault, earlier, load_fault}, World.usable};
 
 use crate::pager::Pager;
@@ -122,31 +122,6 @@ impl<E: Env<Node: NodeSet<E>>, S: PagableStorage<E>> Pager<E, S> {
         making::new_away(&mut self.tables, alloc, Owner::Caller, node_type, key)
     }
 
-    /// Where the cache gives a node already, a handle of it, which the load owns; the handles of the references fall. None where it gives none; nothing changes then.
-    /// Refused with NoSuchHandle, NotYours, WrongMode and WrongKind of the load, the kind and the references; with NumbersSpent and OutOfMemory.
-    fn adopt_known(
-        &mut self,
-        me: Owner,
-        load: LoadNumber,
-        kind: Kind,
-        key: DataKey,
-        node_type: u32,
-        references: &[ArcRef],
-    ) -> Result<Option<HandleNumber>, Error>
-        ensures known { IfOk result (λ found. IfSome found (λ k. Adopts (core_in (telling S.stored S.is_closed S.failed) self.old) me load kind key node_type references.now k (core_in (telling S.stored S.is_closed S.failed) self.new))) }
-        ensures refused { IfErr result (λ e. Refused (adopt_fault (core_in (telling S.stored S.is_closed S.failed) self.old) me load kind key node_type references.now) (load_fault (core_in (telling S.stored S.is_closed S.failed) self.old) me load) (Unit {0}) (core_in (telling S.stored S.is_closed S.failed) self.old) e (core_in (telling S.stored S.is_closed S.failed) self.new)) }
-        ensures none { IfOk result (λ found. IfNone found (self.new ≡ self.old)) }
-        ensures fresh { (stored : ℕ → Option Blob) (closed : Bool) (failures : ℕ) → IfOk result (λ found. IfNone found (early_fault (core_of self.old.tables stored closed failures) me load kind node_type references.now ≡ None)) }
-        ensures unknown { IfOk result (λ found. IfNone found (usable (plain_of self.old.tables) kind.0 key ≡ None)) }
-        ensures only { OnlyLess self.old self.new }
-    {
-        let lists = !self.storage.has_closed();
-        let (tables, values) = (&mut self.tables, &mut self.values);
-        loading::adopt_if_known(
-            tables, values, me, load, kind, key, node_type, references, lists,
-        )
-    }
-
     /// A new node of what a load has read, where the cache gives none and nothing is against it. Refused with NumbersSpent and OutOfMemory, and the value comes back.
     fn adopt_as_new(
         &mut self,
@@ -220,7 +195,11 @@ impl<E: Env<Node: NodeSet<E>>, S: PagableStorage<E>> Pager<E, S> {
         let Ok(references) = node.refs(alloc) else {
             return Err((self.unlisted(me, load), node));
         };
-        match self.adopt_known(me, load, kind, key, node.node_type(), &references) {
+        let node_type = node.node_type();
+        let lists = !self.storage.has_closed();
+        let (t, values) = (&mut self.tables, &mut self.values);
+        let read = &references;
+        match loading::adopt_if_known(t, values, me, load, kind, key, node_type, read, lists) {
             Ok(Some(known)) => Ok(known),
             Ok(None) => self.adopt_as_new(me, alloc, load, kind, key, references, node),
             Err(e) => Err((e, node)),
@@ -260,13 +239,11 @@ impl<E: Env<Node: NodeSet<E>>, S: PagableStorage<E>> Pager<E, S> {
         let tables = &mut self.tables;
         let ready = match loading::prepare_end(tables, me, load, node_type, &references) {
             Ok(ready) => ready,
-            Err(unended) => match unended {
-                Unended::Refused(e) => return Err((e, Some(value))),
-                Unended::InVain(e) => {
-                    let _ = self.load_drop_by(me, load);
-                    return Err((e, None));
-                }
-            },
+            Err(Unended::Refused(e)) => return Err((e, Some(value))),
+            Err(Unended::InVain(e)) => {
+                let _ = self.load_drop_by(me, load);
+                return Err((e, None));
+            }
         };
         let node = ready.row.node.0;
         if let Err(value) = place(&mut self.values, alloc, node, ready.is_away, value) {

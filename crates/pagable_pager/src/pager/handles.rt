@@ -2,11 +2,11 @@
 #![tactic(auto, using(crate::proofs::Keeping::handling))]
 
 ghost use Rattle.std.specs.{Option.option_map, Prelude.{IfErr, IfNone, IfOk, IfSome, IsSome, length, true, ◌<◌, ◌≡◌, ◌≤◌}};
-ghost use Rattle.{pagable_loads.specs.{Starting.{StartsPin, is_unpinned_at}, Telling.IsMade, Working.{EntryFault, TakesReference}}, pagable_tables.specs.Core.{BeginsWorker, TakesWorker}};
-ghost use Rattle.pagable_pager.specs.View.{Calls, OnlyLess, OnlyTables, TakesEntry, core_in, is_at_work, telling};
+ghost use Rattle.{pagable_loads.specs.{Starting.{StartsPin, is_unpinned_at}, Telling.{IsMade, values_at}, Working.{EntryFault, TakesReference}}, pagable_tables.specs.Core.{BeginsWorker, TakesWorker}};
+ghost use Rattle.pagable_pager.specs.View.{Calls, OnlyLess, OnlyTables, Settles, TakesEntry, core_in, is_at_work, telling};
 ghost use Rattle.pagable_world.specs.Calls.{AwayCall, ClearCall, CloneCall, CountCall, KeyCall, Looks, LoosenCall, NodeCall, OfferCall, PinCall, RecallCall, ReleaseCall, ReserveCall};
 ghost use Rattle.pagable_world.specs.{Calls.{ScheduleCall, SetKeyCall, TakeCall, TypeCall, UnpinCall, room_of}, Cascade.FallsAnyhow, Events.{IsEntry, reading_of_load}, Kinds.{HasKinds, HasNoKinds}};
-ghost use Rattle.pagable_world.specs.{Kinds.{is_loose, loose_kind}, LoadCalls.{DropCall, HandOverCall}, Workers.{WorkerEnds, claim_fault, is_workers_at}, World.{Alike, Reading, key_at, row_at}};
+ghost use Rattle.pagable_world.specs.{Kinds.{is_loose, loose_kind}, LoadCalls.{DropCall, HandOverCall}, Workers.{WorkerEnds, is_workers_at}, World.{Alike, Reading, key_at, row_at}};
 
 use crate::pager::{Pager, cell_type};
 use pagable_codec::{Env, NodeSet};
@@ -197,7 +197,7 @@ impl<E: Env<Node: NodeSet<E>>, S: PagableStorage<E>> Pager<E, S> {
         handle: HandleNumber,
     ) -> Result<(), Error>
         requires { is_at_work (core_in (telling S.stored S.is_closed S.failed) self.old) me ≡ true }
-        ensures { Calls OnlyLess (telling S.stored S.is_closed S.failed) self.old (λ w w'. ScheduleCall w me handle result w') self.new }
+        ensures { Settles OnlyLess (telling S.stored S.is_closed S.failed) (values_at E.Node.NodeSet E.Env E.Hash.KeyHash) self.old (λ w w'. ScheduleCall w me handle result w') self.new }
     {
         let lists = !self.storage.has_closed();
         giving::schedule_for_paging(&mut self.tables, &mut self.values, me, handle, lists)
@@ -264,7 +264,7 @@ impl<E: Env<Node: NodeSet<E>>, S: PagableStorage<E>> Pager<E, S> {
 
     pub(crate) fn unpin_by(&mut self, me: Owner, handle: HandleNumber) -> Result<(), Error>
         requires { is_at_work (core_in (telling S.stored S.is_closed S.failed) self.old) me ≡ true }
-        ensures { Calls OnlyLess (telling S.stored S.is_closed S.failed) self.old (λ w w'. UnpinCall w me handle result w') self.new }
+        ensures { Settles OnlyLess (telling S.stored S.is_closed S.failed) (values_at E.Node.NodeSet E.Env E.Hash.KeyHash) self.old (λ w w'. UnpinCall w me handle result w') self.new }
     {
         let lists = !self.storage.has_closed();
         giving::unpin(&mut self.tables, &mut self.values, me, handle, lists)
@@ -280,7 +280,7 @@ impl<E: Env<Node: NodeSet<E>>, S: PagableStorage<E>> Pager<E, S> {
 
     pub(crate) fn release_by(&mut self, me: Owner, handle: HandleNumber) -> Result<(), Error>
         requires { is_at_work (core_in (telling S.stored S.is_closed S.failed) self.old) me ≡ true }
-        ensures { Calls OnlyLess (telling S.stored S.is_closed S.failed) self.old (λ w w'. ReleaseCall w me handle result w') self.new }
+        ensures { Settles OnlyLess (telling S.stored S.is_closed S.failed) (values_at E.Node.NodeSet E.Env E.Hash.KeyHash) self.old (λ w w'. ReleaseCall w me handle result w') self.new }
     {
         let lists = !self.storage.has_closed();
         giving::release(&mut self.tables, &mut self.values, me, handle, lists)
@@ -301,7 +301,7 @@ impl<E: Env<Node: NodeSet<E>>, S: PagableStorage<E>> Pager<E, S> {
         key: DataKey,
     ) -> Result<(), Error>
         requires { is_at_work (core_in (telling S.stored S.is_closed S.failed) self.old) me ≡ true }
-        ensures { Calls OnlyLess (telling S.stored S.is_closed S.failed) self.old (λ w w'. SetKeyCall w me handle key result w') self.new }
+        ensures { Settles OnlyLess (telling S.stored S.is_closed S.failed) (values_at E.Node.NodeSet E.Env E.Hash.KeyHash) self.old (λ w w'. SetKeyCall w me handle key result w') self.new }
     {
         let lists = !self.storage.has_closed();
         giving::set_data_key(&mut self.tables, &mut self.values, me, handle, key, lists)
@@ -316,7 +316,7 @@ impl<E: Env<Node: NodeSet<E>>, S: PagableStorage<E>> Pager<E, S> {
     }
 
     pub(crate) fn load_drop_by(&mut self, me: Owner, load: LoadNumber) -> Result<(), Error>
-        ensures { Calls OnlyLess (telling S.stored S.is_closed S.failed) self.old (λ w w'. DropCall w me load result w') self.new }
+        ensures { Settles OnlyLess (telling S.stored S.is_closed S.failed) (values_at E.Node.NodeSet E.Env E.Hash.KeyHash) self.old (λ w w'. DropCall w me load result w') self.new }
     {
         let lists = !self.storage.has_closed();
         giving::load_drop(&mut self.tables, &mut self.values, me, load, lists)
@@ -337,18 +337,10 @@ impl<E: Env<Node: NodeSet<E>>, S: PagableStorage<E>> Pager<E, S> {
         named: &[HandleNumber],
     ) -> Result<(), Error>
         requires { is_at_work (core_in (telling S.stored S.is_closed S.failed) self.old) me ≡ true }
-        ensures { Calls OnlyLess (telling S.stored S.is_closed S.failed) self.old (λ w w'. HandOverCall w me load named.now result w') self.new }
+        ensures { Settles OnlyLess (telling S.stored S.is_closed S.failed) (values_at E.Node.NodeSet E.Env E.Hash.KeyHash) self.old (λ w w'. HandOverCall w me load named.now result w') self.new }
     {
         let lists = !self.storage.has_closed();
         giving::load_take(&mut self.tables, &mut self.values, me, load, named, lists)
-    }
-
-    /// Why what a reference names can't be claimed for page-out, whoever owns its handle: NoSuchHandle where the handle isn't live or isn't at the reference's
-    /// node, WrongMode and WrongKind where mode or type don't fit the kind.
-    pub(crate) fn claim_fault(&self, reference: ArcRef) -> Option<Error>
-        ensures { result ≡ claim_fault (core_in (telling S.stored S.is_closed S.failed) self.now) reference }
-    {
-        lookups::claim_fault(&self.tables, reference)
     }
 
     /// Whether a handle is loose. Refused with NoSuchHandle.
@@ -402,7 +394,8 @@ impl<E: Env<Node: NodeSet<E>>, S: PagableStorage<E>> Pager<E, S> {
 
     /// A worker gives up all handles that it has at a node, with all that goes with them.
     pub(crate) fn release_node(&mut self, worker: WorkerNumber, node: NodeNumber)
-        ensures { Calls OnlyLess (telling S.stored S.is_closed S.failed) self.old (λ w w'. FallsAnyhow w w (is_workers_at w worker.0 node.0) w') self.new }
+        ensures { Settles OnlyLess (telling S.stored S.is_closed S.failed) (values_at E.Node.NodeSet E.Env E.Hash.KeyHash) self.old
+            (λ w w'. FallsAnyhow w w (is_workers_at w worker.0 node.0) w') self.new }
     {
         let lists = !self.storage.has_closed();
         giving::release_node(&mut self.tables, &mut self.values, worker, node, lists);
@@ -410,7 +403,7 @@ impl<E: Env<Node: NodeSet<E>>, S: PagableStorage<E>> Pager<E, S> {
 
     /// A worker ends: its loads are closed, and it gives up whatever it and they still have, with all that goes with it.
     pub(crate) fn worker_end(&mut self, worker: WorkerNumber)
-        ensures { Calls OnlyLess (telling S.stored S.is_closed S.failed) self.old (λ w w'. WorkerEnds w worker.0 w') self.new }
+        ensures { Settles OnlyLess (telling S.stored S.is_closed S.failed) (values_at E.Node.NodeSet E.Env E.Hash.KeyHash) self.old (λ w w'. WorkerEnds w worker.0 w') self.new }
     {
         let lists = !self.storage.has_closed();
         giving::worker_end(&mut self.tables, &mut self.values, worker, lists);

@@ -1,11 +1,49 @@
-use Rattle.std.proofs.Common.{inl}
+use Rattle.{pagable_pager.proofs.Keeping.{known-valued, none-so, not-adopted, only-less, same-so, shed}, pagable_steps.proofs.Owning.adopted_known}
+use Rattle.{pagable_tables.proofs.Newer.eager-pins, std.proofs.Common.{ap, inl, not, refl, ◌∙◌}}
 use Rattle.pagable_pager.proofs.pager.Pager.load_adopt_by.Goals as goal
 
-pub returns-in-Err-clause-moves : goal.returns-in-Err-clause-moves
-returns-in-Err-clause-moves g c = let less = c.adopt_known.ensures.only in record { each = λ n x has. inl (less.values n x has); environment = less.environment }
+pub adopt_if_known-requires-clause-valued : goal.adopt_if_known-requires-clause-valued
+adopt_if_known-requires-clause-valued g c n known eager = known-valued c.self.invariant c.args.kind.0 c.args.key n known (eager-pins c.args.kind.0 eager)
 
-pub returns-in-Ok-Some-clause-moves : goal.returns-in-Ok-Some-clause-moves
-returns-in-Ok-Some-clause-moves g c = let less = c.adopt_known.ensures.only in record { each = λ n x has. inl (less.values n x has); environment = less.environment }
+pub invariant_of-self : goal.invariant_of-self
+invariant_of-self g c =
+    let e = c.in-Ok-Some.ensures in
+    shed c.self.invariant _ _ e.whole e.later e.sheds
+    (λ left. adopted_known c.self.invariant.state left ((rw c.in-Ok-Some.field-0-is at e.known) _ _ _ (ap not c.has_closed-lists.ensures)) (rw c.in-Ok-Some.field-0-is at e.given).1)
 
-pub returns-in-Ok-None-clause-moves : goal.returns-in-Ok-None-clause-moves
-returns-in-Ok-None-clause-moves g c = rw (← (rw c.in-Ok-None.field-0-is at c.in-Ok-None.ensures.none)) c.adopt_as_new.ensures.moves
+pub returns-in-Ok-Some : goal.returns-in-Ok-Some
+returns-in-Ok-Some g c =
+    let e = c.in-Ok-Some.ensures in
+    let less = only-less c.self.invariant c.adopt_if_known.new.t c.adopt_if_known.new.values e.sheds in
+    rw (← c.self.view_is, ← c.node_type-node_type.ensures.value, ← (c.deref.ensures.value ∙ c.in-Ok.ensures.ok)) (record {
+      step = record { adopts = (rw c.in-Ok-Some.field-0-is at e.known) _ _ _ (ap not c.has_closed-lists.ensures); refused = tt };
+      moves = record { each = λ n x has. inl (less.values n x has); environment = less.environment };
+    })
+
+pub invariant_of-self-in-Ok-None : goal.invariant_of-self-in-Ok-None
+invariant_of-self-in-Ok-None g c = let e = c.in-Ok-None.ensures in none-so c.self.invariant _ _ e.whole e.later e.sheds (rw c.in-Ok-None.field-0-is at e.same)
+
+pub adopt_as_new-requires-clause-fresh : goal.adopt_as_new-requires-clause-fresh
+adopt_as_new-requires-clause-fresh g c stored closed failures =
+    let e = c.in-Ok-None.ensures in
+    rw ((rw c.in-Ok-None.field-0-is at e.same), ← c.node_type-node_type.ensures.value, ← c.deref.ensures.value) ((rw c.in-Ok-None.field-0-is at e.fresh) stored closed failures)
+
+pub adopt_as_new-requires-clause-unknown : goal.adopt_as_new-requires-clause-unknown
+adopt_as_new-requires-clause-unknown g c = let e = c.in-Ok-None.ensures in rw (rw c.in-Ok-None.field-0-is at e.same) (rw c.in-Ok-None.field-0-is at e.unknown)
+
+pub returns-in-Ok-None : goal.returns-in-Ok-None
+returns-in-Ok-None g c =
+    let e = c.in-Ok-None.ensures in
+    rw (← c.self.view_is, ← (rw c.in-Ok-None.field-0-is at e.same), ← (rw c.in-Ok-None.field-0-is at e.kept)) (record { step = c.adopt_as_new.ensures.step; moves = c.adopt_as_new.ensures.moves })
+
+pub invariant_of-self-in-Err-adopt_if_known : goal.invariant_of-self-in-Err-adopt_if_known
+invariant_of-self-in-Err-adopt_if_known g c = let e = c.in-Err.ensures in same-so c.self.invariant _ _ e.whole e.later e.sheds (e.refused _ _ _).stays
+
+pub returns-in-Err : goal.returns-in-Err
+returns-in-Err g c =
+    let e = c.in-Err.ensures in
+    let less = only-less c.self.invariant c.adopt_if_known.new.t c.adopt_if_known.new.values e.sheds in
+    rw (← c.self.view_is) (record {
+      step = not-adopted c.node_type-node_type.ensures.value (c.deref.ensures.value ∙ c.in-Ok.ensures.ok) refl (e.refused _ _ _);
+      moves = record { each = λ n x has. inl (less.values n x has); environment = less.environment };
+    })

@@ -1,7 +1,9 @@
-use Rattle.{pagable_pager.proofs.Keeping.{less-called, shed-by}, pagable_steps.proofs.Owning.dropped}
+use Rattle.{pagable_pager.proofs.Keeping.{shed-by}, pagable_steps.proofs.Owning.dropped}
 
 pub invariant_of-self : Rattle.pagable_pager.proofs.pager.Pager.load_drop_by.Goals.invariant_of-self
-invariant_of-self g c = shed-by c.self.invariant _ _ c.load_drop.ensures c.has_closed-lists.ensures (λ left. dropped c.self.invariant.state left)
+invariant_of-self g c =
+    (shed-by c.self.invariant _ _ c.load_drop.ensures c.has_closed-lists.ensures (λ left. dropped c.self.invariant.state left)).0
 
 pub returns : Rattle.pagable_pager.proofs.pager.Pager.load_drop_by.Goals.returns
-returns g c = rw (← c.self.view_is) (less-called c.self.invariant _ _ c.load_drop.ensures c.has_closed-lists.ensures)
+returns g c = rw (← c.self.view_is)
+    (shed-by c.self.invariant _ _ c.load_drop.ensures c.has_closed-lists.ensures (λ left. dropped c.self.invariant.state left)).1

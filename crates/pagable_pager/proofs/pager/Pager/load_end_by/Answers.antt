@@ -4,25 +4,27 @@ use Rattle.pagable_pager.proofs.pager.Pager.load_end_by.Goals as goal
 pub invariant_of-self : goal.invariant_of-self
 invariant_of-self g c = roomier c.self.invariant c.self.inside.values c.prepare_end.ensures.does (λ n. refl)
 
-pub invariant_of-self-in-InVain : goal.invariant_of-self-in-InVain
-invariant_of-self-in-InVain g c = roomier c.self.invariant c.self.inside.values c.prepare_end.ensures.does (λ n. refl)
+pub invariant_of-self-in-Err-InVain : goal.invariant_of-self-in-Err-InVain
+invariant_of-self-in-Err-InVain g c = roomier c.self.invariant c.self.inside.values c.prepare_end.ensures.does (λ n. refl)
 
-pub returns-in-Refused-clause-step : goal.returns-in-Refused-clause-step
-returns-in-Refused-clause-step g c = rw (← c.self.view_is) (unended c.args.value c.node_type-node_type.ensures.value (c.deref.ensures.value ∙ c.in-Ok.ensures.ok)
-    ((rw c.in-Refused.is at c.in-Err.ensures.unended) _ _ _))
+pub returns-in-Err-Refused-clause-step : goal.returns-in-Err-Refused-clause-step
+returns-in-Err-Refused-clause-step g c =
+    rw (← c.self.view_is, c.in-Err-Refused.field-0-is) (unended c.args.value c.node_type-node_type.ensures.value (c.deref.ensures.value ∙ c.in-Ok.ensures.ok)
+    ((rw c.in-Err-Refused.field-0-is at c.in-Err-Refused.ensures.unended) _ _ _))
 
-pub returns-in-InVain-clause-step : goal.returns-in-InVain-clause-step
-returns-in-InVain-clause-step g c = rw (← c.self.view_is) (vain c.args.value c.node_type-node_type.ensures.value (c.deref.ensures.value ∙ c.in-Ok.ensures.ok) c.load_drop_by.result
-    ((rw c.in-InVain.is at c.in-Err.ensures.unended) _ _ _) c.load_drop_by.ensures.step)
+pub returns-in-Err-InVain-clause-step : goal.returns-in-Err-InVain-clause-step
+returns-in-Err-InVain-clause-step g c =
+    rw (← c.self.view_is, c.in-Err-InVain.field-0-is) (vain c.args.value c.node_type-node_type.ensures.value (c.deref.ensures.value ∙ c.in-Ok.ensures.ok) c.load_drop_by.result
+    ((rw c.in-Err-InVain.field-0-is at c.in-Err-InVain.ensures.unended) _ _ _) c.load_drop_by.ensures.called.step)
 
-pub returns-in-InVain-clause-moves : goal.returns-in-InVain-clause-moves
-returns-in-InVain-clause-moves g c = let less = c.load_drop_by.ensures.only in rw (← c.self.view_is) (record { each = λ n x has. inl (less.values n x has); environment = less.environment })
+pub returns-in-Err-InVain-clause-moves : goal.returns-in-Err-InVain-clause-moves
+returns-in-Err-InVain-clause-moves g c = let less = c.load_drop_by.ensures.only in rw (← c.self.view_is) (record { each = λ n x has. inl (less.values n x has); environment = less.environment })
 
-pub invariant_of-self-in-Err-place : goal.invariant_of-self-in-Err-place
-invariant_of-self-in-Err-place g c = roomier c.self.invariant c.place.new.values c.prepare_end.ensures.does c.in-Err-place.ensures.kept
+pub invariant_of-self-in-Err : goal.invariant_of-self-in-Err
+invariant_of-self-in-Err g c = roomier c.self.invariant c.place.new.values c.prepare_end.ensures.does c.in-Err.ensures.kept
 
-pub returns-in-Err-place-clause-step : goal.returns-in-Err-place-clause-step
-returns-in-Err-place-clause-step g c = rw (← c.self.view_is) (no-room c.self.invariant c.place.new.values c.prepare_end.ensures.does c.in-Err-place.ensures.back (c.in-Ok-prepare_end.ensures.ready _ _ _))
+pub returns-in-Err-clause-step : goal.returns-in-Err-clause-step
+returns-in-Err-clause-step g c = rw (← c.self.view_is) (no-room c.self.invariant c.place.new.values c.prepare_end.ensures.does c.in-Err.ensures.back (c.in-Ok-prepare_end.ensures.ready _ _ _))
 
 pub install-requires-clause-ready : goal.install-requires-clause-ready
 install-requires-clause-ready g c stored closed failures = ready-told refl c.deref.ensures.value (c.in-Ok-prepare_end.ensures.ready stored closed failures)

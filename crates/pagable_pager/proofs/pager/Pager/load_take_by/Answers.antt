@@ -1,8 +1,9 @@
-use Rattle.{pagable_pager.proofs.Keeping.{less-called, owner-free, shed-by}, pagable_steps.proofs.Owning.handed_over}
+use Rattle.{pagable_pager.proofs.Keeping.{owner-free, shed-by}, pagable_steps.proofs.Owning.handed_over}
 
 pub invariant_of-self : Rattle.pagable_pager.proofs.pager.Pager.load_take_by.Goals.invariant_of-self
-invariant_of-self g c = shed-by c.self.invariant _ _ c.load_take.ensures c.has_closed-lists.ensures
-    (λ left. handed_over c.self.invariant.state left (owner-free c.self.invariant c.args.me c.self.view_is c.requires) c.load_take.result)
+invariant_of-self g c = (shed-by c.self.invariant _ _ c.load_take.ensures c.has_closed-lists.ensures
+    (λ left. handed_over c.self.invariant.state left (owner-free c.self.invariant c.args.me c.self.view_is c.requires) c.load_take.result)).0
 
 pub returns : Rattle.pagable_pager.proofs.pager.Pager.load_take_by.Goals.returns
-returns g c = rw (← c.self.view_is) (less-called c.self.invariant _ _ c.load_take.ensures c.has_closed-lists.ensures)
+returns g c = rw (← c.self.view_is) (shed-by c.self.invariant _ _ c.load_take.ensures c.has_closed-lists.ensures
+    (λ left. handed_over c.self.invariant.state left (owner-free c.self.invariant c.args.me c.self.view_is c.requires) c.load_take.result)).1
