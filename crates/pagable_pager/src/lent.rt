@@ -143,10 +143,7 @@ impl<'a, E: Env<Node: NodeSet<E>>, S: PagableStorage<E>> Access<E> for Lent<'a, 
     ) -> Result<ArcRef, Error> {
         let taken = self.pager.load_lazy_by(self.me, alloc, load, kind, key);
         self.pager.is_whole();
-        match taken {
-            Ok(handle) => Ok(self.pager.reference(kind, handle)),
-            Err(e) => Err(e),
-        }
+        Ok(self.pager.reference(kind, taken?))
     }
 
     fn load_adopt(

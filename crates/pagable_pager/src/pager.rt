@@ -226,20 +226,13 @@ impl<E: Env<Node: NodeSet<E>>, S: PagableStorage<E>> Pager<E, S> {
         ensures only { SameValues self.old self.new }
     {
         match want {
-            Want::Root => match loading::load_row(&self.tables, me, load) {
-                Ok(row) => match self.fetch(alloc, row.key) {
-                    Ok(blob) => Ok(Either::Right(blob)),
-                    Err(e) => Err(e),
-                },
-                Err(e) => Err(e),
-            },
-            Want::Nested(kind, key) => match self.load_known(me, load, kind, key) {
-                Ok(Some(known)) => Ok(Either::Left(known)),
-                Ok(None) => match self.fetch(alloc, key) {
-                    Ok(blob) => Ok(Either::Right(blob)),
-                    Err(e) => Err(e),
-                },
-                Err(e) => Err(e),
+            Want::Root => {
+                let row = loading::load_row(&self.tables, me, load)?;
+                Ok(Either::Right(self.fetch(alloc, row.key)?))
+            }
+            Want::Nested(kind, key) => match self.load_known(me, load, kind, key)? {
+                Some(known) => Ok(Either::Left(known)),
+                None => Ok(Either::Right(self.fetch(alloc, key)?)),
             },
         }
     }

@@ -1,9 +1,9 @@
 use Rattle.{pagable_loads.specs.Telling.{TakesLazily, values_at}, pagable_pager.{proofs.Keeping.{all_there, called_fewer, lazy_live}, specs.View.{core_in, telling}}, std.proofs.Common.{Ok, rules}}
 
-pub returns-in-Ok : Rattle.pagable_pager.proofs.lent.LentAccess.load_lazy.Goals.returns-in-Ok
-returns-in-Ok g c =
+pub returns : Rattle.pagable_pager.proofs.lent.LentAccess.load_lazy.Goals.returns
+returns g c =
     let tells = telling g.S.PagableStorage.stored g.S.PagableStorage.is_closed g.S.PagableStorage.failed in
-    let e = c.in-Ok.ensures in
+    let e = c.in_ok-taken.ensures in
     record {
       step = record {
         holds = called_fewer tells (λ e. values_at g.E.Node.NodeSet g.E.Env g.E.Hash.KeyHash e) c.args.self.now.pager.now c.load_lazy_by-taken.new.self
