@@ -192,6 +192,7 @@ pub fn own(t: &Tables, me: Owner, handle: HandleNumber) -> Result<HandleAt, Erro
 }
 
 /// The handle at this place is loose and pins its node from now on.
+#[tactic(auto, using(crate::proofs::Fitting::counting))]
 pub fn turn(t: &mut Tables, at: HandleAt)
     requires whole { IsWhole t.old }
     requires place { slice_get t.old.holdings.handles.places.items at.place ≡ Some (alive at.row) }

@@ -37,11 +37,5 @@ returns-clause-falls g c before u w loads f few between =
     (passes_in (gives_row w c.args.giving) u.rows) (λ r e. e) (λ r e. grind (arith, nat_tests)) (λ r e below. c.in_default.ensures.none w r loads (between r e).0 below)
     (c.loop-at.invariant.2 before u w loads f few between))
 
-pub shed-requires : goal.shed-requires
-shed-requires g c = let last = c.in-Some.ensures.last in record { steady = c.loop-at.invariant.0; place = last.place; plain = last.plain }
-
-pub fall-requires : goal.fall-requires
-fall-requires g c = record { falling = ([], c.loop-at.invariant.0, omega arith) }
-
 pub returns-clause-sheds : goal.returns-clause-sheds
 returns-clause-sheds g c = sheds-then c.loop-at.invariant.3 c.fall.ensures.sheds

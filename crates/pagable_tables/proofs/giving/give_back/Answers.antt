@@ -1,11 +1,5 @@
-use Rattle.pagable_tables.proofs.{Fitting.aside, Next.sheds-then, Words.{None, [], arith, inl, nobody, only_handle, owns_nothing}}
+use Rattle.pagable_tables.proofs.{Next.sheds-then, Words.{inl, nobody, only_handle}}
 use Rattle.pagable_tables.proofs.giving.give_back.Goals as goal
-
-pub shed-requires : goal.shed-requires
-shed-requires g c = record { steady = aside c.args.t.now None [] owns_nothing c.requires.steady; place = c.requires.place; plain = c.requires.plain }
-
-pub fall-requires : goal.fall-requires
-fall-requires g c = record { falling = ([], c.shed.ensures.steady, omega arith) }
 
 pub returns : goal.returns
 returns g c = record {

@@ -92,3 +92,9 @@ returns-in_err-row g c = rw (failed c.from_residual.result c.from_residual.ensur
   sheds = λ there. sheds-still c.args.t.now.holdings _ c.requires.whole.steady;
   later = λ later. later;
 })
+
+pub returns-then-not-lists-clause-offered : goal.returns-then-not-lists-clause-offered
+returns-then-not-lists-clause-offered g c stored closed failures e =
+    let o = c.in_ok-row.ensures.owns in
+    let shut = closed-is c.args.lists closed e ∙ ap not c.if-not-lists.true in
+    record { answers = (c.in_ok-row.row, record { live = o.live; own = o.own; as_asked = o.as_asked }, c.in_ok-row.ensures.typed, inl (shut, refl, still _)); refused = tt }

@@ -1,4 +1,4 @@
-use Rattle.pagable_tables.proofs.{Fitting.{are-few, come-fits, rows-told}, Words.{HandleRow, IsSome, Some, ap, arith, cases_Bool, cases_eq, counts_at, is_pinning, nat_tests, one, refl, rules, subst, sym, ◌+◌, ◌∙◌, ◌≡◌}}
+use Rattle.pagable_tables.proofs.{Fitting.{come-fits, rows-told}, Words.{HandleRow, Some, ap, arith, cases_Bool, cases_eq, counts_at, is_pinning, nat_tests, one, refl, rules, sym, ◌+◌, ◌∙◌, ◌≡◌}}
 use Rattle.pagable_tables.proofs.Worlds.{alike}
 
 pub returns : Rattle.pagable_tables.proofs.making.add.Goals.returns
@@ -27,11 +27,3 @@ returns c =
         fits = rows-told _ _ _ _ t.top c.in_ok-push.ensures.rows (come-fits _ _ _ _ _ t.top x y fits is here e.others e.refs c.requires.owner);
       };
     }
-
-pub unwrap-counts-requires : Rattle.pagable_tables.proofs.making.add.Goals.unwrap-counts-requires
-unwrap-counts-requires c = subst (λ o. IsSome o) (sym c.counts_of.ensures) c.requires.live
-
-pub counts_more-more-requires : Rattle.pagable_tables.proofs.making.add.Goals.counts_more-more-requires
-counts_more-more-requires c =
-    let few = are-few c.args.t.now c.requires.steady _ c.unwrap-counts.result (sym c.counts_of.ensures ∙ c.unwrap-counts.ensures) (omega arith) in
-    record { pins = few.0; holds = few.1 }

@@ -1,4 +1,4 @@
-use Rattle.pagable_tables.proofs.{Alive.{at-place, changed-known}, Fitting.{are-few, has-counts, turn-fits, turned}, Newer.does-so, Told.{moded, settled}, Words.{Counts, Mode, Some, ap, arith, cases_eq, counts_at}}
+use Rattle.pagable_tables.proofs.{Alive.{at-place, changed-known}, Fitting.{turn-fits, turned}, Newer.does-so, Told.{moded, settled}, Words.{Counts, Mode, Some, ap, arith, cases_eq, counts_at}}
 use Rattle.pagable_tables.proofs.{Words.{nat_tests, not, one, refl, sym, ◌+◌, ◌∙◌, ◌≡◌}, Worlds.alike}
 
 pub returns-clause-does : Rattle.pagable_tables.proofs.making.turn.Goals.returns-clause-does
@@ -23,14 +23,3 @@ returns-clause-does c =
     let found = (at-place t.handles.places.items c.args.at.place x w.steady.sound.ordered c.requires.place).2 in
     let turns = moded w.core x.number x Mode.LoosePinned found (sym c.requires.unshared) (λ loose. refl) (λ is. grind (arith, nat_tests, c.requires.unlisted)) in
     settled pins turns.0 turns.2) refl refl
-
-pub unwrap-counts-requires : Rattle.pagable_tables.proofs.making.turn.Goals.unwrap-counts-requires
-unwrap-counts-requires c = has-counts c.args.t.now.holdings c.requires.whole.steady c.args.at.place c.args.at.row _ c.requires.place c.counts_of.ensures
-
-pub counts_more-pinned-requires : Rattle.pagable_tables.proofs.making.turn.Goals.counts_more-pinned-requires
-counts_more-pinned-requires c =
-    let few = are-few c.args.t.now.holdings c.requires.whole.steady _ c.unwrap-counts.result (sym c.counts_of.ensures ∙ c.unwrap-counts.ensures) (omega arith) in
-    record { pins = few.0; holds = few.1 }
-
-pub set_counts-requires : Rattle.pagable_tables.proofs.making.turn.Goals.set_counts-requires
-set_counts-requires c = has-counts c.args.t.now.holdings c.requires.whole.steady c.args.at.place c.args.at.row _ c.requires.place refl
