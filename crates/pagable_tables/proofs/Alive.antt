@@ -4,8 +4,8 @@ use Rattle.pagable_tables.proofs.Words.{List, Mode, NodeNumber, None, Option, Ow
 use Rattle.pagable_tables.proofs.Words.{filter, find_row, get_or, get_or-set_at, get_or-set_other, get_or_from_slice_get, if_there, if◌then◌else◌, is_handle, is_live_place, is_owned_by, is_owner}
 use Rattle.pagable_tables.proofs.Words.{left_rows, length, length-append, length-set, live, nat_tests, not, one, only_handle, or_else, owns_nothing, plain_of, refl, set, slice_get, slice_get-get_or}
 use Rattle.pagable_tables.proofs.Words.{slice_get_within, subst, suc, sum_by, sum_by-append, sum_by-cons, sum_by-le-sum_by, sum_by-set, sum_by_push, sym, take, times, true, unpinned, zero, ℕ, ◌&&◌}
-use Rattle.std.{proofs.lemmas.List.length-take-le, specs.List.Sorted.IsPartitionPoint}
-use Rattle.{pagable_tables.{proofs.Words.{◌++◌, ◌+◌, ◌-◌, ◌<◌, ◌==◌, ◌||◌, ◌∙◌, ◌∷◌, ◌≡◌, ◌≤◌, ◌⊎◌, inl, inr}, specs.Core.IsWhole}, pagable_world.proofs.Elements.sum-none, std.proofs.lemmas.List.get_or-take}
+use Rattle.std.proofs.lemmas.List.{length-take-le}
+use Rattle.{pagable_tables.{proofs.Words.{◌++◌, ◌+◌, ◌<◌, ◌==◌, ◌||◌, ◌∙◌, ◌∷◌, ◌≡◌, ◌≤◌, ◌⊎◌}, specs.Core.IsWhole}, pagable_world.proofs.Elements.sum-none, std.proofs.lemmas.List.get_or-take}
 use Rattle.pagable_world.specs.Pager as pager
 
 pub and-left : (a b : Bool) → (a && b) ≡ true → a ≡ true
@@ -205,18 +205,6 @@ ordered-push ss row ordered next = all_pairs_push IsBefore ss (alive row) ordere
 
 pub next-push : (ss : List Place) (row : HandleRow) → IsNext row.number.0 ss → IsNext (row.number.0 + 1) (ss ++ alive row ∷ [])
 next-push ss row next = All-push (λ (s : Place). s.row.number.0 < row.number.0 + 1) ss (alive row) (λ k d lt. let a = next k d lt in omega arith) (omega arith)
-
--- no live row has the number, if the last place up to it hasn't
-pub not-among : (ss : List Place) (n q : ℕ) → AllPairs IsBefore ss → IsPartitionPoint (λ (p : Place). p.row.number.0 ≤ q) (λ (p : Place). q < p.row.number.0) ss n → n ≤ length ss
-    → ((p : Place) → slice_get ss (n - 1) ≡ Some p → p.row.number.0 ≡ q → p.is_live ≡ false) → find_row q (live ss) ≡ None
-not-among ss n q ordered point within none = none-live q ss (λ k d lt is.
-    let low : k < n = elim (le_or_lt n k) [ inl past ↦ absurd (let a = point.1 k d past lt in omega arith) | inr low ↦ low ] in
-    let last : n - 1 ≤ k = elim (le_or_lt (n - 1) k) [
-      | inl up ↦ up
-      | inr less ↦ absurd (let o = ordered k (n - 1) d less (omega arith) in let a = point.0 (n - 1) d (omega arith) (omega arith) in omega arith)
-    ] in
-    let at : n - 1 ≡ k = omega arith in
-    none (get_or ss k d) (subst (λ j. slice_get ss j ≡ Some (get_or ss k d)) (sym at) (slice_get-get_or ss k d lt)) is)
 
 pub ruleset ends = (nat_tests, length-live-le, length-take-le, pairs-take)
 

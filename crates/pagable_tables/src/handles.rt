@@ -38,6 +38,22 @@ fn at(places: &[Place], place: usize, number: u64) -> Option<HandleAt>
     ((row.number.0 == number) & is_live).then_some(HandleAt { place, row })
 }
 
+/// The same, if it stands where it would stand were no number missing from the first one to it, or from it to the last one.
+fn at_once(places: &[Place], number: u64) -> Option<HandleAt>
+    requires { AllPairs IsBefore places.now }
+    ensures place { IfSome result (λ at. slice_get places.now at.place ≡ Some (alive at.row)) }
+    ensures found { IfSome result (λ at. find_row number (live places.now) ≡ Some at.row) }
+    ensures number { IfSome result (λ at. at.row.number.0 ≡ number) }
+{
+    let above = number.checked_sub(places.first()?.row.number.0)?;
+    if let Some(at) = at(places, above as usize, number) {
+        return Some(at);
+    }
+    let end = places.len() - 1;
+    let back = places[end].row.number.0.saturating_sub(number) as usize;
+    at(places, end.saturating_sub(back), number)
+}
+
 /// The live handle of this number, with its place. It costs a look where numbers before it are dense or those behind it, and else the logarithm of their count.
 #[tactic(auto, using(crate::proofs::Alive::looks))]
 pub fn look(handles: &Handles, number: HandleNumber) -> Option<HandleAt>
@@ -47,19 +63,10 @@ pub fn look(handles: &Handles, number: HandleNumber) -> Option<HandleAt>
     ensures found { IfSome result (λ at. find_row number.0 (live handles.now.places.items) ≡ Some at.row) }
     ensures number { IfSome result (λ at. at.row.number ≡ number) }
 {
-    // where it stands if no number is missing from the first one to it, and then from it to the last one
-    let above = number
-        .0
-        .saturating_sub(handles.places.first()?.row.number.0) as usize;
-    if let Some(at) = at(&handles.places, above, number.0) {
+    if let Some(at) = at_once(&handles.places, number.0) {
         return Some(at);
     }
-    let end = handles.places.len() - 1;
-    let back = handles.places[end].row.number.0.saturating_sub(number.0) as usize;
-    if let Some(at) = at(&handles.places, end.saturating_sub(back), number.0) {
-        return Some(at);
-    }
-    let last = up_to(&handles.places, number.0).saturating_sub(1);
+    let last = up_to(&handles.places, number.0).checked_sub(1)?;
     at(&handles.places, last, number.0)
 }
 
