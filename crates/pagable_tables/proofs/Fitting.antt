@@ -1,6 +1,6 @@
 -- A handle is given up: handles and nodes fit again.
 use Rattle.pagable_tables.proofs.{Alive.{all-kept, and_one, entries-none, length-live-le, none-found, of_list, one-le, ones, only-row, row-le-live, sum-most, times-left}, Kept.{found-among, only-at}}
-use Rattle.pagable_tables.proofs.Words.{AllPairs, Among, ArcRef, Blob, Bool, Chain, Core, Counts, Error, Fits, HandleNumber, HandleRow, HasFallen, HasRoom, Holdings, IsApart, IsBefore, IsClosed, CellsStay, ValueStays, pins_in, ◌||◌}
+use Rattle.pagable_tables.proofs.Words.{AllPairs, Among, ArcRef, Blob, Bool, Chain, Core, Counts, Error, Fits, HandleNumber, HandleRow, HasFallen, HasRoom, Holdings, IsApart, IsBefore, IsClosed, CellsStay, ValueStays, pins_in, ◌||◌, Cell, OptionalDataKey, if_there, is_here, is_in_memory}
 use Rattle.pagable_tables.proofs.Words.{IsFalling, IsSome, IsWithin, List, Mode, None, OpenLoad, Option, Owner, Place, Right, SoFar, Some, Tables, TellsListing, [], after, alive, ap, append-nil}
 use Rattle.pagable_tables.proofs.Words.{arith, cases_Bool, cases_eq, cell_in, core_of, counts_at, entry, falls_in, false, filter, find_row, get_or, get_or-le-sum_by, greatest, has_value, held}
 use Rattle.pagable_tables.proofs.Words.{holds_in, if◌then◌else◌, inl, inr, is_at, is_fallen_by, is_handle, is_keyed, is_listed, is_listing, is_outside, is_owned_by, is_owned_in, is_owner, is_pin}
@@ -9,7 +9,7 @@ use Rattle.pagable_tables.proofs.Words.{one, owner_value, owns, owns_nothing, pi
 use Rattle.pagable_tables.proofs.Words.{sum_by_push, sym, times, told_by, true, unpinned, with_tables, ℕ, ◌&&◌, ◌++◌, ◌+◌, ◌-◌, ◌<◌, ◌==◌, ◌∙◌, GetsKey, NodeNumber, with_key}
 use Rattle.{pagable_tables.{proofs.Words.{◌∷◌, ◌≡◌, ◌≢◌, ◌≤◌, ◌⊎◌}, specs.Core.IsWhole}, pagable_world.proofs.Elements.sum-none}
 use Rattle.pagable_world.specs.Pager as pager
-use Rattle.std.specs.Prelude.{◌^◌}
+use Rattle.{pagable_world.specs.World.key_at, std.specs.Prelude.◌^◌}
 
 -- 1 for the handle q that the node's value owns
 abbrev pub is_owned : ℕ → ℕ → HandleRow → ℕ
@@ -215,6 +215,11 @@ module _ (t : Holdings) {stack : List ℕ} {extra : ℕ → ℕ → ℕ} (w : Is
   are-few n c is few =
       let holds : c.holds < 2 ^ 63 = omega (arith, w.fits.holding n, ap holds_in is, held-few n (live t.handles.places.items), length-live-le t.handles.places.items) in
       (omega (arith, w.fits.pinned n, ap pins_in is, pins-le-held n (live t.handles.places.items), w.fits.holding n, ap holds_in is), holds)
+
+-- whether a node has its value in memory, by its counts
+pub here-is : (t : Tables) (stored : ℕ → Option Blob) (closed : Bool) (failures n : ℕ) (o : Option Counts) → IsWhole t → o ≡ counts_at t.holdings.nodes n
+    → is_here (core_of t stored closed failures) n ≡ is_in_memory (pins_in o) (if_there (λ (cell : Cell). cell.key) OptionalDataKey.None (cell_in o))
+here-is t stored closed failures n o w is = rw is (ap (λ k. is_in_memory k (key_at (core_of t stored closed failures) n)) (sym (w.steady.fits.pinned n)))
 
 -- ---- where handles begin to be given up: nothing has gone so far
 

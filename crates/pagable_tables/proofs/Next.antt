@@ -238,32 +238,17 @@ least-more {w = w} {t = t} {x = x} {n} f g owner fell s final bare has closed =
 pub within-less : (a b c d : ℕ → Bool) (rows : List HandleRow) → ((r : ℕ) → one (a r && not (b r)) ≤ one (c r && not (d r))) → IsWithin rows c d → IsWithin rows a b
 within-less a b c d rows less is = grind (arith, nat_tests, sum_by-le-sum_by)
 
+spared : (a gone it : Bool) → one (a && not (gone || it)) ≤ one (a && not gone)
+spared a gone it = grind (arith, nat_tests)
+
 pub steps-on : (before w : Core) (given : ℕ → Bool) (lists : Bool) (t new : Holdings) (stack : List ℕ) (r : Option NodeNumber) → SoFar before w given lists t
     → IsFalling t stack owns_nothing → t.top ≢ 0 → Steps t stack lists r new → SoFar before w given lists new
 steps-on before w given lists t new stack r f falling some s = elim s.what [
-  | inl done ↦
-      let cells = λ (n : ℕ). cell_in (counts_at new.nodes n) in
-      subst (SoFar before w given lists) (sym done.1) (record {
-        begins = f.begins;
-        gone = f.gone;
-        entries = f.entries;
-        rows = f.rows;
-        list = f.list;
-        last = f.last;
-        within = f.within;
-        places = f.places;
-        cells = λ n there. let stay = s.cells n there in stay.1 ∙ f.cells n stay.0;
-        holds = f.holds;
-        least = f.least;
-        new = f.new;
-        only = λ n held. let o = f.only n held in (must-as w.rows cells o.0, o.1);
-        tells = tells-as w.rows cells refl (told_by t.unlisted) f.tells;
-        few = λ falls. f.few some;
-      })
+  | inl done ↦ let stay = s.cells in subst (SoFar before w given lists) (sym done.1) (grind (arith, nat_tests, tells-as, must-as))
   | inr (x, n, is, by) ↦
       let g : GivesUp (record t { nodes = by.popped.nodes }) by.stack x false lists new = subst (λ p. GivesUp p by.stack x false lists new) by.same by.gives in
       one-goes given f g by.counts falling.fits.pinned (f.few some) (unlisted-apart f g (ap (is_owner Owner.List) by.owner))
-      (within-less given (and_one f.gone x.number.0) given f.gone w.rows (λ r. grind (arith, nat_tests)) f.holds) (least-more f g by.owner by.fallen)
+      (within-less given (and_one f.gone x.number.0) given f.gone w.rows (λ r. spared (given r) (f.gone r) (r == x.number.0)) f.holds) (least-more f g by.owner by.fallen)
 ]
 
 either : (a b it s : Bool) → one ((a || it) && not s) ≤ one (a && not s) + one ((b || it) && not s)
