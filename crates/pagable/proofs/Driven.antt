@@ -28,7 +28,6 @@ of_root : (root : Root) (type : ℕ) → type_of_root root ≡ Some type
 of_root root type is = grind (arith, nat_tests, same_some)
 
 module _ {X : Type 0} {g : Ghosts X} {N E : Type 0} (s : PagerState N E) {h : Holding g} (serving : IsServing s.core h) where
-  -- what is taken is of the load
   reads-taken : (l : LoadNumber) (load : OpenLoad) (key : ℕ) (t : Option ℕ) (own : Own) → OwnsLoad s.core Owner.Caller l load → load.key ≡ key → type_of_root load.root ≡ t
       → IsTaken h.readings l key t own
       → (own.load ≡ l) × ReadsFor load own × (reading_at (world_of (machine_of s h)) l ≡ Some (reading_of own))
@@ -108,7 +107,6 @@ module _ {X : Type 0} {g : Ghosts X} {N B W E : Type 0} (m : Seen N B W) (s s' :
   new-walk : IsWalkKept s'.core (length h.tables) n.0 k
   new-walk = first_of (grind (arith, common_steps, nat_tests), grind (arith, nat_tests, updated-at, begun-fits), search (rules, updated-at, begun-fits))
 
-  -- it is kept from now on
   pub worker-made : (core : Core) → Alike (with_worker core) s'.core → (event : Event N B W) → ((v : ℕ) → step_of v event (EventReply.WorkerMade (Ok n)) ≡ [])
       → (Starts (world_of (machine_of s h)) t task core n (world_of (machine_of s' with_walk))
       → Happens m (world_of (machine_of s h)) event (EventReply.WorkerMade (Ok n)) (world_of (machine_of s' with_walk)))

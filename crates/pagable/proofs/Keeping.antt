@@ -2,7 +2,7 @@
 use Rattle.pagable.specs.Driving.{AllKept, Answer, Drives, Forgets, Given, Holding, IsKept, IsServing, IsWalkKept, KeepsOne, Kept, Makes, holding, machine_of, plain_answer, plain_event, plainly}
 use Rattle.{pagable.specs.{Driving.{readings_in, walking_of, work_of}, declared.workers.{Held.Held, Walk.Walk}}, pagable_laws.proofs.{Called.calls-go, Effects.{Effect, Spares, listed-free}}}
 use Rattle.pagable_laws.proofs.{Effects.{then-fell, worker-apart}, Goes.{Goes, RowsGo, fell-anyhow, quiet-goes, stands-whole}, ReadingSteps.{caller-free, event-goes}, SparingSteps.event-spares}
-use Rattle.{pagable_laws.{proofs.Trees.{counted, one-true, same-number, same_some, self-number}, specs.TreeSteps.{Change, nothing_felt}}, pagable_loads.specs.Frames.reading_of}
+use Rattle.{pagable_laws.{proofs.Trees.{counted, one-true, same-number, same_some, self-number}, specs.TreeSteps.{Change, nothing_felt}}, pagable_loads.specs.{Frames.reading_of, Telling.Acting}}
 use Rattle.{pagable_loads.specs.declared.reading.Reading.Reading as Own, pagable_model.specs.declared.numbers.{ArcRef.ArcRef, HandleNumber.HandleNumber}, pagable_pager.specs.View.PagerView}
 use Rattle.{pagable_pager.specs.View.{Telling, state_in}, pagable_tables.proofs.Worlds.still, pagable_walk.specs.Turns.{IsOfKind, LeavesFit, TaskFits}}
 use Rattle.pagable_walk.specs.declared.{results.Trees.Ghosts, tasks.{Task.Task, Turn.Turn}}
@@ -13,6 +13,10 @@ use Rattle.{pagable_world.specs.declared.{calls.{Call.Call, Reply.Reply}, events
 use Rattle.std.proofs.Common.{Option, Some, [], ap, arith, false, inl, inr, length, refl, rules, subst, sym, true, ℕ, ◌<◌, ◌==◌, ◌∙◌, ◌≡◌, ◌≢◌, ◌≤◌, ◌⊎◌}
 use Rattle.std.{proofs.lemmas.{Bool.{Decides.nat_tests, false_from_ne_true}, Grind.common_steps}, specs.{Option.option_map, Prelude.{Result, is_some}}}
 
+-- an access lends what it lent before
+pub lender-is : {E : Type 0} {a b : Acting E} → a ≡ b → a.lender ≡ b.lender
+lender-is {E} e = ap (λ (a : Acting E). a.lender) e
+
 -- of loads and workers, as far as the machine sees them
 pub record Leaves (me : Owner) (works : ℕ → Bool) (w w' : Core) : Type 0 where
   pub loads : (l : ℕ) (load : OpenLoad) → w'.loads l ≡ Some load → (w.loads l ≡ Some load) ⊎ (w.last.load < l)
@@ -20,14 +24,12 @@ pub record Leaves (me : Owner) (works : ℕ → Bool) (w w' : Core) : Type 0 whe
   pub workers : SameAt works w'.workers
   pub others : (l : ℕ) (load : OpenLoad) → w.loads l ≡ Some load → l ≤ w.last.load → is_owner me load.owner ≡ false → w'.loads l ≡ Some load
 
--- by what it is like
 pub after : {me : Owner} {works : ℕ → Bool} {w u w' : Core} → Leaves me works w u → Alike u w' → Leaves me works w w'
 after {me} {works} {w} {u} {w'} f a = first_of (grind (arith, common_steps, nat_tests), search (rules))
 
 pub like : {me : Owner} {w u w' : Core} → Alike u w' → SameAt w.loads u.loads → u.last.load ≡ w.last.load → Leaves me u.workers w w'
 like {me} {w} {u} {w'} a loads last = first_of (grind (arith, common_steps, nat_tests), search (rules))
 
--- by what is done
 pub leaves-so : {me : Owner} {lists : Bool} {Asks Keeps : Type 0} {c : Change} {w w' : Core} → Effect me lists Asks Keeps false c w w' → Asks → Leaves me w.workers w w'
 leaves-so e asks = record { loads = λ l load is. elim (e.goes.loads l load is) [ inl was ↦ inl was | inr new ↦ inr new.0 ]; last = e.goes.loads_last; workers = e.workers; others = e.others asks }
 
@@ -42,7 +44,6 @@ abbrev pub works_after : Option WorkerAnswer → ℕ → (ℕ → Bool) → ℕ 
 works_after None u works = works
 works_after (Some answer) u works = updated u false works
 
--- its end
 pub end-leaves : {works : ℕ → Bool} {w m w' : Core} (answer : Option WorkerAnswer) (u : ℕ) → Leaves (owner_worker u) works w m → Ends answer u m w'
     → Leaves (owner_worker u) (works_after answer u works) w w'
 end-leaves None u f a = after f a
@@ -142,7 +143,6 @@ are-these w' kept' target same l = first_of (grind (arith, common_steps, nat_tes
 pub not-same : (q l : ℕ) → (q == l) ≡ false → q ≢ l
 not-same q l e is = let f : (q == l) ≡ true = ap (λ n. n == l) is ∙ self-number l in absurd (cc)
 
--- one is kept anew
 pub at-one : {Y Z : Type 0} (f : Y → Z) {kept kept' : ℕ → Option Y} (l : ℕ) (x : Option Y) (new : Option Z) (old : ℕ → Option Z) → KeepsOne kept l x kept' → option_map f x ≡ new → (q : ℕ)
     → option_map f (kept q) ≡ old q
     → option_map f (kept' q) ≡ updated l new old q
@@ -170,7 +170,6 @@ module _ {w : Core} {kept : Kept} (all : AllKept w kept) {me : Owner} {works : �
   pub kept-on : {kept' : Kept} → ((l : ℕ) (own : Own) → kept' l ≡ Some own → (kept l ≡ Some own) ⊎ IsKept w' l own) → AllKept w' kept'
   kept-on anew l own is = elim (anew l own is) [ inl was ↦ still-kept l own (all l own was) | inr new ↦ new ]
 
-  -- one is kept anew
   pub kept-one : {kept' : Kept} (l : ℕ) (x : Option Own) → KeepsOne kept l x kept' → ((own : Own) → x ≡ Some own → IsKept w' l own) → AllKept w' kept'
   kept-one l x keeps new = kept-on (λ q own is. elim (one-or-old l x keeps q own is) [ inl there ↦ inl there.1 | inr (here, same) ↦ inr (subst (λ n. IsKept w' n own) (sym here) (new own same)) ])
 
@@ -247,7 +246,6 @@ module _ {X : Type 0} {g : Ghosts X} {N B W E : Type 0} (m : Seen N B W) (s s' :
       (happens (are-these s'.core kept' (readings_in h.readings s.core) (λ l load is. ap (option_map reading_of) (f.still l load is) ∙ as-before serving.readings on l load is)))
       moves writes (kept-on serving.readings on (λ l own is. inl (f.only l own is)))
 
--- the same is kept
 module _ {X : Type 0} {g : Ghosts X} {N B W E : Type 0} (m : Seen N B W) {s s' : PagerState N E} {h h' : Holding g} (serving : IsServing s.core h) (was : WellFormed m.values s)
     (done : Called m.values (λ w'. Alike s.core w') s s') (readings : (l : ℕ) → h'.readings l ≡ h.readings l) (tables : h'.tables ≡ h.tables) (walks : (v : ℕ) → h'.walks v ≡ h.walks v) where
   on : Leaves Owner.Caller s.core.workers s.core s'.core

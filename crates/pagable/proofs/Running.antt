@@ -1,25 +1,24 @@
 -- A worker's step, and the table that it writes in its place. And a run goes on by one event more, and the headline holds of it after whatever came before.
 use Rattle.{pagable.proofs.Keeping.{Leaves, are-these, as-before, at-one, end-leaves, event-passes, kept-on, leaves-so, makes-with, not-same, one-serves, works_after}, std.specs.Prelude.slice_get}
 use Rattle.{pagable.specs.Driving.{Answer, Drives, plain_answer, plain_event, plain_moved, plainly, readings_in, shelf_at, table_view, view_of, walking_of}, std.specs.Map.lookup}
-use Rattle.pagable.specs.Driving.{Given, Holding, IsInStep, IsServing, IsWalkKept, KeepsOne, MachineView, Makes, Runs, SetsTable, WalksOn, claims_at, claims_of, holding, machine_in, machine_of}
+use Rattle.pagable.specs.Driving.{Given, Holding, IsInStep, IsServing, IsWalkKept, KeepsOne, MachineView, Makes, Runs, WalksOn, claims_at, claims_of, holding, machine_in, machine_of}
 use Rattle.{pagable.specs.declared.workers.{Held.Held, Walk.Walk}, pagable_core.specs.declared.{context.writing.SerializedData.SerializedData, storage.data.PagableData.PagableData}}
 use Rattle.{pagable_laws.proofs.{Chains.headline_law, Effects.owned-mine, Goes.updated-at, ReadingSteps.{FrontMine, walk-goes}, Trees.{chains_join, same-number}}, std.specs.Option.option_map}
 use Rattle.{pagable_model.specs.declared.numbers.WorkerNumber.WorkerNumber, pagable_pager.specs.View.{PagerView, Telling, state_in}, pagable_walk.specs.{Slots.{is_same, slot_of}, Table.shelf_of}}
-use Rattle.pagable_walk.specs.{Tasks.{todo_of, todos}, Turns.{LeavesFit, Stepped, TaskFits, answer_in, plain, plain_took, plan}, declared.results.Trees.Ghosts}
+use Rattle.pagable_walk.specs.{Tasks.{IsWay, todo_of, todos}, Turns.{LeavesFit, Stepped, TaskFits, answer_in, plain, plain_took, plan}, declared.results.Trees.Ghosts}
 use Rattle.{pagable_walk.specs.declared.{table.SlotTable.SlotTable, tasks.{Task.Task, Turn.Turn}}, pagable_world.specs.{Events.{Ends, Happens, WorkerSteps, no_shelf, steps_after}, Kinds.{is_owner, owner_worker}}}
 use Rattle.pagable_world.specs.{Pager.{MachineState, PagerState, TodoBrings, WellFormed, world_of}, Plain.{if_there, updated}, Runs.{AreMoments, Does, HasRun, Moment, state_after}}
 use Rattle.pagable_world.specs.{Workers.{Site, answer_after, is_counted}, World.{Core, SameShelf, Seen, Shelf, Todo, Values, Written}, declared.events.{Event.Event, EventReply.EventReply, Took.Took}}
 use Rattle.{pagable_world.specs.declared.events.{WorkerAnswer.WorkerAnswer, WorkerReply.WorkerReply}, std.proofs.Common.{Bool, List, None, Ok, Option, Some, [], ap, arith, false, if◌then◌else◌, inl}}
-use Rattle.std.proofs.{Common.{inr, length, map, refl, rules, subst, suc, sym, true, zero, ℕ, ◌++◌, ◌<◌, ◌==◌, ◌∙◌, ◌∷◌, ◌≡◌, ◌≢◌, ◌≤◌}, Math.{ListN.set, Path.fun_ext}, lemmas.Bool.Decides.nat_tests}
+use Rattle.std.proofs.{Common.{inr, length, map, refl, rules, subst, suc, sym, true, zero, ℕ, ◌++◌, ◌==◌, ◌∙◌, ◌∷◌, ◌≡◌, ◌≢◌, ◌≤◌}, Math.{ListN.set, Path.fun_ext}, lemmas.Bool.Decides.nat_tests}
 use Rattle.std.proofs.lemmas.{Grind.common_steps, List.{append-nil, append_assoc, get_or-set_other, get_or-set_same, length-map, length-set, map-append, nil_from_length}, Map.Made.lookup-map_values}
-use Rattle.std.{proofs.lemmas.Option.{slice_get-map, slice_get_cases, slice_get_past, slice_get_read}, specs.{Prelude.{is_none, is_some, nat_eq}, declared.{alloc.Global.Global, sync.Arc.Arc}}}
+use Rattle.std.{proofs.lemmas.Option.{slice_get-map, slice_get_cases, slice_get_past, slice_get_read, slice_get_within}, specs.{Prelude.{is_none, is_some, nat_eq}, declared.{alloc.Global.Global, sync.Arc.Arc}}}
 use Rattle.pagable_world.specs.Workers as workers
 
 -- ---- a table of a list is written in its place
 
-pub set-at : {X : Type 0} {g : Ghosts X} (tables tables' : List (SlotTable X g)) (place : ℕ) (table : SlotTable X g) → place < length tables → tables' ≡ set tables place table
-    → SetsTable tables place table tables'
-set-at {X} {g} tables tables' place table within is = grind (arith, nat_tests, get_or-set_other, get_or-set_same, length-set, set, slice_get_cases, slice_get_past, slice_get_read)
+set-at : {Y : Type 0} (xs : List Y) (place q : ℕ) (x y : Y) → slice_get xs place ≡ Some y → slice_get (set xs place x) q ≡ (if q == place then Some x else slice_get xs q)
+set-at xs place q x y is = grind (arith, nat_tests, get_or-set_other, get_or-set_same, length-set, set, slice_get_cases, slice_get_past, slice_get_read, slice_get_within)
 
 -- a worker's step sees no blob
 as-does : {N : Type 0} (v : Values N) (n : ℕ) (s s' : Site) (todo : List Todo) (step : Took Written) → workers.Does (plain v) n s todo step s' → workers.Does (plainly v) n s todo step s'
@@ -31,9 +30,9 @@ front-mine n w x2 below fits = grind (arith, nat_tests, owned-mine)
 
 module _ {X : Type 0} {g : Ghosts X} where
   -- the shelf of a table that is set, and of the others
-  shelf-set : (tables tables' : List (SlotTable X g)) (place : ℕ) (table : SlotTable X g) (after : Shelf) → SetsTable tables place table tables' → SameShelf after (shelf_of table) → (t : ℕ)
-      → SameShelf (updated (suc place) after (shelf_at tables) t) (shelf_at tables' t)
-  shelf-set tables tables' place table after sets same x7 = grind (arith, nat_tests, same-number, not-same)
+  shelf-set : (tables : List (SlotTable X g)) (place : ℕ) (table table' : SlotTable X g) (after : Shelf) → slice_get tables place ≡ Some table → SameShelf after (shelf_of table') → (t : ℕ)
+      → SameShelf (updated (suc place) after (shelf_at tables) t) (shelf_at (set tables place table') t)
+  shelf-set tables place table table' after there same x7 = grind (arith, nat_tests, set-at, same-number, not-same)
 
 apart : (q n : ℕ) → q ≢ n → (q == n) ≡ false
 apart q n other = first_of (grind (arith, common_steps, nat_tests), grind (arith, nat_tests, same-number), search (rules, same-number))
@@ -73,9 +72,6 @@ module _ {X : Type 0} {g : Ghosts X} {N E : Type 0} (v : Values N) (s s' : Pager
   done : Stepped v n.0 (shelf_of on.table) todo s (shelf_of on.table') on.moved (plan turn k'.path.items) s'
   done = on.steps.steps (record { me_is = refl; whole = was; task_fits = fits })
 
-  unanswered : answer_in k.turn ≡ None
-  unanswered = ap answer_in on.had
-
   ends : Ends (answer_in turn) n.0 done.does.after.core s'.core
   ends = subst (λ a. Ends a n.0 done.does.after.core s'.core) done.answers done.does.ends
 
@@ -88,6 +84,9 @@ module _ {X : Type 0} {g : Ghosts X} {N E : Type 0} (v : Values N) (s s' : Pager
   todo-is : plan k.turn k.path.items ≡ todo
   todo-is = ap (λ t. plan t k.path.items) on.had
 
+  len : length tables' ≡ length h.tables
+  len = ap length on.sets ∙ length-set h.tables on.place on.table'
+
   shelf-is : shelf_at h.tables k.table ≡ shelf_of on.table
   shelf-is = ap (shelf_at h.tables) on.on ∙ ap (λ (found : Option (SlotTable X g)). if_there shelf_of no_shelf found) on.there
 
@@ -99,7 +98,7 @@ module _ {X : Type 0} {g : Ghosts X} {N E : Type 0} (v : Values N) (s s' : Pager
     walking = walking_of k;
     after = done.does.after;
     at = ap (option_map walking_of) kept;
-    at_work = unanswered;
+    at_work = ap answer_in on.had;
     does = rw (shelf-is, todo-is) (record { does = as-does v n.0 _ _ todo step done.does.does.does });
     answers = sym done.answers ∙ ap (λ list. answer_after list step) (sym todo-is);
     counts = on.after.steps ∙ ap (steps_after k.steps) (on.steps.counts ∙ ap (λ list. is_counted list step) (sym todo-is));
@@ -107,8 +106,9 @@ module _ {X : Type 0} {g : Ghosts X} {N E : Type 0} (v : Values N) (s s' : Pager
     readings = are-these s'.core h.readings (readings_in h.readings s.core) (λ l load is. as-before serving.readings leaves l load is);
     work = record {
       same_shelves = λ t. subst (λ number. SameShelf (updated number done.does.after.shelf (shelf_at h.tables) t) (shelf_at tables' t)) (sym on.on)
-          (shelf-set h.tables tables' on.place on.table' done.does.after.shelf on.sets done.does.shelf_is t);
-      last_is = on.sets.len;
+          (subst (λ tables. SameShelf (updated (suc on.place) done.does.after.shelf (shelf_at h.tables) t) (shelf_at tables t)) (sym on.sets)
+          (shelf-set h.tables on.place on.table on.table' done.does.after.shelf on.there done.does.shelf_is t));
+      last_is = len;
       same_walkings = λ q. at-one walking_of n.0 (Some k') _ (λ u. option_map walking_of (h.walks u)) keeps (ap Some walking-is) q refl;
     };
   }
@@ -117,7 +117,14 @@ module _ {X : Type 0} {g : Ghosts X} {N E : Type 0} (v : Values N) (s s' : Pager
   happens = record { moves = steps-so; refused = tt }
 
   still : IsWalkKept s'.core (length tables') n.0 k'
-  still = let at_work : s.core.workers n.0 ≡ true = mine.at_work ∙ ap is_none unanswered in grind (arith, nat_tests, at_work, done, fits, leaves, mine, updated-at)
+  still =
+      let at_work : s.core.workers n.0 ≡ true = mine.at_work ∙ ap (λ t. is_none (answer_in t)) on.had in
+      record {
+        table = rw (on.after.table, len) mine.table;
+        at_work = grind (arith, nat_tests, at_work, leaves, updated-at);
+        way = subst (λ t. IsWay (plan t k'.path.items)) (sym on.after.turn) on.way;
+        fits = subst (λ t. LeavesFit n.0 s'.core t) (sym on.after.turn) done.fits;
+      }
 
   pub worker-moved : Makes m s h (Event.WorkerStep n) (EventReply.WorkerMoved (Ok (plain_moved reply))) s' after
   worker-moved = rw on.replies (makes-with m s s' {h' = after} done.does.whole (Event.WorkerStep n) (EventReply.WorkerMoved (Ok told)) happens
@@ -126,7 +133,7 @@ module _ {X : Type 0} {g : Ghosts X} {N E : Type 0} (v : Values N) (s s' : Pager
             [ inl there ↦ inl there | inr (none, came) ↦ inr (none, (walking_of k, ap (option_map walking_of) kept, subst (λ (list : List Todo). TodoBrings v s.core list q x) (sym todo-is) came)) ];
         environment = done.does.moves.environment;
       }) done.does.writes
-      (one-serves {h' = after} serving was.whole.handles n.0 k' keeps (subst (λ last. length h.tables ≤ last) (sym on.sets.len) (omega arith))
+      (one-serves {h' = after} serving was.whole.handles n.0 k' keeps (subst (λ last. length h.tables ≤ last) (sym len) (omega arith))
       (kept-on serving.readings leaves (λ l own is. inl is))
       (λ q other. event-passes m q (world_of (machine_of s h)) (world_of (machine_of s' after)) was.whole (Event.WorkerStep n) (EventReply.WorkerMoved (Ok told))
       (ap (λ b. if b then step ∷ [] else []) (apart n.0 q (λ is. other (sym is)))) happens
@@ -161,7 +168,6 @@ module _ {X : Type 0} {g : Ghosts X} where
         cc
 
 module _ {N E B W : Type 0} (m : Seen N B W) where
-  -- one event more
   pub run-more : (old mid new : MachineState N E) (happened : List (Event N B W)) (replied : List (EventReply N B W)) (event : Event N B W) (reply : EventReply N B W)
       → HasRun m old happened replied mid → Does m mid event reply new
       → HasRun m old (happened ++ event ∷ []) (replied ++ reply ∷ []) new

@@ -1,5 +1,5 @@
 -- What a machine keeps of loads, tables and workers, as the plain world knows it, and when it is in step with its pager; what its calls, events and runs are.
-use Rattle.std.specs.{Arc.arc_value, HashMap.{HashMap, get}, Map.lookup, Option.option_map, Prelude.{Bool, List, None, Option, Some, is_none, is_some, length, map, nat_eq, slice_get, suc}}
+use Rattle.std.specs.{Arc.arc_value, HashMap.{HashMap, get}, Map.lookup, Option.option_map, Prelude.{Bool, List, None, Option, Some, is_none, is_some, length, map, nat_eq, set, slice_get, suc}}
 use Rattle.std.specs.{Prelude.{true, zero, ℕ, ◌++◌, ◌<◌, ◌≡◌, ◌≢◌, ◌≤◌, ◌⊎◌}, declared.{alloc.Global.Global, hash.{BuildHasherDefault.BuildHasherDefault, FoldHasher.FoldHasher}, sync.Arc.Arc}}
 use Rattle.{pagable.specs.declared.workers.{Begun.Begun, Held.Held, Walk.Walk}, pagable_core.specs.Data.blob_of, pagable_loads.specs.{Frames.{IsLoadOf, is_cell, reading_of}, Stepping.IsSameLoad}}
 use Rattle.{pagable_core.specs.declared.{context.writing.SerializedData.SerializedData, storage.data.PagableData.PagableData}, pagable_world.specs.declared.handles.Owner.Owner}
@@ -7,14 +7,14 @@ use Rattle.{pagable_loads.specs.declared.reading.Reading.Reading as Own, pagable
 use Rattle.pagable_walk.specs.{Slots.{is_same, slot_of, written_of}, Table.shelf_of, Tasks.{IsPlain, IsWay, todos}, Turns.{LeavesFit, StepsTo, answer_in, plain_took, plan}}
 use Rattle.pagable_walk.specs.declared.{results.Trees.Ghosts, table.SlotTable.SlotTable, tasks.{Moved.Moved, Task.Task, Turn.Turn}}
 use Rattle.pagable_world.specs.{Access.ReadingStep, declared.events.{Event.Event, EventReply.EventReply, LoadAnswer.LoadAnswer, LoadReply.LoadReply, TableNumber.TableNumber, WorkerReply.WorkerReply}}
-use Rattle.pagable_world.specs.{Events.{CallStep, new_walking, no_shelf, steps_after}, Headline.Headline, Kinds.owner_worker, Pager.{CallBrings, FitsRoot, IsIdle, IsMachineWhole, MachineState}}
+use Rattle.pagable_world.specs.{Events.{CallStep, new_walking, no_shelf, steps_after}, Headline.Headline, Kinds.{identity_of, owner_worker}, Pager.{CallBrings, FitsRoot, IsIdle, IsMachineWhole, MachineState}}
 use Rattle.pagable_world.specs.{Pager.{Moves, PagerState}, Plain.{Identity, if_there}, Runs.{AreMoments, Does, HasRun, Moment, state_after}, Workers.fresh, World.{Core, OpenLoad, Seen}}
 use Rattle.pagable_world.specs.{World.{Reading, Shelf, Slot, Values, Walking, Work, Written, of_entry, of_item, one_more, seen_as}, declared.calls.{Call.Call, Found.Found, Reply.Reply}}
 use Rattle.pagable_world.specs.World as world
 
 abbrev pub task_of : Begun → world.Task
 task_of (Begun.Item item) = of_item (written_of (arc_value item))
-task_of (Begun.Entry h i) = of_entry h i
+task_of (Begun.Entry r) = of_entry r.handle (identity_of r)
 
 module _ {X : Type 0} {g : Ghosts X} where
   -- tables, the first of number 1
@@ -45,12 +45,6 @@ module _ {X : Type 0} {g : Ghosts X} where
     pub steps : k'.steps ≡ steps_after k.steps moved.counted
     pub turn : k'.turn ≡ moved.turn
 
-  -- the table at this place is another now
-  pub record SetsTable (tables : List (SlotTable X g)) (place : ℕ) (table : SlotTable X g) (tables' : List (SlotTable X g)) : Type 0 where
-    pub len : length tables' ≡ length tables
-    pub here : slice_get tables' place ≡ Some table
-    pub others : (q : ℕ) → q ≢ place → slice_get tables' q ≡ slice_get tables q
-
   -- A worker that hasn't answered makes a step on its table.
   pub record WalksOn {N E : Type 0} (v : Values N) (n : ℕ) (tables : List (SlotTable X g)) (k : Walk X g) (s : PagerState N E) (reply : WorkerReply (Arc SerializedData Global))
       (tables' : List (SlotTable X g)) (k' : Walk X g)
@@ -63,7 +57,7 @@ module _ {X : Type 0} {g : Ghosts X} where
     pub had : k.turn ≡ Turn.Goes task
     pub on : k.table ≡ suc place
     pub there : slice_get tables place ≡ Some table
-    pub sets : SetsTable tables place table' tables'
+    pub sets : tables' ≡ set tables place table'
     pub steps : StepsTo v (owner_worker n) n (shelf_of table) task (todos k.path.items) (shelf_of table') moved (plan moved.turn k'.path.items) s s'
     pub way : IsWay (plan moved.turn k'.path.items)
     pub after : IsAfter k moved k'

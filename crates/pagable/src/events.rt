@@ -17,7 +17,6 @@ use pagable_world::{Beginning, Call, Event, EventReply, Found, LoadAnswer, LoadR
 use std::alloc::Global;
 use std::sync::Arc;
 
-// What was found, as the reply has it.
 fn found(
     given: Result<Either<HandleNumber, Arc<PagableData>>, Error>,
 ) -> Result<Found<Arc<PagableData>>, Error>
@@ -30,7 +29,6 @@ fn found(
     }
 }
 
-// Makes the call, and answers what the pager answers.
 fn make_call<E: Env<Node: NodeSet<E>>, S: PagableStorage<E>>(
     pager: &mut Pager<E, S>,
     alloc: Global,
@@ -168,7 +166,6 @@ fn load_step<E: Env<Node: NodeSet<E>>, S: PagableStorage<E>>(
     Ok(reply)
 }
 
-// The load that the call may close.
 fn closed_by<N: Drop>(call: &Call<N, PagableData>) -> Option<LoadNumber> {
     match call {
         Call::LoadEnd(load, _) | Call::LoadTake(load, _) | Call::LoadDrop(load) => Some(*load),
@@ -192,7 +189,6 @@ fn forget<E: Env<Node: NodeSet<E>>, S: PagableStorage<E>>(
     }
 }
 
-// A load of a key begins, which is read as a value of this type.
 fn load_key<E: Env<Node: NodeSet<E>>, S: PagableStorage<E>>(
     pager: &mut Pager<E, S>,
     held: &mut Held<E>,

@@ -42,7 +42,6 @@ pub fn pin<E: Env<Node: NodeSet<E>>, S: PagableStorage<E>>(
     pin_by(&mut lent, alloc, handle)
 }
 
-// A reading by a lent pager.
 fn read_by<'a, E: Env<Node: NodeSet<E>>, S: PagableStorage<E>>(
     lent: &mut Lent<'a, E, S>,
     alloc: Global,
@@ -93,7 +92,6 @@ pub fn deserialize_pagable_data<E: Env<Node: NodeSet<E>>, S: PagableStorage<E>, 
     }
 }
 
-// A page-out of an item by a lent pager.
 fn page_out_item_by<'a, E: Env<Node: NodeSet<E>>, S: PagableStorage<E>>(
     lent: &mut Lent<'a, E, S>,
     alloc: Global,
@@ -124,7 +122,6 @@ pub fn page_out_item<E: Env<Node: NodeSet<E>>, S: PagableStorage<E>>(
     page_out_item_by(&mut lent, alloc, table, item)
 }
 
-// A page-out of the list by a lent pager.
 fn page_out_pending_by<'a, E: Env<Node: NodeSet<E>>, S: PagableStorage<E>>(
     lent: &mut Lent<'a, E, S>,
     alloc: Global,

@@ -1,7 +1,7 @@
 //! What a machine keeps beside its pager; tables of page-out, workers on them, and a worker's step.
 
 ghost use Rattle.std.specs.{HashMap.spare, Prelude.{◌≡◌, ◌<◌, ◌⊎◌, ℕ, Some, IfOk, IfErr, OnOk, false, ◌∷◌, length, is_some}};
-ghost use Rattle.{pagable.specs.Driving.{Drives, IsInStep, KeepsOne, kept_at, IsBegun, IsIn, IsAfter, IsWalkKept, WalksOn, is_done}, pagable_loads.specs.Telling.values_at};
+ghost use Rattle.{pagable.specs.Driving.{Drives, IsInStep, KeepsOne, kept_at, IsBegun, IsIn, IsWalkKept, WalksOn, is_done}, pagable_loads.specs.Telling.values_at};
 ghost use Rattle.{pagable_pager.specs.View.{core_in, state_in, telling}, pagable_walk.specs.{Slots.written_of, Table.shelf_of, Tasks.{IsWay, todo_of, todos}, Turns.{StepsTo, answer_in, plan}}};
 ghost use Rattle.pagable_world.specs.{Kinds.{identity_of, owner_worker}, World.{of_entry, of_item}, declared.events.{Event.Event, EventReply.EventReply}};
 
@@ -9,7 +9,7 @@ use indexmap::IndexMap;
 use pagable_codec::{Env, NodeSet};
 use pagable_core::{PagableStorage, SerializedData};
 use pagable_loads::{Reading, WorkerAccess};
-use pagable_model::{ArcRef, Error, HandleNumber, Identity, WorkerNumber};
+use pagable_model::{ArcRef, Error, WorkerNumber};
 use pagable_pager::{Lent, Pager};
 use pagable_walk::stack::{start_entry, start_item};
 use pagable_walk::step::step;
@@ -25,7 +25,7 @@ pub enum Begun {
     /// An item.
     Item(Arc<SerializedData>),
     /// An entry of the list: its handle, and the cell as a loose handle sees it.
-    Entry(HandleNumber, Identity),
+    Entry(ArcRef),
 }
 
 /// A worker: its table, counted from 1, what it was begun for and how many steps it has made; its task with the path below it, or its answer.
@@ -111,18 +111,13 @@ fn item_walk<E: Trees>(
     })
 }
 
-// What a worker for an entry of the list has to do.
 fn entry_walk<E: Trees>(alloc: Global, table: TableNumber, reference: ArcRef) -> Walk<E>
     ensures { IsBegun table (of_entry reference.handle (identity_of reference)) result }
 {
     let (task, path) = start_entry(alloc, reference);
-    let identity = Identity {
-        kind: reference.kind,
-        node: reference.node,
-    };
     Walk {
         table: table.0,
-        begun: Begun::Entry(reference.handle, identity),
+        begun: Begun::Entry(reference),
         steps: 0,
         path,
         turn: Turn::Goes(task),
@@ -195,7 +190,6 @@ fn step_by<'a, E: Env<Node: NodeSet<E>>, S: PagableStorage<E>>(
     step(lent, alloc, table, worker, path, task)
 }
 
-// The worker's answer, if it came to one.
 fn answer_of<E: Trees>(turn: &Turn<E>) -> Option<WorkerAnswer>
     ensures { result ≡ answer_in turn.now }
 {
@@ -205,22 +199,6 @@ fn answer_of<E: Trees>(turn: &Turn<E>) -> Option<WorkerAnswer>
     }
 }
 
-// What a step came to is kept of the worker, and answered.
-fn settle<E: Trees>(walk: &mut Walk<E>, moved: Moved<E>) -> WorkerReply<Arc<SerializedData>>
-    ensures after { IsAfter walk.old moved walk.new }
-    ensures path { walk.new.path ≡ walk.old.path }
-    ensures reply { result ≡ record { took = moved.took; answer = answer_in moved.turn; steps = walk.new.steps } }
-{
-    walk.steps = walk.steps.saturating_add(u64::from(moved.counted));
-    walk.turn = moved.turn;
-    WorkerReply {
-        took: moved.took,
-        answer: answer_of(&walk.turn),
-        steps: walk.steps,
-    }
-}
-
-// A worker that has a task makes a step on its table.
 fn walk_on<E: Env<Node: NodeSet<E>>, S: PagableStorage<E>>(
     pager: &mut Pager<E, S>,
     alloc: Global,
@@ -241,10 +219,15 @@ fn walk_on<E: Env<Node: NodeSet<E>>, S: PagableStorage<E>>(
     let table = &mut tables[(walk.table - 1) as usize];
     let mut lent = Lent::for_worker(pager, worker);
     let moved = step_by(&mut lent, alloc, table, worker, &mut walk.path, task);
-    settle(walk, moved)
+    walk.steps = walk.steps.saturating_add(u64::from(moved.counted));
+    walk.turn = moved.turn;
+    WorkerReply {
+        took: moved.took,
+        answer: answer_of(&walk.turn),
+        steps: walk.steps,
+    }
 }
 
-// Whether there is no worker of this number, or it has answered.
 fn is_done<E: Trees>(walks: &IndexMap<u64, Walk<E>>, worker: u64) -> bool
     ensures { result ≡ is_done (kept_at walks.now worker) }
 {

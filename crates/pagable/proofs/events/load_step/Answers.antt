@@ -1,4 +1,4 @@
-use Rattle.{std.proofs.{Common.{arith, refl, rules, sym, ◌≡◌}, lemmas.{Bool.Decides.nat_tests, Grind.common_steps}}, pagable_loads.specs.Telling.values_at, pagable_tables.proofs.Worlds.failed}
+use Rattle.{std.proofs.{Common.{arith, refl, rules, sym, ◌∙◌, ◌≡◌}, lemmas.{Bool.Decides.nat_tests, Grind.common_steps}}, pagable_loads.specs.Telling.values_at, pagable_tables.proofs.Worlds.failed}
 use Rattle.pagable.proofs.Driven.{no-place-drives, step-drives, step-refused, untyped-drives}
 use Rattle.pagable.proofs.events.load_step.Goals as goal
 
@@ -9,22 +9,18 @@ returns-in_err-key g c =
 
 pub returns-then-is_none : goal.returns-then-is_none
 returns-then-is_none g c =
-    let held = c.get_mut.follows.holds-at-none in
-    let same : c.get_mut.follows.lender-at-none ≡ c.prepare.new.readings = search rules in
-    rw same (untyped-drives (values_at g.E.Node.NodeSet g.E.Env g.E.Hash.KeyHash) _ _ c.args.pager.now _ c.requires c.is_whole.ensures c.prepare.new.readings
+    rw c.get_mut.follows.holds-at-none (untyped-drives (values_at g.E.Node.NodeSet g.E.Env g.E.Hash.KeyHash) _ _ c.args.pager.now _ c.requires c.is_whole.ensures c.prepare.new.readings
     _ _ _ c.in_ok-key.ensures.reads c.prepare.ensures (search rules) (search rules))
 
 pub returns-in_default : goal.returns-in_default
 returns-in_default g c =
-    let held = c.get_mut.follows.holds-at-none in
-    let same : c.get_mut.follows.lender-at-none ≡ c.prepare.new.readings = search rules in
-    rw same (no-place-drives (values_at g.E.Node.NodeSet g.E.Env g.E.Hash.KeyHash) _ _ c.load_drop-told.new.self _ c.requires c.is_whole.ensures
+    rw c.get_mut.follows.holds-at-none (no-place-drives (values_at g.E.Node.NodeSet g.E.Env g.E.Hash.KeyHash) _ _ c.load_drop-told.new.self _ c.requires c.is_whole.ensures
     c.prepare.new.readings _ _ _ c.in_ok-key.ensures.reads c.prepare.ensures (search rules) (search rules)
     c.load_drop-told.result c.load_drop-told.ensures.step c.load_drop-told.ensures.only c.is_whole-in_default.ensures)
 
 pub returns : goal.returns
 returns g c =
-    let ends : c.step_by-reply.new.lent.pager.now ≡ c.pager-1.given.0 = search rules in
+    let ends : c.step_by-reply.new.lent.pager.now ≡ c.pager-1.given.0 = sym (c.pager-1.given.1 (sym (c.step_by-reply.ensures.lender ∙ c.new-lent.ensures.lent))) in
     step-drives (values_at g.E.Node.NodeSet g.E.Env g.E.Hash.KeyHash) _ _ _ _ c.requires c.is_whole.ensures _ _ _ _ c.in_ok-key.ensures.reads c.prepare.new.readings _ _
     c.prepare.ensures c.end.ensures c.in-Some.own.now c.step_by-reply.new.own (sym c.in-Some.ensures.value)
     (rw ends at (rw c.new-lent.ensures.same at c.step_by-reply.ensures.step)) (record { here = search rules; others = search rules })

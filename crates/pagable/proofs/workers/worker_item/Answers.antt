@@ -1,4 +1,4 @@
-use Rattle.{std.proofs.Common.{rules, ◌≡◌, refl, inr}, pagable_loads.specs.Telling.values_at, pagable.proofs.{Driven.{item-started, keeps-after}, Keeping.{drives, nothing-done, refused}}}
+use Rattle.{std.proofs.Common.{sym, ◌∙◌, ◌≡◌, refl, inr}, pagable_loads.specs.Telling.values_at, pagable.proofs.{Driven.{item-started, keeps-after}, Keeping.{drives, lender-is, nothing-done, refused}}}
 use Rattle.pagable_tables.proofs.Worlds.{failed}
 use Rattle.pagable.proofs.workers.worker_item.Goals as goal
 
@@ -14,14 +14,14 @@ returns-in_err-walk g c =
 
 pub returns : goal.returns
 returns g c =
-    let ends : c.worker_begin.new.self.pager.now ≡ c.pager-1.given.0 = search rules in
+    let ends : c.worker_begin.new.self.pager.now ≡ c.pager-1.given.0 = sym (c.pager-1.given.1 (sym (lender-is c.in_ok-worker.ensures.begins.acting ∙ c.new-lent.ensures.lent))) in
     item-started (values_at g.E.Node.NodeSet g.E.Env g.E.Hash.KeyHash) _ _ _ _ c.requires c.is_whole.ensures c.put.new.kept c.args.table c.in_ok-worker.worker c.in_ok-walk.walk
     c.in_ok-ready.ensures.there (keeps-after c.ready.ensures.same c.put.ensures) c.args.item
     (rw ends at (rw c.new-lent.ensures.same at c.in_ok-worker.ensures.begins.step.holds)) c.in_ok-walk.ensures.begun
 
 pub returns-in_err-worker : goal.returns-in_err-worker
 returns-in_err-worker g c =
-    let ends : c.worker_begin.new.self.pager.now ≡ c.pager-1.given.0 = search rules in
+    let ends : c.worker_begin.new.self.pager.now ≡ c.pager-1.given.0 = sym (c.pager-1.given.1 (sym (lender-is c.in_err-worker.ensures.refused.1.acting ∙ c.new-lent.ensures.lent))) in
     let none = c.in_err-worker.ensures.refused in
     rw (failed c.from_residual-in_err-worker.result c.from_residual-in_err-worker.ensures.1) (drives (refused _ c.requires c.is_whole.ensures
     (rw ends at (rw c.new-lent.ensures.same at none.1.step.holds)) (λ l. refl) refl c.ready.ensures.same _ _ (λ q. refl)

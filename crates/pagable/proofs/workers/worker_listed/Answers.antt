@@ -1,5 +1,5 @@
-use Rattle.{std.proofs.Common.{rules, ◌≡◌, inl, inr, refl, arith}, pagable_loads.specs.Telling.values_at}
-use Rattle.{pagable.proofs.{Driven.{entry-refused, listed-started, keeps-after}, Keeping.{drives, nothing-done, refused}}, pagable_tables.proofs.Worlds.failed}
+use Rattle.{std.proofs.Common.{sym, ◌∙◌, ◌≡◌, inl, inr, refl, arith}, pagable_loads.specs.Telling.values_at}
+use Rattle.{pagable.proofs.{Driven.{entry-refused, listed-started, keeps-after}, Keeping.{drives, lender-is, nothing-done, refused}}, pagable_tables.proofs.Worlds.failed}
 use Rattle.pagable.proofs.workers.worker_listed.Goals as goal
 
 pub returns-then-place-pending : goal.returns-then-place-pending
@@ -14,14 +14,14 @@ returns-in_err-ready g c =
 
 pub returns : goal.returns
 returns g c =
-    let ends : c.worker_listed.new.self.pager.now ≡ c.pager-1.given.0 = search rules in
+    let ends : c.worker_listed.new.self.pager.now ≡ c.pager-1.given.0 = sym (c.pager-1.given.1 (sym (lender-is c.in_ok-worker.ensures.begins.acting ∙ c.new-lent.ensures.lent))) in
     listed-started (values_at g.E.Node.NodeSet g.E.Env g.E.Hash.KeyHash) _ _ _ _ c.requires c.is_whole.ensures c.put.new.kept c.args.table c.in_ok-worker.worker c.entry_walk-walk.result
     c.in_ok-ready.ensures.there (keeps-after c.ready.ensures.same c.put.ensures) c.args.place c.in_ok-worker.reference
     (rw ends at (rw c.new-lent.ensures.same at c.in_ok-worker.ensures.begins.step.holds)) c.entry_walk-walk.ensures
 
 pub returns-in_err-worker : goal.returns-in_err-worker
 returns-in_err-worker g c =
-    let ends : c.worker_listed.new.self.pager.now ≡ c.pager-1.given.0 = search rules in
+    let ends : c.worker_listed.new.self.pager.now ≡ c.pager-1.given.0 = sym (c.pager-1.given.1 (sym (lender-is c.in_err-worker.ensures.refused.acting ∙ c.new-lent.ensures.lent))) in
     rw (failed c.from_residual-in_err-worker.result c.from_residual-in_err-worker.ensures.1) (entry-refused (values_at g.E.Node.NodeSet g.E.Env g.E.Hash.KeyHash) _ _ _ _ c.requires
     c.is_whole.ensures c.ready.new.walks c.args.table _ c.args.place c.in_ok-ready.ensures.there (grind arith)
     (rw ends at (rw c.new-lent.ensures.same at c.in_err-worker.ensures.refused.step.holds)) c.ready.ensures.same)
