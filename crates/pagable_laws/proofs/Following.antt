@@ -7,7 +7,7 @@ use Rattle.pagable_laws.proofs.Words.{map, nat_tests, one, owner_value, referenc
 use Rattle.pagable_laws.proofs.{Again.{looks-itself, read_again}, Decoding.{among-left, among-right, given-too}, Words.{type_of, zero, ◌&&◌, ◌++◌, ◌<◌, ◌==◌, ◌∙◌, ◌∷◌, ◌≡◌, ◌≤◌}}
 use Rattle.pagable_laws.specs.TreeSteps.{Ground, KeyStands, LeadsBy, WroteTree, followed-leads, none-leads, number-leads, pair-leads, pattern-leads, reference-leads, text-leads, variant-leads}
 use Rattle.pagable_model.specs.{Deep.{Kid, kid, kind_of_kid}, Reading.deepest, Trees.{IsFollowed, KeyRef, integer-followed, key_ref, none-followed, number-followed, pair-followed, pattern-followed}}
-use Rattle.pagable_model.specs.{Merkle.{KeysOf, StoredAs, TreeForm, key-of, key_of_ref, more-keys, no-keys, unfolded}, Trees.{reference-followed, text-followed, variant-followed}}
+use Rattle.pagable_model.specs.{Merkle.{KeyOf, KeysOf, StoredAs, TreeForm, key-of, key_of_ref, kind_of_ref, more-keys, no-keys, unfolded}, Trees.{reference-followed, text-followed, variant-followed}}
 use Rattle.{pagable_model.specs.Writing.kind_of_arc, pagable_world.specs.World.{Outcome, digest, published, type_at}, std.{proofs.lemmas.Option.get_or_from_slice_get, specs.Prelude.nat_lt}}
 use Rattle.pagable_world.specs.{Headline.AreKeysOf, Pager.{IsWrittenOf, MeaningStands, NodeStands, away, followed-stands, here, kids_of, number-stands, pair-stands, reference-stands, variant-stands}}
 
@@ -106,7 +106,9 @@ module _ {N E : Type 0} {v : Values N} {s : PagerState N E} {trees : ℕ → Tre
   refers : (n : ℕ) (x : N) (r : ArcRef) → s.values n ≡ Some x → Among (v.references x) r
       → (r.node.0 ≤ s.core.last.node) × ((b : Meaning ⊥) → NodeStands v s r.node.0 (tree (type_of r.kind.0) b) → (trees r.node.0).meaning ≡ b)
   refers n x r there among =
-      grind (arith, nat_tests, one-node, whole.references n x r there among, given-of whole.whole.handles r.node.0 (whole.references n x r there among).typed, represents.stands r.node.0 (given-of whole.whole.handles r.node.0 (whole.references n x r there among).typed).0, represents.typed r.node.0 (given-of whole.whole.handles r.node.0 (whole.references n x r there among).typed).0)
+      let is = whole.references n x r there among in
+      let given = given-of whole.whole.handles r.node.0 is.typed in
+      (given.1, λ b stands. one-node settled (represents.stands r.node.0 given.0) stands (same_some _ _ (sym (represents.typed r.node.0 given.0) ∙ is.typed)))
 
   wrote-of : (n : ℕ) (written : Written) (t : Tree) → t ≡ trees n → NodeStands v s n t → IsWrittenOf v s n written
       → WroteTree v.types (record { stored = s.core.stored; last = s.core.last.node; trees = trees }) n written
@@ -193,5 +195,10 @@ pub key-stands : {N : Type 0} {v : Values N} {g : Ground} {shelf : Shelf} {n key
     → ((i : Identity) (k h : ℕ) → IsPublished shelf i k h → IdentityStands v g i k)
     → WroteTree v.types g n written → AreKeysOf shelf written.references keys → g.stored key ≡ Some (blob_of written.bytes keys) → key ≡ digest v (blob_of written.bytes keys)
     → KeyStands v g.stored (g.trees n) key
-key-stands {v =
-    v} {g} {shelf} {n} {key} {written} keys right w known is_stored is = grind (arith, nat_tests, keeps_forms, key-of, g.trees n, tree-form w, keys-of right written.references keys known, keys-are shelf written.references keys known, follows-keys right written.references keys known w.follows)
+key-stands {v = v} {g} {shelf} {n} {key} {written} keys right w known is_stored is =
+    let form = keeps_forms (keyed_by shelf) kind_of_arc kind_of_ref v.types.parts deepest w.shape w.own written.bytes written.references (λ r. refl) w.form in
+    let is_key : KeyOf v.hash v.types (g.trees n) key =
+    rw is (key-of (g.trees n) w.shape written.bytes (kids_of g.trees written.references) keys w.is (tree-form w) (keys-of right written.references keys known)) in
+    let spells : StoredAs g.stored v.types (g.trees n).type key (rename (keyed_by shelf) w.own) =
+    search (w.is, form, is_stored ∙ ap (λ ks. Some (blob_of written.bytes ks)) (keys-are shelf written.references keys known)) in
+    record { is_key = is_key; stands = record { own = rename (keyed_by shelf) w.own; stands = spells; follows = follows-keys right written.references keys known w.follows } }

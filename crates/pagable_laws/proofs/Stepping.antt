@@ -51,7 +51,8 @@ module _ {N : Type 0} (v : Values N) {g g' : Ground} (goes : GroundGoes g g') wh
   module _ {shelf shelf' : Shelf} (keys : KeepsKeys shelf shelf') where
     pub blob-on : {n key height : ℕ} {written : Written} → n ≤ g.last → BlobStands v g shelf n written key height → BlobStands v g' shelf' n written key height
     blob-on {n} {key} {height} {written} given b =
-        grind (arith, nat_tests, g'.trees n, goes.trees n given, stands-on b.right, keys-on keys written.references b.keys b.known, goes.kept key _ b.is_stored, low-on keys, attained-on keys height written.references b.attained)
+        let right : KeyStands v g'.stored (g'.trees n) key = subst (λ t. KeyStands v g'.stored t key) (sym (goes.trees n given)) (stands-on b.right) in
+        search (keys-on keys written.references b.keys b.known, goes.kept key _ b.is_stored, right, b.within, low-on keys, b.low, attained-on keys height written.references b.attained)
 
     pub slot-on : {i : Identity} {slot : Slot} → SlotFits v g shelf i slot → SlotFits v g' shelf' i slot
     slot-on {i} {slot} fits = search (rules, wrote-on, blob-on)

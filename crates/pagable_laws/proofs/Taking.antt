@@ -59,7 +59,8 @@ module _ (types : Types) (root_key root_type : ℕ) where
   frames-stay stored stored' trees trees' last [] kept same given h = tt
   frames-stay stored stored' trees trees' last (frame ∷ []) kept same given (fits, key, typed) = (frame-stays kept last same (λ r among. given frame r (zero, refl) among) fits, key, typed)
   frames-stay stored stored' trees trees' last (frame ∷ next ∷ rest) kept same given (fits, typed, next_is, more) =
-      grind (arith, nat_tests, frames-stay stored stored' trees trees' last (next ∷ rest) kept same (λ f r among got. given f r (suc among.0, among.1) got) more, frame-stays kept last same (λ r among. given frame r (zero, refl) among) fits)
+      let below = frames-stay stored stored' trees trees' last (next ∷ rest) kept same (λ f r among got. given f r (suc among.0, among.1) got) more in
+      (frame-stays kept last same (λ r among. given frame r (zero, refl) among) fits, typed, next_is, below)
 
   module _ (stored : ℕ → Option Blob) (trees : ℕ → Tree) where
     -- and with a handle that the innermost blob gets, of a node whose tree the key reads as
@@ -103,7 +104,10 @@ stands-here x0 is = grind (arith, nat_tests)
 pub pin_stands : {N E : Type 0} {v : Values N} (s : PagerState N E) (trees : ℕ → Tree) (k : HandleNumber) (row : HandleRow) → WellFormed v s → Represents v s trees → row_at s.core k ≡ Some row
     → is_pinning row.mode ≡ true → GivesTree v s trees k
 pin_stands {N} s trees k row whole represents live pinning =
-    grind (arith, nat_tests, held, stands-here, row-held s.core k row live, row-pins s.core k row live pinning, whole.valued row.node.0, cell-of whole.whole.handles row.node.0 (row-held s.core k row live), s.values row.node.0, represents.stands row.node.0 (row-held s.core k row live))
+    let held_there = row-held s.core k row live in
+    let p = row-pins s.core k row live pinning in let valued = whole.valued row.node.0 in let cell = cell-of whole.whole.handles row.node.0 held_there in
+    let x : (x : N) × (s.values row.node.0 ≡ Some x) = grind (arith, nat_tests) in
+    record { row = row; x = x.0; live = live; held = x.1; stands = stands-here (represents.stands row.node.0 held_there) x.1 }
 
 -- ---- what a load has got is what its blobs asked for, and goes on to be so
 
