@@ -1,5 +1,6 @@
 mod Words
 pub mod Parts
+pub mod Reading
 pub mod Items
 pub mod Maps
 pub mod Hashed

@@ -189,7 +189,7 @@ basic_written env s r shape meaning x form {old} {new} {given} {bytes} is e f sa
 }
 
 -- what a number's range in Rust is here
-is-signed : (w : Width) (z : ℤ) → FitsSigned w z → IsSigned w z
+pub is-signed : (w : Width) (z : ℤ) → FitsSigned w z → IsSigned w z
 is-signed w8 z h = search rules
 is-signed _ z h = search rules
 
