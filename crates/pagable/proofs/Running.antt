@@ -12,7 +12,8 @@ use Rattle.pagable_world.specs.{Workers.{Site, answer_after, is_counted}, World.
 use Rattle.{pagable_world.specs.declared.events.{WorkerAnswer.WorkerAnswer, WorkerReply.WorkerReply}, std.proofs.Common.{Bool, List, None, Ok, Option, Some, [], ap, arith, false, if◌then◌else◌, inl}}
 use Rattle.std.proofs.{Common.{inr, length, map, refl, rules, subst, suc, sym, true, zero, ℕ, ◌++◌, ◌==◌, ◌∙◌, ◌∷◌, ◌≡◌, ◌≢◌, ◌≤◌}, Math.{ListN.set, Path.fun_ext}, lemmas.Bool.Decides.nat_tests}
 use Rattle.std.proofs.lemmas.{Grind.common_steps, List.{append-nil, append_assoc, get_or-set_other, get_or-set_same, length-map, length-set, map-append, nil_from_length}, Map.Made.lookup-map_values}
-use Rattle.std.{proofs.lemmas.Option.{slice_get-map, slice_get_cases, slice_get_past, slice_get_read, slice_get_within}, specs.{Prelude.{is_none, is_some, nat_eq}, declared.{alloc.Global.Global, sync.Arc.Arc}}}
+use Rattle.std.proofs.lemmas.Option.{slice_get-map, slice_get_cases, slice_get_past, slice_get_read, slice_get_within}
+use Rattle.std.specs.{Prelude.{is_none, is_some, nat_eq}, declared.{alloc.Global.Global, sync.Arc.Arc}}
 use Rattle.pagable_world.specs.Workers as workers
 
 -- ---- a table of a list is written in its place

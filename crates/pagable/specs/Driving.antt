@@ -7,7 +7,8 @@ use Rattle.{pagable_loads.specs.declared.reading.Reading.Reading as Own, pagable
 use Rattle.pagable_walk.specs.{Slots.{is_same, slot_of, written_of}, Table.shelf_of, Tasks.{IsPlain, IsWay, todos}, Turns.{LeavesFit, StepsTo, answer_in, plain_took, plan}}
 use Rattle.pagable_walk.specs.declared.{results.Trees.Ghosts, table.SlotTable.SlotTable, tasks.{Moved.Moved, Task.Task, Turn.Turn}}
 use Rattle.pagable_world.specs.{Access.ReadingStep, declared.events.{Event.Event, EventReply.EventReply, LoadAnswer.LoadAnswer, LoadReply.LoadReply, TableNumber.TableNumber, WorkerReply.WorkerReply}}
-use Rattle.pagable_world.specs.{Events.{CallStep, new_walking, no_shelf, steps_after}, Headline.Headline, Kinds.{identity_of, owner_worker}, Pager.{CallBrings, FitsRoot, IsIdle, IsMachineWhole, MachineState}}
+use Rattle.pagable_world.specs.{Events.{CallStep, new_walking, no_shelf, steps_after}, Headline.Headline, Kinds.{identity_of, owner_worker}}
+use Rattle.pagable_world.specs.Pager.{CallBrings, FitsRoot, IsIdle, IsMachineWhole, MachineState}
 use Rattle.pagable_world.specs.{Pager.{Moves, PagerState}, Plain.{Identity, if_there}, Runs.{AreMoments, Does, HasRun, Moment, state_after}, Workers.fresh, World.{Core, OpenLoad, Seen}}
 use Rattle.pagable_world.specs.{World.{Reading, Shelf, Slot, Values, Walking, Work, Written, of_entry, of_item, one_more, seen_as}, declared.calls.{Call.Call, Found.Found, Reply.Reply}}
 use Rattle.pagable_world.specs.World as world

@@ -52,7 +52,8 @@ unfolding varint_limit
 stands zero last byte p = let small : byte ≤ last = p refl in omega arith
 stands (suc left) last byte p = omega (arith, limit-above left last)
 
-pub ReadsOn_fits : {more last : ℕ} {bytes : List ℕ} {place low scale : ℕ} (byte : ℕ) → ReadsOn more last bytes place low scale → (place ≡ more → byte ≤ last) → low + scale * (byte % 128) < varint_limit more last
+pub ReadsOn_fits : {more last : ℕ} {bytes : List ℕ} {place low scale : ℕ} (byte : ℕ) → ReadsOn more last bytes place low scale → (place ≡ more → byte ≤ last)
+    → low + scale * (byte % 128) < varint_limit more last
 ReadsOn_fits {more} {last} {bytes} {place} byte r p = r.room (byte % 128) (stands (more - place) last byte (λ none. p (omega (arith, r.turn))))
 
 pub ReadsOn_scale : {more last : ℕ} {bytes : List ℕ} {place low scale : ℕ} → ReadsOn more last bytes place low scale → place ≢ more → 0 < last → low + scale * 255 < varint_limit more last
@@ -84,7 +85,8 @@ unfolding varint_at
 ends zero last byte xs p small = rw (le-leb byte last (p refl)) refl
 ends (suc left) last byte xs p small = varint_at-short left last byte xs small
 
-pub ReadsOn_end : {more last : ℕ} {bytes : List ℕ} {place low scale : ℕ} (byte : ℕ) → ReadsOn more last bytes place low scale → place < length bytes → byte ≡ get_or bytes place 0 → (place ≡ more → byte ≤ last) → byte < 128
+pub ReadsOn_end : {more last : ℕ} {bytes : List ℕ} {place low scale : ℕ} (byte : ℕ) → ReadsOn more last bytes place low scale → place < length bytes → byte ≡ get_or bytes place 0
+    → (place ≡ more → byte ≤ last) → byte < 128
     → varint_at more last bytes ≡ Ok (low + scale * (byte % 128), drop (place + 1) bytes)
 ReadsOn_end {more} {last} {bytes} {place} byte r h e p small =
     let same : byte % 128 ≡ byte = omega arith in

@@ -183,7 +183,8 @@ module _ (k : ℕ) (i : Identity) where
     -- the entry of a listed cell, which may be known already
     entry : (r : ArcRef) (place : ℕ) (steps : List (Took W)) (last : List Todo) → Leads f (to_start r place ∷ []) steps last → times (is_claim_of i) steps ≤ 1 → times (is_later_of k i) steps ≤ 1
     entry r place [] last leads few = omega arith
-    entry r place (Took.Claim j (Ok Claim.Claimed) ∷ steps) last (mid, (is, e), leads) few = grind (arith, nat_tests, once-more, bounded, along, few-claims (Took.Claim j (Ok Claim.Claimed)) steps few)
+    entry r place (Took.Claim j (Ok Claim.Claimed) ∷ steps) last (mid, (is, e), leads) few =
+        grind (arith, nat_tests, once-more, bounded, along, few-claims (Took.Claim j (Ok Claim.Claimed)) steps few)
     entry r place (Took.Claim j (Ok Claim.Waiting) ∷ steps) last (mid, (is, e), leads) few =
         let less : times (is_claim_of i) steps ≤ 1 = let c = few-claims (Took.Claim j (Ok Claim.Waiting)) steps few in omega arith in
         grind (arith, nat_tests, once-more, entry r place steps last (subst (λ m. Leads f m steps last) e leads) less)
@@ -216,7 +217,8 @@ module _ {N E : Type 0} (v : Values N) (s : MachineState N E) (trees : ℕ → T
       let k : KeyOfItem v.hash v.types written.bytes (kids_of trees written.references) key = record { keys = keys; each = each; is = is } in
       (k, λ canonical other o. tree_laws.is_one_item_key v.hash v.types written.bytes (kids_of trees written.references) other key canonical o k)
   is-key (of_entry h i) key (height, p) =
-      let k = (stands-for v (ground_of s trees) shelf (fit.slots t) i key height p).right.is_key in (k, λ canonical other o. tree_laws.is_one_key v.hash v.types (trees i.node.0) other key canonical o k)
+      let k = (stands-for v (ground_of s trees) shelf (fit.slots t) i key height p).right.is_key in
+      (k, λ canonical other o. tree_laws.is_one_key v.hash v.types (trees i.node.0) other key canonical o k)
 
   met : (task : Task) (key : ℕ) → IsDone v shelf task key → (i : Identity) → Meets shelf task i → (k : ℕ) × ((h : ℕ) × IsPublished shelf i k h)
   met task key done i (meets-of-item written r is among) = let d = subst (λ x. IsDone v shelf x key) is done in let p = known-of shelf written.references d.0 d.1 r among in (p.0, p.1)

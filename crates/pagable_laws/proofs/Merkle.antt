@@ -1,5 +1,6 @@
 -- One key spells one tree, and one tree of canonical types has one key: a stored tree has the key that it stands under, and keys tell trees apart.
-use Rattle.pagable_laws.proofs.{Again.{Looked, all-looked, form-again, one-form, one-looked}, Trees.{AllTwo, Along, followed-on, form-along, integer-along, more-two, no-two, none-along, number-along}}
+use Rattle.pagable_laws.proofs.Again.{Looked, all-looked, form-again, one-form, one-looked}
+use Rattle.pagable_laws.proofs.Trees.{AllTwo, Along, followed-on, form-along, integer-along, more-two, no-two, none-along, number-along}
 use Rattle.pagable_laws.proofs.{Trees.{one-followed, one_tree, pair-along, pattern-along, reference-along, same_some, text-along, tree_is, variant-along}, Words.{Blob, List, Meaning, Ok, Option}}
 use Rattle.pagable_laws.proofs.Words.{ReadsTree, Shape, Tree, Types, [], ap, append-nil, arith, blob_of, followed, length, length-append, map, nat_tests, pair, read, refl, rest, rules}
 use Rattle.pagable_laws.{proofs.Words.{subst, suc, sym, tree, type_of, variant, zero, ℕ, ◌*◌, ◌<◌, ◌∙◌, ◌∷◌, ◌≡◌, ◌≤◌}, specs.FormLaws.TreeLaws}

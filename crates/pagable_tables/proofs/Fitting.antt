@@ -1,6 +1,7 @@
 -- A handle is given up: handles and nodes fit again.
 use Rattle.pagable_tables.proofs.{Alive.{all-kept, and_one, entries-none, length-live-le, none-found, of_list, one-le, ones, only-row, row-le-live, sum-most, times-left}, Kept.{found-among, only-at}}
-use Rattle.pagable_tables.proofs.Words.{AllPairs, Among, ArcRef, Blob, Bool, Chain, Core, Counts, Error, Fits, HandleNumber, HandleRow, HasFallen, HasRoom, Holdings, IsApart, IsBefore, IsClosed, CellsStay, ValueStays, pins_in, ◌||◌, Cell, OptionalDataKey, if_there, is_here, is_in_memory}
+use Rattle.pagable_tables.proofs.Words.{AllPairs, Among, ArcRef, Blob, Bool, Chain, Core, Counts, Error, Fits, HandleNumber, HandleRow, HasFallen, HasRoom, Holdings, IsApart, IsBefore, IsClosed}
+use Rattle.pagable_tables.proofs.Words.{CellsStay, ValueStays, pins_in, ◌||◌, Cell, OptionalDataKey, if_there, is_here, is_in_memory}
 use Rattle.pagable_tables.proofs.Words.{IsFalling, IsSome, IsWithin, List, Mode, None, OpenLoad, Option, Owner, Place, Right, SoFar, Some, Tables, TellsListing, [], after, alive, ap, append-nil}
 use Rattle.pagable_tables.proofs.Words.{arith, cases_Bool, cases_eq, cell_in, core_of, counts_at, entry, falls_in, false, filter, find_row, get_or, get_or-le-sum_by, greatest, has_value, held}
 use Rattle.pagable_tables.proofs.Words.{holds_in, if◌then◌else◌, inl, inr, is_at, is_fallen_by, is_handle, is_keyed, is_listed, is_listing, is_outside, is_owned_by, is_owned_in, is_owner, is_pin}
@@ -205,7 +206,8 @@ module _ (t : Holdings) {stack : List ℕ} {extra : ℕ → ℕ → ℕ} (w : Is
   pub has-counts : (i : ℕ) (x : HandleRow) (o : Option Counts) → slice_get t.handles.places.items i ≡ Some (alive x) → o ≡ counts_at t.nodes x.node.0 → IsSome o
   has-counts i x o at is = subst (λ o. IsSome o) (sym is) (some-held _ (omega (arith, w.fits.holding x.node.0, row-le-live (λ h. one (is_at x.node.0 h)) t.handles.places.items i x at, held-here x)))
 
-  pub are-counted : (i : ℕ) (x : HandleRow) (c : Counts) → slice_get t.handles.places.items i ≡ Some (alive x) → counts_at t.nodes x.node.0 ≡ Some c → (one (is_pinning x.mode) ≤ c.pins) × (1 ≤ c.holds)
+  pub are-counted : (i : ℕ) (x : HandleRow) (c : Counts) → slice_get t.handles.places.items i ≡ Some (alive x) → counts_at t.nodes x.node.0 ≡ Some c
+      → (one (is_pinning x.mode) ≤ c.pins) × (1 ≤ c.holds)
   are-counted i x c at is = (
     omega (arith, w.fits.pinned x.node.0, ap pins_in is, row-le-live (λ h. one (is_pin x.node.0 h)) t.handles.places.items i x at, pin-here x),
     omega (arith, w.fits.holding x.node.0, ap holds_in is, row-le-live (λ h. one (is_at x.node.0 h)) t.handles.places.items i x at, held-here x),

@@ -14,7 +14,8 @@ use Rattle.pagable_world.specs.Workers.{Claims, Does, Finds, PinsAtOnce, Site, T
 use Rattle.pagable_world.specs.{Workers.{with_outcome, with_wait}, World.{Alike, Cell, Core, Frame, OpenLoad, Reading, Root, SameShelf, Shelf, Todo, Values, Written, answer_of_fault, of_cell, of_key}}
 use Rattle.pagable_world.specs.{World.{one_more, published, seen_as, to_load, to_pin, to_publish, to_release, to_start, to_write, was_refused}, declared.events.{Claim.Claim, LoadAnswer.LoadAnswer}}
 use Rattle.{pagable_world.specs.{Pager.HandlesAreWhole, declared.{events.{PinStep.PinStep, Took.Took, WorkerAnswer.WorkerAnswer}, handles.{HandleRow.HandleRow, Owner.Owner}}}, std.proofs.Common.Err}
-use Rattle.std.proofs.{Common.{List, None, Ok, Result, Some, [], ap, arith, false, inl, inr, refl, subst, sym, true, ℕ, ◌+◌, ◌==◌, ◌∙◌, ◌∷◌, ◌≡◌, ◌⊎◌}, lemmas.{Bool.Decides.nat_tests, Grind.common_steps}}
+use Rattle.std.proofs.Common.{List, None, Ok, Result, Some, [], ap, arith, false, inl, inr, refl, subst, sym, true, ℕ, ◌+◌, ◌==◌, ◌∙◌, ◌∷◌, ◌≡◌, ◌⊎◌}
+use Rattle.std.proofs.lemmas.{Bool.Decides.nat_tests, Grind.common_steps}
 use Rattle.std.specs.{Arc.arc_value, Prelude.{IfErr, IfOk, Option, if◌then◌else◌}, declared.{alloc.Global.Global, sync.Arc.Arc}}
 
 pub alike : (w : Core) → Alike w w

@@ -1,4 +1,5 @@
-use Rattle.{std.proofs.Common.{sym, ◌∙◌, ◌≡◌, refl, inr}, pagable_loads.specs.Telling.values_at, pagable.proofs.{Driven.{item-started, keeps-after}, Keeping.{drives, lender-is, nothing-done, refused}}}
+use Rattle.{std.proofs.Common.{sym, ◌∙◌, ◌≡◌, refl, inr}, pagable_loads.specs.Telling.values_at}
+use Rattle.pagable.proofs.{Driven.{item-started, keeps-after}, Keeping.{drives, lender-is, nothing-done, refused}}
 use Rattle.pagable_tables.proofs.Worlds.{failed}
 use Rattle.pagable.proofs.workers.worker_item.Goals as goal
 

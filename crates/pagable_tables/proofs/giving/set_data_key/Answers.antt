@@ -1,4 +1,5 @@
-use Rattle.pagable_tables.proofs.{Calls.keyed-whole, Fitting.{given-long, has-counts, key-cells, key-fits, key-values, keyed-on}, Kept.found-among, Newer.{does-as, lazily-so, nothing-shed, sheds-with}, Next.{none-falls-in, stays-first}, Told.falling}
+use Rattle.pagable_tables.proofs.{Calls.keyed-whole, Fitting.{given-long, has-counts, key-cells, key-fits, key-values, keyed-on}, Kept.found-among}
+use Rattle.pagable_tables.proofs.{Newer.{does-as, lazily-so, nothing-shed, sheds-with}, Next.{none-falls-in, stays-first}, Told.falling}
 use Rattle.pagable_tables.proofs.{Told.{loose-unshared, unturned}, Words.{Falls, Some, [], and-true, any_mode, ap, counts_at, if◌then◌else◌, inl, inr, keyed, nobody}}
 use Rattle.pagable_tables.proofs.{Words.{plain_of, refl, subst, sym, with_key, ◌<◌, ◌==◌, ◌∙◌, ◌∷◌, ◌≡◌}, Worlds.{failed, owner-same, still}}
 use Rattle.pagable_tables.proofs.giving.set_data_key.Goals as goal
@@ -9,7 +10,12 @@ returns-in_err-at g c =
 
 pub returns-then-not-is_loose_mode : goal.returns-then-not-is_loose_mode
 returns-then-not-is_loose_mode g c = nothing-shed c.requires.whole (λ stored closed failures e. record {
-  does = inr (c.in_ok-at.at.row, record { live = c.in_ok-at.ensures.found; own = owner-same c.args.me _ c.in_ok-at.ensures.owner; as_asked = refl }, inl (sym c.if-not-is_loose_mode.ensures, refl, still _));
+  does = inr (
+    c.in_ok-at.at.row,
+    record { live = c.in_ok-at.ensures.found; own = owner-same c.args.me _ c.in_ok-at.ensures.owner; as_asked = refl },
+    inl
+        (sym c.if-not-is_loose_mode.ensures, refl, still _),
+  );
 })
 
 pub unwrap-counts-requires : goal.unwrap-counts-requires
@@ -30,7 +36,14 @@ fall-requires g c =
     let next = c.top_after.ensures ∙ ap (λ f. if f then t.top else y.next) (and-true b) in
     let here = e.here ∙ ap (λ k. Some (record y { key = c.get.result; is_falling = b; next = k })) next in
     let fits = key-fits _ _ _ _ _ _ n y c.get.result w.fits is c.get.ensures.above here e.others e.refs b refl in
-    record { falling = (if b then n ∷ [] else [], record { sound = w.sound; next = w.next; fits = rw (c.top_after-t.ensures ∙ ap (λ f. if f then n else t.top) (and-true b)) fits }, given-long b n []) }
+    record {
+      falling = (
+        if b then n ∷ [] else [],
+        record { sound = w.sound; next = w.next; fits = rw (c.top_after-t.ensures ∙ ap (λ f. if f then n else t.top) (and-true b)) fits },
+        given-long b n
+            [],
+      );
+    }
 
 pub returns : goal.returns
 returns g c =

@@ -2,7 +2,8 @@ use Rattle.pagable_tables.proofs.{Newer.{does-as, takes-worker}, Words.{Bool, ap
 use Rattle.pagable_tables.proofs.giving.worker_take.Goals as goal
 
 pub returns-in_err-worker : goal.returns-in_err-worker
-returns-in_err-worker c = rw (failed c.from_residual.result c.from_residual.ensures.1) (does-as c.in_err-worker.ensures.does (λ stored closed failures begins. record { taken = tt; refused = begins.refused }))
+returns-in_err-worker c = rw (failed c.from_residual.result c.from_residual.ensures.1)
+    (does-as c.in_err-worker.ensures.does (λ stored closed failures begins. record { taken = tt; refused = begins.refused }))
 
 works : (v : ℕ) (at : ℕ → Bool) → updated v true at v ≡ true
 works v at = grind (arith, nat_tests)

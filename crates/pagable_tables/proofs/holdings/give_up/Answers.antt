@@ -1,4 +1,5 @@
-use Rattle.pagable_tables.proofs.{Alive.with-entry, Fitting.{are-counted, are-few, given-cells, given-fits, given-keyed, given-long, given-top, given-values, has-counts, owned-by-none}, Words.{Fits, HandleRow, Holdings, MayList, Some, after, ap, arith}}
+use Rattle.pagable_tables.proofs.{Alive.with-entry, Fitting.{are-counted, are-few, given-cells, given-fits, given-keyed, given-long, given-top, given-values, has-counts, owned-by-none}}
+use Rattle.pagable_tables.proofs.Words.{Fits, HandleRow, Holdings, MayList, Some, after, ap, arith}
 use Rattle.pagable_tables.proofs.Words.{Counts, counts_at, entry, if◌then◌else◌, is_fallen_by, is_pinning, live, not, one, owns_nothing, refl, refs_at, subst, sum_by, sym}
 use Rattle.pagable_tables.proofs.Words.{true, unpinned, ℕ, ◌&&◌, ◌+◌, ◌-◌, ◌∙◌, ◌∷◌, ◌≡◌, ◌≢◌, ◌≤◌}
 
@@ -22,7 +23,8 @@ returns c stack w =
     let same : (m : ℕ) → refs_at c.set_counts.new.nodes m ≡ refs_at old.nodes m = λ m. c.set_counts.ensures.refs m ∙ ap (λ s. refs_at s m) e.nodes in
     let counted = are-counted old w c.args.at.place x counts c.requires.place is in
     let top : c.top_after-t.result ≡ (if b then n else old.top) =
-    c.top_after-t.ensures ∙ ap (λ (k : Counts). if k.is_falling && not counts.is_falling then n else mid.top) left ∙ ap (λ f. if f then n else mid.top) (given-top counts.is_falling _) ∙ ap (λ t. if b then n else t) e.top in
+    c.top_after-t.ensures ∙ ap (λ (k : Counts). if k.is_falling && not counts.is_falling then n else mid.top) left ∙ ap (λ f. if f then n else mid.top) (given-top counts.is_falling _) ∙ ap
+    (λ t. if b then n else t) e.top in
     let at' = counts_at c.set_counts.new.nodes in
     let refs' = refs_at c.set_counts.new.nodes in
     let rows' = live mid.handles.places.items in
@@ -67,4 +69,5 @@ counts_after-left-requires c =
     record { pins = subst (λ p. one p ≤ y.pins) (sym c.pins.ensures) counted.0; holds = counted.1; small = (are-few t c.requires.falling.1 x.node.0 y is (omega arith)).1 }
 
 pub set_counts-requires : Rattle.pagable_tables.proofs.holdings.give_up.Goals.set_counts-requires
-set_counts-requires c = has-counts c.args.t.now c.requires.falling.1 c.args.at.place c.args.at.row _ c.requires.place (ap (λ s. counts_at s c.args.at.row.node.0) c.enlist_if-listed.ensures.comes.nodes)
+set_counts-requires c = has-counts c.args.t.now c.requires.falling.1 c.args.at.place c.args.at.row _ c.requires.place
+    (ap (λ s. counts_at s c.args.at.row.node.0) c.enlist_if-listed.ensures.comes.nodes)

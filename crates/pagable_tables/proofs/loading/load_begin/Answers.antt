@@ -1,6 +1,9 @@
-use Rattle.pagable_tables.proofs.{Calls.begin-whole, Fitting.here-is, Newer.{closed-still, does-by, later-less, later-opened, nothing-does, still-reaches, updated-by}, Told.{newer-alike, newer-handle, newer-then, roomy-whole}}
-use Rattle.pagable_tables.proofs.{Told.settles, Words.{Alike, BeginCall, Cell, Core, Err, Error, HandleNumber, HandleRow, Mode, None, OptionalDataKey, Owner, Owns, Some, ap, arith, cell_in, core_of, false}}
-use Rattle.pagable_tables.proofs.Words.{find_row, greatest, handle_fault, if_there, inl, inr, is_here, is_loose, is_owner, load_at, load_in, nat_tests, of_cell, option_map, plain_of, refl, rules, sym, true, type_at, with_handle}
+use Rattle.pagable_tables.proofs.{Calls.begin-whole, Fitting.here-is, Newer.{closed-still, does-by, later-less, later-opened, nothing-does, still-reaches, updated-by}}
+use Rattle.pagable_tables.proofs.Told.{newer-alike, newer-handle, newer-then, roomy-whole}
+use Rattle.pagable_tables.proofs.Told.settles
+use Rattle.pagable_tables.proofs.Words.{Alike, BeginCall, Cell, Core, Err, Error, HandleNumber, HandleRow, Mode, None, OptionalDataKey, Owner, Owns, Some, ap, arith, cell_in, core_of, false}
+use Rattle.pagable_tables.proofs.Words.{find_row, greatest, handle_fault, if_there, inl, inr, is_here, is_loose, is_owner, load_at, load_in, nat_tests, of_cell, option_map, plain_of, refl, rules}
+use Rattle.pagable_tables.proofs.Words.{sym, true, type_at, with_handle}
 use Rattle.{pagable_tables.proofs.{Words.{with_load, ◌+◌, ◌<◌, ◌∙◌, ◌≡◌}, Worlds.{failed, handle-first, owner-same, reloaded, same-cache, still, unfit}}, pagable_world.specs.LoadCalls.begin_fault}
 use Rattle.pagable_world.specs.World.{key_at}
 use Rattle.pagable_tables.proofs.loading.load_begin.Goals as goal
@@ -56,10 +59,15 @@ returns c =
     (λ stored closed failures.
     let w = core_of t stored closed failures in
     let w' = core_of (record t { holdings = c.add.new.t; loads = c.open.new.rows; last_load = l }) stored closed failures in
-    let own : Owns w c.args.me c.args.handle is_loose row = record { live = c.in_ok-at.ensures.found; own = owner-same c.args.me row.owner c.in_ok-at.ensures.owner; as_asked = sym c.is_loose_mode.ensures ∙ c.if-not-is_loose_mode.false } in
+    let own : Owns w c.args.me c.args.handle is_loose row = record {
+      live = c.in_ok-at.ensures.found;
+      own = owner-same c.args.me row.owner c.in_ok-at.ensures.owner;
+      as_asked = sym c.is_loose_mode.ensures ∙ c.if-not-is_loose_mode.false;
+    } in
     let away = here-is t stored closed failures row.node.0 _ c.requires.whole c.counts_of-counts.ensures ∙ sym c.is_here.ensures ∙ c.if-is_here.false in
     let is = sym c.counts_of-counts.ensures in
-    let key : key_at w row.node.0 ≡ OptionalDataKey.Some c.unwrap-key.result = ap (λ o. if_there (λ (cell : Cell). cell.key) OptionalDataKey.None (cell_in o)) is ∙ sym c.key_in.ensures ∙ c.unwrap-key.ensures in
+    let key : key_at w row.node.0 ≡ OptionalDataKey.Some c.unwrap-key.result =
+    ap (λ o. if_there (λ (cell : Cell). cell.key) OptionalDataKey.None (cell_in o)) is ∙ sym c.key_in.ensures ∙ c.unwrap-key.ensures in
     let typed : type_at w row.node.0 ≡ Some c.unwrap.result.node_type = ap (λ o. if_there (λ (cell : Cell). Some cell.node_type) None (cell_in o)) (is ∙ c.unwrap.ensures) in
     let a = (c.in_default.ensures.made w').made.1 in
     let opened : Alike (with_load (with_handle w row.node Mode.LooseUnpinned (Owner.Load (record { 0 = l }))) c.unwrap-key.result

@@ -1,7 +1,10 @@
 use Rattle.pagable_tables.proofs.{Alive.whole-so, Calls.{known-suits, learns-whole}, Fitting.{begun-whole, closed-is}, Kept.found-among, Newer.{begun-made, falls-made, found-again, later-on}}
-use Rattle.pagable_tables.proofs.{Next.{sheds-still, stays-first}, Told.{lone-falling, not-a-value, not-list, told-whole}, Words.{Alike, Core, HandleNumber, HandleRow, Kind, NodeNumber, None, Owner, Owns, Some, any_mode, ap, arith, core_of}}
-use Rattle.pagable_tables.proofs.Words.{counts_at, false, fits_mode, has_value, inl, inr, is_owner, is_pinning, is_some, is_usable, is_valued, length, mode_of, nat_tests, not, offer_fault, only_handle, option_map}
-use Rattle.pagable_tables.proofs.{Words.{plain_of, recall_fault, refl, spent, sym, true, type_at, type_of, where_so, with_cached, with_known, ℕ, ◌&&◌, ◌+◌, ◌∙◌, ◌≡◌}, Worlds.{failed, learned, not-recalled, owner-same, owner-self, same-cache, still}}
+use Rattle.pagable_tables.proofs.{Next.{sheds-still, stays-first}, Told.{lone-falling, not-a-value, not-list, told-whole}}
+use Rattle.pagable_tables.proofs.Words.{Alike, Core, HandleNumber, HandleRow, Kind, NodeNumber, None, Owner, Owns, Some, any_mode, ap, arith, core_of}
+use Rattle.pagable_tables.proofs.Words.{counts_at, false, fits_mode, has_value, inl, inr, is_owner, is_pinning, is_some, is_usable, is_valued, length, mode_of, nat_tests, not, offer_fault}
+use Rattle.pagable_tables.proofs.Words.{only_handle, option_map}
+use Rattle.pagable_tables.proofs.Words.{plain_of, recall_fault, refl, spent, sym, true, type_at, type_of, where_so, with_cached, with_known, ℕ, ◌&&◌, ◌+◌, ◌∙◌, ◌≡◌}
+use Rattle.pagable_tables.proofs.Worlds.{failed, learned, not-recalled, owner-same, owner-self, same-cache, still}
 use Rattle.pagable_tables.proofs.lookups.offer.Goals as goal
 
 -- what is left to refuse an own handle that may stand under the kind

@@ -13,4 +13,5 @@ returns-in_err-at-clause-fault c =
 pub returns-then-not-fits_mode-clause-fault : goal.returns-then-not-fits_mode-clause-fault
 returns-then-not-fits_mode-clause-fault c stored closed failures key =
     let w = core_of c.args.t.now stored closed failures in
-    offer-first w c.args.me c.args.kind key c.args.handle _ (unfit w c.args.me c.args.handle (fits_mode c.args.kind.0) c.in_ok-at.at.row c.in_ok-at.ensures.found c.in_ok-at.ensures.owner (sym c.if-not-fits_mode.ensures))
+    offer-first w c.args.me c.args.kind key c.args.handle _ (unfit w c.args.me c.args.handle (fits_mode c.args.kind.0) c.in_ok-at.at.row c.in_ok-at.ensures.found c.in_ok-at.ensures.owner
+    (sym c.if-not-fits_mode.ensures))

@@ -1,4 +1,6 @@
-use Rattle.pagable_tables.proofs.{Fitting.here-is, Newer.{does-as, nothing-does}, Words.{Core, Error, HandleNumber, HandleRow, Owner, Owns, Some, ap, arith, core_of, false, handle_fault, if_there, inl, inr, is_handle_here, is_here, is_loose, nat_tests, pin_fault}}
+use Rattle.pagable_tables.proofs.{Fitting.here-is, Newer.{does-as, nothing-does}}
+use Rattle.pagable_tables.proofs.Words.{Core, Error, HandleNumber, HandleRow, Owner, Owns, Some, ap, arith, core_of, false, handle_fault, if_there, inl, inr, is_handle_here, is_here, is_loose}
+use Rattle.pagable_tables.proofs.Words.{nat_tests, pin_fault}
 use Rattle.pagable_tables.proofs.{Words.{spent, sym, true, ◌∙◌, ◌≡◌}, Worlds.{failed, handle-first, owner-same, owner-self, spent-late, still, unfit}}
 use Rattle.pagable_tables.proofs.making.pin.Goals as goal
 
@@ -27,7 +29,8 @@ returns c =
     (λ stored closed failures m.
     let w = core_of c.args.t.now stored closed failures in
     let here = here-is c.args.t.now stored closed failures row.node.0 _ c.requires.whole c.counts_of-counts.ensures ∙ sym c.is_here.ensures ∙ c.if-not-is_here.false in
-    let owns : Owns w c.args.me c.args.handle is_loose row = record { live = c.in_ok-at.ensures.found; own = owner-same c.args.me row.owner c.in_ok-at.ensures.owner; as_asked = sym c.is_loose_mode.ensures ∙ c.if-not-is_loose_mode.false } in
+    let owns : Owns w c.args.me c.args.handle is_loose row =
+    record { live = c.in_ok-at.ensures.found; own = owner-same c.args.me row.owner c.in_ok-at.ensures.owner; as_asked = sym c.is_loose_mode.ensures ∙ c.if-not-is_loose_mode.false } in
     record { pins = (row, owns, (here, m.pinned.0, rw c.in_ok-at.ensures.number at m.pinned.1)); refused = tt })
 
 pub returns-in_err-pin_here : goal.returns-in_err-pin_here
@@ -38,6 +41,7 @@ returns-in_err-pin_here c =
     let w = core_of c.args.t.now stored closed failures in
     let here = here-is c.args.t.now stored closed failures row.node.0 _ c.requires.whole c.counts_of-counts.ensures ∙ sym c.is_here.ensures ∙ c.if-not-is_here.false in
     let so : is_handle_here w c.args.handle ≡ true = ap (if_there (λ (row : HandleRow). is_here w row.node.0) false) c.in_ok-at.ensures.found ∙ here in
-    let owns : Owns w c.args.me c.args.handle is_loose row = record { live = c.in_ok-at.ensures.found; own = owner-same c.args.me row.owner c.in_ok-at.ensures.owner; as_asked = sym c.is_loose_mode.ensures ∙ c.if-not-is_loose_mode.false } in
+    let owns : Owns w c.args.me c.args.handle is_loose row =
+    record { live = c.in_ok-at.ensures.found; own = owner-same c.args.me row.owner c.in_ok-at.ensures.owner; as_asked = sym c.is_loose_mode.ensures ∙ c.if-not-is_loose_mode.false } in
     let cause = pin-spent w c.args.me c.args.handle row owns so in
     record { pins = tt; refused = record { why = elim m.refused.why [ inl a ↦ inl (cause ∙ a) | inr b ↦ inr (b.0, cause ∙ b.1, (so, b.2)) ]; stays = m.refused.stays } }))

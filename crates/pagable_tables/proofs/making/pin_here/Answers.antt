@@ -1,4 +1,5 @@
-use Rattle.pagable_tables.proofs.{Kept.found-among, Newer.{does-as, does-then, found-again, pinned-alike}, Told.{loose-unshared, not-list}, Words.{Alike, Mode, None, Some, Tables, ap, arith, core_of, false}}
+use Rattle.pagable_tables.proofs.{Kept.found-among, Newer.{does-as, does-then, found-again, pinned-alike}, Told.{loose-unshared, not-list}}
+use Rattle.pagable_tables.proofs.Words.{Alike, Mode, None, Some, Tables, ap, arith, core_of, false}
 use Rattle.pagable_tables.proofs.{Words.{nat_tests, plain_of, subst, with_mode, ℕ, ◌∙◌}, Worlds.failed}
 use Rattle.pagable_tables.proofs.making.pin_here.Goals as goal
 

@@ -24,6 +24,7 @@ returns-in-Ok-clause-step g c n =
 pub returns-in-Err-clause-step : goal.returns-in-Err-clause-step
 returns-in-Err-clause-step g c n =
     let e = c.refuse.ensures.todo ∙ ap (λ ps. fails (was_refused c.in-Err.e) (back_of None (todos ps))) c.in-Err.ensures.path in
-    rw c.named-identity.ensures (tells_map (λ s forms. write-fails _ _ n (shelf_of c.args.table.now) (shelf_of c.args.table.now) c.args.reference c.args.place c.args.through c.args.pin (todos c.args.path.now.items) _ c.refuse.result c.refuse.ensures.plain s c.in-Err.e
+    rw c.named-identity.ensures (tells_map (λ s forms. write-fails _ _ n (shelf_of c.args.table.now) (shelf_of c.args.table.now) c.args.reference c.args.place c.args.through c.args.pin
+    (todos c.args.path.now.items) _ c.refuse.result c.refuse.ensures.plain s c.in-Err.e
     (forms-refused _ s c.args.reference c.args.pin written_of c.form-form.result c.in-Err.e c.in-Err.ensures.refused forms) (same-shelf (shelf_of c.args.table.now)) e)
     c.form-form.ensures.step)

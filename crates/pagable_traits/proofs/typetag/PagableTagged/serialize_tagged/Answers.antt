@@ -1,4 +1,5 @@
-use Rattle.pagable_traits.proofs.{JsonSteps.{wrote-err, wrote-then}, Parts.only-count, Registered.{refused_body, refused_tag, writes_tagged}, Words.{Err, [], bytes, inr, length, long_or_memory, memory, text_form}}
+use Rattle.pagable_traits.proofs.{JsonSteps.{wrote-err, wrote-then}, Parts.only-count, Registered.{refused_body, refused_tag, writes_tagged}}
+use Rattle.pagable_traits.proofs.Words.{Err, [], bytes, inr, length, long_or_memory, memory, text_form}
 use Rattle.pagable_traits.proofs.typetag.PagableTagged.serialize_tagged.Goals as goal
 
 pub returns-in_err-write_tag : goal.returns-in_err-write_tag

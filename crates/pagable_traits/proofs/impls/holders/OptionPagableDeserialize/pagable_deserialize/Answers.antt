@@ -7,12 +7,14 @@ returns-in_err-there g c = read-err g.E.Env g.D.PagableDeserializer c.from_resid
 
 pub returns-in_err-value : goal.returns-in_err-value
 unfolding read read_with
-returns-in_err-value g c = then-err g.E.Env g.D.PagableDeserializer c.from_residual-in_err-value.result present g.T.Carried.shape c.from_residual-in_err-value.ensures.1 c.in_ok-there.ensures c.in_err-value.ensures
+returns-in_err-value g c = then-err g.E.Env g.D.PagableDeserializer c.from_residual-in_err-value.result present g.T.Carried.shape c.from_residual-in_err-value.ensures.1 c.in_ok-there.ensures
+    c.in_err-value.ensures
     (λ h. rw (h, c.if-there.true) refl) (λ h. h)
 
 pub returns-then-there : goal.returns-then-there
 unfolding read read_with
-returns-then-there g c = then-ok g.E.Env g.D.PagableDeserializer _ present g.T.Carried.shape c.in_ok-there.ensures c.in_ok-value.ensures (λ h. rw (h, c.if-there.true) refl) (λ m is. means-some _ m is)
+returns-then-there g c = then-ok g.E.Env g.D.PagableDeserializer _ present g.T.Carried.shape c.in_ok-there.ensures c.in_ok-value.ensures (λ h. rw (h, c.if-there.true) refl)
+    (λ m is. means-some _ m is)
 
 pub returns : goal.returns
 unfolding read read_with

@@ -7,7 +7,8 @@ returns-in_err-good g c = read-err g.E.Env g.D.PagableDeserializer c.from_residu
 
 pub returns-in_err-value : goal.returns-in_err-value
 unfolding read read_with
-returns-in_err-value g c = then-err g.E.Env g.D.PagableDeserializer c.from_residual-in_err-value.result success g.T.Carried.shape c.from_residual-in_err-value.ensures.1 c.in_ok-good.ensures c.in_err-value.ensures
+returns-in_err-value g c = then-err g.E.Env g.D.PagableDeserializer c.from_residual-in_err-value.result success g.T.Carried.shape c.from_residual-in_err-value.ensures.1 c.in_ok-good.ensures
+    c.in_err-value.ensures
     (λ h. rw (h, c.if-good.true) refl) (λ h. inl h)
 
 pub returns-then-good : goal.returns-then-good
@@ -16,7 +17,8 @@ returns-then-good g c = then-ok g.E.Env g.D.PagableDeserializer _ success g.T.Ca
 
 pub returns-in_err-failure : goal.returns-in_err-failure
 unfolding read read_with
-returns-in_err-failure g c = then-err g.E.Env g.D.PagableDeserializer c.from_residual-in_err-failure.result failure g.X.Carried.shape c.from_residual-in_err-failure.ensures.1 c.in_ok-good.ensures c.in_err-failure.ensures
+returns-in_err-failure g c = then-err g.E.Env g.D.PagableDeserializer c.from_residual-in_err-failure.result failure g.X.Carried.shape c.from_residual-in_err-failure.ensures.1 c.in_ok-good.ensures
+    c.in_err-failure.ensures
     (λ h. rw (h, c.if-good.false) refl) (λ h. inr h)
 
 pub returns : goal.returns
