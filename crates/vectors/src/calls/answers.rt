@@ -44,27 +44,7 @@ fn begun(begun: &Beginning) -> Told {
     }
 }
 
-/// Why a call is refused, if no value comes back.
-fn refusal(reply: &CellReply) -> Option<&Error> {
-    match reply {
-        Reply::LoadEnded(Err((e, None)))
-        | Reply::Handle(Err(e))
-        | Reply::Pin(Err(e))
-        | Reply::Done(Err(e))
-        | Reply::Count(Err(e))
-        | Reply::KeyFound(Err(e))
-        | Reply::Away(Err(e))
-        | Reply::Node(Err(e))
-        | Reply::FromCache(Err(e))
-        | Reply::Fetched(Err(e))
-        | Reply::Stored(Err(e))
-        | Reply::Begun(Err(e))
-        | Reply::LoadFound(Err(e)) => Some(e),
-        _ => None,
-    }
-}
-
-/// What a call answers, but for a blob, a refusal, and a value that comes back.
+/// What a call answers, but for a blob, and for a value that comes back.
 fn told(reply: &CellReply) -> Told {
     let number = match reply {
         Reply::Made(Ok(handle))
@@ -83,6 +63,19 @@ fn told(reply: &CellReply) -> Told {
         Reply::Away(Ok(false)) => return ("no", None, None),
         Reply::Away(Ok(true)) => return ("yes", None, None),
         Reply::Done(Ok(_)) => return ("ok", None, None),
+        Reply::LoadEnded(Err((e, None)))
+        | Reply::Handle(Err(e))
+        | Reply::Pin(Err(e))
+        | Reply::Done(Err(e))
+        | Reply::Count(Err(e))
+        | Reply::KeyFound(Err(e))
+        | Reply::Away(Err(e))
+        | Reply::Node(Err(e))
+        | Reply::FromCache(Err(e))
+        | Reply::Fetched(Err(e))
+        | Reply::Stored(Err(e))
+        | Reply::Begun(Err(e))
+        | Reply::LoadFound(Err(e)) => return refused("refused", e),
         _ => return ("none", None, None),
     };
     ("ok", Some(number), None)
@@ -120,10 +113,7 @@ fn push_call(text: &mut String, reply: &CellReply) -> Result<(), Error> {
             push_words(text, refused("refused", e))?;
             Ok(text.push_str(" back")?)
         }
-        _ => match refusal(reply) {
-            Some(e) => push_words(text, refused("refused", e)),
-            None => push_words(text, told(reply)),
-        },
+        _ => push_words(text, told(reply)),
     }
 }
 
