@@ -3,14 +3,13 @@
 
 use crate::calls::asked::item;
 use crate::calls::nodes::{CellNode, node};
-use crate::calls::{Calls, let_go, pager_over};
+use crate::calls::{Calls, let_go, made, pager_over};
 use crate::lines;
 use crate::quick_start::page_out_and_read_back;
-use anyhow::{Context, ensure};
+use anyhow::ensure;
 use pagable::paging::{page_out_item, page_out_pending, pin};
 use pagable::{
-    DataKey, Env, Error, NodeSet, PagableStorage, PagableVecFlavor, PageOutError, Pager, SlotTable,
-    WeighHash,
+    DataKey, Env, Error, NodeSet, PagableStorage, PagableVecFlavor, Pager, SlotTable, WeighHash,
 };
 use pagable_rows::any::{AnyEnv, written};
 use serde_json::Value;
@@ -21,27 +20,27 @@ use std::sync::Arc;
 const LAST: u32 = 24;
 
 /// Whether a row's lines are answered as they have to be, one after the other. Each has the row's number, what is asked of it, and what has to
-/// be answered.
-fn lines_hold(alloc: Global, calls: &mut Calls, text: &str, row: u32) -> anyhow::Result<bool> {
+/// be answered. None, as below, is a refusal that no row wants.
+fn lines_hold(alloc: Global, calls: &mut Calls, text: &str, row: u32) -> Option<bool> {
     for line in text.lines() {
-        let (number, rest) = line.split_once(": ").context("no line of a row")?;
+        let (number, rest) = line.split_once(": ")?;
         if number.parse::<u32>().ok() == Some(row) {
-            let (asked, wanted) = rest.split_once(" ->").context("no answer")?;
-            if lines::answer(alloc, calls, asked)?.as_str() != wanted.trim_start() {
-                return Ok(false);
+            let (asked, wanted) = rest.split_once(" ->")?;
+            if lines::answer(alloc, calls, asked).ok()?.as_str() != wanted.trim_start() {
+                return Some(false);
             }
         }
     }
-    Ok(true)
+    Some(true)
 }
 
 /// Whether the writing of 129 arrays in one another is refused.
-fn are_too_deep(alloc: Global) -> anyhow::Result<bool> {
+fn are_too_deep(alloc: Global) -> Option<bool> {
     let mut value = Value::Array(Vec::new(alloc));
     for _ in 0..128 {
-        value = Value::Array(vec![in alloc; value]?);
+        value = Value::Array(vec![in alloc; value].ok()?);
     }
-    Ok(written(alloc, &AnyEnv, &value) == Err(Error::TooDeep.number()))
+    Some(written(alloc, &AnyEnv, &value) == Err(Error::TooDeep.number()))
 }
 
 /// Whether the first of two bytes can be written over.
@@ -53,87 +52,85 @@ fn write_over(alloc: Global) -> Result<bool, Error> {
     Ok(out.finalize().as_slice() == [9u8, 7].as_slice())
 }
 
-/// Whether an item that refers to a shared text comes to its key by one call.
+/// Whether an item that refers to a shared text comes to its key by one call, on a new table.
 fn is_item_paged_out<E: Env<Node = CellNode>, S: PagableStorage<E>>(
     alloc: Global,
     pager: &mut Pager<E, S>,
-) -> anyhow::Result<bool>
+    table: &mut SlotTable<E>,
+) -> Option<bool>
 where
     E::Node: NodeSet<E>,
 {
-    let shared = pager.new_shared(alloc, node(alloc, "0 hello world")?);
-    shared.ok().context("a node is refused")?;
-    let item = Arc::new(alloc, item(alloc, "2a:0:1:1")?)?;
-    let mut table = SlotTable::new(alloc);
-    Ok(page_out_item(alloc, pager, &mut table, item).ok() == DataKey::new(3484))
+    made(alloc, pager, node(alloc, "0 hello world").ok()?, false)?;
+    let item = item(alloc, "2a:0:1:1").ok()?;
+    let key = page_out_item(alloc, pager, table, Arc::new(alloc, item).ok()?);
+    Some(key.ok() == DataKey::new(3484))
 }
 
 /// Makes a cell that is listed twice.
 fn list_twice<E: Env<Node = CellNode>, S: PagableStorage<E>>(
     alloc: Global,
     pager: &mut Pager<E, S>,
-) -> anyhow::Result<()>
+) -> Option<()>
 where
     E::Node: NodeSet<E>,
 {
-    let cell = pager.new_loose(alloc, node(alloc, "0 x")?);
-    let cell = cell.ok().context("a cell is refused")?;
-    pager.unpin(cell)?;
-    let (pinned, _) = pin(alloc, pager, cell)?;
-    pager.release(pinned)?;
-    Ok(pager.unpin(cell)?)
+    let cell = made(alloc, pager, node(alloc, "0 x").ok()?, true)?;
+    let (pinned, _) = pin(alloc, pager, cell).ok()?;
+    pager.release(pinned).ok()?;
+    pager.unpin(cell).ok()
 }
 
 /// Whether the page-out of a cell that is listed twice stores it once: the storage's second call fails, and is this fetch.
 fn is_stored_once<E: Env<Node = CellNode>, S: PagableStorage<E>>(
     alloc: Global,
     pager: &mut Pager<E, S>,
-) -> anyhow::Result<bool>
+) -> Option<bool>
 where
     E::Node: NodeSet<E>,
 {
     list_twice(alloc, pager)?;
     let listed = pager.pending();
-    if let Err(PageOutError::Failed(e)) = page_out_pending(alloc, pager) {
-        return Err(e.into());
-    }
-    let key = DataKey::new(1209).context("0 is no key")?;
-    let fetched = pager.fetch(alloc, key).err();
-    Ok(listed == 2 && pager.pending() == 0 && fetched == Some(Error::Storage(7)))
+    page_out_pending(alloc, pager).ok()?;
+    let fetched = pager.fetch(alloc, DataKey::new(1209)?).err();
+    Some(listed == 2 && pager.pending() == 0 && fetched == Some(Error::Storage(7)))
 }
 
-/// Whether a row's values of which no line says what they are hold too, by a pager without cells.
+/// Whether a row's values of which no line says what they are hold too, by a pager without cells and an empty table.
 fn others_hold_in<E: Env<Node = CellNode>, S: PagableStorage<E>>(
     alloc: Global,
     pager: &mut Pager<E, S>,
+    table: &mut SlotTable<E>,
     number: u32,
-) -> anyhow::Result<bool>
+) -> Option<bool>
 where
     E::Node: NodeSet<E>,
 {
     match number {
         6 => are_too_deep(alloc),
-        9 => Ok(page_out_and_read_back(alloc, "hello world")?),
-        10 => is_item_paged_out(alloc, pager),
+        9 => page_out_and_read_back(alloc, "hello world").ok(),
+        10 => is_item_paged_out(alloc, pager, table),
         14 => is_stored_once(alloc, pager),
-        24 => Ok(write_over(alloc)?),
-        _ => Ok(true),
+        24 => write_over(alloc).ok(),
+        _ => Some(true),
     }
 }
 
 /// The same by a new pager, of whose storage the second call fails in the row 14.
-fn others_hold(alloc: Global, number: u32) -> anyhow::Result<bool> {
+fn others_hold(alloc: Global, number: u32) -> Option<bool> {
     let mut pager = pager_over::<WeighHash>(alloc, if number == 14 { "1" } else { "" });
-    let answer = others_hold_in(alloc, &mut pager, number);
+    let mut table = SlotTable::new(alloc);
+    let answer = others_hold_in(alloc, &mut pager, &mut table, number);
     let_go(pager);
+    let_go(table);
     answer
 }
 
-/// Whether the row comes out as it has to, on a new machine. A refusal that no row wants is a failure too.
+/// Whether the row comes out as it has to, on a new machine.
 fn is_ok(alloc: Global, calls: &mut Calls, text: &str, number: u32) -> bool {
     calls.answer(alloc, "machine").is_ok()
-        && lines_hold(alloc, calls, text, number).unwrap_or(false)
-        && others_hold(alloc, number).unwrap_or(false)
+        && lines_hold(alloc, calls, text, number) == Some(true)
+        && others_hold(alloc, number) == Some(true)
 }
 
 /// Runs the rows whose lines stand in this text, and prints a line for each.
