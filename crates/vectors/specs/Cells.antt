@@ -3,7 +3,8 @@ use Rattle.std.specs.{Global.Vec, Int.w8, Prelude.{◌≡◌, None, Option, Some
 use Rattle.{pagable.specs.traits.Meanings.{AreSingle, Meanings, exactly, lists, lists_single, options, options_single, pairs, pairs_single, seen_by}, vectors.specs.Linked.{Case, referring}}
 use Rattle.{pagable.specs.traits.OwnCauses.{WriteCauses, writes_either, writes_long_or, writes_memory, writes_memory_or}, pagable_model.specs.{Form.unsigned-form, Meaning.{Meaning, number}}}
 use Rattle.pagable_model.specs.{References.references_in, Refusals.may_refuse_writing, Shape.{Shape, both, list, nothing, optional, reference, text, unsigned}, declared.numbers.ArcRef.ArcRef}
-use Rattle.{pagable_traits.specs.{References.plain_means, Refers.{ListsInOrder, both_in_order, list_in_order, reference_in_order}, declared.plain.OfKind.OfKind}, vectors.specs.declared.calls.nodes.{CellNode.CellNode, Mixed.Mixed, Tail.Tail}}
+use Rattle.pagable_traits.specs.{References.plain_means, Refers.{ListsInOrder, both_in_order, list_in_order, reference_in_order}, declared.plain.OfKind.OfKind}
+use Rattle.vectors.specs.declared.calls.nodes.{CellNode.CellNode, Mixed.Mixed, Tail.Tail}
 use Rattle.pagable_model.specs.Meaning as meanings
 use Rattle.vectors.specs.declared.calls.nodes.CellNode.TheVariants as nodes
 
