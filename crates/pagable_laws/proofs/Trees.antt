@@ -7,7 +7,7 @@ use Rattle.pagable_model.specs.Form.{array-form, both-form, case-form, duration-
 use Rattle.pagable_model.specs.Form.{json-object-form, json-text-form, letter-form, list-form, more-entries, more-forms, nested-form, no-entries, no-forms, none-form, nothing-form, ok-form}
 use Rattle.pagable_model.specs.Form.{pattern-form, placed-map-form, placed-set-form, signed-form, some-form, sorted-map-form, sorted-set-form, static-form, tagged-form, text-form, unsigned-form}
 use Rattle.pagable_model.specs.{Keys.{AllAfter, Apart, Ascends, Differ, KeyOrder, code_order, ordered, put_sorted, same_key, text_order}, Meaning.{integer, lifted, number, pattern, plain, sequence}}
-use Rattle.pagable_model.specs.Meaning.text
+use Rattle.pagable_model.specs.Meaning.{text}
 use Rattle.pagable_model.specs.Trees.{IsFollowed, KeyRef, ReadsAs, integer-followed, none-followed, number-followed, pair-followed, pattern-followed, reference-followed, text-followed}
 use Rattle.{pagable_model.specs.Trees.variant-followed, pagable_world.specs.Order.Follows, std.{proofs.{Common.sum_by, lemmas.Map.Text.is_eq-slice_cmp}, specs.FinMap.Entries.put}}
 use Rattle.std.specs.{List.AllByRecursion as Each, Ordering.{eq_by_cmp, match_ordering}, declared.cmp.Ordering.Ordering}

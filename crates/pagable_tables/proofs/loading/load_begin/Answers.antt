@@ -1,6 +1,6 @@
 use Rattle.pagable_tables.proofs.{Calls.begin-whole, Fitting.here-is, Newer.{closed-still, does-by, later-less, later-opened, nothing-does, still-reaches, updated-by}}
 use Rattle.pagable_tables.proofs.Told.{newer-alike, newer-handle, newer-then, roomy-whole}
-use Rattle.pagable_tables.proofs.Told.settles
+use Rattle.pagable_tables.proofs.Told.{settles}
 use Rattle.pagable_tables.proofs.Words.{Alike, BeginCall, Cell, Core, Err, Error, HandleNumber, HandleRow, Mode, None, OptionalDataKey, Owner, Owns, Some, ap, arith, cell_in, core_of, false}
 use Rattle.pagable_tables.proofs.Words.{find_row, greatest, handle_fault, if_there, inl, inr, is_here, is_loose, is_owner, load_at, load_in, nat_tests, of_cell, option_map, plain_of, refl, rules}
 use Rattle.pagable_tables.proofs.Words.{sym, true, type_at, with_handle}

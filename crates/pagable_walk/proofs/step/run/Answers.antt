@@ -1,5 +1,5 @@
 use Rattle.{pagable_loads.proofs.Stepped.{acts_all, acts_on}, pagable_walk.{proofs.Turning.{ends-walked, goes-walked, none-walked}, specs.{Table.shelf_of, Tasks.todos, Turns.{acting_then, plan}}}}
-use Rattle.std.proofs.Common.ap
+use Rattle.std.proofs.Common.{ap}
 use Rattle.pagable_walk.proofs.step.run.Goals as goal
 
 pub loop-next-init : goal.loop-next-init
