@@ -60,6 +60,8 @@ module _ {N : Type 0} (v : Values N) (own : Own) (top : Held) (is : own.top ≡ 
 
 pub ruleset stacking = (nat_tests, onto_none, onto_more)
 
+pub ruleset needing = (nat_tests, node_needs, end_needs)
+
 -- ---- what a step's call did is what the step is said to do
 
 module _ {S : Type 0} where
@@ -221,6 +223,8 @@ module _ {N : Type 0} (E : Type 0) (v : Values N) (me : Owner) (own : Own) where
         whole = d.call.whole;
       })
 
+pub ruleset giving_up = (nat_tests, acts_then, gives_up)
+
 -- ---- what the references that were got lend, one after the other
 
 module _ {A N E : Type 0} (see : A → N) (s : PagerState N E) where
@@ -251,6 +255,8 @@ module _ {A N E : Type 0} (see : A → N) (s : PagerState N E) (got : List ArcRe
   -- all of them do
   pub all_lent : (i : ℕ) (lent : List (Option A)) → length got ≤ i → LentTo i lent → LendsEach see s got lent
   all_lent i lent past to = grind (arith, nat_tests, slice_get_within)
+
+pub ruleset sharing = (nat_tests, tells_map, not_shared)
 
 -- ---- a load's steps, one after another up to its end
 

@@ -77,7 +77,10 @@ impl<'g, E: Env> References<E> for GotReferences<'g, E> {
         let got = self.got;
         let lent = self.lent;
         let place = self.last;
-        if place >= got.len() || place >= lent.len() || got[place].handle.0 != reference.handle.0 {
+        if place >= got.len() || place >= lent.len() {
+            return None;
+        }
+        if got[place].handle.0 != reference.handle.0 {
             return None;
         }
         match &lent[place] {

@@ -1,6 +1,6 @@
 //! How far a load is: the blobs that it reads, what it needs next, and the values of the references that were got, which it lends to the reader of its innermost blob.
 
-ghost use Rattle.std.specs.{Arc.arc_value, Option.option_map, Prelude.{IfErr, IfOk, IsSome, IsTrue, OnOk, [], length, vec_capacity, vec_len, ◌++◌, ◌<◌, ◌^◌, ◌∷◌, ◌≡◌, ◌≤◌, ◌↔◌}};
+ghost use Rattle.std.specs.{Arc.arc_value, Option.option_map, Prelude.{true, IfErr, IfOk, IsSome, OnOk, [], length, vec_capacity, vec_len, ◌++◌, ◌<◌, ◌^◌, ◌∷◌, ◌≡◌, ◌≤◌}};
 ghost use Rattle.{pagable_core.specs.Data.blob_of, pagable_loads.specs.{Frames.{frame_of, frames_of, onto, reading_of}, Got.{AreLater, Lends, LendsEach}, Stepping.{IsSameLoad, TakenOff, TakenTwo}}};
 ghost use Rattle.{pagable_loads.specs.{Decoding.Needs, Telling.{Tells, values_at}}, pagable_model.specs.Deep.{is_eager, longest_path}};
 ghost use Rattle.pagable_world.specs.Loads.{handles_of, nested_frame, root_frame};
@@ -87,7 +87,7 @@ impl Reading {
 }
 
 // The value of a reference that is read together with it. What its handle doesn't share isn't lent, and its reader refuses it. Refused with OutOfMemory.
-#[tactic(auto, using(std::proofs::lemmas::Bool::Decides::nat_tests, crate::proofs::Stepped::tells_map, crate::proofs::Stepped::not_shared))]
+#[tactic(auto, using(crate::proofs::Stepped::sharing))]
 fn value_of<E: Env<Node: NodeSet<E>>, A: Access<E>>(
     access: &A,
     reference: ArcRef,
@@ -107,7 +107,7 @@ fn value_of<E: Env<Node: NodeSet<E>>, A: Access<E>>(
 
 // Whether none of these is read together with what holds it.
 fn are_read_later(got: &[ArcRef]) -> bool
-    ensures { IsTrue result ↔ AreLater (length got.now) got.now }
+    ensures { result ≡ true → AreLater (length got.now) got.now }
 {
     for reference in got {
         if is_read_at_once(reference.kind) {
@@ -140,7 +140,7 @@ pub(crate) fn lend<E: Env<Node: NodeSet<E>>, A: Access<E>>(
 impl Reading {
     /// What the load needs next. The innermost blob is read from its front for it, with the values of the references that it has got, and nothing else is touched. Want of memory for these refuses the
     /// blob.
-    #[tactic(auto, using(std::proofs::lemmas::Bool::Decides::nat_tests, crate::proofs::Stepped::node_needs, crate::proofs::Stepped::end_needs))]
+    #[tactic(auto, using(crate::proofs::Stepped::needing))]
     pub fn next<E: Env<Node: NodeSet<E>>, A: Access<E>>(
         &self,
         access: &A,

@@ -39,6 +39,7 @@ impl Reading {
     }
 
     // What the innermost blob was read as becomes a node for the blob below it.
+    #[tactic(auto, using(crate::proofs::Foreseen::node_leads))]
     fn step_adopt<E: Env<Node: NodeSet<E>>, A: Access<E>>(
         &mut self,
         access: &mut A,
@@ -157,6 +158,7 @@ impl Reading {
     /// Makes the load's next step: one call of the access, and before that what was read of its innermost blob, with the values of its references, which are
     /// shared for it. Answers what ended the load, or None while there is more. A step that is refused gives the load up, with all that it owns. That the load
     /// is open, and is the one that this reading began with, is what the clause asks of a state that is told.
+    #[tactic(auto, using(crate::proofs::Stepped::giving_up))]
     pub fn step<E: Env<Node: NodeSet<E>>, A: Access<E>>(
         &mut self,
         access: &mut A,
@@ -167,18 +169,21 @@ impl Reading {
         ensures same { IsSameLoad self.old self.new (one_more self.old.steps) }
     {
         let need = self.next::<E, A>(access, alloc);
-        let met = self.meet(access, alloc, need);
-        self.steps = self.steps.saturating_add(1);
-        match met {
-            Ok(answer) => answer,
+        match self.meet(access, alloc, need) {
+            Ok(answer) => {
+                self.steps = self.steps.saturating_add(1);
+                answer
+            }
             Err(e) => {
                 self.give_up(access);
+                self.steps = self.steps.saturating_add(1);
                 Some(LoadAnswer::Refused(e))
             }
         }
     }
 
     // Makes the load's next step, as `step` does, and reads the innermost blob for it only where no row that is ahead tells what is needed.
+    #[tactic(auto, using(crate::proofs::Stepped::giving_up))]
     fn step_on<E: Env<Node: NodeSet<E>>, A: Access<E>>(
         &mut self,
         access: &mut A,
@@ -196,15 +201,15 @@ impl Reading {
             row.clear();
             return self.step(access, alloc);
         };
-        let taken = self.take_lazy(access, alloc, kind, key);
-        self.steps = self.steps.saturating_add(1);
-        match taken {
+        match self.take_lazy(access, alloc, kind, key) {
             Ok(reference) => {
+                self.steps = self.steps.saturating_add(1);
                 keep_if(row, kind, reference);
                 None
             }
             Err(e) => {
                 self.give_up(access);
+                self.steps = self.steps.saturating_add(1);
                 row.clear();
                 Some(LoadAnswer::Refused(e))
             }
@@ -234,6 +239,7 @@ impl Reading {
 // ---- whole operations
 
 // Pins a loose handle's cell, and says whether the handle pinned nothing before.
+#[tactic(auto, using(crate::proofs::Stepped::acts_map, crate::proofs::Stepped::start_refused))]
 fn pin_first<E: Env<Node: NodeSet<E>>, A: Access<E>>(
     access: &mut A,
     alloc: Global,
@@ -290,6 +296,7 @@ pub fn pin_over<E: Env<Node: NodeSet<E>>, A: Access<E>>(
 
 /// Reads a key as a value of this type, with all that it refers to and that is read together with it; the handles of its references are the caller's, as the
 /// access is. Refused as the begin of a load and its steps refuse it, and then nothing is left of it.
+#[tactic(auto, using(crate::proofs::Stepped::acts_map, crate::proofs::Stepped::key_refused))]
 pub fn read_over<E: Env<Node: NodeSet<E>>, A: Access<E>>(
     access: &mut A,
     alloc: Global,

@@ -1,7 +1,6 @@
 -- A handle is given up: handles and nodes fit again.
 use Rattle.pagable_tables.proofs.{Alive.{all-kept, and_one, entries-none, length-live-le, none-found, of_list, one-le, ones, only-row, row-le-live, sum-most, times-left}, Kept.{found-among, only-at}}
 use Rattle.pagable_tables.proofs.Words.{AllPairs, Among, ArcRef, Blob, Bool, Chain, Core, Counts, Error, Fits, HandleNumber, HandleRow, HasFallen, HasRoom, Holdings, IsApart, IsBefore, IsClosed}
-use Rattle.pagable_tables.proofs.Words.{CellsStay, ValueStays, pins_in, ◌||◌, Cell, OptionalDataKey, if_there, is_here, is_in_memory}
 use Rattle.pagable_tables.proofs.Words.{IsFalling, IsSome, IsWithin, List, Mode, None, OpenLoad, Option, Owner, Place, Right, SoFar, Some, Tables, TellsListing, [], after, alive, ap, append-nil}
 use Rattle.pagable_tables.proofs.Words.{arith, cases_Bool, cases_eq, cell_in, core_of, counts_at, entry, falls_in, false, filter, find_row, get_or, get_or-le-sum_by, greatest, has_value, held}
 use Rattle.pagable_tables.proofs.Words.{holds_in, if◌then◌else◌, inl, inr, is_at, is_fallen_by, is_handle, is_keyed, is_listed, is_listing, is_outside, is_owned_by, is_owned_in, is_owner, is_pin}
@@ -10,7 +9,6 @@ use Rattle.pagable_tables.proofs.Words.{one, owner_value, owns, owns_nothing, pi
 use Rattle.pagable_tables.proofs.Words.{sum_by_push, sym, times, told_by, true, unpinned, with_tables, ℕ, ◌&&◌, ◌++◌, ◌+◌, ◌-◌, ◌<◌, ◌==◌, ◌∙◌, GetsKey, NodeNumber, with_key}
 use Rattle.{pagable_tables.{proofs.Words.{◌∷◌, ◌≡◌, ◌≢◌, ◌≤◌, ◌⊎◌}, specs.Core.IsWhole}, pagable_world.proofs.Elements.sum-none}
 use Rattle.pagable_world.specs.Pager as pager
-use Rattle.{pagable_world.specs.World.key_at, std.specs.Prelude.◌^◌}
 
 -- 1 for the handle q that the node's value owns
 abbrev pub is_owned : ℕ → ℕ → HandleRow → ℕ
@@ -60,25 +58,6 @@ module _ (at at' : ℕ → Option Counts) (refs refs' : ℕ → List ArcRef) (ro
 
   pub given-fits : (b : Bool) → now_falls ≡ b → Fits at' refs' rows' (if b then x.node.0 else top) (if b then x.node.0 ∷ stack else stack) owns_nothing
   given-fits b e = grind (arith, nat_tests, given-owned, given-chain, given-marked, given-right, given-one)
-
-module _ (at at' : ℕ → Option Counts) (n : ℕ) (c : Counts) (pinning stays listed : Bool) (top : ℕ) (is : at n ≡ Some c) (here : at' n ≡ Some (after c pinning stays listed top))
-    (others : (m : ℕ) → m ≢ n → at' m ≡ at m) (some : one pinning ≤ c.pins) where
-  pub given-cells : CellsStay at at'
-  given-cells m there = grind (arith, nat_tests, cases_eq m n, others m)
-
-  pub given-values : (m : ℕ) → ValueStays (at m) (at' m)
-  given-values m = grind (arith, nat_tests, cases_eq m n, others m)
-
--- which node falls first then
-pub given-top : (falls b : Bool) → ((falls || (not falls && b)) && not falls) ≡ (not falls && b)
-given-top falls b = grind (arith, nat_tests)
-
-pub given-long : (b : Bool) (n : ℕ) (stack : List ℕ) → length (if b then n ∷ stack else stack) ≤ length stack + 1
-given-long b n stack = grind (arith, nat_tests)
-
-pub given-keyed : (c : Counts) (pinning stays listed : Bool) (n top first : ℕ) → 1 ≤ c.holds
-    → first ≡ (if is_fallen_by c pinning (c.pins - one pinning) ((if stays then c.holds else c.holds - 1) + one listed) then n else top) → stays ≡ true → top ≡ 0 → first ≢ 0 → nat_lt 0 c.key ≡ true
-given-keyed c pinning stays listed n top first some is so none falls = grind (arith, nat_tests)
 
 pub first-waits : (at : ℕ → Option Counts) (refs : ℕ → List ArcRef) (rows : List HandleRow) (n : ℕ) (ns : List ℕ) (extra : ℕ → ℕ → ℕ) → Fits at refs rows n (n ∷ ns) extra → falls_in (at n) ≡ true
 first-waits at refs rows n ns extra fits = let a = sum_by-cons (λ y. one (y == n)) n ns in let b = fits.marked n in grind (arith, nat_tests)
@@ -200,28 +179,6 @@ module _ (list : List HandleNumber) (ss : List Place) (i : ℕ) (h : HandleNumbe
 
 -- what is counted at a node whose handle is there
 pub ruleset counting = (nat_tests, row-le-live, held-here, pins-le-held, held-few, length-live-le, some-held, slice_get-get_or)
-
-module _ (t : Holdings) {stack : List ℕ} {extra : ℕ → ℕ → ℕ} (w : IsFalling t stack extra) where
-  -- the node of a handle that is there has counts, which count it
-  pub has-counts : (i : ℕ) (x : HandleRow) (o : Option Counts) → slice_get t.handles.places.items i ≡ Some (alive x) → o ≡ counts_at t.nodes x.node.0 → IsSome o
-  has-counts i x o at is = subst (λ o. IsSome o) (sym is) (some-held _ (omega (arith, w.fits.holding x.node.0, row-le-live (λ h. one (is_at x.node.0 h)) t.handles.places.items i x at, held-here x)))
-
-  pub are-counted : (i : ℕ) (x : HandleRow) (c : Counts) → slice_get t.handles.places.items i ≡ Some (alive x) → counts_at t.nodes x.node.0 ≡ Some c
-      → (one (is_pinning x.mode) ≤ c.pins) × (1 ≤ c.holds)
-  are-counted i x c at is = (
-    omega (arith, w.fits.pinned x.node.0, ap pins_in is, row-le-live (λ h. one (is_pin x.node.0 h)) t.handles.places.items i x at, pin-here x),
-    omega (arith, w.fits.holding x.node.0, ap holds_in is, row-le-live (λ h. one (is_at x.node.0 h)) t.handles.places.items i x at, held-here x),
-  )
-
-  pub are-few : (n : ℕ) (c : Counts) → counts_at t.nodes n ≡ Some c → length t.handles.places.items < 2 ^ 63 → (c.pins < 2 ^ 63) × (c.holds < 2 ^ 63)
-  are-few n c is few =
-      let holds : c.holds < 2 ^ 63 = omega (arith, w.fits.holding n, ap holds_in is, held-few n (live t.handles.places.items), length-live-le t.handles.places.items) in
-      (omega (arith, w.fits.pinned n, ap pins_in is, pins-le-held n (live t.handles.places.items), w.fits.holding n, ap holds_in is), holds)
-
--- whether a node has its value in memory, by its counts
-pub here-is : (t : Tables) (stored : ℕ → Option Blob) (closed : Bool) (failures n : ℕ) (o : Option Counts) → IsWhole t → o ≡ counts_at t.holdings.nodes n
-    → is_here (core_of t stored closed failures) n ≡ is_in_memory (pins_in o) (if_there (λ (cell : Cell). cell.key) OptionalDataKey.None (cell_in o))
-here-is t stored closed failures n o w is = rw is (ap (λ k. is_in_memory k (key_at (core_of t stored closed failures) n)) (sym (w.steady.fits.pinned n)))
 
 -- ---- where handles begin to be given up: nothing has gone so far
 
@@ -361,13 +318,6 @@ module _ (at at' : ℕ → Option Counts) (refs refs' : ℕ → List ArcRef) (ro
   key-fits b e =
       let right : (m : ℕ) → Right (at' m) (refs' m) = λ m. grind (arith, nat_tests, cases_eq m n, fits.marked, fits.right) in
       grind (arith, nat_tests, cases_eq, named, right, not-zero at n c fits.from_one is)
-
-module _ (at at' : ℕ → Option Counts) (n : ℕ) (c : Counts) (key top : ℕ) (is : at n ≡ Some c) (some : 0 < key) (here : at' n ≡ Some (keyed c key top)) (others : (m : ℕ) → m ≢ n → at' m ≡ at m) where
-  pub key-cells : GetsKey at at' n key
-  key-cells m = grind (arith, nat_tests, cases_eq m n, others m)
-
-  pub key-values : falls_in (at n) ≡ false → (m : ℕ) → ValueStays (at m) (at' m)
-  key-values stands m = grind (arith, nat_tests, cases_eq m n, others m)
 
 module _ (T : Tables) (stored : ℕ → Option Blob) (closed lists : Bool) (failures : ℕ) (whole : IsWhole T) (opened : lists ≡ not closed) (node : NodeNumber) (key : ℕ) (new : Holdings) where
   abbrev old : Core

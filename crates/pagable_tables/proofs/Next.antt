@@ -57,6 +57,8 @@ module _ {X : Type 0} where
 
 pub ruleset falls = (nat_tests, valued-le, none-falls-in, none-falls)
 
+pub ruleset shedding = (nat_tests, sheds-then)
+
 -- ---- what has gone so far, after one step of a cascade, and after a handle that is given; which cells must be listed then, and what is told of it
 
 list-kept : (gone : ℕ → Bool) (q : ℕ) (rows : List HandleRow) (list : List HandleNumber) → times (λ (h : HandleNumber). h.0 == q) list ≤ times (of_list q) rows
@@ -238,9 +240,6 @@ least-more {w = w} {t = t} {x = x} {n} f g owner fell s final bare has closed =
 pub within-less : (a b c d : ℕ → Bool) (rows : List HandleRow) → ((r : ℕ) → one (a r && not (b r)) ≤ one (c r && not (d r))) → IsWithin rows c d → IsWithin rows a b
 within-less a b c d rows less is = grind (arith, nat_tests, sum_by-le-sum_by)
 
-spared : (a gone it : Bool) → one (a && not (gone || it)) ≤ one (a && not gone)
-spared a gone it = grind (arith, nat_tests)
-
 pub steps-on : (before w : Core) (given : ℕ → Bool) (lists : Bool) (t new : Holdings) (stack : List ℕ) (r : Option NodeNumber) → SoFar before w given lists t
     → IsFalling t stack owns_nothing → t.top ≢ 0 → Steps t stack lists r new → SoFar before w given lists new
 steps-on before w given lists t new stack r f falling some s = elim s.what [
@@ -248,11 +247,8 @@ steps-on before w given lists t new stack r f falling some s = elim s.what [
   | inr (x, n, is, by) ↦
       let g : GivesUp (record t { nodes = by.popped.nodes }) by.stack x false lists new = subst (λ p. GivesUp p by.stack x false lists new) by.same by.gives in
       one-goes given f g by.counts falling.fits.pinned (f.few some) (unlisted-apart f g (ap (is_owner Owner.List) by.owner))
-      (within-less given (and_one f.gone x.number.0) given f.gone w.rows (λ r. spared (given r) (f.gone r) (r == x.number.0)) f.holds) (least-more f g by.owner by.fallen)
+      (within-less given (and_one f.gone x.number.0) given f.gone w.rows (λ r. grind (arith, nat_tests)) f.holds) (least-more f g by.owner by.fallen)
 ]
-
-either : (a b it s : Bool) → one ((a || it) && not s) ≤ one (a && not s) + one ((b || it) && not s)
-either a b it s = grind (arith, nat_tests)
 
 -- a handle is given that the list doesn't own, or one apart from the list
 pub gives-on : (before w : Core) (given : ℕ → Bool) (lists : Bool) (t new : Holdings) (stack : List ℕ) (x : HandleRow) → (f : SoFar before w given lists t)
@@ -263,9 +259,7 @@ gives-on before w given lists t new stack x f pinned free few g =
     (within-less (and_one given x.number.0) (and_one f.gone x.number.0) given f.gone w.rows (λ r. grind (arith, nat_tests)) f.holds)
     (λ s final bare has closed.
     let rest = f.least s final (λ n none. bare n (none-comes g n none)) (within-less given s (and_one given x.number.0) s w.rows (λ r. grind (arith, nat_tests)) has) closed in
-    let most = sum-most (λ h. one (and_one f.gone x.number.0 h.number.0 && not (s h.number.0))) (λ h. one (f.gone h.number.0 && not (s h.number.0)))
-    (λ h. one (and_one given x.number.0 h.number.0 && not (s h.number.0))) w.rows (λ h. either (f.gone h.number.0) (given h.number.0) (h.number.0 == x.number.0) (s h.number.0)) in
-    omega (arith, most, has, rest))
+    grind (arith, nat_tests, sum-most, has, rest))
 
 pub gives-unlisted : {t new : Holdings} {stack : List ℕ} {x : HandleRow} {lists : Bool} → lists ≡ false → GivesUp t stack x false lists new → new.list.items ≡ t.list.items
 gives-unlisted {t} {new} shut g = grind (arith, nat_tests, append-nil)

@@ -19,10 +19,6 @@ pub alike : (w w' : Core) → w'.rows ≡ w.rows → SameAt w.cells w'.cells →
     → w' ≡ record w { rows = w'.rows; cells = w'.cells; list = w'.list; places = w'.places } → Alike w w'
 alike w w' rows cells list places same = grind (arith, nat_tests, same-cache)
 
--- the same, by other words for what loads are open
-pub reloaded : (w w' : Core) (loads : ℕ → Option OpenLoad) → ((l : ℕ) → loads l ≡ w'.loads l) → Alike (record w { loads = w'.loads }) w' → Alike (record w { loads = loads }) w'
-reloaded w w' loads same a = grind (arith, nat_tests, same)
-
 -- what is answered where a call within was refused
 pub failed : {T E : Type 0} {e : E} (r : Result T E) → IsErrAnd r (λ y. y ≡ e) → r ≡ Err e
 failed (Err e) is = ap (λ y. Err y) is
@@ -68,10 +64,6 @@ fault-of me fits o = if_there (λ (row : HandleRow). if not (is_owner me row.own
 
 fault-rank : (o : Option HandleRow) (me : Owner) (fits : Mode → Bool) (e : Error) → fault-of me fits o ≡ Some e → rank e ≤ 2
 fault-rank o me fits e is = grind (arith, nat_tests)
-
-pub unfit : (w : Core) (me : Owner) (h : HandleNumber) (fits : Mode → Bool) (row : HandleRow) → find_row h.0 w.rows ≡ Some row → is_owner me row.owner ≡ true → fits row.mode ≡ false
-    → handle_fault w me h fits ≡ Some Error.WrongMode
-unfit w me h fits row found own other = grind (arith, nat_tests)
 
 -- a cause that tells of the handle comes before a later one
 pub handle-first : (w : Core) (me : Owner) (h : HandleNumber) (fits : Mode → Bool) (e : Error) (x : Option Error) → handle_fault w me h fits ≡ Some e

@@ -100,6 +100,7 @@ fn last_given(
 }
 
 /// All these handles, which are in this reach, are given up, from the last to the first, with all that goes with them. It is refused as `fall` is.
+#[tactic(auto, using(crate::proofs::Next::shedding))]
 pub fn give_all<N: Drop>(
     t: &mut Holdings,
     values: &mut Arcs<N>,
@@ -220,6 +221,7 @@ pub fn load_take<N: Drop>(
 }
 
 /// The handle at this place is given up, with all that goes with it. NumbersSpent or OutOfMemory where a cell that had to be listed isn't.
+#[tactic(auto, using(crate::proofs::Next::shedding))]
 pub fn give_back<N: Drop>(
     t: &mut Holdings,
     values: &mut Arcs<N>,
@@ -283,6 +285,7 @@ pub fn unpin<N: Drop>(
 
 /// The cell of an own loose handle gets a key, and its value goes if nothing pins it. Through a handle of another mode nothing happens. NumbersSpent or
 /// OutOfMemory where a cell that had to be listed isn't.
+#[tactic(auto, using(crate::proofs::Fitting::counting))]
 pub fn set_data_key<N: Drop>(
     t: &mut Tables,
     values: &mut Arcs<N>,

@@ -27,6 +27,7 @@ pub fn up_to(places: &[Place], number: u64) -> usize
 }
 
 /// The live handle of this number, with its place, if it stands at this one.
+#[tactic(auto, using(crate::proofs::Alive::looks))]
 fn at(places: &[Place], place: usize, number: u64) -> Option<HandleAt>
     requires { AllPairs IsBefore places.now }
     ensures none { IfNone result ((p : Place) → slice_get places.now place ≡ Some p → p.row.number.0 ≡ number → p.is_live ≡ false) }
@@ -35,7 +36,7 @@ fn at(places: &[Place], place: usize, number: u64) -> Option<HandleAt>
     ensures number { IfSome result (λ at. at.row.number.0 ≡ number) }
 {
     let Place { row, is_live } = *places.get(place)?;
-    ((row.number.0 == number) & is_live).then_some(HandleAt { place, row })
+    (row.number.0 == number && is_live).then_some(HandleAt { place, row })
 }
 
 /// The same, if it stands where it would stand were no number missing from the first one to it, or from it to the last one.
@@ -150,6 +151,7 @@ fn make_room(handles: &mut Handles) -> Result<(), AllocError>
 }
 
 /// A handle comes, with a number above all that are there. It is refused only where no place is left.
+#[tactic(auto, using(crate::proofs::Alive::pushes))]
 pub fn push(handles: &mut Handles, row: HandleRow) -> Result<(), AllocError>
     requires sound { AreSound handles.old }
     requires next { IsNext row.number.0 handles.old.places.items }

@@ -121,6 +121,7 @@ pub fn top_after(before: bool, falls: bool, node: u64, top: u64) -> u64
 }
 
 /// Gives up the handle at this place, or only its pin where it stays. Where cells are listed, one without a key is, if that was its last pin.
+#[tactic(auto, using(crate::proofs::Fitting::counting))]
 pub fn give_up(t: &mut Holdings, at: HandleAt, stays: bool, lists: bool)
     requires falling { (stack : List ℕ) × IsFalling t.old stack (owns at.row) }
     requires place { slice_get t.old.handles.places.items at.place ≡ Some (alive at.row) }

@@ -204,6 +204,7 @@ fn adopt_fault(
 }
 
 /// The handles that the references name are given up, with all that goes with them. The load owns them.
+#[tactic(auto, using(crate::proofs::Next::shedding))]
 fn give_named<N: Drop>(
     t: &mut Holdings,
     values: &mut Arcs<N>,

@@ -74,7 +74,7 @@ pub fn fits_mode(kind: Kind, mode: Mode) -> bool
 pub fn is_of(counts: Option<Counts>, kind: Kind) -> bool
     ensures { result ≡ is_type (type_of kind.0) (if_there (λ (cell : Cell). Some cell.node_type) None (cell_in counts)) }
 {
-    matches!(counts, Some(c) if c.node_type == kind.0 / 3)
+    counts.map_or(false, |c| c.node_type == kind.0 / 3)
 }
 
 /// Whether one of these references names the handle, where none has a greater number than the highest. So references in the order of their handles cost a look each.
@@ -250,7 +250,7 @@ pub fn key_in(counts: Option<Counts>) -> OptionalDataKey
 pub fn is_here(counts: Option<Counts>) -> bool
     ensures { result ≡ is_in_memory (pins_in counts) (if_there (λ (cell : Cell). cell.key) OptionalDataKey.None (cell_in counts)) }
 {
-    !matches!(counts, Some(c) if c.pins == 0 && c.key != 0)
+    counts.map_or(true, |c| c.pins > 0 || c.key == 0)
 }
 
 /// The node of a handle.
@@ -277,10 +277,8 @@ pub fn count(t: &Tables, handle: HandleNumber) -> Result<u64, Error>
     ensures { (stored : ℕ → Option Blob) (closed : Bool) (failures : ℕ) → CountCall (core_of t.now stored closed failures) handle result }
 {
     let at = handles::look(&t.holdings.handles, handle).ok_or(Error::NoSuchHandle)?;
-    match tables::counts_of(&t.holdings.nodes, at.row.node.0) {
-        Some(counts) => Ok(counts.pins),
-        None => Ok(0),
-    }
+    let counts = tables::counts_of(&t.holdings.nodes, at.row.node.0);
+    Ok(counts.map_or(0, |c| c.pins))
 }
 
 /// The key of the node of a handle.

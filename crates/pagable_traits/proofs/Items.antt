@@ -1,10 +1,10 @@
 -- Items one after another, as the loops write and read them, and without their count.
 -- Items that are put in one after another as they are read.
 -- Items that a walk yields: what writing each, after their count, makes of the whole that holds them.
-use Rattle.{pagable_codec.proofs.Writing.out_is, pagable_model.specs.{Form.{Form, array-form, run-form}, Shape.{array, run}}, pagable_traits.proofs.Parts.{err_along, ok_along}}
+use Rattle.{pagable_codec.proofs.Writing.out_is, pagable_model.specs.{Form.{Form, array-form, run-form}, Shape.{array, run}}, pagable_traits.proofs.Parts.{err_along, ok_along, only-count, only-part}}
 use Rattle.pagable_traits.proofs.Words.{ArcRef, Bor, Collected, Context, Err, Error, FormAt, Forms, FormsAt, Gave, Gets, GivesSome, IfErr, List, MeanAll, Meaning, Meanings, MeansList, MeansPair}
 use Rattle.pagable_traits.proofs.Words.{Nesting, NoForm, NoFormOfSome, NoForms, NoFormsOfSome, Ok, Option, Out, PutInTurn, Refused, RefusedAll, RefusedAmong, RefusedCounted, Rest, Result, Shape, Some}
-use Rattle.pagable_traits.proofs.Words.{SomeMeaning, WritesEach, WritesSome, WritesSomeAll, [], added, ap, append-nil, append_assoc, arith, counted, get_or, inl, items}
+use Rattle.pagable_traits.proofs.Words.{SomeMeaning, WritesEach, WritesSome, WritesSomeAll, [], added, ap, append-nil, append_assoc, arith, counted, get_or, grows_trans, inl, items}
 use Rattle.pagable_traits.proofs.Words.{items_have_meanings, kind_of_arc, length, length_form, list, list-form, long_or, longest, map, mean-more, mean-none, memory_or, memory_refuses, more-forms}
 use Rattle.pagable_traits.proofs.Words.{moves_trans, no-forms, put_all, read, read_with, refl, sequence, some, subst, suc, sym, take, then, zero, ℕ, ◌++◌, ◌+◌, ◌-◌, ◌<◌, ◌>>=◌, ◌∙◌, ◌∷◌, ◌≡◌, ◌≤◌}
 use Rattle.{pagable_traits.proofs.Words.◌⊎◌, std.proofs.{Common.drop, Math.Seq.split_at, lemmas.Iterator.{Consumers.YieldsList-from_rest, YieldsList, YieldsList-from_slice, items_from_drains}}}
@@ -314,3 +314,5 @@ refused_counted r count shows wraps has all h = grind (arith, refuses-long wraps
 -- a list
 pub wraps_list : {X : Type 0} (N : X → Meaning ArcRef → Type 0) (ys : List X) (n : Nesting) (s : Shape) → Wraps N ys (MeansList N ys) n (list s) s
 wraps_list N ys n s = wraps-sequence N ys n (list s) s (λ ms b k f. list-parts n ms f refl) (λ ms b k each le f. list-form _ s ms b k le f)
+
+pub ruleset writes = (ok_along, err_along, grows_trans, only-count, only-part)

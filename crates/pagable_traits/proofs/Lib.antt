@@ -1,6 +1,5 @@
 mod Words
 pub mod Parts
-pub mod Reading
 pub mod Items
 pub mod Maps
 pub mod Hashed

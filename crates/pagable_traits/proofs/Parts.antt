@@ -39,6 +39,9 @@ refused_along n s e h f = λ fault. let no = h fault in record { m = no.m; is = 
 pub only-part : (part : Error → Type 0) (e : Error) → part e → long_or (memory_or part) e
 only-part part e h = inr (inr h)
 
+pub only_parts : {X : Type 0} (r : Result X Error) (part : Error → Type 0) → IfErr r part → IfErr r (long_or (memory_or part))
+only_parts r part h = err_along r h (only-part part)
+
 pub only-count : (len : ℕ) (part : Error → Type 0) (e : Error) → long_or_memory len e → long_or (memory_or part) e
 only-count len part e h = grind arith
 

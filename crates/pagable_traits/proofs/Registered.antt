@@ -3,7 +3,7 @@
 use Rattle.{pagable_codec.specs.declared.{deserializer.PagableDeserializer.Ghosts as Deserializers, env.Env.Ghosts as Environments}, pagable_model.specs.Canonical.{HasNoCase, IsReadable, LiesIn}}
 use Rattle.pagable_model.specs.{Canonical.{Throughout, Within}, Carried.{body_of, is_registered, of_tagged, tagged_by}, Form.{static-form, tagged-form}, Meaning.lifted, Numbers.{bound, unsigned_form}}
 use Rattle.pagable_model.specs.{Reading.registered, Shape.{cases, static_value, tagged}, Statics.{HasEqual, NoEqualBelow}, Tagged.{HasDistinctTags, IsLastFor, MeansTagged, NoneFor}}
-use Rattle.{pagable_model.specs.Tagged.{ReadsWhatIsWritten, grammars}, pagable_traits.proofs.{Parts.err_along, Words.{Answer, ArcRef, Bool, Context, Err, Error, Gets, Gives, GivesSome}}}
+use Rattle.{pagable_model.specs.Tagged.{ReadsWhatIsWritten, grammars}, pagable_traits.proofs.{Parts.{err_along, ok_along}, Words.{Answer, ArcRef, Bool, Context, Err, Error, Gets, Gives, GivesSome}}}
 use Rattle.pagable_traits.proofs.Words.{IfErr, Is, List, Meaning, Meanings, MovesOn, Nesting, NoForm, Ok, Out, Reads, Refused, Rest, Result, Shape, Some, SomeMeaning, WritesSome, [], added, ap, arith}
 use Rattle.pagable_traits.proofs.Words.{bytes_of, context_in, false, get_or, inl, inr, length, length-map, long_or_memory, longest, map, memory, memory_or, memory_refuses, moves_trans, read}
 use Rattle.pagable_traits.proofs.Words.{read_with, refl, subst, suc, sym, text_at, text_form, then, true, w32, writes_bytes, zero, ℕ, ◌++◌, ◌+◌, ◌<◌, ◌>>=◌, ◌∙◌, ◌∷◌, ◌≡◌, ◌≤◌}
@@ -83,6 +83,8 @@ refused_tag r M x tag n written known body h = err_along r h (λ e k. elim k [
   }
   | inr short ↦ memory_refuses e (MeansTagged tag (M.of x)) n (tagged written known body) short.1
 ])
+
+pub ruleset writes = (ok_along, writes_tagged, refused_body, refused_tag)
 
 -- ---- the last registration of a tag
 

@@ -29,7 +29,7 @@ pub trait ArcErase<E: Env>: Sized {
     ghost of_kind: { (a : Self) → (referred a).kind.0 ≡ KIND };
 
     /// What page-out counts it as: its node, by this kind.
-    final fn identity(&self) -> Identity
+    fn identity(&self) -> Identity
         ensures { result ≡ record { kind = record { 0 = KIND }; node = (referred self.now).node } }
     {
         Identity {
@@ -39,7 +39,7 @@ pub trait ArcErase<E: Env>: Sized {
     }
 
     /// What tells its sort without the type of its values.
-    final fn erase_type() -> StdArcEraseType<Self> {
+    fn erase_type() -> StdArcEraseType<Self> {
         StdArcEraseType::new()
     }
 }

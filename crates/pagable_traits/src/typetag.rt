@@ -37,6 +37,7 @@ pub trait PagableTagged<E: Env>: Sized {
         ensures { Wrote E.Env S.PagableSerializer (form (body_means.of self.now) (bodies (S.environment serializer.old) (tag self.now))) body_causes.are serializer.old serializer.new result };
 
     /// Writes the tag and then the body, whichever tags are registered. TooLong for a tag above 4,294,967,295 bytes.
+    #[tactic(auto, using(crate::proofs::Items::writes, crate::proofs::Parts::only_parts, pagable_codec::proofs::Writing::grows_trans, crate::proofs::Registered::writes))]
     final fn serialize_tagged<S: PagableSerializer<E>>(
         &self,
         serializer: &mut S,

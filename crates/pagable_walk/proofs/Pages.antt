@@ -1,6 +1,6 @@
 -- Page-outs of an item and of the entries of the list, from the runs of their workers.
 use Rattle.pagable_laws.proofs.{Answered.{entry-answered, item-answered}, SparingSteps.{Spares, none-shorter, release-spares-list, spares-then, walk-spares-list}}
-use Rattle.pagable_loads.{proofs.Stepped.{acts_map, acts_same, acts_then, tells_map}, specs.{Telling.{Acting, as_caller}, Working.{RefusesEntry, StartsEntry}}}
+use Rattle.pagable_loads.{proofs.Stepped.{acts_all, acts_from, acts_map, acts_same, acts_then, tells_map}, specs.{Telling.{Acting, as_caller}, Working.{RefusesEntry, StartsEntry}}}
 use Rattle.pagable_model.specs.declared.{data_key.OptionalDataKey.OptionalDataKey, error.Error.Error, numbers.{ArcRef.ArcRef, HandleNumber.HandleNumber, WorkerNumber.WorkerNumber}}
 use Rattle.pagable_walk.{proofs.Turning.{alike, plain-fits, same-shelf}, specs.{Over.{HasPaged, PagesAt, PagesEntry, PagesItem, PagesList, answer_of}, Tasks.{IsPlain, todo_of}}}
 use Rattle.{pagable_walk.specs.{Turns.{Fits, RunsTo, Walked, plain}, declared.{results.Trees.Ghosts, table.PageOutError.PageOutError, tasks.Task.Task}}, pagable_world.specs.Access.AccessState}
@@ -126,5 +126,9 @@ module _ {N E : Type 0} (v : Values N) where
 
   pub all-paged : (left : ℕ) → left ≡ 0 → (s t : PagerState N E) → HasPaged v left s t → PagesList v (Ok tt) s t
   all-paged left none s t paged = record { over = λ whole. paged.then whole (Ok tt) t (subst (λ i. ListRun (plain v) i t (Ok tt) t) (sym none) (no-more t)) }
+
+pub ruleset items = (nat_tests, acts_all, acts_map, item-unstarted, item-unbegun)
+
+pub ruleset places = (nat_tests, tells_map, acts_same, acts_from, acts_map, at-past, at-gone, at-paged, at-failed)
 
 pub ruleset listed = (nat_tests, acts_map, acts_then, tells_map, acts_same, none-paged, more-paged, ends-paged, all-paged)

@@ -1,7 +1,7 @@
 -- A worker's turns, each from what its calls did: they are its steps, and its steps are a run.
 use Rattle.{pagable_core.specs.declared.context.writing.SerializedData.SerializedData, pagable_laws.proofs.{Chains.{claimed-stands, clone-stands, may-claim}, ReadingSteps.walk-goes, Trees.same_some}}
 use Rattle.pagable_laws.proofs.Goes.{Goes, PinOf, clone-call, end-call, low-handle, low-whole, not-loose, pin-call, pins-by}
-use Rattle.{pagable_laws.specs.TreeSteps.{Change, StandsAt}, pagable_loads.{proofs.Stepped.{acts_all, acts_map, goes_open, moves_then, none_comes}, specs.Frames.IsLoadOf}}
+use Rattle.{pagable_laws.specs.TreeSteps.{Change, StandsAt}, pagable_loads.{proofs.Stepped.{acts_all, acts_map, acts_on, goes_open, moves_then, none_comes, tells_map}, specs.Frames.IsLoadOf}}
 use Rattle.pagable_loads.specs.{Frames.{frames_of, reading_of}, Starting.Shares, Stepping.{IsSameLoad, Tries}, Working.{BeginsAt, TakesReference}, declared.reading.Reading.Reading as Own}
 use Rattle.{pagable_loads.specs.declared.access.Taken.Taken, pagable_model.specs.Merkle.blob_of, pagable_walk.specs.Slots.{ClaimsThere, Would, claimed_shelf, keys_of, with_written, written_of}}
 use Rattle.pagable_walk.specs.{Table.{IsFoundOf, found_as}, Tasks.{Gives, IsPlain, IsWay, back_of, fails, fault_of, todo_of, todos, waiting_todo, waits_as}, Turns.{ClaimFits, ClaimLeaves, Closes}}
@@ -14,8 +14,7 @@ use Rattle.pagable_world.specs.Workers.{Claims, Does, Finds, PinsAtOnce, Site, T
 use Rattle.pagable_world.specs.{Workers.{with_outcome, with_wait}, World.{Alike, Cell, Core, Frame, OpenLoad, Reading, Root, SameShelf, Shelf, Todo, Values, Written, answer_of_fault, of_cell, of_key}}
 use Rattle.pagable_world.specs.{World.{one_more, published, seen_as, to_load, to_pin, to_publish, to_release, to_start, to_write, was_refused}, declared.events.{Claim.Claim, LoadAnswer.LoadAnswer}}
 use Rattle.{pagable_world.specs.{Pager.HandlesAreWhole, declared.{events.{PinStep.PinStep, Took.Took, WorkerAnswer.WorkerAnswer}, handles.{HandleRow.HandleRow, Owner.Owner}}}, std.proofs.Common.Err}
-use Rattle.std.proofs.Common.{List, None, Ok, Result, Some, [], ap, arith, false, inl, inr, refl, subst, sym, true, ℕ, ◌+◌, ◌==◌, ◌∙◌, ◌∷◌, ◌≡◌, ◌⊎◌}
-use Rattle.std.proofs.lemmas.{Bool.Decides.nat_tests, Grind.common_steps}
+use Rattle.std.proofs.{Common.{List, None, Ok, Result, Some, [], ap, arith, false, inl, inr, refl, subst, sym, true, ℕ, ◌+◌, ◌==◌, ◌∙◌, ◌∷◌, ◌≡◌}, lemmas.{Bool.Decides.nat_tests, Grind.common_steps}}
 use Rattle.std.specs.{Arc.arc_value, Prelude.{IfErr, IfOk, Option, if◌then◌else◌}, declared.{alloc.Global.Global, sync.Arc.Arc}}
 
 pub alike : (w : Core) → Alike w w
@@ -86,15 +85,19 @@ module _ {N E : Type 0} (v : Values N) (s : PagerState N E) (r : ArcRef) (pin : 
     pub forms-unshared : (e : Error) → Shares see s pin (Err e) → Forms v s r pin (Err e)
     forms-unshared e shared = grind (arith, nat_tests, common_steps)
 
+  -- what was written is told by the same, or memory is wanting for that
+  pub forms-told : (w told : Written) → told ≡ w → Forms v s r pin (Ok w) → Forms v s r pin (Ok told)
+  forms-told w told same forms = subst (λ x. Forms v s r pin (Ok x)) (sym same) forms
+
+  pub forms-short : (w : Written) (e : Error) → e ≡ Error.OutOfMemory → Forms v s r pin (Ok w) → Forms v s r pin (Err e)
+  forms-short w e is forms = grind (arith, nat_tests, common_steps)
+
 module _ {N E : Type 0} (v : Values N) (s : PagerState N E) (r : ArcRef) (pin : HandleNumber) {W : Type 0} (see : W → Written) where
   pub forms-from : {X : Type 0} (at : X → N) (y : X) (result : Result W Error) → IfOk result (λ d. IsForm v (at y) (see d)) → IfErr result (λ e. WriteRefused v (at y) e)
       → Shares at s pin (Ok (Some y)) → Forms v s r pin (seen_as see result)
   forms-from at y result is why shared = grind (arith, nat_tests, common_steps, shared-some v s r pin (at y) shared.given)
 
-  -- it isn't written, or memory is wanting for what was
-  pub forms-refused : (result : Result W Error) (e : Error) → (result ≡ Err e) ⊎ (e ≡ Error.OutOfMemory) → Forms v s r pin (seen_as see result) → Forms v s r pin (Err e)
-  forms-refused result e (inl is) forms = rw is at forms
-  forms-refused result e (inr is) forms = subst (λ x. Forms v s r pin (Err x)) (sym is) (record { written = λ p. tt; refused = λ p. (inr refl, λ h. absurd (cc)) })
+pub ruleset forming = (nat_tests, tells_map, forms-told, forms-short)
 
 -- ---- the turn
 
@@ -389,3 +392,5 @@ module _ {X : Type 0} {g : Ghosts X} {N E : Type 0} (v : Values N) (me : Owner) 
           let st = step.steps (walked.fits f) in
           walked.then f answer t next_shelf (record { steps = plain_took moved.took ∷ []; run = worker-ends (todo_of now ∷ now_below) after (plain_took moved.took) answer _ _ st.does (st.answers ∙ ap answer_in ends) });
     }
+
+pub ruleset joining = (nat_tests, acts_all, acts_on, none-walked, goes-walked, ends-walked)

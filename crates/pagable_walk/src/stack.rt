@@ -83,6 +83,7 @@ pub fn give<E: Trees>(path: &mut Vec<Waiting<E>>, done: Done<E>) -> Result<Task<
 }
 
 /// The walk fails: all that waits goes. Where nothing waits, this entry goes back to the list.
+#[tactic(auto, using(crate::proofs::Stacks::paths))]
 pub fn fail<E: Trees>(
     path: &mut Vec<Waiting<E>>,
     why: PageOutError,
@@ -115,6 +116,7 @@ pub fn refuse<E: Trees>(
 }
 
 /// The first task for an item, and a path with places for it. Refused by want of memory alone.
+#[tactic(auto, using(crate::proofs::Stacks::paths))]
 pub fn start_item<E: Trees>(
     alloc: Global,
     written: Arc<SerializedData>,

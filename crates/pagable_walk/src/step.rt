@@ -121,6 +121,7 @@ fn left_after(left: u64, took: &Took<Arc<SerializedData>>) -> u64
 }
 
 // A step of a walk to which so many claims are left. Where none is, a claim is refused as one for which memory is wanting.
+#[tactic(auto, using(crate::proofs::Stacks::dues))]
 fn step_within<E: Env<Node: NodeSet<E>>, A: WorkerAccess<E>>(
     access: &mut A,
     alloc: Global,
@@ -158,6 +159,7 @@ fn step_within<E: Env<Node: NodeSet<E>>, A: WorkerAccess<E>>(
 
 /// Makes a worker's steps from its task and its path on, up to its answer. It waits for no other worker, and makes no more claims than there are numbers: a claim that would
 /// have to wait, or that is one too many, is refused as one for which memory is wanting.
+#[tactic(auto, using(crate::proofs::Turning::joining))]
 pub fn run<E: Env<Node: NodeSet<E>>, A: WorkerAccess<E>>(
     access: &mut A,
     alloc: Global,
@@ -172,7 +174,11 @@ pub fn run<E: Env<Node: NodeSet<E>>, A: WorkerAccess<E>>(
     let mut task = first;
     let mut left = u64::MAX;
     loop {
-        let Moved { turn, .. } = step_within(access, alloc, table, worker, path, &mut left, task);
+        let Moved {
+            turn,
+            took: _,
+            counted: _,
+        } = step_within(access, alloc, table, worker, path, &mut left, task);
         match turn {
             Turn::Goes(next) => task = next,
             Turn::Answers(answer) => return answer,
@@ -195,6 +201,7 @@ fn told(answer: WorkerAnswer) -> Result<DataKey, PageOutError>
 
 /// Pages an item out on a table, by a worker of its own, up to the worker's answer: the item's key, or why it fails. The access is the caller's, before and
 /// after. A failure leaves what was stored and set so far, and no claim without a result.
+#[tactic(auto, using(crate::proofs::Pages::items))]
 pub fn page_out_item_over<E: Env<Node: NodeSet<E>>, A: WorkerAccess<E>>(
     access: &mut A,
     alloc: Global,
@@ -233,6 +240,7 @@ fn page_out_entry<E: Env<Node: NodeSet<E>>, A: WorkerAccess<E>>(
 }
 
 // Pages out the entry at a place of the list, or releases it where its cell has a key.
+#[tactic(auto, using(crate::proofs::Pages::places))]
 fn page_out_at<E: Env<Node: NodeSet<E>>, A: WorkerAccess<E>>(
     access: &mut A,
     alloc: Global,

@@ -1,7 +1,7 @@
 //! A worker's turns at a reference that it has come to: it claims what the reference names, pins it, by a load where it is needed, and writes its value; and at what it has written: its blob is
 //! stored, its key set and published, and its handles given up.
 
-ghost use Rattle.std.specs.{Arc.arc_value, Prelude.{Err, IfErr, IfOk, length, List, Ok, OnOk, vec_capacity, vec_len, ℕ, ◌*◌, ◌+◌, ◌<◌, ◌∷◌, ◌≡◌, ◌≤◌, ◌⊎◌}};
+ghost use Rattle.std.specs.{Arc.arc_value, Prelude.{IfErr, IfOk, length, List, OnOk, vec_capacity, vec_len, ℕ, ◌*◌, ◌+◌, ◌<◌, ◌∷◌, ◌≡◌, ◌≤◌}};
 ghost use Rattle.{pagable_core.specs.Data.blob_of, pagable_loads.specs.{Frames.reading_of, Telling.{Acts, Tells, values_at}, Working.fault_in}, pagable_model.specs.Blob.key_of};
 ghost use Rattle.{pagable_model.specs.Merkle.blob_of as blob_over, pagable_walk.specs.{Results.HasFormOf, Tasks.{due, GoesOn, most}, Slots.{keys_of, written_of}, Table.{found_as, shelf_of}}};
 ghost use Rattle.pagable_walk.specs.{Tasks.{Awaits, AwaitsLow, fault_of, IsWay, todo_of, todos, waiting_todo}, Turns.{claim_todo, ClaimFits, ClaimLeaves, Forms, plan, site, TurnsTo}};
@@ -202,26 +202,26 @@ fn form<E: Env<Node: NodeSet<E>>, A: WorkerAccess<E>>(
     }
 }
 
-// What was written, as a node with places for the results of its references, and twice more; for a path that has room for it then.
-fn prepare<E: Trees>(
+// The written node, with places for the results of its references, and what was written of it twice more; for a path that has room for it then.
+#[tactic(auto, using(crate::proofs::Turning::forming))]
+fn prepare<E: Env<Node: NodeSet<E>>, A: WorkerAccess<E>>(
+    access: &A,
     alloc: Global,
     path: &mut Vec<Waiting<E>>,
     reference: ArcRef,
     place: u64,
     through: HandleNumber,
-    form: Result<SerializedData, Error>,
+    pin: HandleNumber,
 ) -> Result<(Waiting<E>, Arc<SerializedData>, Arc<SerializedData>), Error>
     requires near { place ≤ longest_path }
-    requires form { IfOk form (λ d. ∥ E.has_form (identity_of reference) (written_of d) ∥₁) }
     ensures path { path.new.items ≡ path.old.items }
     ensures room { OnOk result (vec_len path.new < vec_capacity path.new) }
     ensures open { IfOk result (λ p. waiting_todo p.0 ≡ to_finish (just_open reference place through (written_of (arc_value p.2)))) }
     ensures shared { IfOk result (λ p. arc_value p.1 ≡ arc_value p.2) }
-    ensures told { IfOk result (λ p. form ≡ Ok (arc_value p.2)) }
-    ensures refused { IfErr result (λ e. (form ≡ Err e) ⊎ (e ≡ Error.OutOfMemory)) }
+    ensures step { Tells (A.told access.now) (λ s. Forms (values_at E.Node.NodeSet E.Env E.Hash.KeyHash (A.acting access.now).environment) s reference pin (seen_as (λ p. written_of (arc_value p.2)) result)) }
 {
-    let once = form?;
     path.reserve(1)?;
+    let once = form(access, alloc, reference, pin)?;
     let children = Vec::with_capacity(alloc, once.arcs.len())?;
     let Ok(written) = Arc::new(alloc, once) else {
         return Err(Error::OutOfMemory);
@@ -258,8 +258,7 @@ pub fn write<E: Env<Node: NodeSet<E>>, A: WorkerAccess<E>>(
     ensures step { (n : ℕ) → Tells (A.told access.now) (λ s. TurnsTo (values_at E.Node.NodeSet E.Env E.Hash.KeyHash (A.acting access.now).environment) (A.acting access.now).me n (shelf_of table.old) (Task.Write reference place through pin) (todos path.old.items) (shelf_of table.new) result (plan result.turn path.new.items) s s) }
 {
     let identity = named(reference);
-    let form = form(access, alloc, reference, pin);
-    match prepare(alloc, path, reference, place, through, form) {
+    match prepare(access, alloc, path, reference, place, through, pin) {
         Ok((waiting, shared, told)) => {
             table.set_written(identity, shared);
             Moved {
@@ -405,7 +404,7 @@ pub fn release<E: Env<Node: NodeSet<E>>, A: WorkerAccess<E>>(
         },
         Err(done) => Moved {
             took: Took::Release(identity),
-            turn: Turn::Answers(WorkerAnswer::Key(done.found.key)),
+            turn: Turn::Answers(WorkerAnswer::Key(done.key())),
             counted: true,
         },
     }

@@ -107,6 +107,7 @@ pub fn write_each<
 
 /// Writes a count, and then each item that a walk yields. TooLong where the count is above 4,294,967,295, before any
 /// item; else the first item's refusal, or want of memory.
+#[tactic(auto, using(crate::proofs::Items::writes))]
 pub fn write_counted<
     E: Env,
     T: PagableSerialize<E> + Drop,

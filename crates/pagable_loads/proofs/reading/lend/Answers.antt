@@ -1,11 +1,10 @@
-use Rattle.std.{proofs.{Common.{arith, refl, rules, subst, sym}, lemmas.Option.slice_get-get_or}, specs.Arc.arc_value}
+use Rattle.std.{proofs.{Common.{arith, rules, subst, sym}, lemmas.Option.slice_get-get_or}, specs.Arc.arc_value}
 use Rattle.pagable_loads.{proofs.Stepped.{all_lent, more_lent, none_lent, tells_all, tells_both, tells_map}, specs.Got.LendsEach}
 use Rattle.pagable_loads.proofs.reading.lend.Goals as goal
 
 pub returns-then-are_read_later-clause-lends : goal.returns-then-are_read_later-clause-lends
 returns-then-are_read_later-clause-lends g c =
-    tells_all (λ s. subst (LendsEach arc_value s c.args.got.now) (sym c.new-lent.ensures.items)
-    (none_lent arc_value s c.args.got.now ((rw c.if-are_read_later.true at c.are_read_later.ensures).0 refl)))
+    tells_all (λ s. subst (LendsEach arc_value s c.args.got.now) (sym c.new-lent.ensures.items) (none_lent arc_value s c.args.got.now (c.are_read_later.ensures c.if-are_read_later.true)))
 
 pub loop-reference-preserved : goal.loop-reference-preserved
 loop-reference-preserved g c =

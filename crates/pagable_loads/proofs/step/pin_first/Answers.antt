@@ -1,9 +1,5 @@
-use Rattle.{pagable_loads.proofs.Stepped.{acts_map, acts_then, load_failed, load_pinned, start_pinned, start_refused}, std.proofs.lemmas.Result.err_from_is_err_and}
+use Rattle.pagable_loads.proofs.Stepped.{acts_map, acts_then, load_failed, load_pinned, start_pinned}
 use Rattle.pagable_loads.proofs.step.pin_first.Goals as goal
-
-pub returns-in_err-pinned : goal.returns-in_err-pinned
-returns-in_err-pinned g c =
-    let p = err_from_is_err_and c.from_residual.result c.from_residual.ensures.1 in rw (p.1, p.2) (acts_map c.in_err-pinned.ensures (start_refused _ _ c.requires.caller c.args.handle _))
 
 pub returns-in-Pinned : goal.returns-in-Pinned
 returns-in-Pinned g c = acts_map (rw c.in-Pinned.is at c.in_ok-pinned.ensures) (start_pinned _ _ c.requires.caller c.args.handle c.in-Pinned.pinned c.in-Pinned.was_unpinned)

@@ -36,6 +36,3 @@ returns-clause-falls g c before u w loads f few between =
     c.fall.ensures.falls before u _ (onto before u w c.args.lists c.args.giving (λ is. (c.requires.listed is).0) c.args.reach (λ q e. (between q e).0) c.loop-at.t c.loop-at.left
     (passes_in (gives_row w c.args.giving) u.rows) (λ r e. e) (λ r e. grind (arith, nat_tests)) (λ r e below. c.in_default.ensures.none w r loads (between r e).0 below)
     (c.loop-at.invariant.2 before u w loads f few between))
-
-pub returns-clause-sheds : goal.returns-clause-sheds
-returns-clause-sheds g c = sheds-then c.loop-at.invariant.3 c.fall.ensures.sheds

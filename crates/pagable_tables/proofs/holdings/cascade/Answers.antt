@@ -1,7 +1,6 @@
-use Rattle.pagable_tables.proofs.{Next.{ended, lasts-on, none-falls, none-falls-in, steps-on, valued-le}, Words.{Steps, arith, counts_at, inl, is_node, live, nat_tests, refl, ◌∙◌}}
-use Rattle.pagable_tables.proofs.holdings.cascade.Goals as goal
+use Rattle.pagable_tables.proofs.{Next.{ended, lasts-on, none-falls, steps-on}, Words.{Steps, arith, counts_at, is_node, nat_tests, ◌∙◌}}
 
-pub fall-preserved : goal.fall-preserved
+pub fall-preserved : Rattle.pagable_tables.proofs.holdings.cascade.Goals.fall-preserved
 fall-preserved g c =
     let i = c.fall.invariant.0 in
     let s : Steps c.fall.t i.0 c.args.lists c.step-done.result c.step-done.new.t = c.step-done.ensures i.0 i.1 in
@@ -15,20 +14,6 @@ fall-preserved g c =
       λ none. s.unlisting none ∙ c.fall.invariant.4 none,
     )
 
-pub returns-clause-falls : goal.returns-clause-falls
+pub returns-clause-falls : Rattle.pagable_tables.proofs.holdings.cascade.Goals.returns-clause-falls
 returns-clause-falls g c before w given so-far =
     ended before w given c.args.lists c.fall.t (c.fall.invariant.1 before w given so-far) (none-falls c.fall.t c.fall.invariant.0.0 c.fall.invariant.0.1 (omega arith))
-
-pub fall-init : goal.fall-init
-fall-init g c =
-    let (stack, w, short) = c.requires.falling in
-    ((stack, w, omega (arith, valued-le (live c.args.t.now.handles.places.items), w.sound.counted)), λ before w given f. f, λ kept n. (inl refl, kept n), omega arith, λ none. refl)
-
-pub step-done-requires : goal.step-done-requires
-step-done-requires g c = record { falling = (c.fall.invariant.0.0, c.fall.invariant.0.1); some = c.fall-test.true }
-
-pub returns-clause-whole : goal.returns-clause-whole
-returns-clause-whole g c = none-falls c.fall.t c.fall.invariant.0.0 c.fall.invariant.0.1 (omega arith)
-
-pub returns-clause-sheds : goal.returns-clause-sheds
-returns-clause-sheds g c = record { left = λ kept n. let l = c.fall.invariant.2 kept n in (l.0, l.1 (none-falls-in c.fall.t (returns-clause-whole g c) n)) }

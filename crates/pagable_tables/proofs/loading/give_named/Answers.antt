@@ -23,6 +23,3 @@ returns-clause-falls g c before w f few owned =
       told = c.fall.result;
       falls = c.fall.ensures.falls before w _ (all-given before w c.args.lists c.loop-reference.t c.args.load c.args.references.now k (take_all k c.args.references.now (omega arith)) owned (i.2 before w f few));
     }
-
-pub returns-clause-sheds : goal.returns-clause-sheds
-returns-clause-sheds g c = sheds-then c.loop-reference.invariant.3 c.fall.ensures.sheds

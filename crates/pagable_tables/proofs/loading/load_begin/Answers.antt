@@ -1,27 +1,15 @@
-use Rattle.pagable_tables.proofs.{Calls.begin-whole, Fitting.here-is, Newer.{closed-still, does-by, later-less, later-opened, nothing-does, still-reaches, updated-by}}
-use Rattle.pagable_tables.proofs.Told.{newer-alike, newer-handle, newer-then, roomy-whole}
-use Rattle.pagable_tables.proofs.Told.{settles}
-use Rattle.pagable_tables.proofs.Words.{Alike, BeginCall, Cell, Core, Err, Error, HandleNumber, HandleRow, Mode, None, OptionalDataKey, Owner, Owns, Some, ap, arith, cell_in, core_of, false}
-use Rattle.pagable_tables.proofs.Words.{find_row, greatest, handle_fault, if_there, inl, inr, is_here, is_loose, is_owner, load_at, load_in, nat_tests, of_cell, option_map, plain_of, refl, rules}
-use Rattle.pagable_tables.proofs.Words.{sym, true, type_at, with_handle}
-use Rattle.{pagable_tables.proofs.{Words.{with_load, ◌+◌, ◌<◌, ◌∙◌, ◌≡◌}, Worlds.{failed, handle-first, owner-same, reloaded, same-cache, still, unfit}}, pagable_world.specs.LoadCalls.begin_fault}
+use Rattle.pagable_tables.proofs.{Calls.begin-whole, Newer.{closed-still, does-by, later-less, later-opened, nothing-does, still-reaches}, Told.{newer-alike, newer-handle, newer-then, roomy-whole}}
+use Rattle.pagable_tables.proofs.{Told.settles, Words.{Alike, BeginCall, Core, Err, Error, HandleNumber, HandleRow, Mode, None, OptionalDataKey, Owner, Owns, Some, ap, arith, core_of, false}}
+use Rattle.pagable_tables.proofs.Words.{find_row, greatest, if_there, inl, inr, is_here, is_loose, is_owner, load_at, nat_tests, of_cell, plain_of, refl, rules, sym, true, type_at, with_handle}
+use Rattle.{pagable_tables.proofs.{Words.{with_load, ◌+◌, ◌<◌, ◌∙◌, ◌≡◌}, Worlds.{failed, handle-first, owner-same, same-cache, still}}, pagable_world.specs.LoadCalls.begin_fault}
 use Rattle.pagable_world.specs.World.{key_at}
 use Rattle.pagable_tables.proofs.loading.load_begin.Goals as goal
 
-begin-first : (w : Core) (me : Owner) (h : HandleNumber) (e : Error) → handle_fault w me h is_loose ≡ Some e → begin_fault w me h ≡ Some e
-begin-first w me h e is = handle-first w me h is_loose e _ is (λ f so. grind (arith, nat_tests))
-
 pub returns-in_err-at : goal.returns-in_err-at
-returns-in_err-at c = rw (failed c.from_residual.result c.from_residual.ensures.1) (nothing-does c.requires.whole (λ stored closed failures. record {
-  begins = tt;
-  refused = record { why = inl (begin-first (core_of c.args.t.now stored closed failures) c.args.me c.args.handle _ (c.in_err-at.ensures.fault stored closed failures is_loose)); stays = still _ };
-}))
-
-pub returns-then-not-is_loose_mode : goal.returns-then-not-is_loose_mode
-returns-then-not-is_loose_mode c = nothing-does c.requires.whole (λ stored closed failures.
+returns-in_err-at c = rw (failed c.from_residual.result c.from_residual.ensures.1) (nothing-does c.requires.whole
+    (λ stored closed failures.
     let w = core_of c.args.t.now stored closed failures in
-    let fault = unfit w c.args.me c.args.handle is_loose c.in_ok-at.at.row c.in_ok-at.ensures.found c.in_ok-at.ensures.owner (sym c.if-not-is_loose_mode.ensures) in
-    record { begins = tt; refused = record { why = inl (begin-first w c.args.me c.args.handle _ fault); stays = still w } })
+    record { begins = tt; refused = record { why = inl (handle-first w c.args.me c.args.handle is_loose _ _ (c.in_err-at.ensures.fault stored closed failures is_loose) (λ f is. grind (arith, nat_tests))); stays = still w } }))
 
 unbegun : {w w' : Core} (me : Owner) (h : HandleNumber) (row : HandleRow) → find_row h.0 w.rows ≡ Some row → is_owner me row.owner ≡ true → is_loose row.mode ≡ true → is_here w row.node.0 ≡ false
     → w.last.load < greatest → w.last.handle < greatest → Alike w w' → BeginCall w me h (Err Error.OutOfMemory) w'
@@ -59,21 +47,13 @@ returns c =
     (λ stored closed failures.
     let w = core_of t stored closed failures in
     let w' = core_of (record t { holdings = c.add.new.t; loads = c.open.new.rows; last_load = l }) stored closed failures in
-    let own : Owns w c.args.me c.args.handle is_loose row = record {
-      live = c.in_ok-at.ensures.found;
-      own = owner-same c.args.me row.owner c.in_ok-at.ensures.owner;
-      as_asked = sym c.is_loose_mode.ensures ∙ c.if-not-is_loose_mode.false;
-    } in
-    let away = here-is t stored closed failures row.node.0 _ c.requires.whole c.counts_of-counts.ensures ∙ sym c.is_here.ensures ∙ c.if-is_here.false in
-    let is = sym c.counts_of-counts.ensures in
-    let key : key_at w row.node.0 ≡ OptionalDataKey.Some c.unwrap-key.result =
-    ap (λ o. if_there (λ (cell : Cell). cell.key) OptionalDataKey.None (cell_in o)) is ∙ sym c.key_in.ensures ∙ c.unwrap-key.ensures in
-    let typed : type_at w row.node.0 ≡ Some c.unwrap.result.node_type = ap (λ o. if_there (λ (cell : Cell). Some cell.node_type) None (cell_in o)) (is ∙ c.unwrap.ensures) in
+    let own : Owns w c.args.me c.args.handle is_loose row = record { live = c.in_ok-at.ensures.found; own = owner-same c.args.me row.owner c.in_ok-at.ensures.owner; as_asked = search rules } in
+    let away : is_here w row.node.0 ≡ false = search rules in
+    let key : key_at w row.node.0 ≡ OptionalDataKey.Some c.unwrap-key.result = grind (arith, nat_tests, c.key_in.ensures, c.unwrap-key.ensures) in
+    let typed : type_at w row.node.0 ≡ Some c.unwrap.result.node_type = grind (arith, nat_tests) in
     let a = (c.in_default.ensures.made w').made.1 in
     let opened : Alike (with_load (with_handle w row.node Mode.LooseUnpinned (Owner.Load (record { 0 = l }))) c.unwrap-key.result
-    (of_cell row.node c.unwrap.result.node_type row.number) c.args.me) w' =
-    reloaded (with_handle (record w { last = record w.last { load = l } }) row.node Mode.LooseUnpinned (Owner.Load (record { 0 = l }))) w' _
-    (updated-by (option_map load_in) (load_at t.loads) (load_at c.open.new.rows) l _ c.in_ok-open.ensures.here c.in_ok-open.ensures.others) a in
+    (of_cell row.node c.unwrap.result.node_type row.number) c.args.me) w' = grind (arith, nat_tests, c.in_ok-open.ensures.here, c.in_ok-open.ensures.others) in
     record { begins = (row, own, (away, key, record { above = refl; is_left = omega arith }, omega arith, (c.unwrap.result.node_type, typed, rw c.in_ok-at.ensures.number at opened))); refused = tt })
     c.add.ensures.steady (begin-whole c.args.me c.args.handle c.requires.whole.core c.requires.owner)
     (λ begins later. let n = newer-then (newer-handle (plain_of t) begins.begins.0.node Mode.LooseUnpinned (Owner.Load (record { 0 = l }))) (newer-alike begins.begins.2.4.2) in

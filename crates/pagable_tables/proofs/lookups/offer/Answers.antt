@@ -1,16 +1,8 @@
 use Rattle.pagable_tables.proofs.{Alive.whole-so, Calls.{known-suits, learns-whole}, Fitting.{begun-whole, closed-is}, Kept.found-among, Newer.{begun-made, falls-made, found-again, later-on}}
-use Rattle.pagable_tables.proofs.{Next.{sheds-still, stays-first}, Told.{lone-falling, not-a-value, not-list, told-whole}}
-use Rattle.pagable_tables.proofs.Words.{Alike, Core, HandleNumber, HandleRow, Kind, NodeNumber, None, Owner, Owns, Some, any_mode, ap, arith, core_of}
-use Rattle.pagable_tables.proofs.Words.{counts_at, false, fits_mode, has_value, inl, inr, is_owner, is_pinning, is_some, is_usable, is_valued, length, mode_of, nat_tests, not, offer_fault}
-use Rattle.pagable_tables.proofs.Words.{only_handle, option_map}
-use Rattle.pagable_tables.proofs.Words.{plain_of, recall_fault, refl, spent, sym, true, type_at, type_of, where_so, with_cached, with_known, ℕ, ◌&&◌, ◌+◌, ◌∙◌, ◌≡◌}
-use Rattle.pagable_tables.proofs.Worlds.{failed, learned, not-recalled, owner-same, owner-self, same-cache, still}
+use Rattle.pagable_tables.proofs.{Next.{sheds-still, stays-first}, Told.{lone-falling, not-a-value, not-list, told-whole}, Words.{Alike, NodeNumber, None, Owner, Owns, any_mode, ap, arith, core_of}}
+use Rattle.pagable_tables.proofs.Words.{counts_at, false, fits_mode, has_value, inl, inr, is_owner, is_pinning, is_valued, length, mode_of, nat_tests, not, offer_fault, only_handle, option_map}
+use Rattle.pagable_tables.proofs.{Words.{plain_of, recall_fault, refl, sym, true, with_cached, with_known, ℕ, ◌+◌, ◌∙◌, ◌≡◌}, Worlds.{failed, not-recalled, owner-same, owner-self, same-cache}}
 use Rattle.pagable_tables.proofs.lookups.offer.Goals as goal
-
--- what is left to refuse an own handle that may stand under the kind
-offer-late : (w : Core) (me : Owner) (kind : Kind) (key : ℕ) (h : HandleNumber) (row : HandleRow) → Owns w me h (fits_mode kind.0) row → type_at w row.node.0 ≡ Some (type_of kind.0)
-    → offer_fault w me kind key h ≡ where_so (not w.closed && is_usable w kind key) (spent w.last.handle)
-offer-late w me kind key h row own typed = grind (arith, nat_tests, owner-self)
 
 pub make-requires-clause-suits : goal.make-requires-clause-suits
 make-requires-clause-suits g c = rw c.mode_of.ensures (known-suits c.requires.whole.core c.args.kind.0 c.args.key c.in-Some.node.0 (sym (c.in-Some.ensures (λ key. None) false 0)))
@@ -38,7 +30,7 @@ returns g c =
       offered = λ stored closed failures e.
           (let w = core_of t stored false failures in
           let u = with_known w c.args.kind node.0 c.args.me in
-          let owns : Owns w c.args.me c.args.handle (fits_mode c.args.kind.0) c.in_ok-row.row = (let o = c.in_ok-row.ensures.owns in record { live = o.live; own = o.own; as_asked = o.as_asked }) in
+          let owns : Owns w c.args.me c.args.handle (fits_mode c.args.kind.0) c.in_ok-row.row = grind (arith, nat_tests, c.in_ok-row.ensures.owns) in
           let m = (made.does stored false failures).made in
           let alike : Alike u (core_of t1 stored false failures) = rw c.mode_of.ensures at m.1 in
           let begun = begun-made t t1 stored false failures node (mode_of c.args.kind.0) c.args.me made.whole alike true refl in
@@ -60,11 +52,9 @@ returns g c =
 pub returns-in_default-clause-offered : goal.returns-in_default-clause-offered
 returns-in_default-clause-offered g c stored closed failures e =
     let w = core_of c.args.t.now stored false failures in
-    let owns : Owns w c.args.me c.args.handle (fits_mode c.args.kind.0) c.in_ok-row.row = (let o = c.in_ok-row.ensures.owns in record { live = o.live; own = o.own; as_asked = o.as_asked }) in
-    let new = core_of (record c.args.t.now { cache = c.put.new.cache }) stored false failures in
-    let alike : Alike (with_cached w c.args.kind c.args.key c.in_ok-row.row.node) new =
-    learned w w c.args.kind c.args.key c.in_ok-row.row.node new.cache (still w) (ap (option_map (λ (n : NodeNumber). n.0)) c.in_ok-put.ensures.here)
-    (λ k q other. ap (option_map (λ (n : NodeNumber). n.0)) (c.in_ok-put.ensures.others k q other)) in
+    let owns : Owns w c.args.me c.args.handle (fits_mode c.args.kind.0) c.in_ok-row.row = grind (arith, nat_tests, c.in_ok-row.ensures.owns) in
+    let alike : Alike (with_cached w c.args.kind c.args.key c.in_ok-row.row.node) (core_of (record c.args.t.now { cache = c.put.new.cache }) stored false failures) =
+    grind (arith, nat_tests, same-cache, c.in_ok-put.ensures.here, c.in_ok-put.ensures.others) in
     rw (closed-is c.args.lists closed e ∙ ap not c.if-not-lists.false)
     (record { answers = (c.in_ok-row.row, owns, c.in_ok-row.ensures.typed, (refl, sym (c.in_default.ensures stored false failures), alike)); refused = tt })
 
@@ -82,25 +72,13 @@ returns-in_err-put-clause-whole g c =
 pub returns-in_err-known-clause-offered : goal.returns-in_err-known-clause-offered
 returns-in_err-known-clause-offered g c stored closed failures e =
     let w = core_of c.args.t.now stored false failures in
-    let owns : Owns w c.args.me c.args.handle (fits_mode c.args.kind.0) c.in_ok-row.row = (let o = c.in_ok-row.ensures.owns in record { live = o.live; own = o.own; as_asked = o.as_asked }) in
+    let owns : Owns w c.args.me c.args.handle (fits_mode c.args.kind.0) c.in_ok-row.row = grind (arith, nat_tests, c.in_ok-row.ensures.owns) in
     let is = sym (c.in-Some.ensures stored false failures) in
     let call = not-recalled w c.args.me c.args.kind c.args.key c.in-Some.node c.mode_of.result _ is c.mode_of.ensures _ (c.in_err-known.ensures.does.does stored false failures) in
-    let cause : offer_fault w c.args.me c.args.kind c.args.key c.args.handle ≡ recall_fault w c.args.kind c.args.key =
-    offer-late w c.args.me c.args.kind c.args.key c.args.handle c.in_ok-row.row owns c.in_ok-row.ensures.typed in
+    let cause : offer_fault w c.args.me c.args.kind c.args.key c.args.handle ≡ recall_fault w c.args.kind c.args.key = grind (arith, nat_tests, c.in_ok-row.ensures.typed) in
     rw (closed-is c.args.lists closed e ∙ ap not c.if-not-lists.false) (rw (failed c.from_residual-in_err-known.result c.from_residual-in_err-known.ensures.1)
     record { answers = tt; refused = record { why = elim call.refused.why [ inl a ↦ inl (cause ∙ a) | inr b ↦ inr (b.0, cause ∙ b.1, (refl, inr b.2.1)) ]; stays = call.refused.stays } })
 
 pub returns-in_err-known-clause-sheds : goal.returns-in_err-known-clause-sheds
 returns-in_err-known-clause-sheds g c there = stays-first (λ n. c.in_err-known.ensures.values n (λ eq pins. ap (λ k. has_value (counts_at c.args.t.now.holdings.nodes k)) eq
     ∙ there c.in-Some.node.0 (sym (c.in-Some.ensures (λ key. None) false 0)) (ap is_pinning (sym c.mode_of.ensures) ∙ pins))) (sheds-still c.make.new.t.holdings _ c.in_err-known.ensures.does.whole.steady)
-
-pub returns-in_err-put-clause-offered : goal.returns-in_err-put-clause-offered
-returns-in_err-put-clause-offered g c stored closed failures e =
-    let w = core_of c.args.t.now stored false failures in
-    let o = c.in_ok-row.ensures.owns in
-    let none = sym (c.in_default.ensures stored false failures) in
-    let cause = offer-late w c.args.me c.args.kind c.args.key c.args.handle c.in_ok-row.row (record { live = o.live; own = o.own; as_asked = o.as_asked }) c.in_ok-row.ensures.typed
-    ∙ ap (λ u. where_so (is_some u) (spent w.last.handle)) none in
-    let same = λ (kind key : ℕ). ap (option_map (λ (n : NodeNumber). n.0)) (c.in_err-put.ensures.err kind key) in
-    rw (closed-is c.args.lists closed e ∙ ap not c.if-not-lists.false) (rw (failed c.from_residual-in_err-put.result c.from_residual-in_err-put.ensures.1)
-    record { answers = tt; refused = record { why = inr (refl, cause, (refl, inl none)); stays = grind (arith, nat_tests, same-cache, same) } })

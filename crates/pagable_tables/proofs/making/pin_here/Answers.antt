@@ -1,6 +1,5 @@
-use Rattle.pagable_tables.proofs.{Kept.found-among, Newer.{does-as, does-then, found-again, pinned-alike}, Told.{loose-unshared, not-list}}
-use Rattle.pagable_tables.proofs.Words.{Alike, Mode, None, Some, Tables, ap, arith, core_of, false}
-use Rattle.pagable_tables.proofs.{Words.{nat_tests, plain_of, subst, with_mode, ℕ, ◌∙◌}, Worlds.failed}
+use Rattle.pagable_tables.proofs.{Kept.found-among, Newer.{does-then, found-again, pinned-alike}, Told.{loose-unshared, not-list}, Words.{Alike, Mode, None, Some, Tables, ap, arith, core_of, false}}
+use Rattle.pagable_tables.proofs.Words.{nat_tests, plain_of, subst, with_mode, ℕ, ◌∙◌}
 use Rattle.pagable_tables.proofs.making.pin_here.Goals as goal
 
 pub make-requires-clause-suits : goal.make-requires-clause-suits
@@ -34,10 +33,3 @@ returns-clause-does c =
     let same = λ (kind key : ℕ). ap (λ (u : Tables). cache u kind key) c.turn.ensures.same ∙ ap (λ (u : Tables). cache u kind key) c.in_ok-handle.ensures.same in
     let w = core_of c.args.t.now stored closed failures in
     record { pinned = (record { above = m.made.0.above; is_left = m.made.0.is_left }, pinned-alike w u w' row.number row.node c.args.me numbered.1 same m.made.1 turned); refused = tt })
-
-pub returns-clause-same : goal.returns-clause-same
-returns-clause-same c = c.turn.ensures.same ∙ ap (λ (u : Tables). record u { holdings = c.turn.new.t.holdings }) c.in_ok-handle.ensures.same
-
-pub returns-in_err-handle-clause-does : goal.returns-in_err-handle-clause-does
-returns-in_err-handle-clause-does c =
-    rw (failed c.from_residual.result c.from_residual.ensures.1) (does-as c.in_err-handle.ensures.does (λ stored closed failures m. record { pinned = tt; refused = m.refused }))

@@ -1,6 +1,6 @@
 use Rattle.{std.{proofs.Common.{◌∷◌, None, length, ap, ◌∙◌, subst, sym, arith}, specs.Arc.arc_value}, pagable_walk.specs.Turns.just_open, pagable_loads.proofs.Stepped.tells_map}
 use Rattle.pagable_world.specs.{Workers.settle, World.{to_finish, was_refused}}
-use Rattle.pagable_walk.{proofs.{Stacks.settle-way, Turning.{forms-refused, same-shelf, write-fails, write-turns}}, specs.{Slots.written_of, Table.shelf_of, Tasks.{IsWay, back_of, fails, todos}}}
+use Rattle.pagable_walk.{proofs.{Stacks.settle-way, Turning.{same-shelf, write-fails, write-turns}}, specs.{Slots.written_of, Table.shelf_of, Tasks.{IsWay, back_of, fails, todos}}}
 use Rattle.pagable_walk.proofs.turns.write.Goals as goal
 
 pub returns-in-Ok-clause-goes : goal.returns-in-Ok-clause-goes
@@ -19,12 +19,10 @@ returns-in-Ok-clause-step g c n =
     ∙ ap (λ ps. settle (to_finish (just_open c.args.reference c.args.place c.args.through w) ∷ todos ps)) c.in-Ok.ensures.path in
     let same = rw c.in-Ok.ensures.shared at c.set_written.ensures in
     rw c.named-identity.ensures (tells_map (λ s forms. write-turns _ _ n (shelf_of c.args.table.now) (shelf_of c.set_written.new.self) c.args.reference c.args.place c.args.through c.args.pin (todos c.args.path.now.items) _ c.settle.result c.settle.ensures.plain s c.in-Ok.told forms (rw c.named-identity.ensures at same) e)
-    (rw c.in-Ok.ensures.told at c.form-form.ensures.step))
+    c.in-Ok.ensures.step)
 
 pub returns-in-Err-clause-step : goal.returns-in-Err-clause-step
 returns-in-Err-clause-step g c n =
     let e = c.refuse.ensures.todo ∙ ap (λ ps. fails (was_refused c.in-Err.e) (back_of None (todos ps))) c.in-Err.ensures.path in
-    rw c.named-identity.ensures (tells_map (λ s forms. write-fails _ _ n (shelf_of c.args.table.now) (shelf_of c.args.table.now) c.args.reference c.args.place c.args.through c.args.pin
-    (todos c.args.path.now.items) _ c.refuse.result c.refuse.ensures.plain s c.in-Err.e
-    (forms-refused _ s c.args.reference c.args.pin written_of c.form-form.result c.in-Err.e c.in-Err.ensures.refused forms) (same-shelf (shelf_of c.args.table.now)) e)
-    c.form-form.ensures.step)
+    rw c.named-identity.ensures (tells_map (λ s forms. write-fails _ _ n (shelf_of c.args.table.now) (shelf_of c.args.table.now) c.args.reference c.args.place c.args.through c.args.pin (todos c.args.path.now.items) _ c.refuse.result c.refuse.ensures.plain s c.in-Err.e forms (same-shelf (shelf_of c.args.table.now)) e)
+    c.in-Err.ensures.step)
