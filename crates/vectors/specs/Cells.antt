@@ -3,8 +3,7 @@ use Rattle.std.specs.{Global.Vec, Int.w8, Prelude.{◌≡◌, None, Option, Some
 use Rattle.{pagable.specs.traits.Meanings.{AreSingle, Meanings, exactly, lists, lists_single, options, options_single, pairs, pairs_single, seen_by}, vectors.specs.Linked.{Case, referring}}
 use Rattle.{pagable.specs.traits.OwnCauses.{WriteCauses, writes_either, writes_long_or, writes_memory, writes_memory_or}, pagable_model.specs.{Form.unsigned-form, Meaning.{Meaning, number}}}
 use Rattle.pagable_model.specs.{References.references_in, Refusals.may_refuse_writing, Shape.{Shape, both, list, nothing, optional, reference, text, unsigned}, declared.numbers.ArcRef.ArcRef}
-use Rattle.pagable_traits.specs.{References.plain_means, Refers.{ListsInOrder, both_in_order, list_in_order, reference_in_order}, declared.plain.OfKind.OfKind}
-use Rattle.vectors.specs.declared.calls.nodes.{CellNode.CellNode, Mixed.Mixed, Tail.Tail}
+use Rattle.{pagable_traits.specs.{References.plain_means, Refers.ListsInOrder, declared.plain.OfKind.OfKind}, vectors.specs.declared.calls.nodes.CellNode.CellNode}
 use Rattle.pagable_model.specs.Meaning as meanings
 use Rattle.vectors.specs.declared.calls.nodes.CellNode.TheVariants as nodes
 
@@ -41,33 +40,13 @@ many kind = record {
   writes = writes_long_or (writes_memory_or writes_memory);
 }
 
--- what is seen of a value is spelled
-abbrev seen : {A B : Type 0} → (A → B) → Spelled B → Spelled A
-seen view b = record { shape = b.shape; means = seen_by view b.means; single = λ x. b.single (view x); writes = b.writes }
-
-abbrev pub tail : Spelled Tail
-tail = seen (λ t. t.parts) (two (many 8) (two (many 1) (many 0)))
-
-abbrev pub mixed : Spelled Mixed
-mixed = seen (λ m. m.parts) (two byte (two (many 6) (two (many 7) tail)))
-
--- the environment has no part with a number
-abbrev none : ℕ → Shape
-none n = nothing
+abbrev pub mixed : Spelled (ℕ × (Vec (OfKind 6) × (Vec (OfKind 7) × (Vec (OfKind 8) × (Vec (OfKind 1) × Vec (OfKind 0))))))
+mixed = two byte (two (many 6) (two (many 7) (two (many 8) (two (many 1) (many 0)))))
 
 -- a byte refers to nothing
-pub byte_in_order : ListsInOrder none (unsigned w8)
+pub byte_in_order : ListsInOrder (λ n. nothing) (unsigned w8)
 unfolding references_in
 byte_in_order left _ _ _ (unsigned-form _ _ _ _) = refl
-
-many-in-order : (kind : ℕ) → ListsInOrder none (list (reference kind))
-many-in-order kind = list_in_order none (reference kind) (reference_in_order none kind)
-
-pub tail_in_order : ListsInOrder none tail.shape
-tail_in_order = both_in_order none _ _ (many-in-order 8) (both_in_order none _ _ (many-in-order 1) (many-in-order 0))
-
-pub mixed_in_order : ListsInOrder none mixed.shape
-mixed_in_order = both_in_order none _ _ byte_in_order (both_in_order none _ _ (many-in-order 6) (both_in_order none _ _ (many-in-order 7) tail_in_order))
 
 -- ---- nodes
 

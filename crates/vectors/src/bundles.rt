@@ -1,6 +1,6 @@
 //! What a bundle refers to is read with it by a shared reference or a pin, and is what stands in the pager.
 
-use crate::calls::{let_go, made};
+use crate::calls::let_go;
 use crate::examples::linked::bundle::Bundle;
 use crate::examples::linked::chain::Chain;
 use crate::examples::linked::{Linked, LinkedNode};
@@ -72,7 +72,8 @@ fn paged_out<T: OfNode<Linked> + Drop, S: PagableStorage<Linked>>(
     pager: &mut Pager<Linked, S>,
     value: Arc<T>,
 ) -> Option<OptionalDataKey> {
-    let cell = made(alloc, pager, T::into_node(value), true)?;
+    let cell = pager.new_loose(alloc, T::into_node(value)).ok()?;
+    pager.unpin(cell).ok()?;
     page_out_pending(alloc, pager).ok()?;
     pager.key(cell).ok()
 }

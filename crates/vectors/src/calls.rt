@@ -9,8 +9,8 @@ use crate::calls::asked::{events, split};
 use crate::calls::nodes::{CellEnv, CellNode};
 use anyhow::bail;
 use pagable::{
-    Call, Env, Event, HandleNumber, InMemoryBlobs, KeyHash, Machine, NodeSet, PagableData,
-    PagableStorage, Pager, SerializedData, Sha256Key, WeighHash,
+    Call, Env, Event, InMemoryBlobs, KeyHash, Machine, NodeSet, PagableData, PagableStorage, Pager,
+    SerializedData, Sha256Key, WeighHash,
 };
 use pagable_rows::FailingStorage;
 use std::alloc::Global;
@@ -42,21 +42,6 @@ fn storage_of<H: KeyHash>(alloc: Global, word: &str) -> CellStorage<H> {
 /// A pager without cells over such a storage.
 pub fn pager_over<H: KeyHash>(alloc: Global, word: &str) -> Pager<CellEnv<H>, CellStorage<H>> {
     Pager::new(alloc, storage_of(alloc, word), CellEnv::new())
-}
-
-/// A new node's handle: that of a cell that waits for its page-out, or one of a node that values share.
-pub fn made<E: Env<Node: NodeSet<E>>, S: PagableStorage<E>>(
-    alloc: Global,
-    pager: &mut Pager<E, S>,
-    value: E::Node,
-    is_cell: bool,
-) -> Option<HandleNumber> {
-    if !is_cell {
-        return pager.new_shared(alloc, value).ok();
-    }
-    let cell = pager.new_loose(alloc, value).ok()?;
-    pager.unpin(cell).ok()?;
-    Some(cell)
 }
 
 /// Puts a value in the place of another, where its type is open: at a known one the check would follow how each of its parts is let go.
@@ -109,6 +94,5 @@ where
         bail!("no memory for the replies");
     };
     let before = replies.len().saturating_sub(most);
-    let replies = replies.as_slice().get(before..).unwrap_or_default();
-    Ok(answers::replies(alloc, replies)?)
+    answers::replies(alloc, replies.as_slice().get(before..).unwrap_or_default())
 }

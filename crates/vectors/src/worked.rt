@@ -3,13 +3,14 @@
 
 use crate::calls::asked::item;
 use crate::calls::nodes::{CellNode, node};
-use crate::calls::{Calls, let_go, made, pager_over};
+use crate::calls::{Calls, let_go, pager_over};
 use crate::lines;
 use crate::quick_start::page_out_and_read_back;
-use anyhow::ensure;
+use anyhow::{Context, ensure};
 use pagable::paging::{page_out_item, page_out_pending, pin};
 use pagable::{
-    DataKey, Env, Error, NodeSet, PagableStorage, PagableVecFlavor, Pager, SlotTable, WeighHash,
+    DataKey, Env, Error, NodeSet, PagableStorage, PagableVecFlavor, PageOutError, Pager, SlotTable,
+    WeighHash,
 };
 use pagable_rows::any::{AnyEnv, written};
 use serde_json::Value;
@@ -20,27 +21,27 @@ use std::sync::Arc;
 const LAST: u32 = 24;
 
 /// Whether a row's lines are answered as they have to be, one after the other. Each has the row's number, what is asked of it, and what has to
-/// be answered. None, as below, is a refusal that no row wants.
-fn lines_hold(alloc: Global, calls: &mut Calls, text: &str, row: u32) -> Option<bool> {
+/// be answered.
+fn lines_hold(alloc: Global, calls: &mut Calls, text: &str, row: u32) -> anyhow::Result<bool> {
     for line in text.lines() {
-        let (number, rest) = line.split_once(": ")?;
+        let (number, rest) = line.split_once(": ").context("no line of a row")?;
         if number.parse::<u32>().ok() == Some(row) {
-            let (asked, wanted) = rest.split_once(" ->")?;
-            if lines::answer(alloc, calls, asked).ok()?.as_str() != wanted.trim_start() {
-                return Some(false);
+            let (asked, wanted) = rest.split_once(" ->").context("no answer")?;
+            if lines::answer(alloc, calls, asked)?.as_str() != wanted.trim_start() {
+                return Ok(false);
             }
         }
     }
-    Some(true)
+    Ok(true)
 }
 
 /// Whether the writing of 129 arrays in one another is refused.
-fn are_too_deep(alloc: Global) -> Option<bool> {
+fn are_too_deep(alloc: Global) -> anyhow::Result<bool> {
     let mut value = Value::Array(Vec::new(alloc));
     for _ in 0..128 {
-        value = Value::Array(vec![in alloc; value].ok()?);
+        value = Value::Array(vec![in alloc; value]?);
     }
-    Some(written(alloc, &AnyEnv, &value) == Err(Error::TooDeep.number()))
+    Ok(written(alloc, &AnyEnv, &value) == Err(Error::TooDeep.number()))
 }
 
 /// Whether the first of two bytes can be written over.
@@ -52,85 +53,87 @@ fn write_over(alloc: Global) -> Result<bool, Error> {
     Ok(out.finalize().as_slice() == [9u8, 7].as_slice())
 }
 
-/// Whether an item that refers to a shared text comes to its key by one call, on a new table.
+/// Whether an item that refers to a shared text comes to its key by one call.
 fn is_item_paged_out<E: Env<Node = CellNode>, S: PagableStorage<E>>(
     alloc: Global,
     pager: &mut Pager<E, S>,
-    table: &mut SlotTable<E>,
-) -> Option<bool>
+) -> anyhow::Result<bool>
 where
     E::Node: NodeSet<E>,
 {
-    made(alloc, pager, node(alloc, "0 hello world").ok()?, false)?;
-    let item = item(alloc, "2a:0:1:1").ok()?;
-    let key = page_out_item(alloc, pager, table, Arc::new(alloc, item).ok()?);
-    Some(key.ok() == DataKey::new(3484))
+    let shared = pager.new_shared(alloc, node(alloc, "0 hello world")?);
+    shared.ok().context("a node is refused")?;
+    let item = Arc::new(alloc, item(alloc, "2a:0:1:1")?)?;
+    let mut table = SlotTable::new(alloc);
+    Ok(page_out_item(alloc, pager, &mut table, item).ok() == DataKey::new(3484))
 }
 
 /// Makes a cell that is listed twice.
 fn list_twice<E: Env<Node = CellNode>, S: PagableStorage<E>>(
     alloc: Global,
     pager: &mut Pager<E, S>,
-) -> Option<()>
+) -> anyhow::Result<()>
 where
     E::Node: NodeSet<E>,
 {
-    let cell = made(alloc, pager, node(alloc, "0 x").ok()?, true)?;
-    let (pinned, _) = pin(alloc, pager, cell).ok()?;
-    pager.release(pinned).ok()?;
-    pager.unpin(cell).ok()
+    let cell = pager.new_loose(alloc, node(alloc, "0 x")?);
+    let cell = cell.ok().context("a cell is refused")?;
+    pager.unpin(cell)?;
+    let (pinned, _) = pin(alloc, pager, cell)?;
+    pager.release(pinned)?;
+    Ok(pager.unpin(cell)?)
 }
 
 /// Whether the page-out of a cell that is listed twice stores it once: the storage's second call fails, and is this fetch.
 fn is_stored_once<E: Env<Node = CellNode>, S: PagableStorage<E>>(
     alloc: Global,
     pager: &mut Pager<E, S>,
-) -> Option<bool>
+) -> anyhow::Result<bool>
 where
     E::Node: NodeSet<E>,
 {
     list_twice(alloc, pager)?;
     let listed = pager.pending();
-    page_out_pending(alloc, pager).ok()?;
-    let fetched = pager.fetch(alloc, DataKey::new(1209)?).err();
-    Some(listed == 2 && pager.pending() == 0 && fetched == Some(Error::Storage(7)))
+    if let Err(PageOutError::Failed(e)) = page_out_pending(alloc, pager) {
+        return Err(e.into());
+    }
+    let key = DataKey::new(1209).context("0 is no key")?;
+    let fetched = pager.fetch(alloc, key).err();
+    Ok(listed == 2 && pager.pending() == 0 && fetched == Some(Error::Storage(7)))
 }
 
-/// Whether a row's values of which no line says what they are hold too, by a pager without cells and an empty table.
+/// Whether a row's values of which no line says what they are hold too, by a pager without cells.
 fn others_hold_in<E: Env<Node = CellNode>, S: PagableStorage<E>>(
     alloc: Global,
     pager: &mut Pager<E, S>,
-    table: &mut SlotTable<E>,
     number: u32,
-) -> Option<bool>
+) -> anyhow::Result<bool>
 where
     E::Node: NodeSet<E>,
 {
     match number {
         6 => are_too_deep(alloc),
-        9 => page_out_and_read_back(alloc, "hello world").ok(),
-        10 => is_item_paged_out(alloc, pager, table),
+        9 => Ok(page_out_and_read_back(alloc, "hello world")?),
+        10 => is_item_paged_out(alloc, pager),
         14 => is_stored_once(alloc, pager),
-        24 => write_over(alloc).ok(),
-        _ => Some(true),
+        24 => Ok(write_over(alloc)?),
+        _ => Ok(true),
     }
 }
 
 /// The same by a new pager, of whose storage the second call fails in the row 14.
-fn others_hold(alloc: Global, number: u32) -> Option<bool> {
+fn others_hold(alloc: Global, number: u32) -> anyhow::Result<bool> {
     let mut pager = pager_over::<WeighHash>(alloc, if number == 14 { "1" } else { "" });
-    let mut table = SlotTable::new(alloc);
-    let answer = others_hold_in(alloc, &mut pager, &mut table, number);
+    let answer = others_hold_in(alloc, &mut pager, number);
     let_go(pager);
-    let_go(table);
     answer
 }
 
-/// Whether the row comes out as it has to, on a new machine.
+/// Whether the row comes out as it has to, on a new machine. A refusal that no row wants is a failure too.
 fn is_ok(alloc: Global, calls: &mut Calls, text: &str, number: u32) -> bool {
     calls.answer(alloc, "machine").is_ok()
-        && lines_hold(alloc, calls, text, number) == Some(true)
-        && others_hold(alloc, number) == Some(true)
+        && lines_hold(alloc, calls, text, number).unwrap_or(false)
+        && others_hold(alloc, number).unwrap_or(false)
 }
 
 /// Runs the rows whose lines stand in this text, and prints a line for each.

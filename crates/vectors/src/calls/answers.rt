@@ -7,7 +7,7 @@ use pagable::{
     NodeSet, OptionalDataKey, PagableData, PagableStorage, Pager, PinStep, Pinning, Reply,
     SerializedData, Took, WorkerAnswer, WorkerReply,
 };
-use std::alloc::Global;
+use std::alloc::{AllocError, Global};
 use std::sync::Arc;
 
 type CellReply = Reply<CellNode, Arc<PagableData>>;
@@ -82,38 +82,35 @@ fn told(reply: &CellReply) -> Told {
 }
 
 /// Adds a word and its numbers to a text.
-fn push_words(text: &mut String, told: Told) -> Result<(), Error> {
+fn push_words(alloc: Global, text: &mut String, told: Told) -> anyhow::Result<()> {
     let (word, first, second) = told;
     text.push_str(word)?;
     if let Some(number) = first {
-        write!(text, " {number}")?;
+        text.push_str(format!(in alloc; " {number}")?.as_str())?;
     }
     if let Some(number) = second {
-        write!(text, " {number}")?;
+        text.push_str(format!(in alloc; " {number}")?.as_str())?;
     }
     Ok(())
 }
 
 /// Adds bytes in hex.
-fn push_bytes(text: &mut String, bytes: &[u8]) -> Result<(), Error> {
+fn push_bytes(alloc: Global, text: &mut String, bytes: &[u8]) -> Result<(), AllocError> {
     text.push_str("0x")?;
-    for byte in bytes {
-        write!(text, "{byte:02x}")?;
-    }
-    Ok(())
+    text.push_str(hex::encode(alloc, bytes)?.as_str())
 }
 
 /// Adds what a call answers. That a value comes back is told too.
-fn push_call(text: &mut String, reply: &CellReply) -> Result<(), Error> {
+fn push_call(alloc: Global, text: &mut String, reply: &CellReply) -> anyhow::Result<()> {
     match reply {
         Reply::Fetched(Ok(blob)) | Reply::LoadFound(Ok(Found::Blob(blob))) => {
-            push_bytes(text, blob.as_ref().bytes.as_slice())
+            Ok(push_bytes(alloc, text, blob.as_ref().bytes.as_slice())?)
         }
         Reply::Made(Err((e, _))) | Reply::LoadEnded(Err((e, Some(_)))) => {
-            push_words(text, refused("refused", e))?;
+            push_words(alloc, text, refused("refused", e))?;
             Ok(text.push_str(" back")?)
         }
-        _ => push_words(text, told(reply)),
+        _ => push_words(alloc, text, told(reply)),
     }
 }
 
@@ -179,45 +176,51 @@ fn worker_answer(answer: &WorkerAnswer) -> Told {
 }
 
 /// Adds a step of a worker: how many it has made, the step, and the answer if it was the last.
-fn push_work(text: &mut String, reply: &WorkerReply<Arc<SerializedData>>) -> Result<(), Error> {
+fn push_work(
+    alloc: Global,
+    text: &mut String,
+    reply: &WorkerReply<Arc<SerializedData>>,
+) -> anyhow::Result<()> {
     let (kind, identity, told) = took(&reply.took);
-    write!(text, "{}{kind}", reply.steps)?;
+    text.push_str(format!(in alloc; "{}", reply.steps)?.as_str())?;
+    text.push_str(kind)?;
     if let Some(it) = identity {
-        write!(text, " {}:{}", it.kind.0, it.node.0)?;
+        text.push_str(format!(in alloc; " {}:{}", it.kind.0, it.node.0)?.as_str())?;
     }
-    push_words(text, told)?;
+    push_words(alloc, text, told)?;
     if let Took::Write(_, Ok(written)) = &reply.took {
-        push_written(text, written.as_ref())?;
+        push_written(alloc, text, written.as_ref())?;
     }
     match &reply.answer {
-        Some(answer) => push_words(text, worker_answer(answer)),
+        Some(answer) => push_words(alloc, text, worker_answer(answer)),
         None => Ok(()),
     }
 }
 
 /// Adds what was written of a value, as an item is spelled.
-fn push_written(text: &mut String, written: &SerializedData) -> Result<(), Error> {
+fn push_written(alloc: Global, text: &mut String, written: &SerializedData) -> anyhow::Result<()> {
     text.push_str(" ")?;
-    push_bytes(text, written.bytes.as_slice())?;
+    push_bytes(alloc, text, written.bytes.as_slice())?;
     text.push_str(":")?;
-    push_references(text, written.arcs.as_slice())
+    Ok(push_references(alloc, text, written.arcs.as_slice())?)
 }
 
 /// Adds what a step of a load answers, with a value that was read.
-fn push_moved(alloc: Global, text: &mut String, reply: &LoadReply<CellNode>) -> Result<(), Error> {
-    push_words(text, moved(reply))?;
-    match &reply.ended {
-        Some(LoadAnswer::Read(value)) => value.push(alloc, text),
-        _ => Ok(()),
+fn push_moved(alloc: Global, text: &mut String, reply: &LoadReply<CellNode>) -> anyhow::Result<()> {
+    push_words(alloc, text, moved(reply))?;
+    if let Some(LoadAnswer::Read(value)) = &reply.ended {
+        text.push_str(" = ")?;
+        value.push(alloc, text)?;
     }
+    Ok(())
 }
 
 /// Adds what an event answers.
-fn push_event(alloc: Global, text: &mut String, answer: &CellAnswer) -> Result<(), Error> {
+fn push_event(alloc: Global, text: &mut String, answer: &CellAnswer) -> anyhow::Result<()> {
     let told = match answer {
-        EventReply::CallReply(reply) => return push_call(text, reply),
+        EventReply::CallReply(reply) => return push_call(alloc, text, reply),
         EventReply::LoadMoved(Ok(reply)) => return push_moved(alloc, text, reply),
-        EventReply::WorkerMoved(Ok(reply)) => return push_work(text, reply),
+        EventReply::WorkerMoved(Ok(reply)) => return push_work(alloc, text, reply),
         EventReply::Started(Ok(beginning)) => begun(beginning),
         EventReply::TableMade(Ok(table)) => ("ok", Some(table.0 as u128), None),
         EventReply::WorkerMade(Ok(worker)) => ("ok", Some(worker.0 as u128), None),
@@ -227,11 +230,11 @@ fn push_event(alloc: Global, text: &mut String, answer: &CellAnswer) -> Result<(
         | EventReply::WorkerMade(Err(e))
         | EventReply::WorkerMoved(Err(e)) => refused("refused", e),
     };
-    push_words(text, told)
+    push_words(alloc, text, told)
 }
 
 /// The answers of a list, in the order of its events.
-pub fn replies(alloc: Global, replies: &[CellAnswer]) -> Result<String, Error> {
+pub fn replies(alloc: Global, replies: &[CellAnswer]) -> anyhow::Result<String> {
     let mut text = String::new(alloc);
     for reply in replies {
         if !text.is_empty() {
@@ -263,8 +266,9 @@ where
     } else {
         "here"
     };
-    write!(text, "; {}: {node} {count} {key} {place}", handle.0)?;
+    text.push_str(format!(in alloc; "; {}: {node} {count} {key} {place}", handle.0)?.as_str())?;
     if let Some(value) = pager.value(handle)? {
+        text.push_str(" = ")?;
         value.push(alloc, text)?;
     }
     Ok(())

@@ -1,14 +1,11 @@
 //! The values of the rows, by the numbers of their types.
 
-ghost use Rattle.{pagable.specs.traits.OwnCauses.reads_memory, vectors.specs.Cells.{byte_in_order, mixed, mixed_in_order, shape_of, tail, tail_in_order, told, writes}};
-
-use crate::calls::references::{add, of_kind, of_kinds, push_references, references};
+use crate::calls::references::{of_kind, of_kinds, of_two_kinds, push_references, references};
 use crate::examples::linked::write_listed;
-use anyhow::bail;
+use anyhow::{bail, ensure};
 use pagable::{
-    ArcRef, Carried, Env, Error, KeyHash, NodeSet, OfKind, OneMeaning, PagableDeserialize,
-    PagableDeserializer, PagableSerialize, PagableSerializer, Reason, Refers, WeighHash,
-    references_of,
+    ArcRef, Env, Error, KeyHash, NodeSet, OfKind, PagableDeserialize, PagableDeserializer,
+    PagableSerialize, PagableSerializer, Reason, Refers, WeighHash, references_of,
 };
 use pagable_rows::blobs::bytes_of;
 use std::alloc::Global;
@@ -40,6 +37,15 @@ impl<H: KeyHash> Env for CellEnv<H> {
     ghost parts = { λ e number. nothing };
 }
 
+/// References of each sort to values of their own type, and to names, loose and shared.
+type Lists = (
+    Vec<OfKind<6>>,
+    (Vec<OfKind<7>>, (Vec<OfKind<8>>, (Vec<OfKind<1>>, Names))),
+);
+
+/// A byte and lists.
+type Mixed = (u8, Lists);
+
 /// A link to the next one by a loose reference: of its own kind.
 type Link = Option<OfKind<10>>;
 
@@ -48,128 +54,6 @@ type ArcLink = Option<OfKind<12>>;
 
 /// Shared references to names.
 type Names = Vec<OfKind<0>>;
-
-/// Pins of values, and loose and shared references to names: the last lists of a `Mixed`. What is said of pairs doubles with each, so some stand in a type of their own.
-#[derive(Drop)]
-pub struct Tail {
-    parts: (Vec<OfKind<8>>, (Vec<OfKind<1>>, Names)),
-}
-
-impl<H: KeyHash> Carried<CellEnv<H>> for Tail {
-    ghost shape = { λ e. tail.shape };
-
-    ghost means = { tail.means };
-}
-
-impl<H: KeyHash> OneMeaning<CellEnv<H>> for Tail {
-    ghost single = { tail.single };
-}
-
-impl<H: KeyHash> Refers<CellEnv<H>> for Tail {
-    fn list_references(&self, list: &mut Vec<ArcRef>) -> Result<(), Error> {
-        Refers::<CellEnv<H>>::list_references(&self.parts, list)
-    }
-
-    ghost in_order = { λ e. tail_in_order };
-}
-
-impl<H: KeyHash> PagableSerialize<CellEnv<H>> for Tail {
-    ghost write_causes = { tail.writes };
-
-    fn pagable_serialize<S: PagableSerializer<CellEnv<H>>>(
-        &self,
-        serializer: &mut S,
-    ) -> Result<(), Error> {
-        self.parts.pagable_serialize(serializer)
-    }
-}
-
-impl<'de, H: KeyHash> PagableDeserialize<'de, CellEnv<H>> for Tail {
-    ghost read_causes = { reads_memory };
-
-    fn pagable_deserialize<D: PagableDeserializer<CellEnv<H>>>(
-        alloc: Global,
-        deserializer: &mut D,
-    ) -> Result<Self, Error> {
-        let parts = PagableDeserialize::pagable_deserialize(alloc, deserializer)?;
-        Ok(Tail { parts })
-    }
-}
-
-/// A byte, shared and loose references to values, and more lists.
-#[derive(Drop)]
-pub struct Mixed {
-    parts: (u8, (Vec<OfKind<6>>, (Vec<OfKind<7>>, Tail))),
-}
-
-impl Mixed {
-    /// The byte, and these references, each in the list of its kind.
-    pub fn new(alloc: Global, tag: u8, references: &[ArcRef]) -> Result<Mixed, Error> {
-        let parts = (Vec::new(alloc), (Vec::new(alloc), Vec::new(alloc)));
-        let lists = (Vec::new(alloc), (Vec::new(alloc), Tail { parts }));
-        let mut mixed = Mixed {
-            parts: (tag, lists),
-        };
-        for reference in references {
-            mixed.add(*reference)?;
-        }
-        Ok(mixed)
-    }
-
-    /// Adds a reference to the list of its kind.
-    pub fn add(&mut self, reference: ArcRef) -> Result<(), Error> {
-        let (own, (loose, tail)) = &mut self.parts.1;
-        let (pinned, (loose_names, names)) = &mut tail.parts;
-        match reference.kind.0 {
-            6 => add(own, reference),
-            7 => add(loose, reference),
-            8 => add(pinned, reference),
-            1 => add(loose_names, reference),
-            _ => add(names, reference),
-        }
-    }
-}
-
-impl<H: KeyHash> Carried<CellEnv<H>> for Mixed {
-    ghost shape = { λ e. mixed.shape };
-
-    ghost means = { mixed.means };
-}
-
-impl<H: KeyHash> OneMeaning<CellEnv<H>> for Mixed {
-    ghost single = { mixed.single };
-}
-
-impl<H: KeyHash> Refers<CellEnv<H>> for Mixed {
-    fn list_references(&self, list: &mut Vec<ArcRef>) -> Result<(), Error> {
-        Refers::<CellEnv<H>>::list_references(&self.parts, list)
-    }
-
-    ghost in_order = { λ e. mixed_in_order };
-}
-
-impl<H: KeyHash> PagableSerialize<CellEnv<H>> for Mixed {
-    ghost write_causes = { mixed.writes };
-
-    fn pagable_serialize<S: PagableSerializer<CellEnv<H>>>(
-        &self,
-        serializer: &mut S,
-    ) -> Result<(), Error> {
-        self.parts.pagable_serialize(serializer)
-    }
-}
-
-impl<'de, H: KeyHash> PagableDeserialize<'de, CellEnv<H>> for Mixed {
-    ghost read_causes = { reads_memory };
-
-    fn pagable_deserialize<D: PagableDeserializer<CellEnv<H>>>(
-        alloc: Global,
-        deserializer: &mut D,
-    ) -> Result<Self, Error> {
-        let parts = PagableDeserialize::pagable_deserialize(alloc, deserializer)?;
-        Ok(Mixed { parts })
-    }
-}
 
 /// A node's value.
 #[derive(Drop)]
@@ -193,17 +77,24 @@ pub enum CellNode {
 }
 
 impl CellNode {
-    /// Adds the value behind ` = ` as rows spell it, but for its type. The byte before lists is left out if it is 0.
+    /// Adds the value as rows spell it, but for its type. The byte before lists is left out if it is 0.
     pub fn push(&self, alloc: Global, text: &mut String) -> Result<(), Error> {
-        text.push_str(" = ")?;
         match self {
-            CellNode::Name(name) | CellNode::Note(name) => return Ok(text.push_str(name.as_str())?),
-            CellNode::Bytes((first, second)) => return Ok(write!(text, "{first:02x}{second:02x}")?),
-            CellNode::Mixed(mixed) if mixed.parts.0 != 0 => write!(text, "{}/", mixed.parts.0)?,
-            _ => {}
+            CellNode::Name(name) | CellNode::Note(name) => text.push_str(name.as_str())?,
+            CellNode::Bytes((first, second)) => {
+                text.push_str(hex::encode(alloc, &[*first, *second])?.as_str())?;
+            }
+            _ => {
+                if let CellNode::Mixed((tag, _)) = self {
+                    if *tag != 0 {
+                        text.push_str(format!(in alloc; "{tag}/")?.as_str())?;
+                    }
+                }
+                let references = NodeSet::<CellEnv<WeighHash>>::refs(self, alloc)?;
+                push_references(alloc, text, references.as_slice())?;
+            }
         }
-        let references = NodeSet::<CellEnv<WeighHash>>::refs(self, alloc)?;
-        push_references(text, references.as_slice())
+        Ok(())
     }
 }
 
@@ -214,7 +105,7 @@ pub fn node(alloc: Global, spelled: &str) -> anyhow::Result<CellNode> {
     match node_type {
         "0" => Ok(CellNode::Name(String::from_str(alloc, rest)?)),
         "1" => Ok(CellNode::Note(String::from_str(alloc, rest)?)),
-        "2" => byte_and_lists(alloc, rest),
+        "2" => mixed(alloc, rest),
         "7" => match bytes_of(alloc, rest)?.as_slice() {
             [first, second] => Ok(CellNode::Bytes((*first, *second))),
             _ => bail!("no two bytes"),
@@ -224,11 +115,25 @@ pub fn node(alloc: Global, spelled: &str) -> anyhow::Result<CellNode> {
 }
 
 /// A byte and lists.
-fn byte_and_lists(alloc: Global, spelled: &str) -> anyhow::Result<CellNode> {
+fn mixed(alloc: Global, spelled: &str) -> anyhow::Result<CellNode> {
     let (tag, rest) = spelled.split_once('/').unwrap_or(("0", spelled));
     let tag = tag.parse::<u8>()?;
-    let references = references(alloc, rest)?;
-    Ok(CellNode::Mixed(Mixed::new(alloc, tag, references.as_slice())?))
+    let spelled = references(alloc, rest)?;
+    let node = CellNode::Mixed((tag, lists(alloc, spelled.as_slice())?));
+    let listed = NodeSet::<CellEnv<WeighHash>>::refs(&node, alloc)?;
+    ensure!(
+        listed == spelled,
+        "references of other kinds, or in another order"
+    );
+    Ok(node)
+}
+
+/// The lists of these references, list after list.
+pub fn lists(alloc: Global, spelled: &[ArcRef]) -> Result<Lists, Error> {
+    let (own, loose) = of_two_kinds(alloc, spelled)?;
+    let pinned = of_kinds(alloc, spelled)?;
+    let names = of_two_kinds(alloc, spelled)?;
+    Ok((own, (loose, (pinned, names))))
 }
 
 /// A value of references of one kind.
@@ -251,10 +156,14 @@ impl<H: KeyHash> Refers<CellEnv<H>> for u8 {
         Ok(())
     }
 
+    ghost use Rattle.vectors.specs.Cells.{byte_in_order};
+
     ghost in_order = { λ e. byte_in_order };
 }
 
 impl<H: KeyHash> NodeSet<CellEnv<H>> for CellNode {
+    ghost use Rattle.{pagable.specs.traits.OwnCauses.reads_memory, vectors.specs.Cells.{shape_of, told, writes}};
+
     ghost type_of = { λ n. (told n).number };
 
     ghost shape_of = { λ e t. shape_of t };
@@ -295,7 +204,7 @@ impl<H: KeyHash> NodeSet<CellEnv<H>> for CellNode {
     #[tactic(auto, unfolding(pagable_model::specs::References::references_in))]
     fn refs(&self, alloc: Global) -> Result<Vec<ArcRef>, Error> {
         match self {
-            CellNode::Mixed(mixed) => references_of::<CellEnv<H>, Mixed>(alloc, mixed),
+            CellNode::Mixed(mixed) => references_of::<CellEnv<H>, Lists>(alloc, &mixed.1),
             CellNode::Link(next) => references_of::<CellEnv<H>, Link>(alloc, next),
             CellNode::ArcLink(next) => references_of::<CellEnv<H>, ArcLink>(alloc, next),
             CellNode::Names(names) => references_of::<CellEnv<H>, Names>(alloc, names),
@@ -304,11 +213,12 @@ impl<H: KeyHash> NodeSet<CellEnv<H>> for CellNode {
         }
     }
 
+    #[tactic(auto, using(crate::proofs::Listed::mixed_listed))]
     fn write<S: PagableSerializer<CellEnv<H>>>(&self, serializer: &mut S) -> Result<(), Error> {
         match self {
             CellNode::Name(text) => write_listed(text, serializer),
             CellNode::Note(_) => Err(Error::Custom(Reason::new("writing is refused"))),
-            CellNode::Mixed(mixed) => write_listed(mixed, serializer),
+            CellNode::Mixed(mixed) => mixed.pagable_serialize(serializer),
             CellNode::Link(next) => write_listed(next, serializer),
             CellNode::ArcLink(next) => write_listed(next, serializer),
             CellNode::Names(names) => write_listed(names, serializer),

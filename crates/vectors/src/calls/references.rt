@@ -1,5 +1,6 @@
 //! References as rows spell them.
 
+use anyhow::Context;
 use pagable::{ArcRef, Error, HandleNumber, Kind, NodeNumber, OfKind};
 use std::alloc::Global;
 
@@ -26,33 +27,44 @@ fn reference(word: &str) -> ArcRef {
 }
 
 /// Adds references as rows spell them, parted by commas.
-pub fn push_references(text: &mut String, references: &[ArcRef]) -> Result<(), Error> {
+pub fn push_references(
+    alloc: Global,
+    text: &mut String,
+    references: &[ArcRef],
+) -> Result<(), Error> {
     let mut comma = "";
     for r in references {
-        write!(text, "{comma}{}:{}:{}", r.kind.0, r.node.0, r.handle.0)?;
+        let word = format!(in alloc; "{comma}{}:{}:{}", r.kind.0, r.node.0, r.handle.0)?;
+        text.push_str(word.as_str())?;
         comma = ",";
     }
     Ok(())
 }
 
 /// A reference of the kind that is wanted.
-pub fn of_kind<const KIND: u32>(reference: ArcRef) -> Result<OfKind<KIND>, Error> {
-    OfKind::from_reference(reference).ok_or(Error::WrongKind)
+pub fn of_kind<const KIND: u32>(reference: ArcRef) -> anyhow::Result<OfKind<KIND>> {
+    OfKind::from_reference(reference).context("a reference of another kind")
 }
 
-/// Adds a reference of the kind that is wanted.
-pub fn add<const KIND: u32>(list: &mut Vec<OfKind<KIND>>, reference: ArcRef) -> Result<(), Error> {
-    Ok(list.push(of_kind(reference)?)?)
-}
-
-/// References of one kind.
+/// Those that are of the kind that is wanted.
 pub fn of_kinds<const KIND: u32>(
     alloc: Global,
     references: &[ArcRef],
 ) -> Result<Vec<OfKind<KIND>>, Error> {
-    let mut list = Vec::new(alloc);
+    let mut found = Vec::new(alloc);
     for reference in references {
-        add(&mut list, *reference)?;
+        if let Some(reference) = OfKind::from_reference(*reference) {
+            found.push(reference)?;
+        }
     }
-    Ok(list)
+    Ok(found)
+}
+
+/// Those that are of the one kind, and those that are of the other.
+pub fn of_two_kinds<const KIND: u32, const OTHER: u32>(
+    alloc: Global,
+    references: &[ArcRef],
+) -> Result<(Vec<OfKind<KIND>>, Vec<OfKind<OTHER>>), Error> {
+    let first = of_kinds(alloc, references)?;
+    Ok((first, of_kinds(alloc, references)?))
 }

@@ -1,12 +1,12 @@
 //! Texts, and values that refer to others, which are paged out and pinned again. Keys are made by SHA-256.
 
-use crate::calls::nodes::{CellNode, Mixed};
-use crate::calls::{let_go, made, pager_over};
+use crate::calls::nodes::{CellNode, lists};
+use crate::calls::{let_go, pager_over};
 use crate::times::Outcome;
 use anyhow::Context;
 use pagable::{
-    ArcRef, DataKey, Env, HandleNumber, Kind, NodeSet, PagableStorage, Pager, SerializedData,
-    Sha256Key, SlotTable, paging,
+    ArcRef, DataKey, Env, Error, HandleNumber, Kind, NodeSet, PagableStorage, Pager,
+    SerializedData, Sha256Key, SlotTable, paging,
 };
 use pagable_rows::Draws;
 use std::alloc::Global;
@@ -17,80 +17,118 @@ use std::time::{Clock, Instant};
 const SHARED: u64 = 2_000;
 
 /// A list of eight references to drawn ones of these texts, as it is written.
-fn list(alloc: Global, texts: &[ArcRef], draws: &mut Draws) -> Option<Arc<SerializedData>> {
+fn list(alloc: Global, texts: &[ArcRef], draws: &mut Draws) -> anyhow::Result<Arc<SerializedData>> {
     let mut arcs = Vec::new(alloc);
     for _ in 0..8 {
         let place = (draws.number() % SHARED) as usize;
-        arcs.push(*texts.get(place)?).ok()?;
+        arcs.push(*texts.get(place).context("no text")?)?;
     }
-    let bytes = vec![in alloc; 8].ok()?;
-    Arc::new(alloc, SerializedData { bytes, arcs }).ok()
+    let bytes = vec![in alloc; 8]?;
+    Ok(Arc::new(alloc, SerializedData { bytes, arcs })?)
 }
 
-/// A pager that is filled. None, below, is a refusal.
+/// A pager that is filled.
 #[derive(Drop)]
 struct Filling<E: Env<Node: NodeSet<E>>, S: PagableStorage<E>> {
     alloc: Global,
     pager: Pager<E, S>,
 }
 
+impl<E: Env<Node: NodeSet<E>>, S: PagableStorage<E>> Filling<E, S> {
+    /// A new node: a cell that waits for its page-out, or one that values share.
+    fn made(&mut self, value: E::Node, is_cell: bool) -> anyhow::Result<HandleNumber> {
+        if !is_cell {
+            let shared = self.pager.new_shared(self.alloc, value);
+            return shared.ok().context("a node is refused");
+        }
+        let cell = self.pager.new_loose(self.alloc, value);
+        let cell = cell.ok().context("a cell is refused")?;
+        self.pager.unpin(cell)?;
+        Ok(cell)
+    }
+
+    /// The reference of this kind by this handle.
+    fn reference(&self, kind: u32, handle: HandleNumber) -> Result<ArcRef, Error> {
+        let (kind, node) = (Kind(kind), self.pager.node_of(handle)?);
+        Ok(ArcRef { kind, node, handle })
+    }
+
+    /// A reference of this kind by a copy of this handle.
+    fn copied(&mut self, kind: u32, handle: HandleNumber) -> Result<ArcRef, Error> {
+        let copy = self.pager.clone(handle)?;
+        self.reference(kind, copy)
+    }
+
+    /// The key of an item that is paged out on this table.
+    fn key_of(
+        &mut self,
+        table: &mut SlotTable<E>,
+        item: Arc<SerializedData>,
+    ) -> anyhow::Result<DataKey> {
+        let key = paging::page_out_item(self.alloc, &mut self.pager, table, item);
+        key.ok().context("an item isn't paged out")
+    }
+
+    /// The keys of items that are paged out on this table.
+    fn keys_on(
+        &mut self,
+        table: &mut SlotTable<E>,
+        items: Vec<Arc<SerializedData>>,
+    ) -> anyhow::Result<Vec<DataKey>> {
+        let mut keys = Vec::with_capacity(self.alloc, items.len())?;
+        for item in items {
+            keys.push(self.key_of(table, item)?)?;
+        }
+        Ok(keys)
+    }
+
+    /// The same on a new table.
+    fn keys_of(&mut self, items: Vec<Arc<SerializedData>>) -> anyhow::Result<Vec<DataKey>> {
+        let mut table = SlotTable::new(self.alloc);
+        let keys = self.keys_on(&mut table, items);
+        let_go(table);
+        keys
+    }
+}
+
 impl<E: Env<Node = CellNode>, S: PagableStorage<E>> Filling<E, S>
 where
     E::Node: NodeSet<E>,
 {
-    /// The reference of this kind by this handle.
-    fn reference(&self, kind: u32, handle: HandleNumber) -> Option<ArcRef> {
-        let (kind, node) = (Kind(kind), self.pager.node_of(handle).ok()?);
-        Some(ArcRef { kind, node, handle })
-    }
-
-    /// A reference to a new text.
-    fn text(&mut self, text: String) -> Option<ArcRef> {
-        let text = made(self.alloc, &mut self.pager, CellNode::Name(text), false)?;
-        self.reference(0, text)
-    }
-
-    /// The texts that lists share.
-    fn texts(&mut self) -> Option<Vec<ArcRef>> {
+    /// So many lists of eight references each.
+    fn lists(&mut self, count: u32) -> anyhow::Result<Vec<Arc<SerializedData>>> {
         let mut texts = Vec::new(self.alloc);
         for number in 0..SHARED {
-            let text = format!(in self.alloc; "shared text number {number}").ok()?;
-            texts.push(self.text(text)?).ok()?;
+            let text = format!(in self.alloc; "shared text number {number}")?;
+            let text = self.made(CellNode::Name(text), false)?;
+            texts.push(self.reference(0, text)?)?;
         }
-        Some(texts)
-    }
-
-    /// So many lists of eight references each.
-    fn lists(&self, texts: &[ArcRef], count: u32) -> Option<Vec<Arc<SerializedData>>> {
         let mut draws = Draws::new(8);
         let mut lists = Vec::new(self.alloc);
         for _ in 0..count {
-            lists.push(list(self.alloc, texts, &mut draws)?).ok()?;
+            lists.push(list(self.alloc, texts.as_slice(), &mut draws)?)?;
         }
-        Some(lists)
+        Ok(lists)
     }
 
-    /// A reference of this kind by a copy of this handle.
-    fn copied(&mut self, kind: u32, handle: HandleNumber) -> Option<ArcRef> {
-        let copy = self.pager.clone(handle).ok()?;
-        self.reference(kind, copy)
-    }
-
-    /// The value of a node of a tree: it refers by this kind to two of the nodes of the level below, of which there are as many as two for each or 64, and to a text of its own.
+    /// The value of a node of a tree: it refers by this kind to two of the nodes of the level below, and to a text of its own.
     fn branch(
         &mut self,
         kind: u32,
-        text: ArcRef,
+        text: String,
         below: &[HandleNumber],
         place: usize,
-    ) -> Option<CellNode> {
-        let first = place.wrapping_mul(2) % below.len().max(1);
-        let kids = below.get(first..first.wrapping_add(2));
-        let mut value = Mixed::new(self.alloc, 0, &[text]).ok()?;
-        for kid in kids.unwrap_or_default() {
-            value.add(self.copied(kind, *kid)?).ok()?;
+    ) -> anyhow::Result<CellNode> {
+        let mut references = Vec::new(self.alloc);
+        for next in 0..2 {
+            let kid = place.wrapping_mul(2).wrapping_add(next) % below.len().max(1);
+            if let Some(kid) = below.get(kid) {
+                references.push(self.copied(kind, *kid)?)?;
+            }
         }
-        Some(CellNode::Mixed(value))
+        let text = self.made(CellNode::Name(text), false)?;
+        references.push(self.reference(0, text)?)?;
+        Ok(CellNode::Mixed((0, lists(self.alloc, references.as_slice())?)))
     }
 
     /// The nodes of one level of a tree, over those of the level below: twice as many as of the level above, and at most 64.
@@ -100,60 +138,41 @@ where
         tree: u32,
         level: usize,
         below: &[HandleNumber],
-    ) -> Option<Vec<HandleNumber>> {
+    ) -> anyhow::Result<Vec<HandleNumber>> {
         let mut nodes = Vec::new(self.alloc);
         for place in 0..1usize << level.min(6) {
-            let text = format!(in self.alloc; "tree {tree} level {level} node {place}").ok()?;
-            let text = self.text(text)?;
+            let text = format!(in self.alloc; "tree {tree} level {level} node {place}")?;
             let value = self.branch(kind, text, below, place)?;
-            let is_cell = kind == 7 || level == 0;
-            nodes
-                .push(made(self.alloc, &mut self.pager, value, is_cell)?)
-                .ok()?;
+            nodes.push(self.made(value, kind == 7 || level == 0)?)?;
         }
-        Some(nodes)
+        Ok(nodes)
     }
 
     /// The root of a tree of 319 nodes in ten levels.
-    fn tree(&mut self, kind: u32, tree: u32) -> Option<HandleNumber> {
+    fn tree(&mut self, kind: u32, tree: u32) -> anyhow::Result<HandleNumber> {
         let mut below = Vec::new(self.alloc);
         for place in (0..10).rev() {
             let nodes = self.level(kind, tree, place, below.as_slice())?;
             for handle in &below {
-                self.pager.release(*handle).ok()?;
+                self.pager.release(*handle)?;
             }
             below = nodes;
         }
-        below.pop()
+        below.pop().context("no root")
     }
 
     /// The cells of a row: texts, or roots of trees whose nodes refer to each other by shared references or by loose ones.
-    fn cells(&mut self, row: &str, count: u32) -> Option<Vec<HandleNumber>> {
+    fn cells(&mut self, row: &str, count: u32) -> anyhow::Result<Vec<HandleNumber>> {
         let mut cells = Vec::new(self.alloc);
         for number in 0..count {
-            let text = format!(in self.alloc; "the text of cell number {number}").ok()?;
-            let cell = match row {
-                "cells" => made(self.alloc, &mut self.pager, CellNode::Name(text), true)?,
+            let text = format!(in self.alloc; "the text of cell number {number}")?;
+            cells.push(match row {
+                "cells" => self.made(CellNode::Name(text), true)?,
                 "trees" => self.tree(6, number)?,
                 _ => self.tree(7, number)?,
-            };
-            cells.push(cell).ok()?;
+            })?;
         }
-        Some(cells)
-    }
-
-    /// The keys of items that are paged out on this table.
-    fn keys_of(
-        &mut self,
-        table: &mut SlotTable<E>,
-        items: Vec<Arc<SerializedData>>,
-    ) -> Option<Vec<DataKey>> {
-        let mut keys = Vec::new(self.alloc);
-        for item in items {
-            let key = paging::page_out_item(self.alloc, &mut self.pager, table, item);
-            keys.push(key.ok()?).ok()?;
-        }
-        Some(keys)
+        Ok(cells)
     }
 
     /// Pages out the cells of a row, and pins each.
@@ -163,7 +182,7 @@ where
         row: &str,
         count: u32,
     ) -> anyhow::Result<Outcome> {
-        let cells = self.cells(row, count).context("a cell isn't made")?;
+        let cells = self.cells(row, count)?;
         let start = Instant::now(clock)?;
         let paged_out = paging::page_out_pending(self.alloc, &mut self.pager);
         paged_out.ok().context("the cells aren't paged out")?;
@@ -177,38 +196,23 @@ where
     }
 
     /// Pages out lists, and reads each key.
-    fn lists_out_and_in(
-        &mut self,
-        clock: &impl Clock,
-        table: &mut SlotTable<E>,
-        count: u32,
-    ) -> anyhow::Result<Outcome> {
-        let texts = self.texts().context("a text isn't made")?;
-        let lists = self.lists(texts.as_slice(), count);
-        let lists = lists.context("a list isn't made")?;
+    fn lists_out_and_in(&mut self, clock: &impl Clock, count: u32) -> anyhow::Result<Outcome> {
+        let lists = self.lists(count)?;
         let start = Instant::now(clock)?;
-        let keys = self
-            .keys_of(table, lists)
-            .context("a list isn't paged out")?;
+        let keys = self.keys_of(lists)?;
         let write = start.elapsed(clock)?;
         let start = Instant::now(clock)?;
-        for key in &keys {
-            paging::read(self.alloc, &mut self.pager, *key, 5)?;
+        for key in keys {
+            paging::read(self.alloc, &mut self.pager, key, 5)?;
         }
         let read = start.elapsed(clock)?;
         Ok(Outcome { write, read })
     }
 
-    /// Makes what a row pages out, pages it out, on this table where it is a list of items, and reads it back.
-    fn out_and_in(
-        &mut self,
-        clock: &impl Clock,
-        table: &mut SlotTable<E>,
-        row: &str,
-        count: u32,
-    ) -> anyhow::Result<Outcome> {
+    /// Makes what a row pages out, pages it out, and reads it back.
+    fn out_and_in(&mut self, clock: &impl Clock, row: &str, count: u32) -> anyhow::Result<Outcome> {
         match row {
-            "items" => self.lists_out_and_in(clock, table, count),
+            "items" => self.lists_out_and_in(clock, count),
             _ => self.cells_out_and_in(clock, row, count),
         }
     }
@@ -218,9 +222,7 @@ where
 pub fn once(clock: &impl Clock, alloc: Global, row: &str, count: u32) -> anyhow::Result<Outcome> {
     let pager = pager_over::<Sha256Key>(alloc, "");
     let mut filling = Filling { alloc, pager };
-    let mut table = SlotTable::new(alloc);
-    let outcome = filling.out_and_in(clock, &mut table, row, count);
+    let outcome = filling.out_and_in(clock, row, count);
     let_go(filling);
-    let_go(table);
     outcome
 }
