@@ -1,6 +1,6 @@
 -- A form is read again, whatever follows it, and is refused where one of its references is.
 use Rattle.pagable_laws.proofs.Words.{Bool, Entries, Entry, Err, Error, Form, Forms, IsReadable, LiesIn, List, Meaning, Ok, Result, Shape, Throughout, [], ap, append-nil, append_assoc, arith, false}
-use Rattle.pagable_laws.proofs.Words.{inl, inr, length, length-append, nat_tests, put_all, read, reference-form, refl, rest, run-form, subst, suc, sym, zero, ℕ, ℤ, ◌++◌, ◌+◌, ◌<◌, ◌∙◌, ◌∷◌, ◌≡◌}
+use Rattle.pagable_laws.proofs.Words.{inl, inr, length, length-append, nat_tests, one, put_all, read, reference-form, refl, rest, run-form, subst, suc, sym, zero, ℕ, ℤ, ◌++◌, ◌+◌, ◌<◌, ◌∙◌, ◌∷◌, ◌≡◌}
 use Rattle.{pagable_laws.{proofs.Words.{◌≤◌, ◌⊎◌}, specs.FormLaws.{IsPrefixFree, IsReadAgain, LooksUp, more-references, no-references}}, pagable_model.specs.Basic.{bool_at, bool_form, char_at}}
 use Rattle.pagable_model.specs.{Basic.{char_form, duration_at, duration_form, length_at, length_form, longest, nanos_of_second, text_at, text_form}, Canonical.{HasNoCase, IsCanonical, Within}}
 use Rattle.pagable_model.specs.{Carried.of_entries, Form.{array-form, both-form, case-form, duration-form, err-form, flag-form, hash-map-form, json-array-form, json-flag-form, json-number-form}}
@@ -10,7 +10,7 @@ use Rattle.pagable_model.specs.{Keyed.{throughout-alone, throughout-over}, Keys.
 use Rattle.pagable_model.specs.{Keys.text_order, Meaning.sequence, Numbers.{IsSigned, bound, signed_at, signed_form, signed_from, unsigned_at, unsigned_form, unsigned_of, varint, varint_at}}
 use Rattle.{pagable_model.specs.{Numbers.varint_limit, Reading.{Gets, Look, Rest, below, items, read_with, two}, Shape.nested, Steps.◌>>=◌}, std.proofs.Common.{ltb, ◌%◌, ◌/◌, ◌^◌, ◌⊎◌}}
 use Rattle.std.proofs.lemmas.{Bool.{le-leb, le-ltb, lt-ltb}, List.{append_cancel_right, drop_at, take_at}, Str.{IsUtf8-encode, chars-encodes, is_utf8-from_IsUtf8, length-encode}}
-use Rattle.std.specs.{Char.IsScalar, FinMap.Entries.put, Int.{Width, w32, w64}, Str.IsUtf8, declared.cmp.Ordering.Ordering}
+use Rattle.std.specs.{Char.{IsScalar, encode_utf8, len_utf8}, FinMap.Entries.put, Int.{Width, w32, w64}, Str.{IsUtf8, chars}, declared.cmp.Ordering.Ordering}
 pub use Rattle.{pagable_world.proofs.Elements.{at-most-sum, counted, sum-none as sum-zero}, std.proofs.lemmas.{Bool.eqb-true as same-number, Option.same_Some as same_some}}
 
 -- ---- from what holds throughout a shape to what holds throughout the shapes in it
@@ -37,6 +37,10 @@ module _ {P : Shape → Type 0} {parts : ℕ → Shape} where
   -- of a shape that contains nothing
   pub alone : {s : Shape} → ((nodes those : ℕ → Type 0) → LiesIn nodes those s) → P s → Throughout P parts s
   alone {s} l p = throughout-alone P parts s p (λ those. l (λ n. Unit {0}) those)
+
+-- of what the shape refers to
+pub lower : (nodes : ℕ → Type 0) {parts : ℕ → Shape} {s t : Shape} → Under s t → Throughout (LiesIn nodes (λ n. Unit {0})) parts s → Throughout (LiesIn nodes (λ n. Unit {0})) parts t
+lower nodes u h = narrowed h (u nodes (λ n. Unit {0})) u
 
 -- ---- whole numbers are read again
 
@@ -70,7 +74,10 @@ text-again t x1 u h = grind (arith, nat_tests, ltb, rest, le-ltb, length-append,
 
 pub char-again : (c : ℕ) (rest : List ℕ) → IsScalar c → char_at (char_form c ++ rest) ≡ Ok (c, rest)
 unfolding char_at
-char-again c rest s = grind (arith, nat_tests, append-nil, text-again, IsUtf8-encode, chars-encodes (c ∷ []) (rw s refl), length-encode c)
+char-again c rest s =
+    let small : len_utf8 c ≤ 4 = grind arith in
+    let one : chars (encode_utf8 c) ≡ c ∷ [] = rw (← append-nil (encode_utf8 c)) (chars-encodes (c ∷ []) (rw s refl)) in
+    rw (text-again (encode_utf8 c) rest (IsUtf8-encode c s) (omega (arith, length-encode c, small)), one) refl
 
 pub duration-again : (seconds nanos : ℕ) (rest : List ℕ) → seconds < 2 ^ 64 → nanos < nanos_of_second → duration_at (duration_form seconds nanos ++ rest) ≡ Ok ((seconds, nanos), rest)
 unfolding duration_at

@@ -3,7 +3,7 @@
 -- What follows for keys: each that is published is its tree's, each that is answered is its task's, and what a worker met that answers one is left paged out.
 -- A worker's steps up to its answer: none of its own claims waits any more, and what another claimed is as it was.
 use Rattle.pagable_laws.proofs.{Called.{begin-goes, begins-key}, Coming.{FailsMet, answered as was-answered, failed-elsewhere, failed-stays, fails-stay, first-met, follows-met, goes-same, stands-on}}
-use Rattle.pagable_laws.proofs.{Decoding.{among-left, among-right}, Following.{cell-of, keys-of, known-of, tree-form}, Goes.{Goes, updated-at}, Merkle.tree_laws, ReadingSteps.site_of}
+use Rattle.pagable_laws.proofs.{Decoding.{among-left, among-right}, Following.{cell-of, keys-of, known-of, tree-form}, Goes.{Goes, updated-at}, Merkle.{one_item_key, one_key}, ReadingSteps.site_of}
 use Rattle.pagable_laws.proofs.{ReadingSteps.{caller-free, reading-feels}, SparingSteps.{hands, read-right}, Standing.{AllStand, AllWait, Covers, Goes as ShelfGoes, HasNoFailed, first-stands, grows}}
 use Rattle.pagable_laws.proofs.{Standing.{some-none, some-same}, Stepping.{all-known, all-low, done-on, keys-same, stands-for}, Taking.{Going, fits-nothing, given-nodes, going-new, going-step}}
 use Rattle.pagable_laws.proofs.{Taking.{reading-fits, row-held, stands-here, trees-go-on, was-open}, Trees.{same-number, same_some, steps_follow}, Words.{Alike, ArcRef, Blob, Bool, Claim, Core, Ok}}
@@ -184,7 +184,9 @@ module _ (k : ℕ) (i : Identity) where
     entry : (r : ArcRef) (place : ℕ) (steps : List (Took W)) (last : List Todo) → Leads f (to_start r place ∷ []) steps last → times (is_claim_of i) steps ≤ 1 → times (is_later_of k i) steps ≤ 1
     entry r place [] last leads few = omega arith
     entry r place (Took.Claim j (Ok Claim.Claimed) ∷ steps) last (mid, (is, e), leads) few =
-        grind (arith, nat_tests, once-more, bounded, along, few-claims (Took.Claim j (Ok Claim.Claimed)) steps few)
+        let few_left : one (at r) + times (is_claim_of i) steps ≤ 1 = subst (λ j. one (is_identity i j) + times (is_claim_of i) steps ≤ 1) is
+        (few-claims (Took.Claim j (Ok Claim.Claimed)) steps few) in
+        grind (arith, nat_tests, once-more, bounded, along)
     entry r place (Took.Claim j (Ok Claim.Waiting) ∷ steps) last (mid, (is, e), leads) few =
         let less : times (is_claim_of i) steps ≤ 1 = let c = few-claims (Took.Claim j (Ok Claim.Waiting)) steps few in omega arith in
         grind (arith, nat_tests, once-more, entry r place steps last (subst (λ m. Leads f m steps last) e leads) less)
@@ -215,10 +217,9 @@ module _ {N E : Type 0} (v : Values N) (s : MachineState N E) (trees : ℕ → T
   is-key (of_item written) key (keys, known, is, lows) =
       let each = keys-of (stands-for v (ground_of s trees) shelf (fit.slots t)) written.references keys known in
       let k : KeyOfItem v.hash v.types written.bytes (kids_of trees written.references) key = record { keys = keys; each = each; is = is } in
-      (k, λ canonical other o. tree_laws.is_one_item_key v.hash v.types written.bytes (kids_of trees written.references) other key canonical o k)
+      (k, λ canonical other o. one_item_key.one v.hash v.types written.bytes (kids_of trees written.references) other key canonical o k)
   is-key (of_entry h i) key (height, p) =
-      let k = (stands-for v (ground_of s trees) shelf (fit.slots t) i key height p).right.is_key in
-      (k, λ canonical other o. tree_laws.is_one_key v.hash v.types (trees i.node.0) other key canonical o k)
+      let k = (stands-for v (ground_of s trees) shelf (fit.slots t) i key height p).right.is_key in (k, λ canonical other o. one_key v.hash v.types (trees i.node.0) other key canonical o k)
 
   met : (task : Task) (key : ℕ) → IsDone v shelf task key → (i : Identity) → Meets shelf task i → (k : ℕ) × ((h : ℕ) × IsPublished shelf i k h)
   met task key done i (meets-of-item written r is among) = let d = subst (λ x. IsDone v shelf x key) is done in let p = known-of shelf written.references d.0 d.1 r among in (p.0, p.1)

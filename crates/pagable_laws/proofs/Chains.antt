@@ -126,7 +126,10 @@ module _ {N B W : Type 0} (m : Seen N B W) (v : ℕ) (s s' : Site) (whole : Hand
   stepped (to_load r place through reading ∷ below) (Took.Pin i (Ok PinStep.LoadWent)) e (is, p) f (h, waits) = let t = p.goes.2 in
       stays t.table_stays.slots t.list_is (stands-on f h, waits-on f below waits)
   stepped (to_write r place through ∷ below) (Took.Write i (Ok out)) e (is, p) f (h, waits) =
-      grind (arith, nat_tests, leaves, started, changed-reveals, m.written_of out, stands-on f h, waits-on f below waits)
+      let t = p.writes in
+      leaves t.list_is
+      (started s'.core v place (m.written_of out).references _ below (stands-on f h) (waits-on f below waits) (stands-on f h, waits-on f below waits))
+      (changed-reveals s.shelf s'.shelf KeyThere (identity_of r) (λ slot. record slot { written = Some (m.written_of out) }) t.table_is (λ old key height is. inl is))
   stepped (to_finish o ∷ below) (Took.Store i (Ok key)) e (is, p) f (h, waits) = let t = p.goes in stays t.table_stays.slots t.list_is (stands-on f h, waits-on f below waits)
   stepped (to_set r through key height ∷ below) (Took.SetKey i (Ok u)) e (is, p) f (h, waits) = let t = p.goes in
       let sets = p.sets in stays t.table_stays.slots t.list_is ((grind (arith, nat_tests, goes-quiet, fell, updated-at), still-held v r through key u whole h p.sets), waits-on f below waits)
@@ -177,7 +180,9 @@ module _ {N E B W : Type 0} (m : Seen N B W) (s : MachineState N E) (trees : ℕ
         → IsMachineWhole m.values s' → KeysAreReady m.values s trees
         → (event : Event N B W) (reply : EventReply N B W) {c : Change} → CoreGoes c s.pager.core s'.pager.core → IsWellAsked m.values s trees event reply
         → EventFeels m.values (world_of s) event reply (world_of s') c → (trees' : ℕ → Tree) × ChangeFits m.values c (EventBrings m.values (world_of s) event) s.pager s'.pager trees trees'
-    event-fits lawful readable s' settled whole whole' ready event reply goes well (by-call c call answer called replied feels keeps) = grind (arith, nat_tests, call-fits)
+    event-fits lawful readable s' settled whole whole' ready event reply goes well (by-call c call answer called replied feels keeps) =
+        let asked = rw (called, replied) at well in
+        let f = call-fits lawful settled whole.pager whole'.pager stands.pager c call answer goes asked feels in (f.0, rw called f.1)
     event-fits lawful readable s' settled whole whole' ready event reply goes well (by-reading c reading answer frames stepped opens feels steps) =
         let g = going-of s trees readings reading (is-reading-of (world_of s) event reading stepped) in
         let f = reading-fits lawful settled whole.pager whole'.pager stands.pager readable reading g.fits (given-nodes reading.frames g.held) goes

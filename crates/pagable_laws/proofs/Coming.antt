@@ -2,11 +2,11 @@
 use Rattle.pagable_laws.proofs.{Decoding.{among-left, among-right}, Goes.{le-of, updated-at}, ReadingSteps.{event-goes, site_of}, Standing.{AllStand, Covers, CoversBy, Goes, HasNoFailed, SameSlots}}
 use Rattle.pagable_laws.proofs.Standing.{ShelfGrows, SlotChanges, Turned, WorkStands, all-stay, changes-slot, failed-goes, fails, follows-waits, given-open, gives, grows, is-changed, is-new, is-same}
 use Rattle.pagable_laws.proofs.Standing.{is-quiet, is-self, is-started, is-stepped, is_failed, is_open_in, meets-grow, open-slot, own-goes, plain, put-cases, puts-slot, same-slots, settles, swaps}
-use Rattle.pagable_laws.proofs.{Standing.{some-none, some-same, started-open, true-false, work-stands}, Trees.{same-number, steps_follow}, Words.{Among, ArcRef, Claim, Core, Does, Err, Error}}
-use Rattle.pagable_laws.proofs.Words.{Event, EventReply, Happens, Identity, IsIdle, List, MachineState, None, Ok, Option, Seen, Shelf, Site, Slot, Some, Task, Todo, Took, Walking, World}
-use Rattle.pagable_laws.proofs.Words.{WorkerAnswer, WorkerNumber, WorkerReply, WorkerSteps, Written, [], answer_after, ap, arith, cases_Bool, drop, false, false_from_ne_true, give, identity_of}
-use Rattle.pagable_laws.proofs.Words.{if◌then◌else◌, length, nat_eq, nat_tests, no_result, one, refl, rules, step_of, subst, sum_by-cons, sym, times, to_fail, to_finish, to_item, to_load, true}
-use Rattle.{pagable_laws.proofs.Words.{to_pin, to_release, to_set, to_start, to_write, updated, world_of, ℕ, ◌*◌, ◌++◌, ◌+◌, ◌<◌, ◌==◌, ◌∙◌, ◌∷◌, ◌≡◌, ◌≤◌}, pagable_world.specs.Events.Starts}
+use Rattle.pagable_laws.proofs.{Standing.{some-none, some-same, started-open, true-false, work-stands}, Trees.{same-number, steps_follow}, Words.{Among, ArcRef, Call, Claim, Core, Does, Err, Error}}
+use Rattle.pagable_laws.proofs.Words.{Event, EventReply, Happens, Identity, IsIdle, KeepsOpen, List, MachineState, None, Ok, Option, Seen, Shelf, Site, Slot, Some, Task, Todo, Took, Walking, World}
+use Rattle.pagable_laws.proofs.Words.{WorkerAnswer, WorkerNumber, WorkerReply, WorkerSteps, Written, [], answer_after, ap, arith, cases_Bool, drop, false, false_from_ne_true, give, identity_of, inl}
+use Rattle.pagable_laws.proofs.Words.{if◌then◌else◌, inr, length, nat_eq, nat_tests, no_result, one, refl, rules, step_of, subst, sum_by-cons, sym, times, to_fail, to_finish, to_item, to_load, true}
+use Rattle.{pagable_laws.proofs.Words.{to_pin, to_release, to_set, to_start, to_write, updated, world_of, ℕ, ◌*◌, ◌++◌, ◌+◌, ◌<◌, ◌==◌, ◌∙◌, ◌∷◌, ◌≡◌, ◌≤◌, ◌⊎◌}, pagable_world.specs.Events.Starts}
 use Rattle.pagable_world.specs.{Events.{WorkStays, new_walking}, Headline.{FailedElsewhere, IsMetFailure}, Order.{Follows, Leads, MetError, is_claim, own_references, references_written}}
 use Rattle.pagable_world.specs.{Workers.{first_todo, is_counted, next_start, settle, with_outcome, with_wait}, World.{Open, answer_of_fault, is_identity, published, to_publish}}
 use Rattle.{pagable_world.specs.declared.events.TableNumber.TableNumber, std.proofs.{Common.{append-nil, length-append, ◌-◌}, lemmas.{Bool.{or_cases, or_left, or_right}, List.length-drop}}}
@@ -88,7 +88,10 @@ goes-same v task shelf mid shelf' answer todo same g =
 module _ {N B W : Type 0} (m : Seen N B W) (u u' : World) (work : StandsIn u) where
   module _ (event : Event N B W) (reply : EventReply N B W) (h : Happens m u event reply u') where
     last-on : u.core.last.worker ≤ u'.core.last.worker
-    last-on = grind (arith, nat_tests, event-goes, le-of)
+    last-on = let cases : KeepsOpen event ⊎ (event ≡ Event.Call Call.Close) = grind (arith, nat_tests) in elim cases [
+      | inl keeps ↦ (event-goes m u u' event reply keeps h).goes.workers_last
+      | inr closes ↦ (let c = subst (λ e. Happens m u e reply u') closes h in grind (arith, nat_tests, le-of))
+    ]
 
     quiet : ((n : ℕ) → step_of n event reply ≡ []) → SameSlots u.work.shelves u'.work.shelves → ((v : ℕ) → u'.work.walkings v ≡ u.work.walkings v) → EventTurns m u event reply u'
     quiet no_step same stay = grind (arith, nat_tests, is-quiet, last-on)
@@ -343,4 +346,7 @@ module _ {N B W : Type 0} (m : Seen N B W) (u u' : World) (grow : (t : ℕ) → 
 -- whatever an event does, its steps are added
 pub goes-on : {N B W : Type 0} (m : Seen N B W) (u u' : World) (event : Event N B W) (reply : EventReply N B W) → StandsIn u → EventTurns m u event reply u' → (n : ℕ) (past : List (Took W))
     → HasGone m.written_of n u.work.shelves (u.work.walkings n) past → HasGone m.written_of n u'.work.shelves (u'.work.walkings n) (past ++ step_of n event reply)
-goes-on {W = W} m u u' event reply work turns n past gone = grind (arith, nat_tests, cases_Bool, same-number, stays, begun, went-on, turns-grow m turns, u.work.walkings n, u'.work.walkings n)
+goes-on {W = W} m u u' event reply work turns n past gone = elim (cases_Bool (nat_eq n turns.who)) [
+  | inl e ↦ let is = same-number n turns.who e in let before = rw is at gone in rw is (grind (arith, nat_tests, stays, begun, went-on))
+  | inr e ↦ stays m u u' (turns-grow m turns) n (u.work.walkings n) (u'.work.walkings n) past (step_of n event reply) (turns.turned.others n e) (turns.others n e) gone
+]

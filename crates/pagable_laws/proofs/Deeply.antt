@@ -7,8 +7,8 @@ use Rattle.pagable_laws.proofs.Words.{Shelf, Some, Task, Todo, Took, Tree, Types
 use Rattle.pagable_laws.proofs.Words.{is_eager, max, nat_tests, of_entry, of_item, pair, refl, subst, suc, sym, to_finish, to_item, to_start, tree, true, type_of, variant, world_of, zero, ℕ, ◌+◌}
 use Rattle.pagable_laws.{proofs.Words.{◌<◌, ◌∙◌, ◌∷◌, ◌≡◌, ◌≤◌, ◌⊎◌}, specs.{DeepLaws.{ClaimIsDeep, DepthIsTold, MetDepthAlone, WaitsForAsker}, TreeSteps.{AllLow, BlobStands, Expects, Ground}}}
 use Rattle.pagable_laws.specs.TreeSteps.{IsAttained, IsDone, Waits, Walks, WroteTree, followed-leads, ground_of, pair-leads, place_over, reference-leads, variant-leads}
-use Rattle.{pagable_model.specs.{Deep.{deepest_path, height}, Writing.kind_of_arc}, pagable_world.specs.{Headline.IsMetFailure, OneWorker.{HasNoForm, IsFormlessTask, IsTooDeepTask}}}
-use Rattle.pagable_world.specs.{OneWorker.{KeyIsShallow, LeadsToNoForm, Reaches, in-first, in-part, in-rest, refers, refers-on}, Pager.StandsFor, Plain.longest_path, Runs.Fact}
+use Rattle.{pagable_model.specs.{Deep.{deepest_path, height}, Merkle.TreeForm, Writing.kind_of_arc}, pagable_world.specs.{Headline.IsMetFailure, OneWorker.{HasNoForm, IsFormlessTask, IsTooDeepTask}}}
+use Rattle.pagable_world.specs.{OneWorker.{KeyIsShallow, LeadsToNoForm, Reaches, in-first, in-part, in-rest, refers, refers-on}, Pager.{StandsFor, kids_of}, Plain.longest_path, Runs.Fact}
 use Rattle.{pagable_world.specs.{Runs.TreesAlong, Workers.Claims, World.is_identity}, std.{proofs.lemmas.Bool.or_cases, specs.Prelude.◌≢◌}}
 
 -- ---- what a tree's references lead to is part of it
@@ -150,7 +150,10 @@ module _ {N E : Type 0} (v : Values N) (s : MachineState N E) (trees : ℕ → T
   -- ---- and the tree has a form, and so has each that it reaches
 
   has-form : (i : Identity) {key height : ℕ} → Known i key height → HasNoForm v.types (trees i.node.0) → ⊥
-  has-form i k formless = grind (arith, nat_tests, trees i.node.0, tree-form k.wrote)
+  has-form i k formless =
+      let same : k.wrote.shape ≡ formless.shape = same_some _ _ (sym k.wrote.is ∙ formless.is) in
+      let kids = kids_of trees k.written.references in
+      formless.none_within k.written.bytes kids (subst (λ x. TreeForm v.types x (trees i.node.0).meaning k.written.bytes kids) same (tree-form k.wrote))
 
   -- and so has each that it reaches
   below-has-form : {i : Identity} {key height : ℕ} (j : Known i key height) {own : Meaning ArcRef} {m n : Meaning ⊥} {u : Tree} → Reaches n u → FollowsTo trees j.written.references own m

@@ -1,7 +1,7 @@
 -- The least set of handles that fall. What falls of a value of two levels; and a lone cell that is unpinned.
 use Rattle.pagable_laws.proofs.{Trees.{at-most-sum, counted, one-small, one-true, same-number, sum-le, sum-plus, sum-zero}, Words.{Among, Blob, Bool, HandleRow, Last, List, Mode, Ok, Option, Owner}}
-use Rattle.pagable_laws.proofs.Words.{[], ap, arith, cases_lt, false, false_from_ne_true, find_row, held, inl, inr, is_owned_by, is_owner, is_pinning, length, nat_tests, not, one, pins, ℕ}
-use Rattle.pagable_laws.{proofs.Words.{owner_value, refl, suc, sum_by-cons, sym, true, zero, ◌&&◌, ◌+◌, ◌<◌, ◌==◌, ◌||◌, ◌∙◌, ◌∷◌, ◌≡◌, ◌≤◌}, specs.FallLaws.{FallLaws, first, first_node}}
+use Rattle.pagable_laws.proofs.Words.{[], and_parts, ap, arith, cases_lt, false, false_from_ne_true, find_row, held, inl, inr, is_owned_by, is_owner, is_pinning, length, nat_tests, not, one, pins, ℕ}
+use Rattle.pagable_laws.{proofs.Words.{owner_value, refl, suc, sum_by-cons, sym, true, zero, ◌&&◌, ◌+◌, ◌<◌, ◌==◌, ◌||◌, ◌∙◌, ◌∷◌, ◌≡◌, ◌≤◌}, specs.FallLaws.{FallLaws, OwnsNothing, first, first_node}}
 use Rattle.{pagable_laws.specs.FallLaws.{lone, lone_listed, lone_unlisted, two_rows}, pagable_world.specs.{Calls.{row_of, with_mode}, Cascade.{Falls, IsClosed, IsLeast, IsWithin, is_outside, nobody}}}
 use Rattle.{pagable_world.specs.{Cascade.{loses_value, owned_outside}, Kinds.{is_at, is_pin}}, std.{proofs.{Common.sum_by, lemmas.List.Sums.length-filter}, specs.Prelude.nat_lt}}
 
@@ -102,6 +102,15 @@ module _ (rows : List HandleRow) (keyed : ℕ → Bool) (entries : List HandleRo
   pub within-self : (given : ℕ → Bool) → IsWithin rows given given
   within-self given = sum-zero (only_in given given) rows (λ h among. grind (arith, nat_tests))
 
+  pub least_is_one : (given s t : ℕ → Bool) (h : HandleRow) → IsLeast rows keyed entries given s → IsLeast rows keyed entries given t → Among rows h → s h.number.0 ≡ t h.number.0
+  least_is_one given s t h a b among = grind (arith, nat_tests, inside s t h (a.least t b.holds b.closed) among, inside t s h (b.least s a.holds a.closed) among)
+
+-- so the given handles are the least set, and no more fall
+given-least : (rows : List HandleRow) (keyed : ℕ → Bool) (entries : List HandleRow) (given : ℕ → Bool) → OwnsNothing rows → IsLeast rows keyed entries given given
+given-least rows keyed entries given nothing =
+    let closed : IsClosed rows keyed entries given = λ n goes. let none : sum_by (λ h. one (is_owner (owner_value n) h.owner)) rows ≡ 0 = nothing n in grind (arith, nat_tests, and_parts, sum-le) in
+    search (within-self rows keyed entries given, closed)
+
 pub and-false : (b : Bool) → one (b && false) ≡ 0
 and-false x0 = grind (arith, nat_tests)
 
@@ -111,7 +120,7 @@ fell : (stored : ℕ → Option Blob) → Falls (lone stored) (with_mode (lone s
 fell stored = record {
   gone = nobody;
   entries = row_of 2 first_node Mode.LooseUnpinned Owner.List ∷ [];
-  set = record { holds = refl; closed = λ n goes. refl; least = λ t holds closed. holds };
+  set = given-least _ _ _ nobody (omega arith);
   new = (refl, refl, refl, tt);
   only = λ n some. ((grind (arith, nat_tests, first)), (grind (arith, nat_tests)));
   each = λ n must. inl (grind (arith, nat_tests));
@@ -124,8 +133,8 @@ pub fall_laws : FallLaws
 unfolding find_row
 fall_laws = record {
   least_set_is_there = λ rows keyed entries given. grows rows keyed entries given (sum_by (outside given) rows) given (omega arith) (within-self rows keyed entries given) (λ t holds closed. holds);
-  least_set_is_one = λ rows keyed entries given s t h a b among.
-      grind (arith, nat_tests, inside rows keyed entries s t h (a.least t b.holds b.closed) among, inside rows keyed entries t s h (b.least s a.holds a.closed) among);
+  least_set_is_one = least_is_one;
+  given_fall_alone = λ rows keyed entries given s h nothing least among. least_is_one rows keyed entries given s given h least (given-least rows keyed entries given nothing) among;
   pins_are_a_filter = λ n rows. sym (length-filter (λ (h : HandleRow). h.node.0 == n && is_pinning h.mode) rows);
   two_levels_fall = record {
     holds = refl;

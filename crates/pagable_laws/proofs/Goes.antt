@@ -399,5 +399,7 @@ pins-hold m u u' (Event.LoadStep l) (EventReply.LoadMoved (Ok reply)) whole happ
     let e = rw is at happens.moves.does.does in (end-call u.core u'.core (low-whole whole) Owner.Caller happens.moves.reading.load e.0.x _ _ k (λ n is. absurd (cc)) e.0.ended).pin
 pins-hold m u u' (Event.Call (Call.LoadEnd l x)) (EventReply.CallReply (Reply.LoadEnded (Ok k))) whole happens =
     (end-call u.core u'.core (low-whole whole) Owner.Caller l x _ _ k (λ n is. absurd (cc)) happens.step.does).pin
-pins-hold {W = W} m u u' (Event.WorkerStep n) (EventReply.WorkerMoved (Ok reply)) whole happens = grind (arith, nat_tests, held, low-whole whole)
+pins-hold {W = W} m u u' (Event.WorkerStep n) (EventReply.WorkerMoved (Ok reply)) whole happens = λ i k is.
+    let steps = happens.moves in let h = held m n.0 _ steps.after (low-whole whole) steps.walking.todo i k (rw is at steps.does.does) in
+    grind (arith, nat_tests, find_row)
 pins-hold m u u' event reply whole happens = tt

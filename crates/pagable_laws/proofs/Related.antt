@@ -1,11 +1,11 @@
--- Reading does the same whatever stands for references: two readers over related inputs give related meanings. And readers of which a fault stays whatever follows, and
--- what is read of a front is read of the whole.
+-- Reading does the same whatever stands for references: two readers over related inputs give related meanings. And readers of which a fault stays whatever follows, what is
+-- read of a front is read of the whole, and what was used reads alone.
 use Rattle.pagable_laws.proofs.{Again.{Under, alone, here, narrowed, part_of}, Trees.{AllTwo, Along, EntryAlong, entries-two, flag-same, followed-along, form-along, integer-along, lifted-along}}
 use Rattle.pagable_laws.proofs.Trees.{more-two, no-two, none-along, number-along, one-two, pair-along, pattern-along, plain-along, put_all-two, reference-along, sequence-two, sorted-two, text-along}
-use Rattle.pagable_laws.proofs.{Trees.variant-along, Words.{Bool, Err, Error, Form, IsReadable, LiesIn, List, Meaning, None, Ok, Option, Result, Shape, Some, Throughout, [], ap}}
+use Rattle.pagable_laws.proofs.{Trees.variant-along, Words.{Bool, Err, Error, Form, IsReadable, LiesIn, List, Meaning, None, Ok, Option, Result, Shape, Some, Throughout, [], ap, append-nil}}
 use Rattle.pagable_laws.proofs.Words.{append_assoc, arith, cases_Bool, cases_lt, drop, followed, if◌then◌else◌, inl, inr, length, length-append, map, nat_tests, none, pair, put_all, read, refl}
 use Rattle.pagable_laws.{proofs.Words.{rename, rest, rules, subst, suc, sym, true, variant, zero, ℕ, ◌*◌, ◌++◌, ◌+◌, ◌==◌, ◌∙◌, ◌∷◌, ◌≡◌, ◌≤◌, ◌⊎◌}, specs.FormLaws.{IsLasting, IsLocal, IsNatural}}
-use Rattle.{pagable_laws.specs.FormLaws.{IsRenamed, at, with_more}, pagable_model.specs.Basic.{bool_at, bytes_at, carried, char_at, duration_at}}
+use Rattle.{pagable_laws.specs.FormLaws.{IsReadOver, IsReadThrough, IsRenamed, IsUsed, KeepsForms, at, with_more}, pagable_model.specs.Basic.{bool_at, bytes_at, carried, char_at, duration_at}}
 use Rattle.pagable_model.specs.{Basic.{length_at, longest, nanos_of_second, text_at}, Canonical.HasNoReference, Carried.{of_entries, of_hash_map, of_tagged}, Keys.{code_order, put_placed_item}}
 use Rattle.pagable_model.specs.{Keys.{put_sorted, put_sorted_item, text_order}, Meaning.{absent, entry, failure, lifted, present, sequence, success}, Numbers.{Read, byte_at, last_of, more_of}}
 use Rattle.pagable_model.specs.{Numbers.{signed_at, signed_from, unsigned_at, varint_at}, Reading.{Context, Deeper, Gets, JsonCase, Look, Rest, array_case, below, bytes_of, choose, counted, deepest}}
@@ -369,7 +369,7 @@ module _ {A B C D : Type 0} {E : Error → Error → Type 0} {F : Type 0} {T : L
       typed_par levels None t r q same = both-faulty Error.WrongKind tt
       typed_par levels (Some s) t r q same = (read_par levels s (t s refl)).out r q same
 
--- ---- reading is local: what is read of a front is read of the whole, and a fault stays
+-- ---- reading is local: what is read of a front is read of the whole, a fault stays, and what was used reads alone
 
 -- what comes of an input that is read so
 comes-of : {A B : Type 0} (context : Context A B) (s : Shape) (input : Rest A) {r : Result (Meaning B × Rest A) Error} → read context s input ≡ r → Comes more Any (read context s) input r
@@ -382,6 +382,12 @@ comes-of {A} {B} context s input e =
 
 pub local : {A B : Type 0} → IsLocal A B
 local context s front after x y m e = let f = comes-of context s front e in rw (f.whole, joins.assoc f.used after (rest x y)) (f.reads (more after (rest x y)))
+
+pub used : {A B : Type 0} → IsUsed A B
+used context s input after m e =
+    let f = comes-of context s input e in
+    let alone : more f.used (rest [] []) ≡ f.used = rw (append-nil f.used.bytes, append-nil f.used.refs) refl in
+    record { bytes = f.used.bytes; refs = f.used.refs; whole = f.whole; alone = rw alone at (f.reads (rest [] [])) }
 
 pub lasting : {A B : Type 0} → IsLasting A B
 lasting context s front x y e is not_end not_keys = elim (comes-of context s front is).1 [ inl end ↦ absurd (grind (arith, nat_tests)) | inr stays ↦ stays (rest x y) ]
@@ -429,14 +435,34 @@ natural {A} {B} {C} {D} f g look other levels parts s input h =
     let par = read_par look other (each look other alike) levels s (inl tt) in
     natural-out f g (par.out input (rest input.bytes (map f input.refs)) (record { bytes = refl; refs = all-map f input.refs }))
 
+rename_same : {B : Type 0} (m : Meaning B) → rename (λ b. b) m ≡ m
+unfolding rename
+rename_same (pair a b) = rw (rename_same a, rename_same b) refl
+rename_same (variant n a) = rw (rename_same a) refl
+rename_same (followed kind a) = rw (rename_same a) refl
+rename_same _ = refl
+
+pub read_over : {A B C : Type 0} → IsReadOver A B C
+read_over f look levels parts s input = natural f (λ b. b) (λ kind a. look kind (f a)) look levels parts s input (λ kind a. grind (arith, nat_tests)) ∙ (grind (arith, nat_tests, rename_same))
+
 pub renamed : {A B D : Type 0} → IsRenamed A B D
 renamed {A} {B} {D} g look levels parts s input =
     let all = natural (λ a. a) g look (λ kind a. look kind a >>= λ b. Ok (g b)) levels parts s input (λ kind a. refl) in
     ap (λ (k : List A). read (at levels (λ kind a. look kind a >>= λ b. Ok (g b)) parts) s (rest input.bytes k)) (sym (map-id input.refs)) ∙ all ∙ (grind (arith, nat_tests, map-id))
 
--- a form of a value that holds references of one sort is one of the same value with references of another sort
-pub keeps_forms : {A B : Type 0} (f : A → B) (kind_of : A → ℕ) (kind_of2 : B → ℕ) (parts : ℕ → Shape) (left : ℕ) (s : Shape) (m : Meaning A) (b : List ℕ) (k : List A)
-    → ((a : A) → kind_of2 (f a) ≡ kind_of a) → Form A kind_of parts left s m b k → Form B kind_of2 parts left s (rename f m) b (map f k)
+pub keeps_forms : {A B : Type 0} → KeepsForms A B
 keeps_forms {A} {B} f kind_of kind_of2 parts left s m b k kinds h =
     let p = form-along {R = Leads f} (λ a c e. rw (← e) (kinds a)) h (along-rename f m) in
     let P : List B → Type 0 = λ l. Form B kind_of2 parts left s (rename f m) b l in subst P (map-all f p.each) p.form
+
+through-out : {A B C D : Type 0} (f : A → C) (g : B → D) (m : Meaning B) (after : Rest A) {first : Result (Meaning B × Rest A) Error} {second : Result (Meaning D × Rest C) Error}
+    → Out any_cause (AllTwo (Leads f)) (Along (Unit {0}) (Leads g)) first second → first ≡ Ok (m, after) → second ≡ Ok (rename g m, rest after.bytes (map f after.refs))
+through-out f g m after x4 e = grind (arith, nat_tests, rename-along, map-all)
+
+pub read_through : {A B C D : Type 0} → IsReadThrough A B C D
+read_through {A} {B} {C} {D} f g look other levels parts s input after m h e =
+    let alike : (kind : ℕ) (a : A) (c : C) → f a ≡ c → OutLook any_cause (Leads g) (look kind a) (other kind c) = λ kind a c i.
+    elim (look kind a) as (λ r. look kind a ≡ r → OutLook any_cause (Leads g) r (other kind c))
+    [ Ok b ↦ λ j. (let q : other kind c ≡ Ok (g b) = rw (← i) (h kind a b j) in rw q (both-looked-up b (g b) refl)) | Err x ↦ λ j. first-not x (other kind c) (λ d. tt) ] refl in
+    let par = read_par look other (each look other alike) levels s (inl tt) in
+    through-out f g m after (par.out input (rest input.bytes (map f input.refs)) (record { bytes = refl; refs = all-map f input.refs })) e

@@ -7,7 +7,7 @@ use Rattle.pagable_world.specs.{Pager.{followed-stands, integer-stands, none-sta
 use Rattle.{pagable_laws.proofs.Words.{Among, ArcRef, Blob, Bool, Call, Change, Core, Frame, FramesFit, HandleNumber, HandleRow, HandlesAreWhole, IsLawful}, pagable_world.specs.Kinds.{is_at, is_pin}}
 use Rattle.pagable_laws.proofs.Words.{HoldsSettled, IsReference, Kind, List, LoadAnswer, LoadNumber, MachineState, Meaning, None, OpenLoad, Option, OptionalDataKey, Owner, PagerState, Reading, Reply}
 use Rattle.pagable_laws.proofs.Words.{ReadingFeels, ReadingFits, ReadsItsTypes, ReadsRoot, ReadsTree, Represents, Some, Tree, Types, ValueStands, Values, WellFormed, [], ap, arith, bears_known, held}
-use Rattle.pagable_laws.proofs.Words.{cases_lt, false, first_key, followed, if◌then◌else◌, inl, inr, integer-leads, is_eager, is_pinning, is_some, length, length-append, nat_tests, next_in}
+use Rattle.pagable_laws.proofs.Words.{cases_lt, false, first_key, followed, if◌then◌else◌, inl, inr, integer-leads, is_eager, is_pinning, is_some, key_at, length, length-append, nat_tests, next_in}
 use Rattle.pagable_laws.proofs.Words.{none, nothing_felt, one, pair, pins, reference, references_in, refl, root_frame, row_at, rules, slice_get, slice_get_within, subst, suc, sym, tree, true, zero}
 use Rattle.pagable_laws.proofs.{Following.{cell-of, given-of, halves, held-of, leads-on, one-node, stands-leads}, Words.{type_of, updated, variant, ℕ, ◌++◌, ◌+◌, ◌<◌, ◌==◌, ◌∙◌, ◌∷◌, ◌≡◌, ◌≤◌, ◌⊎◌}}
 use Rattle.pagable_laws.proofs.{Goes.{among-found, updated-at}, ReadingSteps.{new-node, old-node}, Related.along-rename, Trees.{at-most-sum, followed-all, one_tree, same_some, self-number, tree_is}}
@@ -211,7 +211,9 @@ module _ {N E : Type 0} {v : Values N} {s s' : PagerState N E} {trees trees' : �
       subst (FitAfter v s'.core trees' reading load) (sym is) (fit-got reading load reading.frames kind key n row needs got (known-reads goes fits kind key n known) g)
   felt-after reading load frames goes fits open_load (gets-lazy kind key row needs got answer is) g =
       subst (FitAfter v s'.core trees' reading load) (sym is) (fit-got reading load reading.frames kind key _ row (inr needs) got (fits.knows kind.0 key _ (refl, refl, refl)) g)
-  felt-after reading load frames goes fits open_load (makes-known x made n row known got answer is) g = grind (arith, nat_tests, fit-made, known-reads goes fits made.top.kind made.top.key n known)
+  felt-after reading load frames goes fits open_load (makes-known x made n row known got answer is) g =
+      let before = subst (FitAfter v s'.core trees' reading load) made.frames g in
+      subst (FitAfter v s'.core trees' reading load) (sym is) (fit-made reading load made.top made.below n row got (known-reads goes fits made.top.kind made.top.key n known) before)
   felt-after reading load frames goes fits open_load (makes-node x made row got answer is) g =
       let before = subst (FitAfter v s'.core trees' reading load) made.frames g in
       subst (FitAfter v s'.core trees' reading load) (sym is) (fit-made reading load made.top made.below _ row got (fits.knows made.top.kind.0 made.top.key _ (refl, refl, refl)) before)
@@ -294,7 +296,9 @@ module _ {N E : Type 0} {v : Values N} {s : PagerState N E} {trees : ℕ → Tre
 
     -- so does each value in memory; and each key reads as its node's tree
     node-leads : {n : ℕ} {t : Tree} → NodeStands v s n t → t ≡ trees n → NodeLeads v s trees n
-    node-leads (here n x own t is typed means meant fits) e = grind (arith, nat_tests, value-leads x own t _ typed means meant (λ r among. well.references n x r is among))
+    node-leads (here n x own t is typed means meant fits) e =
+        let leads = value-leads x own t _ typed means meant (λ r among. well.references n x r is among) in
+        grind (arith, nat_tests, key_at, same_some)
     node-leads (away n key t nothing_there keyed fits) e = grind (arith, nat_tests)
 
 abbrev pub AreLive : Core → Meaning ArcRef → Type 0
@@ -308,7 +312,9 @@ module _ {N E : Type 0} {v : Values N} {s : PagerState N E} {trees : ℕ → Tre
       let refs : AreLive s.core l.own = λ r among. (given-of well.whole.handles r.node.0 (well.references n x r is (own-refs lawful x l.own l.means r among)).typed).0 in
       here n x l.own (trees n) is l.typed l.means (follow l.own l.leads refs) (all n live).keyed
   -- what has no value in memory has a key
-  node-by n None is live follow = grind (arith, nat_tests, cell-of, away, trees, all)
+  node-by n None is live follow =
+      let k : (k : ℕ) × (key_at s.core n ≡ OptionalDataKey.Some k) = grind (arith, nat_tests, cell-of well.whole.handles n live, well.valued n) in
+      away n k.0 (trees n) is k.1 (all n live).keyed
 
   stand : (m : Meaning ⊥) {own : Meaning ArcRef} {a : Meaning ⊥} → LeadsTo trees own a → m ≡ a → AreLive s.core own → MeaningStands v s own a
   unfolding references_in

@@ -1,20 +1,21 @@
 -- Sums over the elements of a list, and what they count. And the same meaning but for its references: forms go along with it.
-use Rattle.pagable_laws.proofs.Words.{Among, AreMoments, Blob, Bool, Entries, Entry, Form, Forms, List, MachineState, Meaning, Moment, Option, ReadsTree, Seen, Shape, Site, Took, Tree, Types, Values}
-use Rattle.pagable_laws.proofs.Words.{WalkDoes, [], ap, arith, code, false, followed, inl, inr, length, nat_tests, none, one, pair, put_all, reference, reference-form, references_in, refl, rename}
-use Rattle.pagable_laws.proofs.Words.{rest, rules, run-form, state_after, subst, suc, sum_by-cons, sym, tree, true, type_of, variant, zero, ℕ, ℤ, ◌++◌, ◌+◌, ◌<◌, ◌==◌, ◌∙◌, ◌∷◌, ◌≡◌, ◌≤◌, ◌⊎◌}
-use Rattle.{pagable_laws.specs.FallLaws.{ChainsJoin, NewIsWhole}, pagable_model.specs.{Basic.{length_form, longest}, Canonical.{EachType, HasNoReference}, Carried.{of_entries, of_hash_map}}}
-use Rattle.pagable_model.specs.Form.{array-form, both-form, case-form, duration-form, err-form, flag-form, hash-map-form, json-array-form, json-flag-form, json-null-form, json-number-form}
-use Rattle.pagable_model.specs.Form.{json-object-form, json-text-form, letter-form, list-form, more-entries, more-forms, nested-form, no-entries, no-forms, none-form, nothing-form, ok-form}
-use Rattle.pagable_model.specs.Form.{pattern-form, placed-map-form, placed-set-form, signed-form, some-form, sorted-map-form, sorted-set-form, static-form, tagged-form, text-form, unsigned-form}
-use Rattle.pagable_model.specs.{Keys.{AllAfter, Apart, Ascends, Differ, KeyOrder, code_order, ordered, put_sorted, same_key, text_order}, Meaning.{integer, lifted, number, pattern, plain, sequence}}
-use Rattle.pagable_model.specs.Meaning.{text}
-use Rattle.pagable_model.specs.Trees.{IsFollowed, KeyRef, ReadsAs, integer-followed, none-followed, number-followed, pair-followed, pattern-followed, reference-followed, text-followed}
-use Rattle.{pagable_model.specs.Trees.variant-followed, pagable_world.specs.Order.Follows, std.{proofs.{Common.sum_by, lemmas.Map.Text.is_eq-slice_cmp}, specs.FinMap.Entries.put}}
-use Rattle.std.specs.{List.AllByRecursion as Each, Ordering.{eq_by_cmp, match_ordering}, declared.cmp.Ordering.Ordering}
+use Rattle.pagable_laws.proofs.Words.{Among, AreMoments, Blob, Bool, Entries, Entry, Form, Forms, List, MachineState, Meaning, Moment, None, Option, ReadsTree, Seen, Shape, Site, Took, Tree, Types}
+use Rattle.pagable_laws.proofs.Words.{Values, WalkDoes, [], ap, arith, code, cond, false, followed, inl, inr, length, map, nat_tests, none, one, pair, put_all, reference, reference-form, refl, rest}
+use Rattle.pagable_laws.proofs.Words.{references_in, rename, rules, run-form, state_after, subst, suc, sum_by-cons, sym, tree, true, type_of, variant, zero, ℕ, ℤ, ◌++◌, ◌+◌, ◌<◌, ◌==◌, ◌∙◌, ◌∷◌, ◌≡◌}
+use Rattle.{pagable_laws.{proofs.Words.{◌≤◌, ◌⊎◌}, specs.{FallLaws.{ChainsJoin, NewIsWhole}, FormLaws.IsAnyOrder}}, pagable_model.specs.{Basic.{length_form, longest}, Canonical.EachType}}
+use Rattle.pagable_model.specs.{Canonical.HasNoReference, Carried.{of_entries, of_hash_map}, Codes.one-meaning, Form.{array-form, both-form, case-form, duration-form, err-form, flag-form, list-form}}
+use Rattle.pagable_model.specs.Form.{hash-map-form, json-array-form, json-flag-form, json-null-form, json-number-form, json-object-form, json-text-form, letter-form, more-entries, more-forms}
+use Rattle.pagable_model.specs.Form.{nested-form, no-entries, no-forms, none-form, nothing-form, ok-form, pattern-form, placed-map-form, placed-set-form, signed-form, some-form, sorted-map-form}
+use Rattle.pagable_model.specs.{Form.{sorted-set-form, static-form, tagged-form, text-form, unsigned-form}, Keys.{AllAfter, Apart, Ascends, Differ, KeyOrder, code_order, last_value, ordered}}
+use Rattle.pagable_model.specs.{Keys.{put_sorted, same_key, text_order}, Meaning.{integer, lifted, number, pattern, plain, sequence, text}, Trees.{IsFollowed, KeyRef, ReadsAs, integer-followed}}
+use Rattle.{pagable_model.specs.Trees.{none-followed, number-followed, pair-followed, pattern-followed, reference-followed, text-followed, variant-followed}, pagable_world.specs.Order.Follows}
+use Rattle.std.{proofs.{Common.sum_by, Math.Dec.T, lemmas.Map.{Lookups.exact_bytes, Text.is_eq-slice_cmp}}, specs.{Cmp.Lexicographic.on_texts, FinMap.Entries.{find, find-put, is_sorted, put}}}
+use Rattle.std.specs.{FinMap.Entries.{is_sorted-put, same_entries}, List.AllByRecursion as Each, Option.option_or, Ordering.{eq_by_cmp, match_ordering}, declared.cmp.Ordering.Ordering}
 use Rattle.pagable_model.specs.Meaning as meanings
 pub use Rattle.{pagable_world.proofs.Elements.{at-most-sum, counted, sum-none as sum-zero}, std.proofs.lemmas.{Bool.eqb-true as same-number, Option.same_Some as same_some}}
 
 -- A form goes along: where each reference is replaced by one of the same kind, the bytes are a form of what results.
+-- JSON numbers that have no form, and the entries of a hash map in whatever order they come.
 -- Chains join, and a new machine is whole; a blob asks for one thing, and a worker's steps follow its list.
 
 pub self-number : (a : ℕ) → (a == a) ≡ true
@@ -374,6 +375,50 @@ module _ {A B : Type 0} {F : Type 0} {R : A → B → Type 0} {kind_of : A → �
     entries_form-along (more-entries left s t m n es b c d j k l h g f) (more-two x y xs ys a i) =
         let p = form-along h a.key in let q = form-along g a.value in let r = entries_form-along f i in
         record { refs = p.refs ++ (q.refs ++ r.refs); each = append-two p.each (append-two q.each r.each); form = more-entries left s t y.0 y.1 ys b c d p.refs q.refs r.refs p.form q.form r.form }
+
+plain_lifted : (A : Type 0) (m : Meaning ⊥) → plain (let x : Meaning A = lifted m in x) ≡ m
+unfolding plain rename
+plain_lifted A (pair a b) = rw (plain_lifted A a, plain_lifted A b) refl
+plain_lifted A (variant n a) = rw (plain_lifted A a) refl
+plain_lifted A (reference a) = absurd a
+plain_lifted A (followed kind a) = rw (plain_lifted A a) refl
+plain_lifted _ _ = refl
+
+module _ {X : Type 0} where
+  abbrev put_in : List (Meaning ⊥ × X) → Meaning ⊥ × X → List (Meaning ⊥ × X)
+  put_in acc e = put code_order e.0 e.1 acc
+
+  all_sorted : (acc es : List (Meaning ⊥ × X)) → T (is_sorted code_order acc) → T (is_sorted code_order (put_all put_in acc es))
+  unfolding put_all
+  all_sorted acc [] h = h
+  all_sorted acc (e ∷ es) h = all_sorted (put code_order e.0 e.1 acc) es (is_sorted-put code_order (on_texts code) e.0 e.1 acc h)
+
+  all_found : (q : Meaning ⊥) (acc es : List (Meaning ⊥ × X)) → find code_order q (put_all put_in acc es) ≡ option_or (last_value q es) (find code_order q acc)
+  unfolding put_all last_value
+  all_found q acc [] = refl
+  all_found q acc (e ∷ es) =
+      grind (arith, nat_tests, put, code_order, option_or, last_value, find-put, on_texts code, find, eq_by_cmp, cond, is_eq-slice_cmp, code, all_found q (put code_order e.0 e.1 acc) es)
+
+all_along : {X U : Type 0} (u : X → U) (put_x : List X → X → List X) (put_u : List U → U → List U) → ((acc : List X) (x : X) → put_u (map u acc) (u x) ≡ map u (put_x acc x))
+    → (acc xs : List X) → put_all put_u (map u acc) (map u xs) ≡ map u (put_all put_x acc xs)
+unfolding put_all
+all_along u put_x put_u h acc [] = refl
+all_along {X} {U} u put_x put_u h acc (x ∷ xs) = ap (λ (z : List U). put_all put_u z (map u xs)) (h acc x) ∙ all_along u put_x put_u h (put_x acc x) xs
+
+module _ {A : Type 0} where
+  abbrev lift_key : Meaning ⊥ × Meaning A → Entry A
+  lift_key e = (lifted e.0, e.1)
+
+  put_along : (acc : List (Meaning ⊥ × Meaning A)) (e : Meaning ⊥ × Meaning A) → put_sorted code_order (map lift_key acc) (lift_key e) ≡ map lift_key (put_in acc e)
+  put_along [] e = refl
+  put_along (x ∷ acc) e = rw (plain_lifted A e.0, plain_lifted A x.0, put_along acc e) (grind (arith, nat_tests))
+
+pub any_order : {A : Type 0} → IsAnyOrder A
+any_order {A} es fs h =
+    let puts = all_along lift_key put_in (put_sorted code_order) put_along [] in
+    let same = same_entries code_order (on_texts code) (λ a b e. one-meaning a b (exact_bytes (code a) (code b) e)) _ _ (all_sorted [] es tt) (all_sorted [] fs tt)
+    (λ q. all_found q [] es ∙ ap (λ (o : Option (Meaning A)). option_or o None) (h q) ∙ sym (all_found q [] fs)) in
+    ap of_entries (puts es ∙ ap (map lift_key) same ∙ sym (puts fs))
 
 joins : {N E B W : Type 0} (m : Seen N B W) (s : MachineState N E) (xs ys : List (Moment N E B W)) → AreMoments m s xs → AreMoments m (state_after s xs) ys → AreMoments m s (xs ++ ys)
 unfolding state_after

@@ -1,9 +1,9 @@
 -- Small worlds over any storage, to see that the definitions are met, and what they refuse; and the laws of what falls when handles are given up, of new pagers, of what blobs ask for, and of chains.
 use Rattle.std.specs.Prelude.{Bool, List, None, Ok, Option, Some, [], false, filter, length, ℕ, ◌&&◌, ◌++◌, ◌==◌, ◌||◌, ◌∷◌, ◌≡◌}
 use Rattle.pagable_world.specs.declared.rows.Mode.{Mode}
-use Rattle.pagable_world.specs.{Calls.{UnpinCall, row_of}, Cascade.IsLeast, Events.no_shelf, Kinds.{is_pinning, pins}, Loads.{asks, is_faulty, next_in, reads}, Pager.IsIdle}
+use Rattle.pagable_world.specs.{Calls.{UnpinCall, row_of}, Cascade.IsLeast, Events.no_shelf, Kinds.{is_owned_by, is_pinning, owner_value, pins}, Loads.{asks, is_faulty, next_in, reads}, Pager.IsIdle}
 use Rattle.pagable_world.specs.{Pager.{IsMachineWhole, IsNew, MachineState, StandsFor}, Plain.{Among, ArcRef, Blob, Error, HandleNumber, Kind, Meaning, NodeNumber, OptionalDataKey, Tree, Types}}
-use Rattle.pagable_world.specs.{Plain.updated, Runs.{AreMoments, Moment, state_after}, World.{Core, Frame, Places, Seen, Values, Work}, declared.handles.{HandleRow.HandleRow, Owner.Owner}}
+use Rattle.pagable_world.specs.{Plain.{times, updated}, Runs.{AreMoments, Moment, state_after}, World.{Core, Frame, Places, Seen, Values, Work}, declared.handles.{HandleRow.HandleRow, Owner.Owner}}
 
 -- nothing but what a storage holds, with these places
 abbrev pub empty : (ℕ → Option Blob) → Places → Core
@@ -66,6 +66,10 @@ lone_listed stored = record (lone stored) {
 abbrev pub lone_unlisted : (ℕ → Option Blob) → Core
 lone_unlisted stored = record (lone stored) { rows = row_of 1 first_node Mode.LooseUnpinned Owner.Caller ∷ [] }
 
+-- no value owns a handle
+abbrev pub OwnsNothing : List HandleRow → Type 0
+OwnsNothing rows = (n : ℕ) → times (is_owned_by (owner_value n)) rows ≡ 0
+
 -- The laws of what falls when handles are given up.
 pub record FallLaws : Type 0 where
   -- Whatever is given up, and whatever entries come to the list, there is a least set.
@@ -73,6 +77,9 @@ pub record FallLaws : Type 0 where
   -- Two least sets have the same live handles.
   pub least_set_is_one : (rows : List HandleRow) (keyed : ℕ → Bool) (entries : List HandleRow) (given s t : ℕ → Bool) (h : HandleRow)
       → IsLeast rows keyed entries given s → IsLeast rows keyed entries given t → Among rows h → s h.number.0 ≡ t h.number.0
+  -- Where no value owns a handle, the given handles fall and no more.
+  pub given_fall_alone : (rows : List HandleRow) (keyed : ℕ → Bool) (entries : List HandleRow) (given s : ℕ → Bool) (h : HandleRow)
+      → OwnsNothing rows → IsLeast rows keyed entries given s → Among rows h → s h.number.0 ≡ given h.number.0
   -- The sum that counts pins in proofs is the length of the filtered list of handles.
   pub pins_are_a_filter : (n : ℕ) (rows : List HandleRow) → pins n rows ≡ length (filter (λ h. h.node.0 == n && is_pinning h.mode) rows)
   -- Of a value of two levels whose cells have keys, both handles fall with the outer one. The outer one alone is no such set.

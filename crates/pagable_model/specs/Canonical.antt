@@ -1,7 +1,7 @@
 -- Shapes of which no meaning has two forms, shapes that are read, and of which shapes a value is made.
 use Rattle.pagable_model.specs.Meaning as meanings
-use Rattle.std.specs.{Prelude.{◌≡◌, ℕ, zero, suc, List, true, false, Some, ◌⊎◌}, List.AllByRecursion}
-use Rattle.pagable_model.specs.Shape.{Shape, optional, outcome, list, run, array, both, sorted_map, placed_map, hash_map, sorted_set, placed_set, static_value, tagged, cases, reference}
+use Rattle.std.specs.{Prelude.{◌≡◌, ℕ, zero, suc, List, true, false, Some, ◌⊎◌}, Int.w8, List.AllByRecursion}
+use Rattle.pagable_model.specs.Shape.{Shape, nothing, optional, outcome, list, run, array, both, sorted_map, placed_map, hash_map, sorted_set, placed_set, static_value, tagged, cases, reference}
 use Rattle.pagable_model.specs.{Meaning.{Meaning, pair, variant, followed}, Shape.nested, Form.Form, Trees.{Tree, Types, type_of}}
 
 -- a shape of which no meaning has two forms, if this is so of its numbered parts
@@ -21,6 +21,10 @@ IsCanonical (static_value registry) = ⊥
 IsCanonical (tagged written known body) = ((tag : List ℕ) → IsCanonical (written tag)) × ((tag : List ℕ) → known tag ≡ true → IsCanonical (body tag))
 IsCanonical (cases w known part) = (n : ℕ) → known n ≡ true → IsCanonical (part n)
 IsCanonical _ = Unit {0}
+
+-- the shape of what no value is: what is written under a tag that no value has
+abbrev pub unwritten : Shape
+unwritten = cases w8 (λ n. false) (λ n. nothing)
 
 -- a shape of which nothing has a form, since it has no case
 abbrev pub HasNoCase : Shape → Type 0
@@ -107,6 +111,10 @@ IsCanonicalTree types t = IsCanonicalType types t.type × EachType (IsCanonicalT
 
 abbrev pub IsReadableTree : Types → Tree → Type 0
 IsReadableTree types t = IsReadableType types t.type × EachType (IsReadableType types) t.meaning
+
+-- A set of node types that no reference leads out of: in the shape of each, and in all parts of its values, references lead into the set.
+abbrev pub IsClosed : Types → (ℕ → Type 0) → Type 0
+IsClosed types nodes = (n : ℕ) (s : Shape) → nodes n → types.nodes n ≡ Some s → Throughout (LiesIn nodes (λ part. Unit {0})) types.parts s
 
 -- what lies in a set of parts lies in a greater one
 lies-along : {parts more : ℕ → Type 0} → ((n : ℕ) → parts n → more n) → (s : Shape) → LiesIn (λ n. Unit {0}) parts s → LiesIn (λ n. Unit {0}) more s

@@ -20,6 +20,9 @@ atomic_i64 = signed w64
 abbrev pub once_lock : Shape → Shape
 once_lock s = optional s
 
+abbrev pub triple : Shape → Shape → Shape → Shape
+triple a b c = both a (both b c)
+
 -- The last registration of a tag counts.
 abbrev pub is_registered : List (List ℕ × Shape) → List ℕ → Bool
 is_registered [] tag = false

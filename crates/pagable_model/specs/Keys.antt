@@ -1,6 +1,6 @@
 -- Which keys of maps and items of sets are the same, and in which order they stand.
-use Rattle.std.specs.{Prelude.{◌≡◌, ℕ, zero, suc, List, [], ◌∷◌, ◌++◌, length, Bool, false, if◌then◌else◌}, declared.cmp.Ordering.Ordering, Ordering.{nat_cmp, int_cmp}}
-use Rattle.std.specs.{Ordering.ordering_then, Cmp.Lexicographic.slice_cmp, Str.bytes_eq, BTreeMap.insert_entry, BTreeSet.insert_key}
+use Rattle.std.specs.{Prelude.{◌≡◌, ℕ, zero, suc, List, [], ◌∷◌, ◌++◌, length, Bool, false, Option, Some, None, if◌then◌else◌}, declared.cmp.Ordering.Ordering, Ordering.{nat_cmp, int_cmp}}
+use Rattle.std.specs.{Ordering.ordering_then, Cmp.Lexicographic.slice_cmp, Str.bytes_eq, Option.option_or, BTreeMap.insert_entry, BTreeSet.insert_key}
 use Rattle.pagable_model.specs.{Numbers.zigzag, Meaning.{Meaning, number, integer, text, pattern, none, pair, variant, reference, followed, plain}}
 
 -- the order of a type's values, by their meanings. Keys and items of sets hold no reference
@@ -128,3 +128,8 @@ Differ es = Apart (λ e f. same_key e.0 f.0 ≡ false) es
 
 abbrev pub ItemsDiffer : {A : Type 0} → List (Meaning A) → Type 0
 ItemsDiffer ms = Apart (λ m n. same_key m n ≡ false) ms
+
+-- the value of the last entry that has this key
+unfoldable pub last_value : {X : Type 0} → Meaning ⊥ → List (Meaning ⊥ × X) → Option X
+last_value q [] = None
+last_value q (e ∷ es) = option_or (last_value q es) (if bytes_eq (code q) (code e.0) then Some e.1 else None)
