@@ -1,13 +1,13 @@
 //! What a bundle refers to is read with it by a shared reference or a pin, and is what stands in the pager.
 
 use crate::calls::let_go;
-use crate::examples::linked::bundle::Bundle;
-use crate::examples::linked::chain::Chain;
-use crate::examples::linked::{Linked, LinkedNode};
 use pagable::paging::{deserialize_pagable_data, page_out_pending};
 use pagable::{
     ArcRef, DataKey, HandleNumber, InMemoryBlobs, OfNode, OptionalDataKey, PagableStorage, Pager,
 };
+use pagable_examples::linked::bundle::Bundle;
+use pagable_examples::linked::chain::Chain;
+use pagable_examples::linked::{Linked, LinkedNode};
 use pagable_rows::blobs::blob;
 use std::alloc::Global;
 use std::sync::Arc;

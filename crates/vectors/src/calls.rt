@@ -2,16 +2,15 @@
 
 pub mod answers;
 pub mod asked;
-pub mod nodes;
-pub mod references;
+pub mod spelled;
 
 use crate::calls::asked::{events, split};
-use crate::calls::nodes::{CellEnv, CellNode};
 use anyhow::bail;
 use pagable::{
     Call, Env, Event, InMemoryBlobs, KeyHash, Machine, NodeSet, PagableData, PagableStorage, Pager,
     SerializedData, Sha256Key, WeighHash,
 };
+use pagable_examples::{CellEnv, CellNode};
 use pagable_rows::FailingStorage;
 use std::alloc::Global;
 

@@ -5,7 +5,7 @@
 
 mod bundles;
 mod calls;
-mod examples;
+mod dish;
 mod lines;
 mod own;
 mod quick_start;

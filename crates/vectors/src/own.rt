@@ -1,7 +1,8 @@
 //! Types of one's own, and static and tagged values by an environment's registries.
 
-use crate::examples::{Animal, AnimalReader, Dish, Expression, Sheet, Size, Ticket, Zoo};
+use crate::dish::Dish;
 use pagable::{StaticBytes, StaticStr};
+use pagable_examples::{Animal, AnimalReader, Expression, Sheet, Size, Ticket, Zoo};
 use pagable_rows::any::{AnyEnv, read, written};
 use pagable_rows::carried::{Outcome, Taken, replay, replay_eagerly, replay_in, with_shown};
 use pagable_rows::types;

@@ -2,7 +2,7 @@
 //! Python's hashlib made of the preimages.
 
 use crate::calls::asked::item;
-use crate::calls::nodes::{CellNode, node};
+use crate::calls::spelled::node;
 use crate::calls::{Calls, let_go, pager_over};
 use crate::lines;
 use crate::quick_start::page_out_and_read_back;
@@ -12,6 +12,7 @@ use pagable::{
     DataKey, Env, Error, NodeSet, PagableStorage, PagableVecFlavor, PageOutError, Pager, SlotTable,
     WeighHash,
 };
+use pagable_examples::CellNode;
 use pagable_rows::any::{AnyEnv, written};
 use serde_json::Value;
 use std::alloc::Global;

@@ -1,12 +1,12 @@
 //! What events answer, in words, and looks at a pager, which change nothing.
 
-use crate::calls::nodes::CellNode;
-use crate::calls::references::push_references;
+use crate::calls::spelled::{push_node, push_references};
 use pagable::{
     Beginning, Claim, Env, Error, EventReply, Found, HandleNumber, Identity, LoadAnswer, LoadReply,
     NodeSet, OptionalDataKey, PagableData, PagableStorage, Pager, PinStep, Pinning, Reply,
     SerializedData, Took, WorkerAnswer, WorkerReply,
 };
+use pagable_examples::CellNode;
 use std::alloc::{AllocError, Global};
 use std::sync::Arc;
 
@@ -210,7 +210,7 @@ fn push_moved(alloc: Global, text: &mut String, reply: &LoadReply<CellNode>) -> 
     push_words(alloc, text, moved(reply))?;
     if let Some(LoadAnswer::Read(value)) = &reply.ended {
         text.push_str(" = ")?;
-        value.push(alloc, text)?;
+        push_node(alloc, text, value)?;
     }
     Ok(())
 }
@@ -269,7 +269,7 @@ where
     text.push_str(format!(in alloc; "; {}: {node} {count} {key} {place}", handle.0)?.as_str())?;
     if let Some(value) = pager.value(handle)? {
         text.push_str(" = ")?;
-        value.push(alloc, text)?;
+        push_node(alloc, text, value)?;
     }
     Ok(())
 }

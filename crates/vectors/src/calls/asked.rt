@@ -1,7 +1,6 @@
 //! What a row asks for: events, parted by semicolons.
 
-use crate::calls::nodes::node;
-use crate::calls::references::references;
+use crate::calls::spelled::{node, references};
 use crate::calls::{CellCall, CellEvent};
 use anyhow::Context;
 use pagable::{

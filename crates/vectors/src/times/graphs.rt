@@ -1,6 +1,5 @@
 //! Texts, and values that refer to others, which are paged out and pinned again. Keys are made by SHA-256.
 
-use crate::calls::nodes::{CellNode, lists};
 use crate::calls::{let_go, pager_over};
 use crate::times::Outcome;
 use anyhow::Context;
@@ -8,6 +7,7 @@ use pagable::{
     ArcRef, DataKey, Env, Error, HandleNumber, Kind, NodeSet, PagableStorage, Pager,
     SerializedData, Sha256Key, SlotTable, paging,
 };
+use pagable_examples::cells::{CellNode, lists};
 use pagable_rows::Draws;
 use std::alloc::Global;
 use std::sync::Arc;

@@ -1,0 +1,29 @@
+-- What expressions mean, and how they are spelled.
+use Rattle.std.specs.{Int.w64, Prelude.{Err, Ok, Result, ℕ, ◌≡◌}}
+use Rattle.{pagable_examples.specs.declared.expression.Expression.{Expression, Number, Sum'}, pagable_model.specs.{Gives.memory, Meaning.{Meaning, failure, number, pair, success}}}
+use Rattle.pagable_model.specs.{Shape.{Shape, both, nested, outcome, unsigned}, Standing.Is, Writing.{Refused, WritesSome, nesting}, declared.{error.Error.Error, numbers.ArcRef.ArcRef}}
+use Rattle.pagable_traits.specs.Clauses.{Piece}
+
+-- a number, or two expressions, each one level further down
+abbrev pub node : Shape
+node = outcome (unsigned w64) (both (nested 0) (nested 0))
+
+-- every part is an expression
+abbrev pub nodes : ℕ → Shape
+nodes part = node
+
+abbrev pub of_expression : Expression → Meaning ArcRef
+of_expression (Number n) = success (number n)
+of_expression (Sum' p left q right) = failure (pair (of_expression left) (of_expression right))
+
+-- what is written of what means this in a shape, where every part is an expression
+abbrev pub written : (Meaning ArcRef → Type 0) → Shape → Piece
+written M s = record { wrote = λ n. WritesSome M (nesting n.levels nodes) s; lacks = λ n. Refused M (nesting n.levels nodes) s }
+
+abbrev pub expression : Expression → Shape → Piece
+expression x s = written (Is of_expression x) s
+
+-- the sum of two, or no memory
+abbrev pub IsSum : Expression → Expression → Result Expression Error → Type 0
+IsSum x y (Ok sum) = of_expression sum ≡ failure (pair (of_expression x) (of_expression y))
+IsSum x y (Err e) = memory e

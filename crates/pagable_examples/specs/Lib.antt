@@ -1,0 +1,6 @@
+pub mod Animals
+pub mod Cells
+pub mod Expressions
+pub mod Linked
+pub mod Sizes
+pub mod Words

@@ -1,0 +1,128 @@
+//! Animals, which are written as a tag and a body, and the readers of the bodies.
+
+ghost use Rattle.std.specs.Prelude.{◌≡◌};
+ghost use Rattle.{pagable_examples.specs.Animals.{animal_means, body_of, grammar_of, tag_of, tag_read, written}, pagable_model.specs.{Carried.tagged_by, Tagged.grammars}};
+ghost use Rattle.pagable_traits.specs.{Meanings.exactly, OwnCauses.{reads_memory_or, reads_never, writes_long_or, writes_memory_or}, StaticValues.writes_unregistered};
+
+use crate::zoo::Zoo;
+use pagable_flavors::Error;
+use pagable_traits::{
+    Carried, ForTag, PagableDeserialize, PagableDeserializer, PagableSerialize, PagableSerializer,
+    PagableTagged, TagReader, deserialize_tagged,
+};
+use std::alloc::Global;
+
+/// An animal. Of a cat of old, its lives were written; it is read, and not written any more.
+#[derive(Drop)]
+pub enum Animal {
+    Cat,
+    /// So many lives.
+    OldCat(u8),
+    /// So many years old.
+    Dog(u8),
+}
+
+/// The readers of animals.
+#[derive(Clone, Copy)]
+pub enum AnimalReader {
+    Cat,
+    OldCat,
+    Dog,
+}
+
+impl AnimalReader {
+    /// The tag of the animals that it reads.
+    pub fn tag(self) -> &'static str
+        ensures { result.now ≡ tag_read self }
+    {
+        match self {
+            AnimalReader::Cat | AnimalReader::OldCat => "Cat",
+            AnimalReader::Dog => "Dog",
+        }
+    }
+}
+
+impl PagableTagged<Zoo> for Animal {
+    ghost tag = { tag_of };
+
+    ghost bodies = { λ e. written };
+
+    ghost body_means = { exactly body_of };
+
+    ghost body_causes = { writes_memory_or writes_unregistered };
+
+    fn pagable_type_tag(&self) -> &'static str {
+        match self {
+            Animal::Cat | Animal::OldCat(_) => "Cat",
+            Animal::Dog(_) => "Dog",
+        }
+    }
+
+    /// Writes nothing of a cat, and a dog's age. A cat of old is refused with Unregistered.
+    #[tactic(auto, using(pagable_codec::proofs::Writing::parts))]
+    fn pagable_serialize_body<S: PagableSerializer<Zoo>>(
+        &self,
+        serializer: &mut S,
+    ) -> Result<(), Error> {
+        match self {
+            Animal::Cat => ().pagable_serialize(serializer),
+            Animal::OldCat(_) => Err(Error::Unregistered),
+            Animal::Dog(age) => age.pagable_serialize(serializer),
+        }
+    }
+}
+
+impl ForTag for AnimalReader {
+    ghost own_tag = { tag_read };
+}
+
+impl TagReader<Zoo, Animal> for AnimalReader {
+    ghost grammar = { λ r e. grammar_of r };
+
+    ghost read_causes = { reads_never };
+
+    fn read<D: PagableDeserializer<Zoo>>(
+        &self,
+        alloc: Global,
+        deserializer: &mut D,
+    ) -> Result<Animal, Error> {
+        match self {
+            AnimalReader::Cat => {
+                let () = PagableDeserialize::pagable_deserialize(alloc, deserializer)?;
+                Ok(Animal::Cat)
+            }
+            AnimalReader::OldCat => {
+                Ok(Animal::OldCat(u8::pagable_deserialize(alloc, deserializer)?))
+            }
+            AnimalReader::Dog => Ok(Animal::Dog(u8::pagable_deserialize(alloc, deserializer)?)),
+        }
+    }
+}
+
+impl Carried<Zoo> for Animal {
+    ghost shape = { λ e. tagged_by written (grammars (λ r e. grammar_of r) e e.animals) };
+
+    ghost means = { animal_means };
+}
+
+impl PagableSerialize<Zoo> for Animal {
+    ghost write_causes = { writes_long_or (writes_memory_or (writes_memory_or writes_unregistered)) };
+
+    fn pagable_serialize<S: PagableSerializer<Zoo>>(
+        &self,
+        serializer: &mut S,
+    ) -> Result<(), Error> {
+        self.serialize_tagged(serializer)
+    }
+}
+
+impl<'de> PagableDeserialize<'de, Zoo> for Animal {
+    ghost read_causes = { reads_memory_or reads_never };
+
+    fn pagable_deserialize<D: PagableDeserializer<Zoo>>(
+        alloc: Global,
+        deserializer: &mut D,
+    ) -> Result<Self, Error> {
+        deserialize_tagged(alloc, deserializer)
+    }
+}

@@ -1,0 +1,51 @@
+//! Links: a value that may refer to another one of its own type.
+
+ghost use Rattle.pagable_examples.specs.Linked.{one_in_order, one_writes};
+
+use crate::linked::Linked;
+use pagable_flavors::Error;
+use pagable_traits::alike::{CarriedAs, ReadAs};
+use pagable_traits::{ArcRef, OfKind, PagableSerialize, PagableSerializer, Refers};
+
+/// A link: the next one, by a reference of the kind `KIND`. The kind names no type, so it may be one of the link's own.
+#[derive(Drop)]
+pub struct Chain<const KIND: u32> {
+    pub next: Option<OfKind<KIND>>,
+}
+
+/// A link by a loose reference: it is read without those that follow. The type number is 0, so the kind is 1.
+pub type Link = Chain<1>;
+
+/// A link by a shared reference: it is read with all that follow. The type number is 1, so the kind is 3.
+pub type ArcLink = Chain<3>;
+
+impl<const KIND: u32> CarriedAs for Chain<KIND> {
+    type Other = Option<OfKind<KIND>>;
+
+    ghost other = { λ c. c.next };
+}
+
+impl<const KIND: u32> ReadAs for Chain<KIND> {
+    fn of_other(value: Option<OfKind<KIND>>) -> Self {
+        Chain { next: value }
+    }
+}
+
+impl<const KIND: u32> Refers<Linked> for Chain<KIND> {
+    fn list_references(&self, list: &mut Vec<ArcRef>) -> Result<(), Error> {
+        Refers::<Linked>::list_references(&self.next, list)
+    }
+
+    ghost in_order = { λ e. one_in_order KIND };
+}
+
+impl<const KIND: u32> PagableSerialize<Linked> for Chain<KIND> {
+    ghost write_causes = { one_writes };
+
+    fn pagable_serialize<S: PagableSerializer<Linked>>(
+        &self,
+        serializer: &mut S,
+    ) -> Result<(), Error> {
+        self.next.pagable_serialize(serializer)
+    }
+}

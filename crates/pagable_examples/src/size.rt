@@ -1,0 +1,51 @@
+//! An enum of two cases that is carried as an `Option`: the shortest way where one of them has no part.
+
+ghost use Rattle.std.specs.Prelude.{◌≡◌};
+ghost use Rattle.pagable_examples.specs.Sizes.{tenths_of};
+
+use pagable_flavors::Error;
+use pagable_traits::alike::{CarriedAs, ReadAs};
+use pagable_traits::{Env, PagableSerialize, PagableSerializer};
+
+/// The size of a glass.
+#[derive(Clone, Copy, PartialEq)]
+pub enum Size {
+    Small,
+    /// So many tenths of a litre.
+    Large(u8),
+}
+
+impl Size {
+    /// How many tenths of a litre a large glass holds.
+    pub fn tenths(self) -> Option<u8>
+        ensures { result ≡ tenths_of self }
+    {
+        match self {
+            Size::Small => None,
+            Size::Large(tenths) => Some(tenths),
+        }
+    }
+}
+
+impl CarriedAs for Size {
+    type Other = Option<u8>;
+
+    ghost other = { tenths_of };
+}
+
+impl ReadAs for Size {
+    fn of_other(value: Option<u8>) -> Self {
+        match value {
+            None => Size::Small,
+            Some(tenths) => Size::Large(tenths),
+        }
+    }
+}
+
+impl<E: Env> PagableSerialize<E> for Size {
+    ghost write_causes = { ⟦<Option<u8> as PagableSerialize<E>>⟧.write_causes };
+
+    fn pagable_serialize<S: PagableSerializer<E>>(&self, serializer: &mut S) -> Result<(), Error> {
+        self.tenths().pagable_serialize(serializer)
+    }
+}

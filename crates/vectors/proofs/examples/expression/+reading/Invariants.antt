@@ -1,8 +1,0 @@
-use Rattle.{pagable.specs.model.Reading.deepest, std.proofs.Common.{◌*◌, ◌+◌, ◌-◌}}
-use Rattle.vectors.proofs.examples.expression.+reading.Given as goal
-
-abbrev pub decreases-read_below : goal.decreases-read_below
-decreases-read_below g l = 2 * (deepest - g.D.PagableDeserializer.levels l.deserializer.now)
-
-abbrev pub decreases-read_node : goal.decreases-read_node
-decreases-read_node g l = 2 * (deepest - g.D.PagableDeserializer.levels l.deserializer.now) + 1

@@ -1,8 +1,0 @@
-use Rattle.{pagable.specs.model.Reading.deepest, std.proofs.Common.{◌*◌, ◌+◌, ◌-◌}}
-use Rattle.vectors.proofs.examples.expression.+writing.Given as goal
-
-abbrev pub decreases-write_below : goal.decreases-write_below
-decreases-write_below g l = 2 * (deepest - g.S.PagableSerializer.levels l.serializer.now)
-
-abbrev pub decreases-write_node : goal.decreases-write_node
-decreases-write_node g l = 2 * (deepest - g.S.PagableSerializer.levels l.serializer.now) + 1

@@ -1,8 +1,0 @@
--- The size of a glass: how many tenths of a litre it holds, where it is a large one.
-use Rattle.std.specs.Prelude.{ℕ, Option, Some, None}
-use Rattle.vectors.specs.declared.examples.size.Size.{Size}
-use Rattle.vectors.specs.declared.examples.size.Size.TheVariants as sizes
-
-abbrev pub tenths_of : Size → Option ℕ
-tenths_of sizes.Small = None
-tenths_of (sizes.Large tenths) = Some tenths
