@@ -5,7 +5,6 @@
 
 mod bundles;
 mod calls;
-mod dish;
 mod lines;
 mod own;
 mod quick_start;

@@ -1,8 +1,7 @@
 //! Types of one's own, and static and tagged values by an environment's registries.
 
-use crate::dish::Dish;
 use pagable::{StaticBytes, StaticStr};
-use pagable_examples::{Animal, AnimalReader, Expression, Sheet, Size, Ticket, Zoo};
+use pagable_examples::{Animal, AnimalReader, Dish, Expression, Sheet, Size, Ticket, Zoo};
 use pagable_rows::any::{AnyEnv, read, written};
 use pagable_rows::carried::{Outcome, Taken, replay, replay_eagerly, replay_in, with_shown};
 use pagable_rows::types;
