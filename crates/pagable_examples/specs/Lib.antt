@@ -1,7 +1,5 @@
 pub mod Animals
-pub mod Cells
 pub mod Dishes
 pub mod Expressions
-pub mod Linked
 pub mod Sizes
 pub mod Words

@@ -1,21 +1,20 @@
 //! How a caller carries types of its own: a struct of named fields, an enum that is carried as an option, a type that holds values of its own type, and one that
-//! is written eagerly; an environment of registries, with tagged values; types that refer to each other; and the values of the rows of events. They name the
-//! crates of values alone, so no pager is read below them.
+//! is written eagerly; an environment of registries, with tagged values. And rows of values: what comes of inputs of the carried types and of these, and inputs that are drawn;
+//! and what a session shares.
 #![tactic(auto)]
 
 pub mod animal;
-pub mod cells;
+pub mod any;
+pub mod carried;
 pub mod dish;
+pub mod drawn;
 pub mod expression;
-pub mod linked;
+pub mod own;
+pub mod sessions;
 pub mod size;
 pub mod ticket;
+pub mod types;
+pub mod values;
 pub mod zoo;
 
-pub use animal::{Animal, AnimalReader};
-pub use cells::{CellEnv, CellNode};
-pub use dish::Dish;
-pub use expression::{Expression, Sheet};
-pub use size::Size;
-pub use ticket::Ticket;
-pub use zoo::Zoo;
+pub use drawn::{Draws, input_of};

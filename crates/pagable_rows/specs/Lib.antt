@@ -1,2 +1,4 @@
+pub mod Cells
 pub mod Failing
+pub mod Linked
 pub mod Texts

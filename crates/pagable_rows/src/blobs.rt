@@ -1,7 +1,7 @@
 //! Inputs and blobs as rows spell them.
 
 use anyhow::Context;
-use pagable_core::PagableData;
+use pagable_core::{PagableData, WeighHash};
 use pagable_flavors::DataKey;
 use std::alloc::Global;
 
@@ -38,4 +38,10 @@ pub fn blob(alloc: Global, text: &str) -> anyhow::Result<PagableData> {
     };
     let bytes = bytes_of(alloc, bytes)?;
     Ok(PagableData { bytes, arcs })
+}
+
+/// The key of a blob by `WeighHash`, as a text.
+pub fn weighed(alloc: Global, text: &str) -> anyhow::Result<String> {
+    let key = blob(alloc, text)?.compute_key::<WeighHash>();
+    Ok(format!(in alloc; "{}", key.get())?)
 }

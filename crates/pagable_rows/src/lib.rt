@@ -1,19 +1,16 @@
-//! What rows are made of, beside the pager: blobs and values of the carried types as lines spell them, and what comes of these; an environment of texts and one
-//! that no value needs; inputs that are drawn; a storage over another storage, which fails once; lines of input, which are answered one by one; and what a
-//! session shares.
+//! What rows of events are made of: blobs, values that refer to others, and events as lines spell them, and what comes of these; an environment of texts; types
+//! that refer to each other, and their environment; a storage over another storage, which fails once; and lines of input, which are answered one by one.
 #![tactic(auto)]
 
-pub mod any;
+pub mod answers;
+pub mod asked;
 pub mod blobs;
-pub mod carried;
-pub mod drawn;
+pub mod cells;
 pub mod lines;
-mod served;
-pub mod sessions;
+pub mod linked;
+pub mod served;
+pub mod spelled;
 pub mod storages;
 pub mod text;
-pub mod types;
-pub mod values;
 
-pub use drawn::{Draws, input_of};
 pub use storages::FailingStorage;

@@ -1,26 +1,19 @@
 //! Rows of events for a machine over a pager of their values.
 
-pub mod answers;
-pub mod asked;
-pub mod spelled;
-
-use crate::calls::asked::{events, split};
 use anyhow::bail;
 use pagable::{
-    Call, Env, Event, InMemoryBlobs, KeyHash, Machine, NodeSet, PagableData, PagableStorage, Pager,
-    SerializedData, Sha256Key, WeighHash,
+    Env, Error, HandleNumber, InMemoryBlobs, KeyHash, Machine, NodeSet, PagableStorage, Pager,
+    Sha256Key, WeighHash,
 };
-use pagable_examples::{CellEnv, CellNode};
-use pagable_rows::FailingStorage;
+use pagable_rows::asked::{events, split};
+use pagable_rows::cells::{CellEnv, CellNode};
+use pagable_rows::spelled::push_node;
+use pagable_rows::{FailingStorage, answers};
 use std::alloc::Global;
 
 type CellStorage<H> = FailingStorage<InMemoryBlobs<CellEnv<H>>>;
 
 type CellMachine<H> = Machine<CellEnv<H>, CellStorage<H>>;
-
-pub type CellCall = Call<CellNode, PagableData>;
-
-pub type CellEvent = Event<CellNode, PagableData, SerializedData>;
 
 /// Answers rows of events, by the machine that the last row of the word `machine` has made: by this hash or by that.
 #[derive(Drop)]
@@ -74,7 +67,7 @@ impl Calls {
     }
 }
 
-/// The answer to a row by a machine: a look at its pager, or to events, which the machine gets as one list, or to the last of these.
+/// The answer to a row by a machine: a look at its pager, or to events, or to the last of these.
 fn answer<E: Env<Node = CellNode>, S: PagableStorage<E>>(
     alloc: Global,
     machine: &mut Machine<E, S>,
@@ -84,14 +77,61 @@ where
     E::Node: NodeSet<E>,
 {
     let (word, rest) = split(line);
-    let (asked, most) = match word {
-        "look" => return answers::look(alloc, machine.pager(), rest.parse::<u64>()?),
-        "last" => (rest, 1),
-        _ => (line, usize::MAX),
-    };
+    match word {
+        "look" => look(alloc, machine.pager(), rest.parse::<u64>()?),
+        "last" => run(alloc, machine, rest, 1),
+        _ => run(alloc, machine, line, usize::MAX),
+    }
+}
+
+/// What events answer, which the machine gets as one list: so many of them, from the last on.
+fn run<E: Env<Node = CellNode>, S: PagableStorage<E>>(
+    alloc: Global,
+    machine: &mut Machine<E, S>,
+    asked: &str,
+    most: usize,
+) -> anyhow::Result<String>
+where
+    E::Node: NodeSet<E>,
+{
     let Ok(replies) = machine.run(alloc, events(alloc, asked)?) else {
         bail!("no memory for the replies");
     };
     let before = replies.len().saturating_sub(most);
     answers::replies(alloc, replies.as_slice().get(before..).unwrap_or_default())
+}
+
+/// Where the node of a live handle stands.
+fn standing<E: Env<Node = CellNode>, S: PagableStorage<E>>(
+    pager: &Pager<E, S>,
+    handle: HandleNumber,
+) -> Result<answers::Standing, Error>
+where
+    E::Node: NodeSet<E>,
+{
+    let (node, count) = (pager.node_of(handle)?, pager.count(handle)?);
+    Ok((node, count, pager.key(handle)?, pager.is_paged_out(handle)?))
+}
+
+/// How long the list is, and each live handle from 1 up to this number, with its value if that is in memory.
+fn look<E: Env<Node = CellNode>, S: PagableStorage<E>>(
+    alloc: Global,
+    pager: &Pager<E, S>,
+    last: u64,
+) -> anyhow::Result<String>
+where
+    E::Node: NodeSet<E>,
+{
+    let mut text = format!(in alloc; "pending {}", pager.pending())?;
+    for number in 1..=last {
+        let handle = HandleNumber(number);
+        if let Ok(standing) = standing(pager, handle) {
+            answers::push_handle(alloc, &mut text, number, standing)?;
+        }
+        if let Ok(Some(value)) = pager.value(handle) {
+            text.push_str(" = ")?;
+            push_node(alloc, &mut text, value)?;
+        }
+    }
+    Ok(text)
 }

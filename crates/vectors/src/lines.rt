@@ -1,10 +1,10 @@
 //! Lines, and their answers.
 
 use crate::calls::Calls;
-use crate::own;
-use pagable_rows::blobs::bytes_of;
-use pagable_rows::carried::text;
-use pagable_rows::values;
+use pagable_examples::carried::text;
+use pagable_examples::{own, values};
+use pagable_rows::blobs::{bytes_of, weighed};
+use pagable_rows::served;
 use std::alloc::{AllocError, Global};
 
 /// What comes of the bytes of a type.
@@ -40,6 +40,8 @@ fn answer_all(alloc: Global, name: &str, verb: &str, inputs: &str) -> anyhow::Re
         let answer = match verb {
             "read" => read_bytes(alloc, name, bytes_of(alloc, input)?.as_slice())?,
             "cut" => cut(alloc, name, input)?,
+            "weigh" => weighed(alloc, input)?,
+            "serve" => served::answer(alloc, name, input)?,
             _ => values::answer(alloc, name, verb, input)?,
         };
         answers.push_str(answer.as_str())?;

@@ -6,14 +6,13 @@
 mod bundles;
 mod calls;
 mod lines;
-mod own;
 mod quick_start;
 mod times;
 mod worked;
 
 use crate::calls::{Calls, let_go};
 use anyhow::Context;
-use pagable_rows::sessions;
+use pagable_examples::sessions;
 use std::{env, fs};
 
 /// Answers the lines of a file, or runs the worked rows that stand in it.

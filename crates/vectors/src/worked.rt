@@ -1,8 +1,6 @@
 //! The worked rows, whose lines stand in a file. What they expect was worked out from the rules of the wire format, of keys and of cells: by hand, but for keys by SHA-256, which
 //! Python's hashlib made of the preimages.
 
-use crate::calls::asked::item;
-use crate::calls::spelled::node;
 use crate::calls::{Calls, let_go, pager_over};
 use crate::lines;
 use crate::quick_start::page_out_and_read_back;
@@ -12,8 +10,10 @@ use pagable::{
     DataKey, Env, Error, NodeSet, PagableStorage, PagableVecFlavor, PageOutError, Pager, SlotTable,
     WeighHash,
 };
-use pagable_examples::CellNode;
-use pagable_rows::any::{AnyEnv, written};
+use pagable_examples::any::{AnyEnv, written};
+use pagable_rows::asked::item;
+use pagable_rows::cells::CellNode;
+use pagable_rows::spelled::node;
 use serde_json::Value;
 use std::alloc::Global;
 use std::sync::Arc;

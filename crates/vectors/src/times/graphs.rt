@@ -7,8 +7,8 @@ use pagable::{
     ArcRef, DataKey, Env, Error, HandleNumber, Kind, NodeSet, PagableStorage, Pager,
     SerializedData, Sha256Key, SlotTable, paging,
 };
-use pagable_examples::cells::{CellNode, lists};
-use pagable_rows::Draws;
+use pagable_examples::Draws;
+use pagable_rows::cells::{CellNode, lists};
 use std::alloc::Global;
 use std::sync::Arc;
 use std::time::{Clock, Instant};

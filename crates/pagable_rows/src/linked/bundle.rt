@@ -1,6 +1,6 @@
 //! Bundles: references of each sort to values of other types.
 
-ghost use Rattle.pagable_examples.specs.Linked.{bundle_has_one_form, bundle_in_order, bundle_means, bundle_reads, bundle_shape, bundle_single, bundle_writes, no_parts};
+ghost use Rattle.pagable_rows.specs.Linked.{bundle_has_one_form, bundle_in_order, bundle_means, bundle_reads, bundle_shape, bundle_single, bundle_writes, no_parts};
 ghost use Rattle.pagable_traits.specs.ReadBack.{IsReadThroughout};
 
 use crate::linked::Linked;

@@ -1,9 +1,12 @@
 //! Values and references as rows spell them.
 
+use crate::blobs::bytes_of;
+use crate::cells::{CellEnv, CellNode, lists, of_kinds};
 use anyhow::{Context, bail, ensure};
-use pagable::{ArcRef, Error, HandleNumber, Kind, NodeNumber, NodeSet, OfKind, WeighHash};
-use pagable_examples::cells::{CellEnv, CellNode, lists, of_kinds};
-use pagable_rows::blobs::bytes_of;
+use pagable_core::WeighHash;
+use pagable_flavors::Error;
+use pagable_model::{ArcRef, HandleNumber, Kind, NodeNumber};
+use pagable_traits::{NodeSet, OfKind};
 use std::alloc::Global;
 
 /// The references that are spelled, parted by commas.

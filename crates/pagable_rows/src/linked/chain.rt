@@ -1,6 +1,6 @@
 //! Links: a value that may refer to another one of its own type.
 
-ghost use Rattle.pagable_examples.specs.Linked.{one_in_order, one_writes};
+ghost use Rattle.pagable_rows.specs.Linked.{one_in_order, one_writes};
 
 use crate::linked::Linked;
 use pagable_flavors::Error;

@@ -1,6 +1,6 @@
 -- What links and bundles mean and refer to, and what the nodes that hold them do.
 use Rattle.std.{proofs.Common.arith, specs.{Arc.arc_value, Global.Vec, Prelude.{List, None, Option, Some, false, refl, suc, true, zero, ℕ, ◌<◌, ◌^◌, ◌≡◌}}}
-use Rattle.{pagable_examples.specs.declared.linked.{LinkedNode.LinkedNode, bundle.Bundle.Bundle, chain.Chain.Chain}, pagable_model.specs.Meaning.Meaning}
+use Rattle.{pagable_rows.specs.declared.linked.{LinkedNode.LinkedNode, bundle.Bundle.Bundle, chain.Chain.Chain}, pagable_model.specs.Meaning.Meaning}
 use Rattle.pagable_model.specs.{OneForm.{HasOneFormThroughout, over_has_one_form, two_has_one_form}, References.{SameReferences, references_in}}
 use Rattle.pagable_model.specs.{Shape.{Shape, both, list, nothing, optional, reference}, Standing.SomeMeaning, declared.numbers.ArcRef.ArcRef}
 use Rattle.pagable_traits.specs.InNodes.{Holds, holds-none, holds-value}
@@ -9,7 +9,7 @@ use Rattle.pagable_traits.specs.OwnCauses.{ReadCauses, WriteCauses, reads_either
 use Rattle.pagable_traits.specs.ReadBack.{IsReadThroughout, over_is_read, two_is_read}
 use Rattle.pagable_traits.specs.References.{holding_means, loose_means, plain_means, reads_unlent, reference_has_one_form, reference_is_read}
 use Rattle.pagable_traits.specs.Refers.{ListsInOrder, both_in_order, list_in_order, optional_in_order, reference_in_order}
-use Rattle.pagable_examples.specs.declared.linked.LinkedNode.TheVariants as nodes
+use Rattle.pagable_rows.specs.declared.linked.LinkedNode.TheVariants as nodes
 
 -- the environment has no part with a number
 abbrev pub no_parts : ℕ → Shape

@@ -3,8 +3,8 @@
 
 ghost use Rattle.std.specs.{Arc.arc_value, Prelude.{OnOk, Some, refl, ◌++◌, ◌≡◌}};
 ghost use Rattle.{pagable_model.specs.References.references_in, pagable_traits.specs.Clauses.{Wrote, value as form}};
-ghost use Rattle.pagable_examples.specs.Linked.{arc_link_in, bundle_in, holds_arc_link, holds_bundle};
-ghost use Rattle.pagable_examples.specs.Linked.{holds_link, link_in, no_parts, numbers_are_small};
+ghost use Rattle.pagable_rows.specs.Linked.{arc_link_in, bundle_in, holds_arc_link, holds_bundle};
+ghost use Rattle.pagable_rows.specs.Linked.{holds_link, link_in, no_parts, numbers_are_small};
 
 pub mod bundle;
 pub mod chain;
@@ -56,7 +56,7 @@ pub enum LinkedNode {
 }
 
 impl NodeSet<Linked> for LinkedNode {
-    ghost use Rattle.pagable_examples.specs.Linked.{reads, shape_of, told, writes};
+    ghost use Rattle.pagable_rows.specs.Linked.{reads, shape_of, told, writes};
 
     ghost type_of = { λ n. (told n).number };
 

@@ -1,10 +1,15 @@
 //! Types of one's own, and static and tagged values by an environment's registries.
 
-use pagable::{StaticBytes, StaticStr};
-use pagable_examples::{Animal, AnimalReader, Dish, Expression, Sheet, Size, Ticket, Zoo};
-use pagable_rows::any::{AnyEnv, read, written};
-use pagable_rows::carried::{Outcome, Taken, replay, replay_eagerly, replay_in, with_shown};
-use pagable_rows::types;
+use crate::animal::{Animal, AnimalReader};
+use crate::any::{AnyEnv, read, written};
+use crate::carried::{Outcome, Taken, replay, replay_eagerly, replay_in, with_shown};
+use crate::dish::Dish;
+use crate::expression::{Expression, Sheet};
+use crate::size::Size;
+use crate::ticket::Ticket;
+use crate::types;
+use crate::zoo::Zoo;
+use pagable_traits::{StaticBytes, StaticStr};
 use std::alloc::Global;
 
 /// What comes of a static text, which is shown with the least index of an equal one.

@@ -1,12 +1,12 @@
 -- What the values of the rows mean, and how they are spelled.
 use Rattle.std.specs.{Global.Vec, Int.w8, Prelude.{None, Option, Some, String, refl, suc, true, zero, ℕ, ◌≡◌}, String.string_bytes, declared.alloc.Global.Global}
-use Rattle.{pagable_examples.specs.{Linked.{Case, referring}, declared.cells.CellNode.CellNode}, pagable_model.specs.{Form.unsigned-form, Meaning.{Meaning, number}, References.references_in}}
+use Rattle.{pagable_rows.specs.{Linked.{Case, referring}, declared.cells.CellNode.CellNode}, pagable_model.specs.{Form.unsigned-form, Meaning.{Meaning, number}, References.references_in}}
 use Rattle.pagable_model.specs.{Refusals.may_refuse_writing, Shape.{Shape, both, list, nothing, optional, reference, text, unsigned}, declared.numbers.ArcRef.ArcRef}
 use Rattle.pagable_traits.specs.Meanings.{AreSingle, Meanings, exactly, lists, lists_single, options, options_single, pairs, pairs_single, seen_by}
 use Rattle.pagable_traits.specs.{OwnCauses.{WriteCauses, writes_either, writes_long_or, writes_memory, writes_memory_or}, References.plain_means, Refers.ListsInOrder}
 use Rattle.pagable_traits.specs.declared.plain.OfKind.{OfKind}
 use Rattle.pagable_model.specs.Meaning as meanings
-use Rattle.pagable_examples.specs.declared.cells.CellNode.TheVariants as nodes
+use Rattle.pagable_rows.specs.declared.cells.CellNode.TheVariants as nodes
 
 -- how the values of a type are spelled, what each means, which is one thing, and all refusals of their writing
 pub record Spelled (T : Type 0) : Type 1 where

@@ -1,11 +1,9 @@
 //! Lines about values that need no environment, but for those that are read.
 
 use crate::any::{AnyEnv, written};
-use crate::blobs::blob;
 use crate::carried::written_bytes;
 use crate::drawn::input_of;
-use crate::{served, types};
-use pagable_core::WeighHash;
+use crate::types;
 use pagable_flavors::{Error, Reason};
 use pagable_traits::SavedRegex;
 use serde_json::Value;
@@ -62,11 +60,6 @@ pub fn answer(alloc: Global, name: &str, verb: &str, input: &str) -> anyhow::Res
         "write" => Ok(json(alloc, input)?),
         "drawn" => drawn(alloc, name, input.parse::<u32>()?),
         "find" => find(alloc, name, input),
-        "serve" => served::answer(alloc, name, input),
-        "reason" => Ok(format!(in alloc; "\"{}\"", Error::Custom(Reason::new(input)))?),
-        _ => {
-            let key = blob(alloc, input)?.compute_key::<WeighHash>();
-            Ok(format!(in alloc; "{}", key.get())?)
-        }
+        _ => Ok(format!(in alloc; "\"{}\"", Error::Custom(Reason::new(input)))?),
     }
 }

@@ -1,14 +1,18 @@
 //! What a row asks for: events, parted by semicolons.
 
-use crate::calls::spelled::{node, references};
-use crate::calls::{CellCall, CellEvent};
+use crate::blobs::{blob, bytes_of};
+use crate::cells::CellNode;
+use crate::spelled::{node, references};
 use anyhow::Context;
-use pagable::{
-    Call, DataKey, Event, HandleNumber, Kind, LoadNumber, NodeNumber, SerializedData, TableNumber,
-    Want, WorkerNumber,
-};
-use pagable_rows::blobs::{blob, bytes_of};
+use pagable_core::{PagableData, SerializedData};
+use pagable_flavors::DataKey;
+use pagable_model::{HandleNumber, Kind, LoadNumber, NodeNumber, WorkerNumber};
+use pagable_world::{Call, Event, TableNumber, Want};
 use std::alloc::Global;
+
+pub type CellCall = Call<CellNode, PagableData>;
+
+pub type CellEvent = Event<CellNode, PagableData, SerializedData>;
 
 /// A word, and what stands behind it.
 pub fn split(text: &str) -> (&str, &str) {
@@ -31,9 +35,14 @@ fn push_events(alloc: Global, events: &mut Vec<CellEvent>, part: &str) -> anyhow
     }
     let (one, times) = times_of(part);
     for _ in 0..times {
-        events.push(event(alloc, one)?)?;
+        push_event(alloc, events, one)?;
     }
     Ok(())
+}
+
+/// Adds one event.
+fn push_event(alloc: Global, events: &mut Vec<CellEvent>, one: &str) -> anyhow::Result<()> {
+    Ok(events.push(event(alloc, one)?)?)
 }
 
 /// Adds so many births in a new pager, of which each refers to the one before: as `new_loose 3 10 130`, the call, the type, the kind of
@@ -41,10 +50,10 @@ fn push_events(alloc: Global, events: &mut Vec<CellEvent>, part: &str) -> anyhow
 fn push_chain(alloc: Global, events: &mut Vec<CellEvent>, chain: &str) -> anyhow::Result<()> {
     let (birth, times) = chain.rsplit_once(' ').context("no chain")?;
     let (birth, kind) = birth.rsplit_once(' ').context("no chain")?;
-    events.push(event(alloc, birth)?)?;
+    push_event(alloc, events, birth)?;
     for place in 1..number_of(times) {
         let next = format!(in alloc; "{birth} {kind}:{place}:{place}")?;
-        events.push(event(alloc, next.as_str())?)?;
+        push_event(alloc, events, next.as_str())?;
     }
     Ok(())
 }

@@ -1,12 +1,14 @@
-//! What events answer, in words, and looks at a pager, which change nothing.
+//! What events answer, in words, and where a handle's node stands.
 
-use crate::calls::spelled::{push_node, push_references};
-use pagable::{
-    Beginning, Claim, Env, Error, EventReply, Found, HandleNumber, Identity, LoadAnswer, LoadReply,
-    NodeSet, OptionalDataKey, PagableData, PagableStorage, Pager, PinStep, Pinning, Reply,
-    SerializedData, Took, WorkerAnswer, WorkerReply,
+use crate::cells::CellNode;
+use crate::spelled::{push_node, push_references};
+use pagable_core::{PagableData, SerializedData};
+use pagable_flavors::{Error, OptionalDataKey};
+use pagable_model::{Identity, NodeNumber};
+use pagable_world::{
+    Beginning, Claim, EventReply, Found, LoadAnswer, LoadReply, PinStep, Pinning, Reply, Took,
+    WorkerAnswer, WorkerReply,
 };
-use pagable_examples::CellNode;
 use std::alloc::{AllocError, Global};
 use std::sync::Arc;
 
@@ -245,47 +247,18 @@ pub fn replies(alloc: Global, replies: &[CellAnswer]) -> anyhow::Result<String> 
     Ok(text)
 }
 
-/// Adds a live handle: its number, its node, the node's count and key, or 0 for none, whether the value is in memory, and the value.
-fn push_handle<E: Env<Node = CellNode>, S: PagableStorage<E>>(
+/// Where a handle's node stands: its number, its count, its key, and whether its value is away.
+pub type Standing = (NodeNumber, u64, OptionalDataKey, bool);
+
+/// Adds a live handle: its number, its node, the node's count and key, or 0 for none, and whether the value is in memory.
+pub fn push_handle(
     alloc: Global,
     text: &mut String,
-    pager: &Pager<E, S>,
-    handle: HandleNumber,
-) -> Result<(), Error>
-where
-    E::Node: NodeSet<E>,
-{
-    let node = pager.node_of(handle)?.0;
-    let count = pager.count(handle)?;
-    let key = match pager.key(handle)? {
-        OptionalDataKey::None => 0,
-        OptionalDataKey::Some(key) => key.get(),
-    };
-    let place = if pager.is_paged_out(handle)? {
-        "away"
-    } else {
-        "here"
-    };
-    text.push_str(format!(in alloc; "; {}: {node} {count} {key} {place}", handle.0)?.as_str())?;
-    if let Some(value) = pager.value(handle)? {
-        text.push_str(" = ")?;
-        push_node(alloc, text, value)?;
-    }
-    Ok(())
-}
-
-/// How long the list is, and each live handle from 1 up to this number.
-pub fn look<E: Env<Node = CellNode>, S: PagableStorage<E>>(
-    alloc: Global,
-    pager: &Pager<E, S>,
-    last: u64,
-) -> anyhow::Result<String>
-where
-    E::Node: NodeSet<E>,
-{
-    let mut text = format!(in alloc; "pending {}", pager.pending())?;
-    for number in 1..=last {
-        let _ = push_handle(alloc, &mut text, pager, HandleNumber(number));
-    }
-    Ok(text)
+    handle: u64,
+    standing: Standing,
+) -> Result<(), AllocError> {
+    let (node, count, key, is_away) = standing;
+    let key = if key.is_some() { key.unwrap().get() } else { 0 };
+    let place = if is_away { "away" } else { "here" };
+    text.push_str(format!(in alloc; "; {handle}: {} {count} {key} {place}", node.0)?.as_str())
 }
