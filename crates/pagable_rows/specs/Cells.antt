@@ -1,8 +1,8 @@
 -- What the values of the rows mean, and how they are spelled.
 use Rattle.std.specs.{Global.Vec, Int.w8, Prelude.{None, Option, Some, String, refl, suc, true, zero, ℕ, ◌≡◌}, String.string_bytes, declared.alloc.Global.Global}
-use Rattle.{pagable_rows.specs.{Linked.{Case, referring}, declared.cells.CellNode.CellNode}, pagable_model.specs.{Form.unsigned-form, Meaning.{Meaning, number}, References.references_in}}
+use Rattle.{pagable_rows.specs.{Linked.{Case, chain_means, chain_single, one_writes, referring}, declared.{cells.CellNode.CellNode, linked.chain.Chain.Chain}}, pagable_model.specs.{Form.unsigned-form, Meaning.{Meaning, number}, References.references_in}}
 use Rattle.pagable_model.specs.{Refusals.may_refuse_writing, Shape.{Shape, both, list, nothing, optional, reference, text, unsigned}, declared.numbers.ArcRef.ArcRef}
-use Rattle.pagable_traits.specs.Meanings.{AreSingle, Meanings, exactly, lists, lists_single, options, options_single, pairs, pairs_single, seen_by}
+use Rattle.pagable_traits.specs.Meanings.{AreSingle, Meanings, exactly, lists, lists_single, pairs, pairs_single, seen_by}
 use Rattle.pagable_traits.specs.{OwnCauses.{WriteCauses, writes_either, writes_long_or, writes_memory, writes_memory_or}, References.plain_means, Refers.ListsInOrder}
 use Rattle.pagable_traits.specs.declared.plain.OfKind.{OfKind}
 use Rattle.pagable_model.specs.Meaning as meanings
@@ -30,8 +30,8 @@ byte = plain (unsigned w8) number writes_memory
 abbrev pub one : (kind : ℕ) → Spelled (OfKind kind)
 one kind = plain (reference kind) (plain_means kind) writes_memory
 
-abbrev at_most_one : (kind : ℕ) → Spelled (Option (OfKind kind))
-at_most_one kind = record { shape = optional (reference kind); means = options (one kind).means; single = options_single (one kind).means (one kind).single; writes = writes_memory_or writes_memory }
+abbrev at_most_one : (kind : ℕ) → Spelled (Chain kind)
+at_most_one kind = record { shape = optional (reference kind); means = chain_means kind; single = chain_single kind; writes = one_writes }
 
 abbrev pub many : (kind : ℕ) → Spelled (Vec (OfKind kind))
 many kind = record {

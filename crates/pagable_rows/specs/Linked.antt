@@ -26,8 +26,8 @@ chain_means kind = seen_by (λ c. c.next) (options (exactly (plain_means kind)))
 pub chain_single : (kind : ℕ) → AreSingle (chain_means kind)
 chain_single kind c = options_single (exactly (plain_means kind)) (λ a m is. is) c.next
 
-pub one_in_order : (kind : ℕ) → ListsInOrder no_parts (optional (reference kind))
-one_in_order kind = optional_in_order no_parts (reference kind) (reference_in_order no_parts kind)
+pub one_in_order : (parts : ℕ → Shape) (kind : ℕ) → ListsInOrder parts (optional (reference kind))
+one_in_order parts kind = optional_in_order parts (reference kind) (reference_in_order parts kind)
 
 -- ---- bundles: lists of references of three sorts
 

@@ -1,12 +1,10 @@
 //! The values of the rows, by the numbers of their types.
 
-ghost use Rattle.std.specs.Prelude.{IfErr, IfOk, OnOk, ◌++◌, ◌≡◌};
-ghost use Rattle.{pagable_model.specs.{Gives.memory, Reading.read, References.references_in}, pagable_traits.specs.Clauses.{Reads, Wrote, value as form}};
-
+use crate::linked::chain::Chain;
 use crate::linked::write_listed;
 use pagable_flavors::{Error, Reason};
 use pagable_traits::{
-    ArcRef, Carried, Env, KeyHash, NodeSet, OfKind, PagableDeserialize, PagableDeserializer,
+    ArcRef, Env, KeyHash, NodeSet, OfKind, PagableDeserialize, PagableDeserializer,
     PagableSerialize, PagableSerializer, Refers, references_of,
 };
 use std::alloc::Global;
@@ -47,14 +45,11 @@ type Lists = (
 /// A byte and lists.
 type Mixed = (u8, Lists);
 
-/// A value and five more.
-type Six<A, B, C, D, F, G> = (A, (B, (C, (D, (F, G)))));
-
 /// A link to the next one by a loose reference: of its own kind.
-type Link = Option<OfKind<10>>;
+type Link = Chain<10>;
 
 /// A link to the next one by a shared reference: of its own kind.
-type ArcLink = Option<OfKind<12>>;
+type ArcLink = Chain<12>;
 
 /// Shared references to names.
 type Names = Vec<OfKind<0>>;
@@ -123,61 +118,6 @@ impl<H: KeyHash> Refers<CellEnv<H>> for u8 {
     ghost in_order = { λ e. byte_in_order };
 }
 
-// What is done with a byte and lists is done with six values whose types are open: at those of a node the check would go through all that nested pairs owe at each of them.
-
-/// The references of six values.
-fn references_of_six<E: Env, A, B, C, D, F, G>(
-    alloc: Global,
-    value: &Six<A, B, C, D, F, G>,
-) -> Result<Vec<ArcRef>, Error>
-where
-    A: Refers<E>,
-    B: Refers<E>,
-    C: Refers<E>,
-    D: Refers<E>,
-    F: Refers<E>,
-    G: Refers<E>,
-    ensures ok { IfOk result (λ list. list.items ≡ references_in (⟦<(A, (B, (C, (D, (F, G))))) as Carried<E>>⟧.means.meaning value.now)) }
-    ensures only { IfErr result memory }
-{
-    references_of(alloc, value)
-}
-
-/// Writes six values.
-fn write_six<E: Env, A, B, C, D, F, G, S: PagableSerializer<E>>(
-    value: &Six<A, B, C, D, F, G>,
-    serializer: &mut S,
-) -> Result<(), Error>
-where
-    A: Refers<E> + PagableSerialize<E>,
-    B: Refers<E> + PagableSerialize<E>,
-    C: Refers<E> + PagableSerialize<E>,
-    D: Refers<E> + PagableSerialize<E>,
-    F: Refers<E> + PagableSerialize<E>,
-    G: Refers<E> + PagableSerialize<E>,
-    ensures wrote { Wrote E.Env S.PagableSerializer (form (⟦<(A, (B, (C, (D, (F, G))))) as Carried<E>>⟧.means.of value.now) (⟦<(A, (B, (C, (D, (F, G))))) as Carried<E>>⟧.shape (S.environment serializer.old))) ⟦<(A, (B, (C, (D, (F, G))))) as PagableSerialize<E>>⟧.write_causes.are serializer.old serializer.new result }
-    ensures listed { OnOk result ((S.out serializer.new).refs ≡ (S.out serializer.old).refs ++ references_in (⟦<(A, (B, (C, (D, (F, G))))) as Carried<E>>⟧.means.meaning value.now)) }
-{
-    write_listed(value, serializer)
-}
-
-/// Reads six values.
-fn read_six<'de, E: Env, A, B, C, D, F, G, R: PagableDeserializer<E>>(
-    alloc: Global,
-    deserializer: &mut R,
-) -> Result<Six<A, B, C, D, F, G>, Error>
-where
-    A: PagableDeserialize<'de, E> + Drop,
-    B: PagableDeserialize<'de, E> + Drop,
-    C: PagableDeserialize<'de, E> + Drop,
-    D: PagableDeserialize<'de, E> + Drop,
-    F: PagableDeserialize<'de, E> + Drop,
-    G: PagableDeserialize<'de, E> + Drop,
-    ensures { Reads E.Env R.PagableDeserializer ⟦<(A, (B, (C, (D, (F, G))))) as PagableDeserialize<'de, E>>⟧.read_causes.are ⟦<(A, (B, (C, (D, (F, G))))) as Carried<E>>⟧.means.of (λ c. read c (⟦<(A, (B, (C, (D, (F, G))))) as Carried<E>>⟧.shape (R.environment deserializer.old))) deserializer.old deserializer.new result }
-{
-    PagableDeserialize::pagable_deserialize(alloc, deserializer)
-}
-
 impl<H: KeyHash> NodeSet<CellEnv<H>> for CellNode {
     ghost use Rattle.{pagable_rows.specs.Cells.{shape_of, told, writes}, pagable_traits.specs.OwnCauses.reads_memory};
 
@@ -221,9 +161,7 @@ impl<H: KeyHash> NodeSet<CellEnv<H>> for CellNode {
     #[tactic(auto, unfolding(pagable_model::specs::References::references_in))]
     fn refs(&self, alloc: Global) -> Result<Vec<ArcRef>, Error> {
         match self {
-            CellNode::Mixed(mixed) => references_of_six::<CellEnv<H>, _, _, _, _, _, _>(
-                alloc, mixed,
-            ),
+            CellNode::Mixed(mixed) => references_of::<CellEnv<H>, Lists>(alloc, &mixed.1),
             CellNode::Link(next) => references_of::<CellEnv<H>, Link>(alloc, next),
             CellNode::ArcLink(next) => references_of::<CellEnv<H>, ArcLink>(alloc, next),
             CellNode::Names(names) => references_of::<CellEnv<H>, Names>(alloc, names),
@@ -232,11 +170,12 @@ impl<H: KeyHash> NodeSet<CellEnv<H>> for CellNode {
         }
     }
 
+    #[tactic(auto, using(crate::proofs::Listed::mixed_listed))]
     fn write<S: PagableSerializer<CellEnv<H>>>(&self, serializer: &mut S) -> Result<(), Error> {
         match self {
             CellNode::Name(text) => write_listed(text, serializer),
             CellNode::Note(_) => Err(Error::Custom(Reason::new("writing is refused"))),
-            CellNode::Mixed(mixed) => write_six(mixed, serializer),
+            CellNode::Mixed(mixed) => mixed.pagable_serialize(serializer),
             CellNode::Link(next) => write_listed(next, serializer),
             CellNode::ArcLink(next) => write_listed(next, serializer),
             CellNode::Names(names) => write_listed(names, serializer),
@@ -253,7 +192,7 @@ impl<H: KeyHash> NodeSet<CellEnv<H>> for CellNode {
         match node_type {
             0 => Ok(CellNode::Name(String::pagable_deserialize(alloc, deserializer)?)),
             1 => Ok(CellNode::Note(String::pagable_deserialize(alloc, deserializer)?)),
-            2 => Ok(CellNode::Mixed(read_six(alloc, deserializer)?)),
+            2 => Ok(CellNode::Mixed(Mixed::pagable_deserialize(alloc, deserializer)?)),
             3 => Ok(CellNode::Link(Link::pagable_deserialize(alloc, deserializer)?)),
             4 => Ok(CellNode::ArcLink(ArcLink::pagable_deserialize(alloc, deserializer)?)),
             5 => Ok(CellNode::Names(Names::pagable_deserialize(alloc, deserializer)?)),

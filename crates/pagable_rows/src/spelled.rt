@@ -2,6 +2,7 @@
 
 use crate::blobs::bytes_of;
 use crate::cells::{CellEnv, CellNode, lists, of_kinds};
+use crate::linked::chain::Chain;
 use anyhow::{Context, bail, ensure};
 use pagable_core::WeighHash;
 use pagable_flavors::Error;
@@ -49,6 +50,13 @@ pub fn push_references(
 /// A reference of the kind that is wanted.
 fn of_kind<const KIND: u32>(reference: ArcRef) -> anyhow::Result<OfKind<KIND>> {
     OfKind::from_reference(reference).context("a reference of another kind")
+}
+
+/// A link by this reference, if that is of the link's kind.
+fn link<const KIND: u32>(reference: ArcRef) -> anyhow::Result<Chain<KIND>> {
+    Ok(Chain {
+        next: Some(of_kind(reference)?),
+    })
 }
 
 /// Adds a value as rows spell it, but for its type. The byte before lists is left out if it is 0.
@@ -105,10 +113,10 @@ fn mixed(alloc: Global, spelled: &str) -> anyhow::Result<CellNode> {
 fn referring(alloc: Global, node_type: &str, references: &[ArcRef]) -> anyhow::Result<CellNode> {
     match (node_type, references) {
         ("5", names) => Ok(CellNode::Names(of_kinds(alloc, names)?)),
-        ("3", []) => Ok(CellNode::Link(None)),
-        ("3", [next]) => Ok(CellNode::Link(Some(of_kind(*next)?))),
-        ("4", []) => Ok(CellNode::ArcLink(None)),
-        ("4", [next]) => Ok(CellNode::ArcLink(Some(of_kind(*next)?))),
+        ("3", []) => Ok(CellNode::Link(Chain { next: None })),
+        ("3", [next]) => Ok(CellNode::Link(link(*next)?)),
+        ("4", []) => Ok(CellNode::ArcLink(Chain { next: None })),
+        ("4", [next]) => Ok(CellNode::ArcLink(link(*next)?)),
         ("6", [name]) => Ok(CellNode::Holder(of_kind(*name)?)),
         _ => bail!("no such value"),
     }

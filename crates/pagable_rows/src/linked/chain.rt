@@ -2,10 +2,9 @@
 
 ghost use Rattle.pagable_rows.specs.Linked.{one_in_order, one_writes};
 
-use crate::linked::Linked;
 use pagable_flavors::Error;
 use pagable_traits::alike::{CarriedAs, ReadAs};
-use pagable_traits::{ArcRef, OfKind, PagableSerialize, PagableSerializer, Refers};
+use pagable_traits::{ArcRef, Env, OfKind, PagableSerialize, PagableSerializer, Refers};
 
 /// A link: the next one, by a reference of the kind `KIND`. The kind names no type, so it may be one of the link's own.
 #[derive(Drop)]
@@ -31,21 +30,18 @@ impl<const KIND: u32> ReadAs for Chain<KIND> {
     }
 }
 
-impl<const KIND: u32> Refers<Linked> for Chain<KIND> {
+impl<E: Env, const KIND: u32> Refers<E> for Chain<KIND> {
     fn list_references(&self, list: &mut Vec<ArcRef>) -> Result<(), Error> {
-        Refers::<Linked>::list_references(&self.next, list)
+        Refers::<E>::list_references(&self.next, list)
     }
 
-    ghost in_order = { λ e. one_in_order KIND };
+    ghost in_order = { λ e. one_in_order (E.parts e) KIND };
 }
 
-impl<const KIND: u32> PagableSerialize<Linked> for Chain<KIND> {
+impl<E: Env, const KIND: u32> PagableSerialize<E> for Chain<KIND> {
     ghost write_causes = { one_writes };
 
-    fn pagable_serialize<S: PagableSerializer<Linked>>(
-        &self,
-        serializer: &mut S,
-    ) -> Result<(), Error> {
+    fn pagable_serialize<S: PagableSerializer<E>>(&self, serializer: &mut S) -> Result<(), Error> {
         self.next.pagable_serialize(serializer)
     }
 }
