@@ -1,7 +1,8 @@
 -- What the values of the rows mean, and how they are spelled.
 use Rattle.std.specs.{Global.Vec, Int.w8, Prelude.{None, Option, Some, String, refl, suc, true, zero, ℕ, ◌≡◌}, String.string_bytes, declared.alloc.Global.Global}
-use Rattle.{pagable_rows.specs.{Linked.{Case, chain_means, chain_single, one_writes, referring}, declared.{cells.CellNode.CellNode, linked.chain.Chain.Chain}}, pagable_model.specs.{Form.unsigned-form, Meaning.{Meaning, number}, References.references_in}}
-use Rattle.pagable_model.specs.{Refusals.may_refuse_writing, Shape.{Shape, both, list, nothing, optional, reference, text, unsigned}, declared.numbers.ArcRef.ArcRef}
+use Rattle.pagable_rows.specs.{Linked.{Case, chain_means, chain_single, one_writes, referring}, declared.{cells.CellNode.CellNode, linked.chain.Chain.Chain}}
+use Rattle.pagable_model.specs.{Form.unsigned-form, Meaning.{Meaning, number}, References.references_in, Refusals.may_refuse_writing, Shape.{Shape, both, list, nothing, optional, reference, text}}
+use Rattle.pagable_model.specs.{Shape.unsigned, declared.numbers.ArcRef.ArcRef}
 use Rattle.pagable_traits.specs.Meanings.{AreSingle, Meanings, exactly, lists, lists_single, pairs, pairs_single, seen_by}
 use Rattle.pagable_traits.specs.{OwnCauses.{WriteCauses, writes_either, writes_long_or, writes_memory, writes_memory_or}, References.plain_means, Refers.ListsInOrder}
 use Rattle.pagable_traits.specs.declared.plain.OfKind.{OfKind}
