@@ -1,4 +1,4 @@
-//! An environment whose values are texts.
+//! Environments of one sort of nodes, and that of texts.
 
 use pagable_flavors::Error;
 use pagable_model::ArcRef;
@@ -10,20 +10,20 @@ use std::alloc::Global;
 use std::marker::PhantomData;
 use std::sync::Arc;
 
-/// The environment of texts, whose keys are made by the hash `H`. Texts have the type number 0.
+/// An environment whose nodes hold an `N`, whose keys are made by the hash `H`, and which has no registries.
 #[derive(Drop)]
-pub struct TextEnv<H> {
-    hash: PhantomData<H>,
+pub struct EnvOf<N, H> {
+    sorts: PhantomData<(N, H)>,
 }
 
-impl<H: KeyHash> TextEnv<H> {
-    pub fn new() -> TextEnv<H> {
-        TextEnv { hash: PhantomData }
+impl<N, H> EnvOf<N, H> {
+    pub fn new() -> EnvOf<N, H> {
+        EnvOf { sorts: PhantomData }
     }
 }
 
-impl<H: KeyHash> Env for TextEnv<H> {
-    type Node = TextNode;
+impl<N: Drop, H: KeyHash> Env for EnvOf<N, H> {
+    type Node = N;
 
     type Hash = H;
 
@@ -35,6 +35,9 @@ impl<H: KeyHash> Env for TextEnv<H> {
 
     ghost parts = { λ e number. nothing };
 }
+
+/// The environment of texts. They have the type number 0.
+pub type TextEnv<H> = EnvOf<TextNode, H>;
 
 /// A text as a node's value.
 #[derive(Drop)]
