@@ -2,16 +2,39 @@
 
 use crate::linked::chain::Chain;
 use crate::linked::write_listed;
-use crate::text::EnvOf;
 use pagable_flavors::{Error, Reason};
 use pagable_traits::{
     ArcRef, Env, KeyHash, NodeSet, OfKind, PagableDeserialize, PagableDeserializer,
     PagableSerialize, PagableSerializer, Refers, references_of,
 };
 use std::alloc::Global;
+use std::marker::PhantomData;
 
 /// The environment of these values, whose keys are made by the hash `H`.
-pub type CellEnv<H> = EnvOf<CellNode, H>;
+#[derive(Drop)]
+pub struct CellEnv<H> {
+    hash: PhantomData<H>,
+}
+
+impl<H: KeyHash> CellEnv<H> {
+    pub fn new() -> CellEnv<H> {
+        CellEnv { hash: PhantomData }
+    }
+}
+
+impl<H: KeyHash> Env for CellEnv<H> {
+    type Node = CellNode;
+
+    type Hash = H;
+
+    type CtxKey = ();
+
+    type CtxValue = ();
+
+    ghost use Rattle.pagable_model.specs.Shape.{nothing};
+
+    ghost parts = { λ e number. nothing };
+}
 
 /// References of each sort to values of their own type, and to names, loose and shared.
 type Lists = (

@@ -1,4 +1,4 @@
-//! Environments of one sort of nodes, and that of texts.
+//! An environment whose values are texts.
 
 use pagable_flavors::Error;
 use pagable_model::ArcRef;
@@ -10,20 +10,20 @@ use std::alloc::Global;
 use std::marker::PhantomData;
 use std::sync::Arc;
 
-/// An environment whose nodes hold an `N`, whose keys are made by the hash `H`, and which has no registries.
+/// The environment of texts, whose keys are made by the hash `H`. Texts have the type number 0.
 #[derive(Drop)]
-pub struct EnvOf<N, H> {
-    sorts: PhantomData<(N, H)>,
+pub struct TextEnv<H> {
+    hash: PhantomData<H>,
 }
 
-impl<N, H> EnvOf<N, H> {
-    pub fn new() -> EnvOf<N, H> {
-        EnvOf { sorts: PhantomData }
+impl<H: KeyHash> TextEnv<H> {
+    pub fn new() -> TextEnv<H> {
+        TextEnv { hash: PhantomData }
     }
 }
 
-impl<N: Drop, H: KeyHash> Env for EnvOf<N, H> {
-    type Node = N;
+impl<H: KeyHash> Env for TextEnv<H> {
+    type Node = TextNode;
 
     type Hash = H;
 
@@ -35,9 +35,6 @@ impl<N: Drop, H: KeyHash> Env for EnvOf<N, H> {
 
     ghost parts = { λ e number. nothing };
 }
-
-/// The environment of texts. They have the type number 0.
-pub type TextEnv<H> = EnvOf<TextNode, H>;
 
 /// A text as a node's value.
 #[derive(Drop)]
