@@ -12,13 +12,15 @@ use Rattle.{pagable_world.specs.Order.step_of, std.specs.{declared.{vec.Vec.Vec,
 use Rattle.std.proofs.Common.{Ok, ◌+◌, ◌++◌, Some, ℕ, subst, zero, Option, ◌≢◌, ◌∙◌, refl, ◌==◌, ◌≡◌, arith, rules, [], if◌then◌else◌, false, true, inr, ap, length, ◌∷◌, suc, Err, ◌<◌, None, List}
 use Rattle.{std.proofs.{Common.{sym, inl}, lemmas.{Bool.Decides.nat_tests, List.length-append, Grind.common_steps}}, pagable_pager.{proofs.Keeping.less-moves, specs.View.Telling}}
 use Rattle.{pagable_pager.specs.View.{type_of_root, OnlyTables, state_in, core_in, PagerView, OnlyLess, ReadsAs, value_in}, pagable_walk.{proofs.Turning.plain-fits, specs.Slots.written_of}}
-use Rattle.{pagable_walk.specs.{Tasks.IsPlain, Turns.LeavesFit, declared.{results.Trees.Ghosts, table.SlotTable.SlotTable, tasks.{Task.Task, Turn.Turn}}, Table.shelf_of}, pagable_loads.specs.Frames.{IsLoadOf, reading_of, is_cell}}
+use Rattle.{pagable_walk.specs.{Tasks.IsPlain, Turns.LeavesFit, declared.{table.SlotTable.SlotTable, tasks.{Task.Task, Turn.Turn}}, Table.shelf_of}, pagable_loads.specs.Frames.{IsLoadOf, reading_of, is_cell}}
 use Rattle.{pagable_loads.specs.{declared.reading.Reading.Reading as Own, Working.{RefusesEntry, StartsEntry}}, pagable_laws.proofs.{ReadingSteps.{caller-free, reading-feels}, Trees.same_some}}
 use Rattle.{pagable_laws.proofs.{Trees.same-number, Effects.{owned-mine, IsMine}}, pagable_core.specs.declared.{context.writing.SerializedData.SerializedData, storage.data.PagableData.PagableData}}
 use Rattle.{pagable_tables.proofs.Worlds.{no-load-fault, still}, pagable_model.specs.declared.{error.Error.Error, numbers.{WorkerNumber.WorkerNumber, LoadNumber.LoadNumber, HandleNumber.HandleNumber, ArcRef.ArcRef}}}
 use Rattle.pagable_world.specs.World as world
+use Rattle.pagable_codec.specs.declared.{env.Env.Ghosts as Environments, hash.KeyHash.Ghosts as Hashes, nodes.NodeSet.Ghosts as Nodes}
+use Rattle.std.specs.declared.cmp.{Ord.Ghosts as Orders, PartialEq.Ghosts as Equalities, PartialOrd.Ghosts as PartialOrders}
 
-module _ {X : Type 0} {g : Ghosts X} {N E : Type 0} (s : PagerState N E) (h : Holding g) (l : LoadNumber) (load : OpenLoad) (o : OwnsLoad s.core Owner.Caller l load) where
+module _ {X XN XH XK XV : Type 0} {g : Environments X XN XH XK XV} {gh : Hashes XH} {go : Orders XK} {gq : Equalities XK} {gp : PartialOrders XK} {gn : Nodes XN X XN XH XK XV} {N E : Type 0} (s : PagerState N E) (h : Holding g gh go gq gp gn) (l : LoadNumber) (load : OpenLoad) (o : OwnsLoad s.core Owner.Caller l load) where
   at-found : (own : Option Own) → h.readings l.0 ≡ own → reading_at (world_of (machine_of s h)) l ≡ or_else (option_map reading_of own) (reading_of_root l load.root)
   at-found own is = first_of (grind (arith, common_steps, nat_tests), search (rules))
 
@@ -27,19 +29,19 @@ of_root : (root : Root) (type : ℕ) → type_of_root root ≡ Some type
     → (is_cell root ≡ true) × ((r : Reading) → r.node_type ≡ type → FitsRoot root r) × ((l : LoadNumber) → reading_of_root l root ≡ Some (fresh l type))
 of_root root type is = grind (arith, nat_tests, same_some)
 
-module _ {X : Type 0} {g : Ghosts X} {N E : Type 0} (s : PagerState N E) {h : Holding g} (serving : IsServing s.core h) where
+module _ {X XN XH XK XV : Type 0} {g : Environments X XN XH XK XV} {gh : Hashes XH} {go : Orders XK} {gq : Equalities XK} {gp : PartialOrders XK} {gn : Nodes XN X XN XH XK XV} {N E : Type 0} (s : PagerState N E) {h : Holding g gh go gq gp gn} (serving : IsServing s.core h) where
   reads-taken : (l : LoadNumber) (load : OpenLoad) (key : ℕ) (t : Option ℕ) (own : Own) → OwnsLoad s.core Owner.Caller l load → load.key ≡ key → type_of_root load.root ≡ t
       → IsTaken h.readings l key t own
       → (own.load ≡ l) × ReadsFor load own × (reading_at (world_of (machine_of s h)) l ≡ Some (reading_of own))
   reads-taken l load key t own o key_is root taken = grind (arith, nat_tests, at-found, of_root)
 
 -- a load of a key that a call began
-pub never-typed : {X : Type 0} {g : Ghosts X} {N E : Type 0} (s : PagerState N E) (h : Holding g) (l : LoadNumber) (load : OpenLoad) → OwnsLoad s.core Owner.Caller l load → h.readings l.0 ≡ None
+pub never-typed : {X XN XH XK XV : Type 0} {g : Environments X XN XH XK XV} {gh : Hashes XH} {go : Orders XK} {gq : Equalities XK} {gp : PartialOrders XK} {gn : Nodes XN X XN XH XK XV} {N E : Type 0} (s : PagerState N E) (h : Holding g gh go gq gp gn) (l : LoadNumber) (load : OpenLoad) → OwnsLoad s.core Owner.Caller l load → h.readings l.0 ≡ None
     → type_of_root load.root ≡ None
     → step_fault (world_of (machine_of s h)) l ≡ Some Error.WrongMode
 never-typed s h l load o none untyped = first_of (grind (arith, common_steps, nat_tests), search (rules))
 
-module _ {X : Type 0} {g : Ghosts X} {N B W E : Type 0} (m : Seen N B W) (s s' : PagerState N E) (h : Holding g) (kept' : Kept) (serving : IsServing s.core h) (was : WellFormed m.values s) where
+module _ {X XN XH XK XV : Type 0} {g : Environments X XN XH XK XV} {gh : Hashes XH} {go : Orders XK} {gq : Equalities XK} {gp : PartialOrders XK} {gn : Nodes XN X XN XH XK XV} {N B W E : Type 0} (m : Seen N B W) (s s' : PagerState N E) (h : Holding g gh go gq gp gn) (kept' : Kept) (serving : IsServing s.core h) (was : WellFormed m.values s) where
   steps : (l : LoadNumber) (load : OpenLoad) (reading : Reading) (x : Option Own) (reply : LoadReply N) (frames : List Frame)
       → OwnsLoad s.core Owner.Caller l load → reading_at (world_of (machine_of s h)) l ≡ Some reading → ReadingStep m.values Owner.Caller reading s reply.ended frames s'
       → reply.steps ≡ one_more reading.steps → IsMine s.core Owner.Caller reading.load
@@ -79,22 +81,22 @@ with-last [] x x1 = grind (arith, nat_tests)
 with-last (y ∷ ys) x zero = grind (arith, nat_tests)
 with-last (y ∷ ys) x (suc n) = let more = with-last ys x n in grind (arith, nat_tests, more)
 
-module _ {X : Type 0} {g : Ghosts X} where
+module _ {X XN XH XK XV : Type 0} {g : Environments X XN XH XK XV} {gh : Hashes XH} {go : Orders XK} {gq : Equalities XK} {gp : PartialOrders XK} {gn : Nodes XN X XN XH XK XV} where
   -- the tables with one more, which has no claim
-  shelf-added : (tables : List (SlotTable X g)) (new : SlotTable X g) → SameShelf no_shelf (shelf_of new) → (t : ℕ)
+  shelf-added : (tables : List (SlotTable X XN XH XK XV g gh go gq gp gn)) (new : SlotTable X XN XH XK XV g gh go gq gp gn) → SameShelf no_shelf (shelf_of new) → (t : ℕ)
       → SameShelf (updated (length tables + 1) no_shelf (shelf_at tables) t) (shelf_at (tables ++ new ∷ []) t)
   shelf-added tables new empty x3 = grind (arith, nat_tests, with-last, not-same, same-number)
 
-begun-fits : {X : Type 0} {g : Ghosts X} (v : ℕ) (w : Core) (turn : Turn X g) → ((task : Task X g) → turn ≡ Turn.Goes task → IsPlain task) → LeavesFit v w turn
+begun-fits : {X XN XH XK XV : Type 0} {g : Environments X XN XH XK XV} {gh : Hashes XH} {go : Orders XK} {gq : Equalities XK} {gp : PartialOrders XK} {gn : Nodes XN X XN XH XK XV} (v : ℕ) (w : Core) (turn : Turn X XN XH XK XV g gh go gq gp gn) → ((task : Task X XN XH XK XV g gh go gq gp gn) → turn ≡ Turn.Goes task → IsPlain task) → LeavesFit v w turn
 begun-fits v w (Turn.Goes task) plain = plain-fits v w task (plain task refl)
 begun-fits v w (Turn.Answers answer) plain = tt
 
-module _ {X : Type 0} {g : Ghosts X} {N B W E : Type 0} (m : Seen N B W) (s s' : PagerState N E) (h : Holding g) {walks' : ℕ → Option (Walk X g)} (serving : IsServing s.core h)
+module _ {X XN XH XK XV : Type 0} {g : Environments X XN XH XK XV} {gh : Hashes XH} {go : Orders XK} {gq : Equalities XK} {gp : PartialOrders XK} {gn : Nodes XN X XN XH XK XV} {N B W E : Type 0} (m : Seen N B W) (s s' : PagerState N E) (h : Holding g gh go gq gp gn) {walks' : ℕ → Option (Walk X XN XH XK XV g gh go gq gp gn)} (serving : IsServing s.core h)
     (was : WellFormed m.values s)
     (formed : WellFormed m.values s') (on : Leaves Owner.Caller (updated (s.core.last.worker + 1) true s.core.workers) s.core s'.core)
-    (t : TableNumber) (task : world.Task) (n : WorkerNumber) (k : Walk X g) (table : IsTable (world_of (machine_of s h)) t) (next : n.0 ≡ s.core.last.worker + 1) (begun : IsBegun t task k)
+    (t : TableNumber) (task : world.Task) (n : WorkerNumber) (k : Walk X XN XH XK XV g gh go gq gp gn) (table : IsTable (world_of (machine_of s h)) t) (next : n.0 ≡ s.core.last.worker + 1) (begun : IsBegun t task k)
     (keeps : KeepsOne h.walks n.0 (Some k) walks') where
-  abbrev with_walk : Holding g
+  abbrev with_walk : Holding g gh go gq gp gn
   with_walk = record h { walks = walks' }
 
   -- the plain world's worker starts
@@ -141,7 +143,7 @@ unprepared l key t same = record { taken = λ own is. record { why = inl (sym (s
 pub keeps-after : {Y : Type 0} {k mid kept' : ℕ → Option Y} {l : ℕ} {own : Option Y} → ((q : ℕ) → mid q ≡ k q) → KeepsOne mid l own kept' → KeepsOne k l own kept'
 keeps-after as_was keeps = record { here = keeps.here; others = λ q other. keeps.others q other ∙ as_was q }
 
-module _ {X : Type 0} {g : Ghosts X} {N S E : Type 0} (v : E → Values N) (tells : Telling S) (old new : PagerView N S E) (held : Held X g) (serving : IsInStep tells old held)
+module _ {X XN XH XK XV : Type 0} {g : Environments X XN XH XK XV} {gh : Hashes XH} {go : Orders XK} {gq : Equalities XK} {gp : PartialOrders XK} {gn : Nodes XN X XN XH XK XV} {N S E : Type 0} (v : E → Values N) (tells : Telling S) (old new : PagerView N S E) (held : Held X XN XH XK XV g gh go gq gp gn) (serving : IsInStep tells old held)
     (was : WellFormed (v old.environment) (state_in tells old)) where
   abbrev m : Seen N PagableData Written
   m = plainly (v old.environment)
@@ -152,10 +154,10 @@ module _ {X : Type 0} {g : Ghosts X} {N S E : Type 0} (v : E → Values N) (tell
   abbrev s' : PagerState N E
   s' = state_in tells new
 
-  abbrev h : Holding g
+  abbrev h : Holding g gh go gq gp gn
   h = holding held
 
-  abbrev Takes : Given N → Answer N → PagerView N S E → Held X g → Type 0
+  abbrev Takes : Given N → Answer N → PagerView N S E → Held X XN XH XK XV g gh go gq gp gn → Type 0
   Takes event reply now left = Drives (v old.environment) tells old held event reply now left
 
   whole-still : {comes : ℕ → N → Type 0} → Moves comes s s' → WellFormed (v new.environment) s' → WellFormed (v old.environment) s'
@@ -172,7 +174,7 @@ module _ {X : Type 0} {g : Ghosts X} {N S E : Type 0} (v : E → Values N) (tell
     abbrev kept : ByNumber Own
     kept = held.readings
 
-    abbrev anew : Held X g
+    abbrev anew : Held X XN XH XK XV g gh go gq gp gn
     anew = record held { readings = kept' }
 
     pub call-drives : (call : Call N PagableData) (reply : Reply N (Arc PagableData Global)) → Serves (v old.environment) tells old call reply new → WellFormed (v new.environment) s'
@@ -270,7 +272,7 @@ module _ {X : Type 0} {g : Ghosts X} {N S E : Type 0} (v : E → Values N) (tell
           let untyped : t ≡ None = grind (arith, nat_tests) in
           step-refused l Error.WrongMode (ready.full none) (never-typed s h l reads.load reads.owned (sym (ready.full none l.0) ∙ none) (reads.type_is ∙ untyped))
 
-  pub table-drives : (tables' : Vec (SlotTable X g) Global) (table : SlotTable X g) (t : TableNumber) → tables'.items ≡ held.tables.items ++ table ∷ [] → t.0 ≡ length held.tables.items + 1
+  pub table-drives : (tables' : Vec (SlotTable X XN XH XK XV g gh go gq gp gn) Global) (table : SlotTable X XN XH XK XV g gh go gq gp gn) (t : TableNumber) → tables'.items ≡ held.tables.items ++ table ∷ [] → t.0 ≡ length held.tables.items + 1
       → SameShelf no_shelf (shelf_of table) → Takes Event.TableNew (EventReply.TableMade (Ok t)) old (record held { tables = tables' })
   table-drives tables' table t is number empty =
       let more = length-append h.tables (table ∷ []) in
@@ -291,8 +293,8 @@ module _ {X : Type 0} {g : Ghosts X} {N S E : Type 0} (v : E → Values N) (tell
       })
       (record { each = λ n x is. inl is; environment = refl }) tt serving.readings))
 
-  module _ (walks' : ByNumber (Walk X g)) (t : TableNumber) where
-    abbrev left : Held X g
+  module _ (walks' : ByNumber (Walk X XN XH XK XV g gh go gq gp gn)) (t : TableNumber) where
+    abbrev left : Held X XN XH XK XV g gh go gq gp gn
     left = record held { walks = walks' }
 
     pub entry-refused : (e : Error) (i : ℕ) → IsIn t.0 held.tables.items → i < length s.core.list → RefusesEntry (v old.environment) s i e s'
@@ -306,7 +308,7 @@ module _ {X : Type 0} {g : Ghosts X} {N S E : Type 0} (v : E → Values N) (tell
           );
         }) tt)
 
-    module _ (n : WorkerNumber) (k : Walk X g) (table : IsIn t.0 held.tables.items) (keeps : KeepsOne (kept_at held.walks) n.0 (Some k) (kept_at walks')) where
+    module _ (n : WorkerNumber) (k : Walk X XN XH XK XV g gh go gq gp gn) (table : IsIn t.0 held.tables.items) (keeps : KeepsOne (kept_at held.walks) n.0 (Some k) (kept_at walks')) where
       pub listed-started : (i : ℕ) (r : ArcRef) → StartsEntry (v old.environment) s i n r s' → IsBegun t (of_entry r.handle (identity_of r)) k
           → Takes (Event.WorkerListed t i) (EventReply.WorkerMade (Ok n)) new left
       listed-started i r entry begun =

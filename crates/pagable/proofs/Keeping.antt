@@ -5,13 +5,15 @@ use Rattle.pagable_laws.proofs.{Effects.{then-fell, worker-apart}, Goes.{Goes, R
 use Rattle.{pagable_laws.{proofs.Trees.{counted, one-true, same-number, same_some, self-number}, specs.TreeSteps.{Change, nothing_felt}}, pagable_loads.specs.{Frames.reading_of, Telling.Acting}}
 use Rattle.{pagable_loads.specs.declared.reading.Reading.Reading as Own, pagable_model.specs.declared.numbers.{ArcRef.ArcRef, HandleNumber.HandleNumber}, pagable_pager.specs.View.PagerView}
 use Rattle.{pagable_pager.specs.View.{Telling, state_in}, pagable_tables.proofs.Worlds.still, pagable_walk.specs.Turns.{IsOfKind, LeavesFit, TaskFits}}
-use Rattle.pagable_walk.specs.declared.{results.Trees.Ghosts, tasks.{Task.Task, Turn.Turn}}
+use Rattle.pagable_walk.specs.declared.{tasks.{Task.Task, Turn.Turn}}
 use Rattle.pagable_world.specs.{Access.Called, Calls.{CloseCall, is_listed, shut}, Cascade.fallen, Events.{CallStep, Does, Ends, Happens, ReadingsAre, Stays, WorkStays}, Kinds.is_owner}
 use Rattle.pagable_world.specs.{Kinds.owner_worker, Order.step_of, Pager.{EventBrings, HandlesAreWhole, IsMachineWhole, IsReadingWhole, IsWalkingWhole, IsWhole, Moves, OwnersAreThere, PagerState}}
 use Rattle.pagable_world.specs.{Pager.{ReplyWrites, WellFormed, world_of}, Plain.{SameAt, if_there, one, times, updated}, World.{Alike, Cell, Core, OpenLoad, Reading, Seen, Values, Walking, World}}
 use Rattle.{pagable_world.specs.declared.{calls.{Call.Call, Reply.Reply}, events.{Event.Event, EventReply.EventReply, WorkerAnswer.WorkerAnswer}, handles.Owner.Owner}, std.proofs.Common.{Bool, None}}
 use Rattle.std.proofs.Common.{Option, Some, [], ap, arith, false, inl, inr, length, refl, rules, subst, sym, true, ℕ, ◌<◌, ◌==◌, ◌∙◌, ◌≡◌, ◌≢◌, ◌≤◌, ◌⊎◌}
 use Rattle.std.{proofs.lemmas.{Bool.{Decides.nat_tests, false_from_ne_true}, Grind.common_steps}, specs.{Option.option_map, Prelude.{Result, is_some}}}
+use Rattle.pagable_codec.specs.declared.{env.Env.Ghosts as Environments, hash.KeyHash.Ghosts as Hashes, nodes.NodeSet.Ghosts as Nodes}
+use Rattle.std.specs.declared.cmp.{Ord.Ghosts as Orders, PartialEq.Ghosts as Equalities, PartialOrd.Ghosts as PartialOrders}
 
 -- an access lends what it lent before
 pub lender-is : {E : Type 0} {a b : Acting E} → a ≡ b → a.lender ≡ b.lender
@@ -100,7 +102,7 @@ module _ {v : ℕ} {w w' : Core} (whole : HandlesAreWhole w) (passes : Passes v 
   kind-on : {r : ArcRef} → IsOfKind w r → IsOfKind w' r
   kind-on {r} k = first_of (grind (arith, common_steps, nat_tests), search (rules))
 
-  fits-on : {X : Type 0} {g : Ghosts X} (task : Task X g) → TaskFits v w task → TaskFits v w' task
+  fits-on : {X XN XH XK XV : Type 0} {g : Environments X XN XH XK XV} {gh : Hashes XH} {go : Orders XK} {gq : Equalities XK} {gp : PartialOrders XK} {gn : Nodes XN X XN XH XK XV} (task : Task X XN XH XK XV g gh go gq gp gn) → TaskFits v w task → TaskFits v w' task
   fits-on (Task.Pin r place) (s, kind) = (
     record {
       node_given = let a = s.node_given in let b = passes.nodes in omega (arith, a, b);
@@ -128,11 +130,11 @@ module _ {v : ℕ} {w w' : Core} (whole : HandlesAreWhole w) (passes : Passes v 
       (kind-on kind, record { pins = record { row = p.pins.row; live = s.live; at = p.pins.at; pins = p.pins.pins }; own = p.own })
   fits-on task fits = tt
 
-  turn-on : {X : Type 0} {g : Ghosts X} (turn : Turn X g) → LeavesFit v w turn → LeavesFit v w' turn
+  turn-on : {X XN XH XK XV : Type 0} {g : Environments X XN XH XK XV} {gh : Hashes XH} {go : Orders XK} {gq : Equalities XK} {gp : PartialOrders XK} {gn : Nodes XN X XN XH XK XV} (turn : Turn X XN XH XK XV g gh go gq gp gn) → LeavesFit v w turn → LeavesFit v w' turn
   turn-on (Turn.Goes task) fits = fits-on task fits
   turn-on (Turn.Answers answer) fits = tt
 
-  pub walk-on : {X : Type 0} {g : Ghosts X} {last last' : ℕ} {k : Walk X g} → last ≤ last' → w'.workers v ≡ w.workers v → IsWalkKept w last v k → IsWalkKept w' last' v k
+  pub walk-on : {X XN XH XK XV : Type 0} {g : Environments X XN XH XK XV} {gh : Hashes XH} {go : Orders XK} {gq : Equalities XK} {gp : PartialOrders XK} {gn : Nodes XN X XN XH XK XV} {last last' : ℕ} {k : Walk X XN XH XK XV g gh go gq gp gn} → last ≤ last' → w'.workers v ≡ w.workers v → IsWalkKept w last v k → IsWalkKept w' last' v k
   walk-on more same k = first_of (grind (arith, common_steps, nat_tests), grind (arith, nat_tests, turn-on), search (rules, turn-on))
 
 -- the machine reads what is kept of open loads
@@ -174,7 +176,7 @@ module _ {w : Core} {kept : Kept} (all : AllKept w kept) {me : Owner} {works : �
   kept-one l x keeps new = kept-on (λ q own is. elim (one-or-old l x keeps q own is) [ inl there ↦ inl there.1 | inr (here, same) ↦ inr (subst (λ n. IsKept w' n own) (sym here) (new own same)) ])
 
 -- a machine in step with a pager that is whole is whole
-pub machine-whole : {X : Type 0} {g : Ghosts X} {N E : Type 0} (v : Values N) (s : PagerState N E) (h : Holding g) → WellFormed v s → IsServing s.core h → IsMachineWhole v (machine_of s h)
+pub machine-whole : {X XN XH XK XV : Type 0} {g : Environments X XN XH XK XV} {gh : Hashes XH} {go : Orders XK} {gq : Equalities XK} {gp : PartialOrders XK} {gn : Nodes XN X XN XH XK XV} {N E : Type 0} (v : Values N) (s : PagerState N E) (h : Holding g gh go gq gp gn) → WellFormed v s → IsServing s.core h → IsMachineWhole v (machine_of s h)
 machine-whole {X} {g} v s h formed serving = record {
   pager = formed;
   readings = λ l reading is. of l reading (s.core.loads l) refl (h.readings l) refl is;
@@ -194,14 +196,14 @@ machine-whole {X} {g} v s h formed serving = record {
     of-walk n walking is = let k = serving.walks n in grind (arith, nat_tests, same_some, serving.walks, k)
 
 -- what is done to a pager, and what is kept afterwards
-pub makes-with : {X : Type 0} {g : Ghosts X} {N B W E : Type 0} (m : Seen N B W) (s s' : PagerState N E) {h h' : Holding g} → WellFormed m.values s' → (event : Event N B W) (reply : EventReply N B W)
+pub makes-with : {X XN XH XK XV : Type 0} {g : Environments X XN XH XK XV} {gh : Hashes XH} {go : Orders XK} {gq : Equalities XK} {gp : PartialOrders XK} {gn : Nodes XN X XN XH XK XV} {N B W E : Type 0} (m : Seen N B W) (s s' : PagerState N E) {h h' : Holding g gh go gq gp gn} → WellFormed m.values s' → (event : Event N B W) (reply : EventReply N B W)
     → Happens m (world_of (machine_of s h)) event reply (world_of (machine_of s' h')) → Moves (EventBrings m.values (world_of (machine_of s h)) event) s s'
     → ReplyWrites m s reply → IsServing s'.core h' → Makes m s h event reply s' h'
 makes-with m s s' {h} {h'} formed event reply happens moves writes now =
     record { does = record { step = record { happens = happens }; moves = moves; writes = writes; whole = machine-whole m.values s' h' formed now }; serving = now }
 
 -- of one worker this is kept from now on
-pub one-serves : {X : Type 0} {g : Ghosts X} {w w' : Core} {h h' : Holding g} → IsServing w h → HandlesAreWhole w → (v : ℕ) (k : Walk X g) → KeepsOne h.walks v (Some k) h'.walks
+pub one-serves : {X XN XH XK XV : Type 0} {g : Environments X XN XH XK XV} {gh : Hashes XH} {go : Orders XK} {gq : Equalities XK} {gp : PartialOrders XK} {gn : Nodes XN X XN XH XK XV} {w w' : Core} {h h' : Holding g gh go gq gp gn} → IsServing w h → HandlesAreWhole w → (v : ℕ) (k : Walk X XN XH XK XV g gh go gq gp gn) → KeepsOne h.walks v (Some k) h'.walks
     → length h.tables ≤ length h'.tables → AllKept w' h'.readings → ((q : ℕ) → q ≢ v → Passes q w w') → ((q : ℕ) → q ≢ v → w'.workers q ≡ w.workers q) → IsWalkKept w' (length h'.tables) v k
     → IsServing w' h'
 one-serves {X} {g} {w} {w'} {h} {h'} serving whole v k keeps more readings passes works new = record {
@@ -214,7 +216,7 @@ one-serves {X} {g} {w} {w'} {h} {h'} serving whole v k keeps more readings passe
 }
 
 -- no worker steps, and nothing else is kept of any
-module _ {X : Type 0} {g : Ghosts X} {N B W E : Type 0} (m : Seen N B W) (s s' : PagerState N E) {h h' : Holding g} (serving : IsServing s.core h) (was : WellFormed m.values s)
+module _ {X XN XH XK XV : Type 0} {g : Environments X XN XH XK XV} {gh : Hashes XH} {go : Orders XK} {gq : Equalities XK} {gp : PartialOrders XK} {gn : Nodes XN X XN XH XK XV} {N B W E : Type 0} (m : Seen N B W) (s s' : PagerState N E) {h h' : Holding g gh go gq gp gn} (serving : IsServing s.core h) (was : WellFormed m.values s)
     (formed : WellFormed m.values s') (more : length h.tables ≤ length h'.tables) (walks : (v : ℕ) → h'.walks v ≡ h.walks v) (on : Leaves Owner.Caller s.core.workers s.core s'.core) where
   pub makes : (event : Event N B W) (reply : EventReply N B W) → ((v : ℕ) → step_of v event reply ≡ []) → Happens m (world_of (machine_of s h)) event reply (world_of (machine_of s' h'))
       → Moves (EventBrings m.values (world_of (machine_of s h)) event) s s' → ReplyWrites m s reply → AllKept s'.core h'.readings → Makes m s h event reply s' h'
@@ -227,9 +229,9 @@ module _ {X : Type 0} {g : Ghosts X} {N B W E : Type 0} (m : Seen N B W) (s s' :
     all_there = λ v is. ap is_some (walks v) ∙ serving.all_there v (sym (on.workers v) ∙ is);
   })
 
-module _ {X : Type 0} {g : Ghosts X} {N B W E : Type 0} (m : Seen N B W) (s s' : PagerState N E) (h : Holding g) (kept' : Kept) (serving : IsServing s.core h) (was : WellFormed m.values s)
+module _ {X XN XH XK XV : Type 0} {g : Environments X XN XH XK XV} {gh : Hashes XH} {go : Orders XK} {gq : Equalities XK} {gp : PartialOrders XK} {gn : Nodes XN X XN XH XK XV} {N B W E : Type 0} (m : Seen N B W) (s s' : PagerState N E) (h : Holding g gh go gq gp gn) (kept' : Kept) (serving : IsServing s.core h) (was : WellFormed m.values s)
     (formed : WellFormed m.values s') where
-  abbrev served : Holding g
+  abbrev served : Holding g gh go gq gp gn
   served = record h { readings = kept' }
 
   pub same-work : WorkStays (work_of h s.core) (work_of served s'.core)
@@ -246,7 +248,7 @@ module _ {X : Type 0} {g : Ghosts X} {N B W E : Type 0} (m : Seen N B W) (s s' :
       (happens (are-these s'.core kept' (readings_in h.readings s.core) (λ l load is. ap (option_map reading_of) (f.still l load is) ∙ as-before serving.readings on l load is)))
       moves writes (kept-on serving.readings on (λ l own is. inl (f.only l own is)))
 
-module _ {X : Type 0} {g : Ghosts X} {N B W E : Type 0} (m : Seen N B W) {s s' : PagerState N E} {h h' : Holding g} (serving : IsServing s.core h) (was : WellFormed m.values s)
+module _ {X XN XH XK XV : Type 0} {g : Environments X XN XH XK XV} {gh : Hashes XH} {go : Orders XK} {gq : Equalities XK} {gp : PartialOrders XK} {gn : Nodes XN X XN XH XK XV} {N B W E : Type 0} (m : Seen N B W) {s s' : PagerState N E} {h h' : Holding g gh go gq gp gn} (serving : IsServing s.core h) (was : WellFormed m.values s)
     (done : Called m.values (λ w'. Alike s.core w') s s') (readings : (l : ℕ) → h'.readings l ≡ h.readings l) (tables : h'.tables ≡ h.tables) (walks : (v : ℕ) → h'.walks v ≡ h.walks v) where
   on : Leaves Owner.Caller s.core.workers s.core s'.core
   on = like done.step (λ l. refl) refl
@@ -268,6 +270,6 @@ pub nothing-done : {N E : Type 0} {v : Values N} (s : PagerState N E) → WellFo
 nothing-done s was = record { step = still s.core; moves = record { each = λ n x is. inl is; environment = refl }; whole = was }
 
 -- a machine over a pager does what is made of both
-pub drives : {X : Type 0} {g : Ghosts X} {N S E : Type 0} {v : Values N} {tells : Telling S} {old new : PagerView N S E} {held held' : Held X g} {event : Given N} {reply : Answer N}
+pub drives : {X XN XH XK XV : Type 0} {g : Environments X XN XH XK XV} {gh : Hashes XH} {go : Orders XK} {gq : Equalities XK} {gp : PartialOrders XK} {gn : Nodes XN X XN XH XK XV} {N S E : Type 0} {v : Values N} {tells : Telling S} {old new : PagerView N S E} {held held' : Held X XN XH XK XV g gh go gq gp gn} {event : Given N} {reply : Answer N}
     → Makes (plainly v) (state_in tells old) (holding held) (plain_event event) (plain_answer reply) (state_in tells new) (holding held') → Drives v tells old held event reply new held'
 drives makes = record { makes = makes }

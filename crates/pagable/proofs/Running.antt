@@ -5,7 +5,7 @@ use Rattle.pagable.specs.Driving.{Given, Holding, IsInStep, IsServing, IsWalkKep
 use Rattle.{pagable.specs.declared.workers.{Held.Held, Walk.Walk}, pagable_core.specs.declared.{context.writing.SerializedData.SerializedData, storage.data.PagableData.PagableData}}
 use Rattle.{pagable_laws.proofs.{Chains.headline_law, Effects.owned-mine, Goes.updated-at, ReadingSteps.{FrontMine, walk-goes}, Trees.{chains_join, same-number}}, std.specs.Option.option_map}
 use Rattle.{pagable_model.specs.declared.numbers.WorkerNumber.WorkerNumber, pagable_pager.specs.View.{PagerView, Telling, state_in}, pagable_walk.specs.{Slots.{is_same, slot_of}, Table.shelf_of}}
-use Rattle.pagable_walk.specs.{Tasks.{IsWay, todo_of, todos}, Turns.{LeavesFit, Stepped, TaskFits, answer_in, plain, plain_took, plan}, declared.results.Trees.Ghosts}
+use Rattle.pagable_walk.specs.{Tasks.{IsWay, todo_of, todos}, Turns.{LeavesFit, Stepped, TaskFits, answer_in, plain, plain_took, plan}}
 use Rattle.{pagable_walk.specs.declared.{table.SlotTable.SlotTable, tasks.{Task.Task, Turn.Turn}}, pagable_world.specs.{Events.{Ends, Happens, WorkerSteps, no_shelf, steps_after}, Kinds.{is_owner, owner_worker}}}
 use Rattle.pagable_world.specs.{Pager.{MachineState, PagerState, TodoBrings, WellFormed, world_of}, Plain.{if_there, updated}, Runs.{AreMoments, Does, HasRun, Moment, state_after}}
 use Rattle.pagable_world.specs.{Workers.{Site, answer_after, is_counted}, World.{Core, SameShelf, Seen, Shelf, Todo, Values, Written}, declared.events.{Event.Event, EventReply.EventReply, Took.Took}}
@@ -15,6 +15,8 @@ use Rattle.std.proofs.lemmas.{Grind.common_steps, List.{append-nil, append_assoc
 use Rattle.std.proofs.lemmas.Option.{slice_get-map, slice_get_cases, slice_get_past, slice_get_read, slice_get_within}
 use Rattle.std.specs.{Prelude.{is_none, is_some, nat_eq}, declared.{alloc.Global.Global, sync.Arc.Arc}}
 use Rattle.pagable_world.specs.Workers as workers
+use Rattle.pagable_codec.specs.declared.{env.Env.Ghosts as Environments, hash.KeyHash.Ghosts as Hashes, nodes.NodeSet.Ghosts as Nodes}
+use Rattle.std.specs.declared.cmp.{Ord.Ghosts as Orders, PartialEq.Ghosts as Equalities, PartialOrd.Ghosts as PartialOrders}
 
 -- ---- a table of a list is written in its place
 
@@ -26,12 +28,12 @@ as-does : {N : Type 0} (v : Values N) (n : ℕ) (s s' : Site) (todo : List Todo)
 as-does v n s s' todo step d = grind (arith, nat_tests)
 
 -- the load that it goes on with is its own
-front-mine : {X : Type 0} {g : Ghosts X} (n : ℕ) (w : Core) (task : Task X g) (below : List Todo) → TaskFits n w task → FrontMine w (owner_worker n) (todo_of task ∷ below)
+front-mine : {X XN XH XK XV : Type 0} {g : Environments X XN XH XK XV} {gh : Hashes XH} {go : Orders XK} {gq : Equalities XK} {gp : PartialOrders XK} {gn : Nodes XN X XN XH XK XV} (n : ℕ) (w : Core) (task : Task X XN XH XK XV g gh go gq gp gn) (below : List Todo) → TaskFits n w task → FrontMine w (owner_worker n) (todo_of task ∷ below)
 front-mine n w x2 below fits = grind (arith, nat_tests, owned-mine)
 
-module _ {X : Type 0} {g : Ghosts X} where
+module _ {X XN XH XK XV : Type 0} {g : Environments X XN XH XK XV} {gh : Hashes XH} {go : Orders XK} {gq : Equalities XK} {gp : PartialOrders XK} {gn : Nodes XN X XN XH XK XV} where
   -- the shelf of a table that is set, and of the others
-  shelf-set : (tables : List (SlotTable X g)) (place : ℕ) (table table' : SlotTable X g) (after : Shelf) → slice_get tables place ≡ Some table → SameShelf after (shelf_of table') → (t : ℕ)
+  shelf-set : (tables : List (SlotTable X XN XH XK XV g gh go gq gp gn)) (place : ℕ) (table table' : SlotTable X XN XH XK XV g gh go gq gp gn) (after : Shelf) → slice_get tables place ≡ Some table → SameShelf after (shelf_of table') → (t : ℕ)
       → SameShelf (updated (suc place) after (shelf_at tables) t) (shelf_at (set tables place table') t)
   shelf-set tables place table table' after there same x7 = grind (arith, nat_tests, set-at, same-number, not-same)
 
@@ -42,17 +44,17 @@ apart q n other = first_of (grind (arith, common_steps, nat_tests), grind (arith
 works-others : (answer : Option WorkerAnswer) (n q : ℕ) (works : ℕ → Bool) → q ≢ n → works_after answer n works q ≡ works q
 works-others answer n q works other = grind (arith, nat_tests, same-number)
 
-module _ {X : Type 0} {g : Ghosts X} {N E : Type 0} (v : Values N) (s s' : PagerState N E) (h : Holding g) {tables' : List (SlotTable X g)} {walks' : ℕ → Option (Walk X g)}
+module _ {X XN XH XK XV : Type 0} {g : Environments X XN XH XK XV} {gh : Hashes XH} {go : Orders XK} {gq : Equalities XK} {gp : PartialOrders XK} {gn : Nodes XN X XN XH XK XV} {N E : Type 0} (v : Values N) (s s' : PagerState N E) (h : Holding g gh go gq gp gn) {tables' : List (SlotTable X XN XH XK XV g gh go gq gp gn)} {walks' : ℕ → Option (Walk X XN XH XK XV g gh go gq gp gn)}
     (serving : IsServing s.core h)
-    (was : WellFormed v s) (n : WorkerNumber) (k k' : Walk X g) (kept : h.walks n.0 ≡ Some k) (reply : WorkerReply (Arc SerializedData Global)) (on : WalksOn v n.0 h.tables k s reply tables' k' s')
+    (was : WellFormed v s) (n : WorkerNumber) (k k' : Walk X XN XH XK XV g gh go gq gp gn) (kept : h.walks n.0 ≡ Some k) (reply : WorkerReply (Arc SerializedData Global)) (on : WalksOn v n.0 h.tables k s reply tables' k' s')
     (keeps : KeepsOne h.walks n.0 (Some k') walks') where
-  abbrev after : Holding g
+  abbrev after : Holding g gh go gq gp gn
   after = record h { tables = tables'; walks = walks' }
 
   abbrev m : Seen N PagableData Written
   m = plainly v
 
-  abbrev turn : Turn X g
+  abbrev turn : Turn X XN XH XK XV g gh go gq gp gn
   turn = on.moved.turn
 
   abbrev step : Took Written
@@ -89,7 +91,7 @@ module _ {X : Type 0} {g : Ghosts X} {N E : Type 0} (v : Values N) (s s' : Pager
   len = ap length on.sets ∙ length-set h.tables on.place on.table'
 
   shelf-is : shelf_at h.tables k.table ≡ shelf_of on.table
-  shelf-is = ap (shelf_at h.tables) on.on ∙ ap (λ (found : Option (SlotTable X g)). if_there shelf_of no_shelf found) on.there
+  shelf-is = ap (shelf_at h.tables) on.on ∙ ap (λ (found : Option (SlotTable X XN XH XK XV g gh go gq gp gn)). if_there shelf_of no_shelf found) on.there
 
   walking-is : walking_of k' ≡ record (walking_of k) { todo = done.does.after.todo; steps = k'.steps; answer = answer_in turn }
   walking-is = first_of (grind (arith, common_steps, nat_tests), search (rules))
@@ -143,20 +145,20 @@ module _ {X : Type 0} {g : Ghosts X} {N E : Type 0} (v : Values N) (s s' : Pager
 
 -- ---- what the machine's value shows of tables and workers is what it keeps of them
 
-module _ {X : Type 0} {g : Ghosts X} where
-  claims-are : (t : SlotTable X g) → claims_of (table_view t) ≡ shelf_of t
+module _ {X XN XH XK XV : Type 0} {g : Environments X XN XH XK XV} {gh : Hashes XH} {go : Orders XK} {gq : Equalities XK} {gp : PartialOrders XK} {gn : Nodes XN X XN XH XK XV} where
+  claims-are : (t : SlotTable X XN XH XK XV g gh go gq gp gn) → claims_of (table_view t) ≡ shelf_of t
   claims-are t = ap (λ slots. let s : Shelf = record { slots = slots; waits = λ v. lookup (nat_eq v) t.waits.entries } in s)
       (fun_ext (λ i. lookup-map_values slot_of (is_same (i.kind.0, i.node.0)) t.slots.entries))
 
-  shelves-are : (tables : List (SlotTable X g)) (t : ℕ) → claims_at (map table_view tables) t ≡ shelf_at tables t
+  shelves-are : (tables : List (SlotTable X XN XH XK XV g gh go gq gp gn)) (t : ℕ) → claims_at (map table_view tables) t ≡ shelf_at tables t
   shelves-are tables zero = refl
   shelves-are tables (suc n) = ap (if_there claims_of no_shelf) (slice_get-map table_view tables n) ∙ by (slice_get tables n)
     where
-      by : (found : Option (SlotTable X g)) → if_there claims_of no_shelf (option_map table_view found) ≡ if_there shelf_of no_shelf found
+      by : (found : Option (SlotTable X XN XH XK XV g gh go gq gp gn)) → if_there claims_of no_shelf (option_map table_view found) ≡ if_there shelf_of no_shelf found
       by None = refl
       by (Some t) = claims-are t
 
-  module _ {N S E : Type 0} (tells : Telling S) (p : PagerView N S E) (h : Held X g) where
+  module _ {N S E : Type 0} (tells : Telling S) (p : PagerView N S E) (h : Held X XN XH XK XV g gh go gq gp gn) where
     -- the machine by what it keeps
     abbrev pub raw_in : MachineState N E
     raw_in = machine_of (state_in tells p) (holding h)
@@ -183,16 +185,16 @@ module _ {N E B W : Type 0} (m : Seen N B W) where
         chain = (chains_join E m).joins old run.moments (x ∷ []) run.chain (subst (λ s. Does m s event reply new) (sym run.ends) does, tt);
       }
 
-module _ {N S E X : Type 0} {t : Ghosts X} (tells : Telling S) (v : E → Values N) (old : MachineView N S E) where
+module _ {N S E : Type 0} {X XN XH XK XV : Type 0} {g : Environments X XN XH XK XV} {gh : Hashes XH} {go : Orders XK} {gq : Equalities XK} {gp : PartialOrders XK} {gn : Nodes XN X XN XH XK XV} (tells : Telling S) (v : E → Values N) (old : MachineView N S E) where
   -- the events so far have happened, and the others are left
-  pub record SoFar (all rest : List (Given N)) (replies : List (Answer N)) (p : PagerView N S E) (h : Held X t) : Type 0 where
+  pub record SoFar (all rest : List (Given N)) (replies : List (Answer N)) (p : PagerView N S E) (h : Held X XN XH XK XV g gh go gq gp gn) : Type 0 where
     pub done : List (Given N)
     pub left : done ++ rest ≡ all
     pub run : HasRun (plainly (v old.pager.environment)) (machine_in tells old) (map plain_event done) (map plain_answer replies) (raw_in tells p h)
     pub environment : p.environment ≡ old.pager.environment
     pub in_step : IsInStep tells p h
 
-  pub at-first : (all : List (Given N)) (p : PagerView N S E) (h : Held X t) → old ≡ view_of p h → IsInStep tells p h → SoFar all all [] p h
+  pub at-first : (all : List (Given N)) (p : PagerView N S E) (h : Held X XN XH XK XV g gh go gq gp gn) → old ≡ view_of p h → IsInStep tells p h → SoFar all all [] p h
   unfolding state_after
   at-first all p h is in_step = record {
     done = [];
@@ -203,7 +205,7 @@ module _ {N S E X : Type 0} {t : Ghosts X} (tells : Telling S) (v : E → Values
     in_step = in_step;
   }
 
-  pub one-more : (all rest : List (Given N)) (event : Given N) (replies : List (Answer N)) (reply : Answer N) (p q : PagerView N S E) (h h' : Held X t)
+  pub one-more : (all rest : List (Given N)) (event : Given N) (replies : List (Answer N)) (reply : Answer N) (p q : PagerView N S E) (h h' : Held X XN XH XK XV g gh go gq gp gn)
       → SoFar all (event ∷ rest) replies p h → Drives (v p.environment) tells p h event reply q h' → SoFar all rest (replies ++ reply ∷ []) q h'
   one-more all rest event replies reply p q h h' so made =
       let does = subst (λ e. Does (plainly (v e)) (raw_in tells p h) (plain_event event) (plain_answer reply) (raw_in tells q h')) so.environment made.makes.does in
@@ -216,7 +218,7 @@ module _ {N S E X : Type 0} {t : Ghosts X} (tells : Telling S) (v : E → Values
         in_step = made.makes.serving;
       }
 
-  pub all-ran : (all rest : List (Given N)) (replies : List (Answer N)) (p : PagerView N S E) (h : Held X t)
+  pub all-ran : (all rest : List (Given N)) (replies : List (Answer N)) (p : PagerView N S E) (h : Held X XN XH XK XV g gh go gq gp gn)
       → length rest ≡ 0 → SoFar all rest replies p h → Runs (v old.pager.environment) tells old all replies (view_of p h)
   all-ran all rest replies p h none so =
       let is : so.done ≡ all = sym (append-nil so.done) ∙ ap (λ xs. so.done ++ xs) (sym (nil_from_length rest none)) ∙ so.left in

@@ -5,55 +5,57 @@ use Rattle.{pagable.specs.declared.workers.{Begun.Begun, Held.Held, Walk.Walk}, 
 use Rattle.{pagable_core.specs.declared.{context.writing.SerializedData.SerializedData, storage.data.PagableData.PagableData}, pagable_world.specs.declared.handles.Owner.Owner}
 use Rattle.{pagable_loads.specs.declared.reading.Reading.Reading as Own, pagable_model.specs.declared.numbers.LoadNumber.LoadNumber, pagable_pager.specs.View.{PagerView, Telling, core_in, state_in}}
 use Rattle.pagable_walk.specs.{Slots.{is_same, slot_of, written_of}, Table.shelf_of, Tasks.{IsPlain, IsWay, todos}, Turns.{LeavesFit, StepsTo, answer_in, plain_took, plan}}
-use Rattle.pagable_walk.specs.declared.{results.Trees.Ghosts, table.SlotTable.SlotTable, tasks.{Moved.Moved, Task.Task, Turn.Turn}}
+use Rattle.pagable_walk.specs.declared.{table.SlotTable.SlotTable, tasks.{Moved.Moved, Task.Task, Turn.Turn}}
 use Rattle.pagable_world.specs.{Access.ReadingStep, declared.events.{Event.Event, EventReply.EventReply, LoadAnswer.LoadAnswer, LoadReply.LoadReply, TableNumber.TableNumber, WorkerReply.WorkerReply}}
 use Rattle.pagable_world.specs.{Events.{CallStep, new_walking, no_shelf, steps_after}, Headline.Headline, Kinds.{identity_of, owner_worker}}
 use Rattle.pagable_world.specs.Pager.{CallBrings, FitsRoot, IsIdle, IsMachineWhole, MachineState}
 use Rattle.pagable_world.specs.{Pager.{Moves, PagerState}, Plain.{Identity, if_there}, Runs.{AreMoments, Does, HasRun, Moment, state_after}, Workers.fresh, World.{Core, OpenLoad, Seen}}
 use Rattle.pagable_world.specs.{World.{Reading, Shelf, Slot, Values, Walking, Work, Written, of_entry, of_item, one_more, seen_as}, declared.calls.{Call.Call, Found.Found, Reply.Reply}}
 use Rattle.pagable_world.specs.World as world
+use Rattle.pagable_codec.specs.declared.{env.Env.Ghosts as Environments, hash.KeyHash.Ghosts as Hashes, nodes.NodeSet.Ghosts as Nodes}
+use Rattle.std.specs.declared.cmp.{Ord.Ghosts as Orders, PartialEq.Ghosts as Equalities, PartialOrd.Ghosts as PartialOrders}
 
 abbrev pub task_of : Begun → world.Task
 task_of (Begun.Item item) = of_item (written_of (arc_value item))
 task_of (Begun.Entry r) = of_entry r.handle (identity_of r)
 
-module _ {X : Type 0} {g : Ghosts X} where
+module _ {X XN XH XK XV : Type 0} {g : Environments X XN XH XK XV} {gh : Hashes XH} {go : Orders XK} {gq : Equalities XK} {gp : PartialOrders XK} {gn : Nodes XN X XN XH XK XV} where
   -- tables, the first of number 1
-  abbrev pub shelf_at : List (SlotTable X g) → ℕ → Shelf
+  abbrev pub shelf_at : List (SlotTable X XN XH XK XV g gh go gq gp gn) → ℕ → Shelf
   shelf_at tables zero = no_shelf
   shelf_at tables (suc t) = if_there shelf_of no_shelf (slice_get tables t)
 
-  abbrev pub walking_of : Walk X g → Walking
+  abbrev pub walking_of : Walk X XN XH XK XV g gh go gq gp gn → Walking
   walking_of k = record { table = k.table; task = task_of k.begun; todo = plan k.turn k.path.items; steps = k.steps; answer = answer_in k.turn }
 
   -- Its table is there; it is at work until it has answered; its list is in order, and its task fits.
-  pub record IsWalkKept (w : Core) (last v : ℕ) (k : Walk X g) : Type 0 where
+  pub record IsWalkKept (w : Core) (last v : ℕ) (k : Walk X XN XH XK XV g gh go gq gp gn) : Type 0 where
     pub table : (0 < k.table) × (k.table ≤ last)
     pub at_work : w.workers v ≡ is_none (answer_in k.turn)
     pub way : IsWay (plan k.turn k.path.items)
     pub fits : LeavesFit v w k.turn
 
   -- a worker that has just begun on this table
-  pub record IsBegun (t : TableNumber) (task : world.Task) (k : Walk X g) : Type 0 where
+  pub record IsBegun (t : TableNumber) (task : world.Task) (k : Walk X XN XH XK XV g gh go gq gp gn) : Type 0 where
     pub walking : walking_of k ≡ new_walking t task
     pub way : IsWay (plan k.turn k.path.items)
-    pub plain : (x : Task X g) → k.turn ≡ Turn.Goes x → IsPlain x
+    pub plain : (x : Task X XN XH XK XV g gh go gq gp gn) → k.turn ≡ Turn.Goes x → IsPlain x
 
   -- the worker after a step
-  pub record IsAfter (k : Walk X g) (moved : Moved X g) (k' : Walk X g) : Type 0 where
+  pub record IsAfter (k : Walk X XN XH XK XV g gh go gq gp gn) (moved : Moved X XN XH XK XV g gh go gq gp gn) (k' : Walk X XN XH XK XV g gh go gq gp gn) : Type 0 where
     pub table : k'.table ≡ k.table
     pub begun : k'.begun ≡ k.begun
     pub steps : k'.steps ≡ steps_after k.steps moved.counted
     pub turn : k'.turn ≡ moved.turn
 
   -- A worker that hasn't answered makes a step on its table.
-  pub record WalksOn {N E : Type 0} (v : Values N) (n : ℕ) (tables : List (SlotTable X g)) (k : Walk X g) (s : PagerState N E) (reply : WorkerReply (Arc SerializedData Global))
-      (tables' : List (SlotTable X g)) (k' : Walk X g)
+  pub record WalksOn {N E : Type 0} (v : Values N) (n : ℕ) (tables : List (SlotTable X XN XH XK XV g gh go gq gp gn)) (k : Walk X XN XH XK XV g gh go gq gp gn) (s : PagerState N E) (reply : WorkerReply (Arc SerializedData Global))
+      (tables' : List (SlotTable X XN XH XK XV g gh go gq gp gn)) (k' : Walk X XN XH XK XV g gh go gq gp gn)
       (s' : PagerState N E) : Type 0 where
-    pub task : Task X g
-    pub table : SlotTable X g
-    pub table' : SlotTable X g
-    pub moved : Moved X g
+    pub task : Task X XN XH XK XV g gh go gq gp gn
+    pub table : SlotTable X XN XH XK XV g gh go gq gp gn
+    pub table' : SlotTable X XN XH XK XV g gh go gq gp gn
+    pub moved : Moved X XN XH XK XV g gh go gq gp gn
     pub place : ℕ
     pub had : k.turn ≡ Turn.Goes task
     pub on : k.table ≡ suc place
@@ -65,11 +67,11 @@ module _ {X : Type 0} {g : Ghosts X} where
     pub replies : reply ≡ record { took = moved.took; answer = answer_in moved.turn; steps = k'.steps }
 
   -- there is such a table
-  abbrev pub IsIn : ℕ → List (SlotTable X g) → Type 0
+  abbrev pub IsIn : ℕ → List (SlotTable X XN XH XK XV g gh go gq gp gn) → Type 0
   IsIn t tables = (0 < t) × (t ≤ length tables)
 
   -- whether there is no worker, or it has answered
-  abbrev pub is_done : Option (Walk X g) → Bool
+  abbrev pub is_done : Option (Walk X XN XH XK XV g gh go gq gp gn) → Bool
   is_done found = if_there (λ (walking : Walking). is_some walking.answer) true (option_map walking_of found)
 
 -- ---- when it is in step with its pager, and what one event does to both
@@ -79,19 +81,19 @@ abbrev pub Kept : Type 0
 Kept = ℕ → Option Own
 
 -- what is kept of loads, tables and workers
-pub record Holding {X : Type 0} (g : Ghosts X) : Type 0 where
+pub record Holding {X XN XH XK XV : Type 0} (g : Environments X XN XH XK XV) (gh : Hashes XH) (go : Orders XK) (gq : Equalities XK) (gp : PartialOrders XK) (gn : Nodes XN X XN XH XK XV) : Type 0 where
   pub readings : Kept
-  pub tables : List (SlotTable X g)
-  pub walks : ℕ → Option (Walk X g)
+  pub tables : List (SlotTable X XN XH XK XV g gh go gq gp gn)
+  pub walks : ℕ → Option (Walk X XN XH XK XV g gh go gq gp gn)
 
 -- a load is read by the machine as long as it is open
 abbrev pub readings_in : Kept → Core → ℕ → Option Reading
 readings_in kept w l = if_there (λ (load : OpenLoad). option_map reading_of (kept l)) None (w.loads l)
 
-abbrev pub work_of : {X : Type 0} {g : Ghosts X} → Holding g → Core → Work
+abbrev pub work_of : {X XN XH XK XV : Type 0} {g : Environments X XN XH XK XV} {gh : Hashes XH} {go : Orders XK} {gq : Equalities XK} {gp : PartialOrders XK} {gn : Nodes XN X XN XH XK XV} → Holding g gh go gq gp gn → Core → Work
 work_of h w = record { shelves = shelf_at h.tables; last_table = length h.tables; readings = readings_in h.readings w; walkings = λ v. option_map walking_of (h.walks v) }
 
-abbrev pub machine_of : {X : Type 0} {g : Ghosts X} {N E : Type 0} → PagerState N E → Holding g → MachineState N E
+abbrev pub machine_of : {X XN XH XK XV : Type 0} {g : Environments X XN XH XK XV} {gh : Hashes XH} {go : Orders XK} {gq : Equalities XK} {gp : PartialOrders XK} {gn : Nodes XN X XN XH XK XV} {N E : Type 0} → PagerState N E → Holding g gh go gq gp gn → MachineState N E
 machine_of s h = record { pager = s; work = work_of h s.core }
 
 -- the caller's load, of this key and root
@@ -110,15 +112,15 @@ pub record IsKept (w : Core) (l : ℕ) (own : Own) : Type 0 where
 abbrev pub AllKept : Core → Kept → Type 0
 AllKept w kept = (l : ℕ) (own : Own) → kept l ≡ Some own → IsKept w l own
 
-module _ {X : Type 0} {g : Ghosts X} where
+module _ {X XN XH XK XV : Type 0} {g : Environments X XN XH XK XV} {gh : Hashes XH} {go : Orders XK} {gq : Equalities XK} {gp : PartialOrders XK} {gn : Nodes XN X XN XH XK XV} where
   -- what is true of a machine after each event, beside what is true of its pager
-  pub record IsServing (w : Core) (h : Holding g) : Type 0 where
+  pub record IsServing (w : Core) (h : Holding g gh go gq gp gn) : Type 0 where
     pub readings : AllKept w h.readings
-    pub walks : (v : ℕ) (k : Walk X g) → h.walks v ≡ Some k → IsWalkKept w (length h.tables) v k
+    pub walks : (v : ℕ) (k : Walk X XN XH XK XV g gh go gq gp gn) → h.walks v ≡ Some k → IsWalkKept w (length h.tables) v k
     pub all_there : (v : ℕ) → w.workers v ≡ true → is_some (h.walks v) ≡ true
 
   -- One event.
-  pub record Makes {N E B W : Type 0} (m : Seen N B W) (s : PagerState N E) (h : Holding g) (event : Event N B W) (reply : EventReply N B W) (s' : PagerState N E) (h' : Holding g) : Type 0 where
+  pub record Makes {N E B W : Type 0} (m : Seen N B W) (s : PagerState N E) (h : Holding g gh go gq gp gn) (event : Event N B W) (reply : EventReply N B W) (s' : PagerState N E) (h' : Holding g gh go gq gp gn) : Type 0 where
     pub does : Does m (machine_of s h) event reply (machine_of s' h')
     pub serving : IsServing s'.core h'
 
@@ -257,23 +259,23 @@ Given N = Event N PagableData SerializedData
 abbrev pub Answer : Type 0 → Type 0
 Answer N = EventReply N (Arc PagableData Global) (Arc SerializedData Global)
 
-module _ {X : Type 0} {g : Ghosts X} where
-  abbrev pub table_view : SlotTable X g → TableView
+module _ {X XN XH XK XV : Type 0} {g : Environments X XN XH XK XV} {gh : Hashes XH} {go : Orders XK} {gq : Equalities XK} {gp : PartialOrders XK} {gn : Nodes XN X XN XH XK XV} where
+  abbrev pub table_view : SlotTable X XN XH XK XV g gh go gq gp gn → TableView
   table_view t = record { slots = map (λ e. (e.0, slot_of e.1)) t.slots.entries; waits = t.waits.entries }
 
-  abbrev pub view_of : {N S E : Type 0} → PagerView N S E → Held X g → MachineView N S E
+  abbrev pub view_of : {N S E : Type 0} → PagerView N S E → Held X XN XH XK XV g gh go gq gp gn → MachineView N S E
   view_of p h = record { pager = p; readings = h.readings; tables = map table_view h.tables.items; walks = map (λ e. (e.0, walking_of e.1)) h.walks.entries }
 
-  abbrev pub holding : Held X g → Holding g
+  abbrev pub holding : Held X XN XH XK XV g gh go gq gp gn → Holding g gh go gq gp gn
   holding h = record { readings = kept_at h.readings; tables = h.tables.items; walks = kept_at h.walks }
 
-module _ {N S E X : Type 0} {g : Ghosts X} where
+module _ {N S E : Type 0} {X XN XH XK XV : Type 0} {g : Environments X XN XH XK XV} {gh : Hashes XH} {go : Orders XK} {gq : Equalities XK} {gp : PartialOrders XK} {gn : Nodes XN X XN XH XK XV} where
   -- what is true of each machine
-  abbrev pub IsInStep : Telling S → PagerView N S E → Held X g → Type 0
+  abbrev pub IsInStep : Telling S → PagerView N S E → Held X XN XH XK XV g gh go gq gp gn → Type 0
   IsInStep tells p h = IsServing (core_in tells p) (holding h)
 
   -- One event.
-  pub record Drives (v : Values N) (tells : Telling S) (old : PagerView N S E) (held : Held X g) (event : Given N) (reply : Answer N) (new : PagerView N S E) (held' : Held X g) : Type 0 where
+  pub record Drives (v : Values N) (tells : Telling S) (old : PagerView N S E) (held : Held X XN XH XK XV g gh go gq gp gn) (event : Given N) (reply : Answer N) (new : PagerView N S E) (held' : Held X XN XH XK XV g gh go gq gp gn) : Type 0 where
     pub makes : Makes (plainly v) (state_in tells old) (holding held) (plain_event event) (plain_answer reply) (state_in tells new) (holding held')
 
 -- These events, with these replies, led from the old machine to the new one; and the headline holds of them after whatever led from an idle machine to the old one.

@@ -10,7 +10,6 @@ use pagable_codec::{Env, NodeSet};
 use pagable_core::{PagableData, PagableStorage, SerializedData};
 use pagable_model::Error;
 use pagable_pager::Pager;
-use pagable_walk::Trees;
 use pagable_world::{Event, EventReply};
 use std::alloc::Global;
 use std::collections::VecDeque;
@@ -19,13 +18,13 @@ use std::sync::Arc;
 
 /// A pager that takes lists of events: calls, and loads and workers of page-out by steps.
 #[derive(Drop)]
-pub struct Machine<E: Env<Node: NodeSet<E>> + Trees, S: PagableStorage<E>> {
+pub struct Machine<E: Env<Node: NodeSet<E>>, S: PagableStorage<E>> {
     pager: Pager<E, S>,
     // What it keeps of loads, tables and workers.
     held: Held<E>,
 }
 
-impl<E: Env<Node: NodeSet<E>> + Trees, S: PagableStorage<E>> Model for Machine<E, S> {
+impl<E: Env<Node: NodeSet<E>>, S: PagableStorage<E>> Model for Machine<E, S> {
     ghost use Rattle.std.specs.Coded.{codes};
     ghost use Rattle.{pagable_pager.specs.View.telling, pagable.specs.Driving.{IsInStep, MachineView, view_of}, indexmap.specs.Layout.hash_map_code};
 

@@ -13,7 +13,7 @@ use pagable_model::{ArcRef, Error, WorkerNumber};
 use pagable_pager::{Lent, Pager};
 use pagable_walk::stack::{start_entry, start_item};
 use pagable_walk::step::step;
-use pagable_walk::{Moved, SlotTable, Task, Trees, Turn, Waiting};
+use pagable_walk::{Moved, SlotTable, Task, Turn, Waiting};
 use pagable_world::{TableNumber, WorkerAnswer, WorkerReply};
 use std::alloc::Global;
 use std::mem::replace;
@@ -30,7 +30,7 @@ pub enum Begun {
 
 /// A worker: its table, counted from 1, what it was begun for and how many steps it has made; its task with the path below it, or its answer.
 #[derive(Drop)]
-pub struct Walk<E: Trees> {
+pub struct Walk<E: Env<Node: NodeSet<E>>> {
     pub table: u64,
     pub begun: Begun,
     pub steps: u64,
@@ -40,7 +40,7 @@ pub struct Walk<E: Trees> {
 
 /// How far loads are, by their numbers; the tables in the order in which they were made; and workers by their numbers.
 #[derive(Drop)]
-pub struct Held<E: Trees> {
+pub struct Held<E: Env<Node: NodeSet<E>>> {
     pub readings: IndexMap<u64, Reading>,
     pub tables: Vec<SlotTable<E>>,
     pub walks: IndexMap<u64, Walk<E>>,
@@ -73,7 +73,7 @@ pub fn table_new<E: Env<Node: NodeSet<E>>, S: PagableStorage<E>>(
 }
 
 // A place for a worker more, on a table that there is. Refused with NoSuchHandle and OutOfMemory.
-fn ready<E: Trees>(
+fn ready<E: Env<Node: NodeSet<E>>>(
     walks: &mut IndexMap<u64, Walk<E>>,
     tables: &Vec<SlotTable<E>>,
     table: TableNumber,
@@ -91,7 +91,7 @@ fn ready<E: Trees>(
 }
 
 // What a worker for an item has to do. Refused by want of memory alone.
-fn item_walk<E: Trees>(
+fn item_walk<E: Env<Node: NodeSet<E>>>(
     alloc: Global,
     table: TableNumber,
     item: SerializedData,
@@ -111,7 +111,7 @@ fn item_walk<E: Trees>(
     })
 }
 
-fn entry_walk<E: Trees>(alloc: Global, table: TableNumber, reference: ArcRef) -> Walk<E>
+fn entry_walk<E: Env<Node: NodeSet<E>>>(alloc: Global, table: TableNumber, reference: ArcRef) -> Walk<E>
     ensures { IsBegun table (of_entry reference.handle (identity_of reference)) result }
 {
     let (task, path) = start_entry(alloc, reference);
@@ -190,7 +190,7 @@ fn step_by<'a, E: Env<Node: NodeSet<E>>, S: PagableStorage<E>>(
     step(lent, alloc, table, worker, path, task)
 }
 
-fn answer_of<E: Trees>(turn: &Turn<E>) -> Option<WorkerAnswer>
+fn answer_of<E: Env<Node: NodeSet<E>>>(turn: &Turn<E>) -> Option<WorkerAnswer>
     ensures { result ≡ answer_in turn.now }
 {
     match turn {
@@ -228,7 +228,7 @@ fn walk_on<E: Env<Node: NodeSet<E>>, S: PagableStorage<E>>(
     }
 }
 
-fn is_done<E: Trees>(walks: &IndexMap<u64, Walk<E>>, worker: u64) -> bool
+fn is_done<E: Env<Node: NodeSet<E>>>(walks: &IndexMap<u64, Walk<E>>, worker: u64) -> bool
     ensures { result ≡ is_done (kept_at walks.now worker) }
 {
     match walks.get(&worker) {

@@ -12,8 +12,8 @@ pub record AccessState (N E : Type 0) : Type 0 where
   pub shelf : Shelf
 
 abbrev pub tells : {S : Type 0} → Option S → Option S → (S → S → Type 0) → Type 0
-tells None t R = Unit {0}
-tells (Some s) None R = ⊥
+tells s None R = Unit {0}
+tells None (Some t) R = ⊥
 tells (Some s) (Some t) R = R s t
 
 -- R holds between two states, where they are told: a state that is told once is told always
