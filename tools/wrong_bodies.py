@@ -5,9 +5,15 @@ usage: tools/wrong_bodies.py [CRATE..]        (with no word: every crate that ha
 
 Under a line 'file: src/lib.rt' stand the edits of that file, a line 'NAME: TEXT' for each, with a text that stands once in the file, but that for
 '⟦OLD ⇒ NEW⟧' the file has OLD, and gets NEW, either of which may be empty; a line 'and: TEXT' does more of the same edit, on what the line before it
-made. All edits of a crate are tried together, on a copy of the repository over the work that earlier checks kept: one body a function and round, so that
-one check answers many. An edit counts as refused where the check says of its function that it isn't proved for a reason of its own; one of which the
-check of its round doesn't say so is tried once more, alone. A function that only calls a broken one says nothing.
+made. All edits of a crate are tried together, on a copy of the repository over the work that earlier checks kept: one body a function and round, so that one
+check answers many. Where stored answers or invariants don't fit the edited bodies, they are taken out of the copy and it is checked once more, with search
+in their place. Of each edit is told, the first two of which pass:
+  refused                       the check says of its functions that they aren't proved, for a reason of their own
+  refused, without its answers  the same, of a function that lost stored answers or invariants: the contract refuses it, or search finds no answer
+  answer-only                   without the answers that didn't fit, it is proved
+  unjudged                      its functions aren't proved only since they call one that has no proof
+  proved                        the crate is still proved with it
+An edit that isn't refused in its round is tried once more, alone; then it is refused if any function isn't proved for a reason of its own.
 The last line is 'N passed, M failed'; the status is 1 where one failed.
 """
 import os
@@ -21,6 +27,10 @@ from pathlib import Path
 TOP = Path(__file__).resolve().parent.parent
 EDITS = TOP / "tools" / "wrong_bodies"
 CHANGE = re.compile(r"⟦(.*?) ⇒ (.*?)⟧")
+MISFIT = re.compile(r"(?m)^(?:\./)?(proofs/\S+/(?:Answers|Invariants)\.antt):(\d+):\d+: error")
+NOT_PROVED = re.compile(r"(?m)^\w+ (\S+): ((?:not proved|no proof).*)$")
+REFUSED, WITHOUT = "refused", "refused, without its answers"
+UNJUDGED = re.compile(r"no proof: (?:it calls|.*, which has no proof)")
 UNREAD = re.compile(r"is not in scope|has no field|is no name|operand is missing|expected the end|cannot continue")
 
 
@@ -92,43 +102,80 @@ def copied(room, crate):
     return Path(room) / "crates" / crate
 
 
-def check(folder, texts):
-    """The output of a check with these texts in place of the crate's own, and the functions that aren't proved for a reason of their own."""
+class Answer:
+    """What the check says with these texts in place of the crate's own, as long as stored answers don't fit once more without those."""
+
+    def __init__(self, folder, texts):
+        self.output, first = ran(folder, texts), None
+        made, taken = dict(texts), set()
+        while misfits := MISFIT.findall(self.output):
+            first = first or self.told()[0]
+            for file, line in misfits:
+                made[file] = without_block(made.get(file) or (folder / file).read_text(encoding="utf-8"), int(line))
+                taken.add(file.split("/", 1)[1].rsplit("/", 1)[0].replace("/", "::").replace("+", ""))
+            self.output = ran(folder, made)
+        self.refused, self.unjudged = self.told()
+        self.answer_only = (first or set()) - self.refused - self.unjudged
+        self.lost = {it for it in self.refused if it.split("::", 1)[1] in taken}
+
+    def told(self):
+        """The functions that aren't proved: those for a reason of their own, and those that call one without a proof."""
+        told = dict(NOT_PROVED.findall(self.output))
+        unjudged = {it for it, why in told.items() if UNJUDGED.match(why)}
+        return set(told) - unjudged, unjudged
+
+
+def ran(folder, texts):
+    """The output of a check with these texts in place of the crate's own."""
     own = {file: (folder / file).read_text(encoding="utf-8") for file in texts}
     for file, text in texts.items():
         (folder / file).write_text(text, encoding="utf-8")
-    ran = subprocess.run(["rt", "check", "--jobs", os.environ.get("RT_JOBS", "1")], cwd=folder, stdout=subprocess.PIPE, stderr=subprocess.STDOUT, text=True)
+    jobs = os.environ.get("RT_JOBS", "1")
+    done = subprocess.run(["rt", "check", "--jobs", jobs], cwd=folder, stdout=subprocess.PIPE, stderr=subprocess.STDOUT, text=True)
     for file, text in own.items():
         (folder / file).write_text(text, encoding="utf-8")
-    return ran.stdout, re.findall(r"(?m)^fn (\S+): (?:not proved|no proof(?!: it calls))", ran.stdout)
+    return done.stdout
+
+
+def without_block(text, line):
+    """A proof file without what stands, between empty lines, round the line of this number."""
+    lines = text.split("\n")
+    start = max((at + 1 for at in range(line - 1) if not lines[at]), default=0)
+    end = next((at for at in range(line - 1, len(lines)) if not lines[at]), len(lines))
+    return "\n".join(lines[:start] + [""] * (end - start) + lines[end:])
 
 
 def tried_alone(folder, edit):
-    """Why an edit by itself isn't refused, or None."""
+    """What is told of an edit by itself."""
     texts = {}
     edit.apply(texts, folder)
-    output, _ = check(folder, texts)
+    answer = Answer(folder, texts)
     # Of a text of src/ that could not be read no contract was tried.
-    for at in re.finditer(r"(?m)^(?:\./)?(src|specs)/\S+:\d+:\d+: error: (`[^`]*`: )?(.*)$", output):
+    for at in re.finditer(r"(?m)^(?:\./)?(src|specs)/\S+:\d+:\d+: error: (`[^`]*`: )?(.*)$", answer.output):
         if not at[2] or UNREAD.search(re.sub(r"`[^`]*`", "", at[3])):
             return f"the edited text can't be read: {at[0][:200]}"
-    if not re.search(r"(?m)^logic=", output):
-        return f"the check didn't come to the proofs: {output.strip()[-300:]}"
-    return None if re.search(r"(?m)^logic=not-proved", output) else "the crate is still proved with it"
+    if not re.search(r"(?m)^logic=", answer.output):
+        return f"the check didn't come to the proofs: {answer.output.strip()[-300:]}"
+    if answer.refused:
+        return WITHOUT if answer.refused == answer.lost else REFUSED
+    if answer.answer_only:
+        return "answer-only"
+    return "proved" if re.search(r"(?m)^logic=proved", answer.output) else "unjudged"
 
 
 def try_round(folder, edits):
-    """Tries those of the edits together that meet in no function; answers them, each with why it isn't refused or None."""
+    """Tries those of the edits together that meet in no function; answers them, each with what is told of it."""
     texts, held = {}, []
     for edit in edits:
         if not any(edit.functions & it.functions for it in held) and edit.apply(texts, folder) is None:
             held.append(edit)
-    _, refused = check(folder, texts)
+    answer = Answer(folder, texts)
     for edit in held:
-        together = all(any(re.fullmatch(it, told, re.IGNORECASE) for told in refused) for it in edit.functions)
-        why = None if together else tried_alone(folder, edit)
-        print(f"{edit.name}: {'NOT REFUSED: ' + why if why else 'refused' if together else 'refused, alone'}", flush=True)
-        yield edit, why
+        of_each = [{it for it in answer.refused if re.fullmatch(pattern, it, re.IGNORECASE)} for pattern in edit.functions]
+        alone = not all(of_each)
+        told = tried_alone(folder, edit) if alone else WITHOUT if set().union(*of_each) <= answer.lost else REFUSED
+        print(f"{edit.name}: {told}{' (alone)' if alone else ''}", flush=True)
+        yield edit, told
 
 
 def try_crate(crate):
@@ -136,15 +183,15 @@ def try_crate(crate):
     edits = edits_of(crate)
     with tempfile.TemporaryDirectory(prefix="wrong-bodies-") as room:
         folder = copied(room, crate)
-        why = {edit: edit.apply({}, folder) for edit in edits}
-        left = [edit for edit in edits if why[edit] is None]
+        told = {edit: edit.apply({}, folder) for edit in edits}
+        left = [edit for edit in edits if told[edit] is None]
         while left:
             tried = dict(try_round(folder, left))
-            why.update(tried)
+            told.update(tried)
             left = [edit for edit in left if edit not in tried]
-    failed = [edit for edit in edits if why[edit]]
+    failed = [edit for edit in edits if told[edit] not in (REFUSED, WITHOUT)]
     for edit in failed:
-        print(f"{edit.name}: FAILED: {why[edit]}", flush=True)
+        print(f"{edit.name}: FAILED: {told[edit]}", flush=True)
     return len(edits) - len(failed), len(failed)
 
 
