@@ -78,6 +78,13 @@ FORMS = {
 }
 
 
+def order_of(name, key):
+    """By what a key of a map is sorted: numbers, which stand as decimal texts, as numbers."""
+    if name.startswith("("):
+        return [order_of(*part) for part in zip(split(name[1:-1]), key)]
+    return int(key) if name in UNSIGNED + SIGNED else key
+
+
 def form(name, value):
     """The shortest form of a value."""
     if name in FORMS:
@@ -89,7 +96,8 @@ def form(name, value):
         return count + b"".join(form(found[found.lastindex], item) for item in value)
     outer, _, inside = name[:-1].partition("<")
     if outer.endswith("Map"):
-        return form(f"Vec<({inside})>", value if outer == "IndexMap" else sorted(value))
+        key = split(inside)[0]
+        return form(f"Vec<({inside})>", value if outer == "IndexMap" else sorted(value, key=lambda entry: order_of(key, entry[0])))
     if outer in ("Option", "OnceLock"):
         return b"\x00" if value is None else b"\x01" + form(inside, value["some"])
     if outer == "Result":
