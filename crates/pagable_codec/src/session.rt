@@ -69,8 +69,8 @@ impl<K: Ord + Drop, V: SessionValue> SessionMap<K, V> {
         match self.values.insert(key, value) {
             Ok(_) => Ok(()),
             Err(failed) => {
-                let (key, value) = failed.value;
-                Err((Error::OutOfMemory, key, value))
+                let (refusal, (key, value)) = Error::parted(failed);
+                Err((refusal, key, value))
             }
         }
     }
@@ -82,7 +82,7 @@ impl<K: Ord + Drop, V: SessionValue> SessionMap<K, V> {
         key: K,
         make: F,
     ) -> Result<V, (Error, K, Option<V>)>
-        requires { F.pre make }
+        requires { get K.cmp self.old.values key ≡ None → F.pre make }
         ensures kept { IfOk result (λ y. (x : V) → get K.cmp self.old.values key ≡ Some x → V.is_clone x y × IsUnchanged self.old.values self.new.values) }
         ensures made { IfOk result (λ y. get K.cmp self.old.values key ≡ None → (x : V) × F.post make x × V.is_clone x y × Updates K.cmp self.old.values self.new.values key (Some x)) }
         ensures err { OnErr result (IsUnchanged self.old.values self.new.values) }
@@ -95,8 +95,9 @@ impl<K: Ord + Drop, V: SessionValue> SessionMap<K, V> {
             Ok(None) => {}
         }
         let value = make();
-        let Ok(answer) = value.clone() else {
-            return Err((Error::OutOfMemory, key, Some(value)));
+        let answer = match value.clone() {
+            Ok(answer) => answer,
+            Err(refused) => return Err((refused.into(), key, Some(value))),
         };
         match self.set(key, value) {
             Ok(()) => Ok(answer),
