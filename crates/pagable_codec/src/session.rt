@@ -1,12 +1,12 @@
 //! What one session of reading and writing shares among its values: a map under a lock.
 
-ghost use Rattle.{pagable_model.specs.{Gives.memory, Session.{IsBack, IsCloneOf}}, std.{proofs.Common.rules, specs.{BTreeMap.{IsEmpty, IsUnchanged, Updates, get}, Cmp.Rules.comparing}}};
+ghost use Rattle.{pagable_model.specs.{Gives.memory, Lifted.MayHold, Session.{IsBack, IsCloneOf, Under}}, std.{proofs.Common.rules, specs.{BTreeMap.{IsEmpty, IsUnchanged, Updates, get}, Cmp.Rules.comparing, Sync.Mutex.mutex_guard_value}}};
 ghost use Rattle.std.specs.Prelude.{IfErr, IfOk, IfSome, IsSome, IsTrue, None, OnErr, OnOk, Some, refl, ◌≡◌};
 
 use pagable_flavors::Error;
 use std::alloc::Global;
 use std::collections::BTreeMap;
-use std::sync::{Arc, Mutex, Wait};
+use std::sync::{Arc, Mutex, MutexGuard, Wait};
 
 /// A value of a session: its clones are equal to it.
 pub trait SessionValue: Clone + Eq + Drop {
@@ -69,8 +69,8 @@ impl<K: Ord + Drop, V: SessionValue> SessionMap<K, V> {
         match self.values.insert(key, value) {
             Ok(_) => Ok(()),
             Err(failed) => {
-                let (key, value) = failed.value;
-                Err((Error::OutOfMemory, key, value))
+                let (refusal, (key, value)) = Error::parted(failed);
+                Err((refusal, key, value))
             }
         }
     }
@@ -82,7 +82,7 @@ impl<K: Ord + Drop, V: SessionValue> SessionMap<K, V> {
         key: K,
         make: F,
     ) -> Result<V, (Error, K, Option<V>)>
-        requires { F.pre make }
+        requires { get K.cmp self.old.values key ≡ None → F.pre make }
         ensures kept { IfOk result (λ y. (x : V) → get K.cmp self.old.values key ≡ Some x → V.is_clone x y × IsUnchanged self.old.values self.new.values) }
         ensures made { IfOk result (λ y. get K.cmp self.old.values key ≡ None → (x : V) × F.post make x × V.is_clone x y × Updates K.cmp self.old.values self.new.values key (Some x)) }
         ensures err { OnErr result (IsUnchanged self.old.values self.new.values) }
@@ -95,8 +95,9 @@ impl<K: Ord + Drop, V: SessionValue> SessionMap<K, V> {
             Ok(None) => {}
         }
         let value = make();
-        let Ok(answer) = value.clone() else {
-            return Err((Error::OutOfMemory, key, Some(value)));
+        let answer = match value.clone() {
+            Ok(answer) => answer,
+            Err(refused) => return Err((refused.into(), key, Some(value))),
         };
         match self.set(key, value) {
             Ok(()) => Ok(answer),
@@ -106,7 +107,7 @@ impl<K: Ord + Drop, V: SessionValue> SessionMap<K, V> {
 }
 
 /// A session's map under a lock, which the values of one session of reading or writing share. Each call waits for the
-/// lock; what is said of the map is said of `SessionMap`, which the lock lends.
+/// lock, and is one call of `SessionMap` on the map that the lock lends.
 #[derive(Drop)]
 pub struct SessionContext<K: Ord, V> {
     map: Mutex<SessionMap<K, V>>,
@@ -132,19 +133,43 @@ impl<K: Ord + Drop, V: Drop> SessionContext<K, V> {
 }
 
 impl<K: Ord + Drop, V: SessionValue> SessionContext<K, V> {
+    /// Takes the lock, under which the map is lent.
+    #[tactic(auto, unfolding(pagable_model::specs::Lifted::MayHold))]
+    fn lent<R: Wait>(&self, rt: &R) -> MutexGuard<'_, SessionMap<K, V>>
+        ensures { MayHold self.now (mutex_guard_value result) }
+    {
+        self.map.lock(rt)
+    }
+
+    /// Gives the lock back, and with it the map as it is.
+    #[tactic(auto, unfolding(pagable_model::specs::Lifted::MayHold))]
+    fn give_back(&self, map: MutexGuard<'_, SessionMap<K, V>>)
+        ensures { MayHold self.now (mutex_guard_value map.entry) }
+    {
+        drop(map);
+    }
+
     /// `SessionMap::get` on the lent map.
     pub fn get<R: Wait>(&self, rt: &R, key: &K) -> Result<Option<V>, Error>
+        ensures does { Under self.now (λ (old new : SessionMap K V). IfOk result (IsCloneOf V.is_clone (get K.cmp old.values key.now)) × OnErr result (IsSome (get K.cmp old.values key.now))) }
         ensures only { IfErr result memory }
     {
-        self.map.lock(rt).get(key)
+        let map = self.lent(rt);
+        let value = map.get(key);
+        self.give_back(map);
+        value
     }
 
     /// `SessionMap::set` on the lent map.
     pub fn set<R: Wait>(&self, rt: &R, key: K, value: V) -> Result<(), (Error, K, V)>
+        ensures does { Under self.now (λ (old new : SessionMap K V). OnOk result (Updates K.cmp old.values new.values key (Some value)) × OnErr result (IsUnchanged old.values new.values)) }
         ensures only { IfErr result (λ e. memory e.0) }
         ensures back { IfErr result (λ e. (e.1 ≡ key) × (e.2 ≡ value)) }
     {
-        self.map.lock(rt).set(key, value)
+        let mut map = self.lent(rt);
+        let done = map.set(key, value);
+        self.give_back(map);
+        done
     }
 
     /// `SessionMap::get_or_insert_with` on the lent map; the value is made under the lock.
@@ -155,9 +180,16 @@ impl<K: Ord + Drop, V: SessionValue> SessionContext<K, V> {
         make: F,
     ) -> Result<V, (Error, K, Option<V>)>
         requires { F.pre make }
+        ensures does { Under self.now (λ (old new : SessionMap K V).
+            IfOk result (λ y. (x : V) → get K.cmp old.values key ≡ Some x → V.is_clone x y × IsUnchanged old.values new.values) ×
+            IfOk result (λ y. get K.cmp old.values key ≡ None → (x : V) × F.post make x × V.is_clone x y × Updates K.cmp old.values new.values key (Some x)) ×
+            OnErr result (IsUnchanged old.values new.values)) }
         ensures only { IfErr result (λ e. memory e.0) }
         ensures back { IfErr result (λ e. (e.1 ≡ key) × IfSome e.2 (F.post make)) }
     {
-        self.map.lock(rt).get_or_insert_with(key, make)
+        let mut map = self.lent(rt);
+        let value = map.get_or_insert_with(key, make);
+        self.give_back(map);
+        value
     }
 }

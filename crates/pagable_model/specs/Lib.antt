@@ -31,3 +31,4 @@ pub mod Statics
 pub mod Tagged
 pub mod Session
 pub mod References
+pub mod Reasons

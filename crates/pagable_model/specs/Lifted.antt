@@ -32,26 +32,33 @@ pub record MeansPair {A B : Type 0} (M : A → Meaning ArcRef → Type 0) (N : B
   pub is_second : N p.1 second
   pub is : m ≡ pair first second
 
--- What cells hold may change while they are looked at, so no clause knows it, and a cell means whatever it may hold.
+-- What cells hold may change while they are looked at, and no call of the kit tells what one holds: what a look answers, and what a cell is made with, it may hold.
+-- That stands here unopened, so that of nothing else it can be said.
+unfoldable pub MayHold : {C X : Type 0} → C → X → Type 0
+MayHold cell held = Unit {0}
 
--- an atomic number may hold any whole number of 64 bits with a sign
-pub record MeansAtomic (m : Meaning ArcRef) : Type 0 where
+-- a whole number of 64 bits with a sign that an atomic number may hold
+pub record MeansAtomic {C : Type 0} (cell : C) (m : Meaning ArcRef) : Type 0 where
   pub held : ℤ
+  pub may : MayHold cell held
   pub fits : IsSigned w64 held
   pub is : m ≡ integer held
 
--- a value that is written once may be there or not: nothing, or what some value of the type may mean
-pub record MeansOnce {T : Type 0} (M : T → Meaning ArcRef → Type 0) (m : Meaning ArcRef) : Type 0 where
+-- a value that is written once may be there or not: nothing, or what a value means that it may hold
+pub record MeansOnce {C T : Type 0} (M : T → Meaning ArcRef → Type 0) (cell : C) (m : Meaning ArcRef) : Type 0 where
   pub held : Option T
+  pub may : MayHold cell held
   pub means : MeansOption M held m
 
 -- ---- a value has a meaning if its parts have, and a cell has some
 
-pub atomic_has_meaning : SomeMeaning MeansAtomic
-atomic_has_meaning = (integer (pos 0), record { held = pos 0; fits = omega arith; is = refl })
+pub atomic_has_meaning : {C : Type 0} (cell : C) → SomeMeaning (MeansAtomic cell)
+unfolding MayHold
+atomic_has_meaning cell = (integer (pos 0), record { held = pos 0; may = tt; fits = omega arith; is = refl })
 
-pub once_has_meaning : {T : Type 0} (M : T → Meaning ArcRef → Type 0) → SomeMeaning (MeansOnce M)
-once_has_meaning M = (absent, record { held = None; means = means-none })
+pub once_has_meaning : {C T : Type 0} (M : T → Meaning ArcRef → Type 0) (cell : C) → SomeMeaning (MeansOnce M cell)
+unfolding MayHold
+once_has_meaning M cell = (absent, record { held = None; may = tt; means = means-none })
 
 pub items_have_meanings : {T : Type 0} (M : T → Meaning ArcRef → Type 0) → ((x : T) → SomeMeaning (M x)) → (xs : List T) → (ms : List (Meaning ArcRef)) × MeanAll M xs ms
 items_have_meanings M has [] = ([], mean-none)

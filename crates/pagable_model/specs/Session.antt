@@ -1,5 +1,5 @@
 -- What a session's map answers.
-use Rattle.std.specs.Prelude.{◌≡◌, Option, Some, None, IsSome}
+use Rattle.{pagable_model.specs.Lifted.MayHold, std.specs.Prelude.{◌≡◌, Option, Some, None, IsSome}}
 
 -- none where there is none, and else a clone of what is there
 abbrev pub IsCloneOf : {V : Type 0} → (V → V → Type 0) → Option V → Option V → Type 0
@@ -11,3 +11,11 @@ IsCloneOf is_clone _ _ = ⊥
 abbrev pub IsBack : {V : Type 0} → (V → Type 0) → Option V → Option V → Type 0
 IsBack made old None = IsSome old
 IsBack made old (Some x) = (old ≡ None) × made x
+
+-- one step under a lock: from what the lock may hold to what it may hold then
+pub record Under {C M : Type 0} (lock : C) (step : M → M → Type 0) : Type 0 where
+  pub old : M
+  pub new : M
+  pub lent : MayHold lock old
+  pub left : MayHold lock new
+  pub does : step old new

@@ -1,7 +1,7 @@
 //! Why something is refused.
 
 ghost use Rattle.pagable_model.specs.{Refusals.number_of, declared.error.Error.TheVariants.OutOfMemory};
-ghost use Rattle.std.specs.Prelude.{◌≡◌};
+ghost use Rattle.std.specs.Prelude.{if◌then◌else◌, ◌≡◌};
 
 use crate::data_key::DataKey;
 use crate::reason::Reason;
@@ -112,6 +112,29 @@ impl Error {
     {
         self.row().0
     }
+
+    /// Parts what a refused growth answers: OutOfMemory, and the value that found no room.
+    pub fn parted<T>(refused: AllocFailed<T>) -> (Error, T)
+        ensures refusal { result.0 ≡ OutOfMemory }
+        ensures value { result.1 ≡ refused.value }
+    {
+        (out_of_memory(), refused.value)
+    }
+
+    /// Names what another library refuses, whose own error says whether a growth was refused: OutOfMemory then, and else
+    /// the other refusal.
+    pub fn of_library(is_memory: bool, other: Error) -> Error
+        ensures { result ≡ (if is_memory then OutOfMemory else other) }
+    {
+        if is_memory { out_of_memory() } else { other }
+    }
+}
+
+/// Want of memory. It is made here alone, of what a growth answers that was refused.
+fn out_of_memory() -> Error
+    ensures { result ≡ OutOfMemory }
+{
+    Error::OutOfMemory
 }
 
 /// The refusal in words: with its key or code, and a caller's own text as it is.
@@ -131,15 +154,15 @@ impl std::error::Error for Error {}
 impl From<AllocError> for Error {
     ghost from_gives = { λ _ e. e ≡ OutOfMemory };
 
-    fn from(_e: AllocError) -> Error {
-        Error::OutOfMemory
+    fn from(_refused: AllocError) -> Error {
+        out_of_memory()
     }
 }
 
 impl<T: Drop> From<AllocFailed<T>> for Error {
     ghost from_gives = { λ _ e. e ≡ OutOfMemory };
 
-    fn from(_e: AllocFailed<T>) -> Error {
-        Error::OutOfMemory
+    fn from(_refused: AllocFailed<T>) -> Error {
+        out_of_memory()
     }
 }

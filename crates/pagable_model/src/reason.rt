@@ -1,6 +1,6 @@
 //! Why a caller's own implementation refuses.
 
-ghost use Rattle.std.specs.Prelude.{◌≤◌};
+ghost use Rattle.std.specs.{Prelude.{length, take, true, ◌≡◌, ◌≤◌}, Str.is_utf8};
 
 use std::fmt;
 
@@ -13,36 +13,41 @@ pub const REASON_BYTES: usize = 62;
 pub struct Reason {
     bytes: [u8; REASON_BYTES],
     length: u8,
+    ghost within: { length ≤ 62 },
+    ghost whole: { is_utf8 (take length bytes) ≡ true },
 }
 
-/// How many of the first 62 bytes of a text are whole characters.
-fn kept_length(text: &str) -> usize
-    ensures { result ≤ 62 }
+/// These bytes, and zeros behind them.
+fn padded(text: &[u8]) -> [u8; REASON_BYTES]
+    requires { length text.now ≤ 62 }
+    ensures { take (length text.now) result ≡ text.now }
 {
-    for length in (0..=text.len().min(REASON_BYTES)).rev() {
-        if text.is_char_boundary(length) {
-            return length;
-        }
-    }
-    0
+    let mut bytes = [0; REASON_BYTES];
+    bytes[..text.len()].copy_from_slice(text);
+    bytes
 }
 
 impl Reason {
+    ghost use Rattle.pagable_model.specs.Reasons.{IsKept, kept_of};
+
     /// The reason that is this text, of which the first 62 bytes are kept, up to the end of a character.
-    pub fn new(text: &str) -> Reason {
-        let kept = kept_length(text);
-        let mut bytes = [0; REASON_BYTES];
-        for (place, byte) in bytes.iter_mut().zip(text.as_bytes()).take(kept) {
-            *place = *byte;
-        }
-        let length = kept as u8;
+    pub fn new(text: &str) -> Reason
+        ensures { IsKept text.now (kept_of result) }
+    {
+        let kept = &text[..text.floor_char_boundary(REASON_BYTES)];
+        let bytes = padded(kept.as_bytes());
+        let length = kept.len() as u8;
         Reason { bytes, length }
     }
 
     /// The text.
-    pub fn as_str(&self) -> &str {
-        let length = usize::from(self.length).min(REASON_BYTES);
-        std::str::from_utf8(&self.bytes[..length]).unwrap_or("")
+    pub fn as_str(&self) -> &str
+        ensures { result.now ≡ kept_of self.now }
+    {
+        match std::str::from_utf8(&self.bytes[..self.length as usize]) {
+            Ok(text) => text,
+            Err(_) => "",
+        }
     }
 }
 
