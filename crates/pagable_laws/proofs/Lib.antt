@@ -19,6 +19,7 @@ pub mod Chains
 mod Level
 mod Deeply
 pub mod SparingSteps
+pub mod Moments
 mod Sound
 mod OnePiece
 mod Laws
