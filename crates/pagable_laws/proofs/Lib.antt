@@ -16,6 +16,7 @@ pub mod Following
 mod Stepping
 pub mod Taking
 pub mod Chains
+pub mod New
 mod Level
 mod Deeply
 pub mod SparingSteps

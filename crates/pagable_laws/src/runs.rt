@@ -19,7 +19,7 @@ pub fn falling()
 
 /// Of chains and of new machines:
 /// - A chain goes on with another.
-/// - A new machine is whole, and stands for whatever trees.
+/// - A new machine for which nobody works has all that the headline asks of its start, where its values are lawful: it is whole, stands for whatever trees, and holds nothing.
 pub fn chains<N: SeenAs<B, W>, B, W, E>()
     ensures chains_join { ChainsJoin E N.seen }
     ensures new_is_whole { NewIsWhole E N.seen.values }
