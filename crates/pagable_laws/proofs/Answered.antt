@@ -28,12 +28,12 @@ record Under {N E : Type 0} (v : Values N) (s : PagerState N E) (trees : ℕ →
   pub keyed : (load : OpenLoad) → s.core.loads reading.load.0 ≡ Some load → load.key ≡ key
 
 -- each node keeps its tree
-record After {N E : Type 0} (v : Values N) (s : PagerState N E) (trees : ℕ → Tree) (s' : PagerState N E) (trees' : ℕ → Tree) : Type 0 where
+pub record After {N E : Type 0} (v : Values N) (s : PagerState N E) (trees : ℕ → Tree) (s' : PagerState N E) (trees' : ℕ → Tree) : Type 0 where
   pub same : SameTrees s.core.last.node trees trees'
   pub nodes : s.core.last.node ≤ s'.core.last.node
   pub stands : Represents v s' trees'
 
-after-then : {N E : Type 0} {v : Values N} {s m t : PagerState N E} {trees mid after : ℕ → Tree} → After v s trees m mid → After v m mid t after → After v s trees t after
+pub after-then : {N E : Type 0} {v : Values N} {s m t : PagerState N E} {trees mid after : ℕ → Tree} → After v s trees m mid → After v m mid t after → After v s trees t after
 after-then a b = record { same = λ n within. b.same n (let c = a.nodes in omega (arith, within, c)) ∙ a.same n within; nodes = let c = a.nodes in let d = b.nodes in omega (arith, c, d); stands = b.stands }
 
 module _ {N E : Type 0} {v : Values N} (lawful : IsLawful v) (readable : ReadsItsTypes v.types) where

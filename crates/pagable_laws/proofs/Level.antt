@@ -1,11 +1,11 @@
 -- A pager with few of each is whole, by facts about its first numbers that compute. So the chain of two levels is one of the machine, and meets the headline with all that it asks.
-use Rattle.pagable_laws.proofs.{Chains.headline_law, Existing.{and-false, within-self}, Goes.good, Trees.{new_whole, same_some, sum-zero}, Words.{Alike, Among, ArcRef, AreMoments, Beginning, Blob}}
+use Rattle.pagable_laws.proofs.{Chains.headline_law, Existing.{and-false, within-self}, Goes.good, New.new_whole, Trees.{same_some, sum-zero}, Words.{Alike, Among, ArcRef, AreMoments, Beginning, Blob}}
 use Rattle.pagable_laws.proofs.Words.{Bool, CloneCall, Core, Event, EventReply, HandleRow, Happens, IsLawful, IsMachineWhole, IsReadable, IsWellAsked, KeepsOpen, LiesIn, List, LoadAnswer, Mode, None}
 use Rattle.pagable_laws.proofs.Words.{MachineState, Ok, OpenLoad, Option, Owner, PagerState, Reading, ReadsItsTypes, ReadsRoot, Shelf, Some, Todo, Tree, WalkDoes, Walking, WellFormed, WorkerAnswer}
 use Rattle.pagable_laws.proofs.Words.{Written, [], and_parts, ap, arith, blob_of, cases_lt, false, find_row, held, identity_of, if_there, inl, inr, is_handle, is_in, is_named_by, is_owned_by, length}
 use Rattle.pagable_laws.proofs.Words.{is_owner, is_some, nat_eq, nat_tests, not, of_cell, one, owner_value, owner_worker, pins, reference-form, references_fault, references_in, refl, row_at, rules}
 use Rattle.pagable_laws.proofs.Words.{state_after, subst, suc, sym, times, to_finish, to_item, to_pin, to_release, to_set, to_start, to_write, tree, true, updated, world_of, zero, ℕ, ◌&&◌, ◌++◌, ◌+◌}
-use Rattle.pagable_laws.{proofs.Words.{◌<◌, ◌==◌, ◌∙◌, ◌∷◌, ◌≡◌, ◌≤◌, ◌⊎◌}, specs.{FallLaws.{no_work, outer}, TwoLevels.{ArePremised, Sample, TwoLevelsMeetTheHeadline, machine, sample, value_at}}}
+use Rattle.pagable_laws.{proofs.Words.{◌<◌, ◌==◌, ◌∙◌, ◌∷◌, ◌≡◌, ◌≤◌, ◌⊎◌}, specs.{FallLaws.{StartsWell, no_work, outer}, TwoLevels.{ArePremised, Sample, TwoLevelsMeetTheHeadline, machine, sample, value_at}}}
 use Rattle.{pagable_model.specs.{Blob.preimage, Form.nothing-form, Keyed.throughout-alone, Trees.{none-followed, rest_of}}, pagable_world.specs.Calls.{CountCall, IsNext, UnpinCall, row_of, with_key}}
 use Rattle.pagable_world.specs.{Calls.with_mode, Cascade.{Falls, IsLeast, MustList, fallen, is_keyed, loses_value, nobody, owned_outside}, Events.{Ends, ReadingsAre, WorkStays, no_shelf, reading_at}}
 use Rattle.pagable_world.specs.{Events.steps_after, Kinds.{is_at, is_loose, is_pin, is_share, is_shared, sharing}, LoadCalls.{BeginCall, EndCall, Installs, LazyCall}, Loads.ReadingDoes}
@@ -480,9 +480,8 @@ no-other n all =
 pub headline_met : TwoLevelsMeetTheHeadline
 headline_met =
     let new = new_whole (Unit {0}) two.sample in let worked = pages 15 two.begun (two.loads ++ two.counts 2) births-good.3.0 begun-asks (loads-do, loads-asked) in
-    let whole : IsMachineWhole two.sample two.new_one = new.whole _ _ tt in let idle : IsIdle two.new_one = new.idle _ _ tt in
-    let stands : (trees : ℕ → Tree) → StandsFor two.sample two.new_one trees = λ trees. new.stands _ _ tt trees in
-    let settled : HoldsSettled two.sample two.new_one.pager = λ n x is a b own other. other ∙ sym own in
+    let start : StartsWell two.sample two.new_one = new.starts two.new_one (new.new _ _ tt) (new.idle _ _ tt) lawful in
+    let whole = start.whole in let idle = start.idle in let stands = start.stands in let settled = start.settled in
     let premised : ArePremised two.new_one (two.moments 2) =
     asked _ _ tt (λ trees. tt) ⨾ asked _ _ tt (λ trees. tt) ⨾ asked _ _ tt (λ trees. tt) ⨾ asked _ _ tt (λ trees. tt) ⨾ worked.1 in
     assumption (lawful, reads-types, whole, idle, stands, settled, premised, headline_law (Unit {0}) two.sample_seen two.new_one (two.moments 2) whole idle (births-do _ worked.0), no-other)

@@ -16,9 +16,11 @@ pub mod Following
 mod Stepping
 pub mod Taking
 pub mod Chains
+pub mod New
 mod Level
 mod Deeply
 pub mod SparingSteps
+pub mod Moments
 mod Sound
 mod OnePiece
 mod Laws

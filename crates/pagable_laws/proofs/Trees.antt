@@ -2,7 +2,7 @@
 use Rattle.pagable_laws.proofs.Words.{Among, AreMoments, Blob, Bool, Entries, Entry, Form, Forms, List, MachineState, Meaning, Moment, None, Option, ReadsTree, Seen, Shape, Site, Took, Tree, Types}
 use Rattle.pagable_laws.proofs.Words.{Values, WalkDoes, [], ap, arith, code, cond, false, followed, inl, inr, length, map, nat_tests, none, one, pair, put_all, reference, reference-form, refl, rest}
 use Rattle.pagable_laws.proofs.Words.{references_in, rename, rules, run-form, state_after, subst, suc, sum_by-cons, sym, tree, true, type_of, variant, zero, ℕ, ℤ, ◌++◌, ◌+◌, ◌<◌, ◌==◌, ◌∙◌, ◌∷◌, ◌≡◌}
-use Rattle.{pagable_laws.{proofs.Words.{◌≤◌, ◌⊎◌}, specs.{FallLaws.{ChainsJoin, NewIsWhole}, FormLaws.IsAnyOrder}}, pagable_model.specs.{Basic.{length_form, longest}, Canonical.EachType}}
+use Rattle.{pagable_laws.{proofs.Words.{◌≤◌, ◌⊎◌}, specs.{FallLaws.ChainsJoin, FormLaws.IsAnyOrder}}, pagable_model.specs.{Basic.{length_form, longest}, Canonical.EachType}}
 use Rattle.pagable_model.specs.{Canonical.HasNoReference, Carried.{of_entries, of_hash_map}, Codes.one-meaning, Form.{array-form, both-form, case-form, duration-form, err-form, flag-form, list-form}}
 use Rattle.pagable_model.specs.Form.{hash-map-form, json-array-form, json-flag-form, json-null-form, json-number-form, json-object-form, json-text-form, letter-form, more-entries, more-forms}
 use Rattle.pagable_model.specs.Form.{nested-form, no-entries, no-forms, none-form, nothing-form, ok-form, pattern-form, placed-map-form, placed-set-form, signed-form, some-form, sorted-map-form}
@@ -432,9 +432,6 @@ ends s (x ∷ xs) ys = ends x.after xs ys
 
 pub chains_join : {N B W : Type 0} (E : Type 0) (m : Seen N B W) → ChainsJoin E m
 chains_join E m = record { joins = joins m; ends = ends }
-
-pub new_whole : {N : Type 0} (E : Type 0) (v : Values N) → NewIsWhole E v
-new_whole E v = grind (arith)
 
 -- whatever a worker does is a step of the automaton of its order
 pub steps_follow : {N B W : Type 0} (m : Seen N B W) (v : ℕ) (s s' : Site) (step : Took W) → WalkDoes m v s step s' → Follows m.written_of s.todo step s'.todo

@@ -3,7 +3,7 @@ use Rattle.std.specs.Prelude.{Bool, List, None, Ok, Option, Some, [], false, fil
 use Rattle.pagable_world.specs.declared.rows.Mode.{Mode}
 use Rattle.pagable_world.specs.{Calls.{UnpinCall, row_of}, Cascade.IsLeast, Events.no_shelf, Kinds.{is_owned_by, is_pinning, owner_value, pins}, Loads.{asks, is_faulty, next_in, reads}, Pager.IsIdle}
 use Rattle.pagable_world.specs.{Pager.{IsMachineWhole, IsNew, MachineState, StandsFor}, Plain.{Among, ArcRef, Blob, Error, HandleNumber, Kind, Meaning, NodeNumber, OptionalDataKey, Tree, Types}}
-use Rattle.pagable_world.specs.{Plain.{times, updated}, Runs.{AreMoments, Moment, state_after}, World.{Core, Frame, Places, Seen, Values, Work}, declared.handles.{HandleRow.HandleRow, Owner.Owner}}
+use Rattle.pagable_world.specs.{Plain.{times, updated}, Runs.{AreMoments, HoldsSettled, Moment, state_after}, World.{Core, Frame, IsLawful, Places, Seen, Values, Work}, declared.handles.{HandleRow.HandleRow, Owner.Owner}}
 
 -- nothing but what a storage holds, with these places
 abbrev pub empty : (ℕ → Option Blob) → Places → Core
@@ -94,12 +94,19 @@ pub record ChainsJoin {N B W : Type 0} (E : Type 0) (m : Seen N B W) : Type 0 wh
   pub joins : (s : MachineState N E) (xs ys : List (Moment N E B W)) → AreMoments m s xs → AreMoments m (state_after s xs) ys → AreMoments m s (xs ++ ys)
   pub ends : (s : MachineState N E) (xs ys : List (Moment N E B W)) → state_after s (xs ++ ys) ≡ state_after (state_after s xs) ys
 
--- A new machine over any storage is whole, idle, and stands for whatever trees are assigned to nodes that aren't.
+-- all that the headline asks of the machine at which a chain begins, but that its types are read back
+pub record StartsWell {N E : Type 0} (v : Values N) (s : MachineState N E) : Type 0 where
+  pub whole : IsMachineWhole v s
+  pub idle : IsIdle s
+  pub stands : (trees : ℕ → Tree) → StandsFor v s trees
+  pub lawful : IsLawful v
+  pub settled : HoldsSettled v s.pager
+
+-- A new machine over any storage, for which nobody works, starts well where its values are lawful: it stands for whatever trees are assigned to nodes that aren't. And there is such a machine.
 pub record NewIsWhole {N : Type 0} (E : Type 0) (v : Values N) : Type 0 where
   pub new : (stored : ℕ → Option Blob) (places : Places) (env : E) → IsNew (let s : MachineState N E = new_machine stored places env in s.pager)
   pub idle : (stored : ℕ → Option Blob) (places : Places) (env : E) → IsIdle (let s : MachineState N E = new_machine stored places env in s)
-  pub whole : (stored : ℕ → Option Blob) (places : Places) (env : E) → IsMachineWhole v (new_machine stored places env)
-  pub stands : (stored : ℕ → Option Blob) (places : Places) (env : E) (trees : ℕ → Tree) → StandsFor v (new_machine stored places env) trees
+  pub starts : (s : MachineState N E) → IsNew s.pager → IsIdle s → IsLawful v → StartsWell v s
 
 -- A blob is read, asks for one reference, or is refused: at most one of these.
 pub record NextIsOne (types : Types) (frame : Frame) : Type 0 where

@@ -3,3 +3,4 @@ pub mod FallLaws
 pub mod TreeSteps
 pub mod TwoLevels
 pub mod DeepLaws
+pub mod PageOutLaws

@@ -3,7 +3,7 @@
 
 ghost use Rattle.pagable_world.specs.{Access.{PinLaw, ReadLaw}, Headline.HeadlineLaw, OneWorker.{KeyIsShallow, OneIdentityLaw}, Plain.Types, World.{Frame, Seen}};
 ghost use Rattle.pagable_laws.specs.DeepLaws.{ClaimIsDeep, DepthIsTold, HoldsAlong, LoadIsDeep, LoadIsFaultless, SoundLaw};
-ghost use Rattle.pagable_laws.specs.{FallLaws.{FallLaws, ChainsJoin, NewIsWhole, NextIsOne}, TwoLevels.TwoLevelsMeetTheHeadline};
+ghost use Rattle.pagable_laws.specs.{FallLaws.{FallLaws, ChainsJoin, NewIsWhole, NextIsOne}, PageOutLaws.{ItemLaw, ListLaw}, TwoLevels.TwoLevelsMeetTheHeadline};
 
 /// How values of this type are seen, with blobs B and what is written W: any values, so that a law is one of all.
 pub trait SeenAs<B, W>: Sized {
@@ -19,7 +19,7 @@ pub fn falling()
 
 /// Of chains and of new machines:
 /// - A chain goes on with another.
-/// - A new machine is whole, and stands for whatever trees.
+/// - A new machine for which nobody works has all that the headline asks of its start, where its values are lawful: it is whole, stands for whatever trees, and holds nothing.
 pub fn chains<N: SeenAs<B, W>, B, W, E>()
     ensures chains_join { ChainsJoin E N.seen }
     ensures new_is_whole { NewIsWhole E N.seen.values }
@@ -59,4 +59,12 @@ pub fn loads<N: SeenAs<B, W>, B, W, E>()
     ensures one_identity { OneIdentityLaw E N.seen }
     ensures pins_stand { PinLaw E N.seen.values }
     ensures readings_stand { ReadLaw E N.seen.values }
+{}
+
+/// Of page-out by one call of a pager for which nobody else works, where keys, types and values are as the headline asks:
+/// - An item that is paged out on a new table leaves all that it met stored under published keys, with keys of its cells, and its answer is its key.
+/// - So does each entry that a page-out of the list pages out, whatever comes of those after it.
+pub fn page_outs<N: SeenAs<B, W>, B, W, E>()
+    ensures items_are_out { ItemLaw E N.seen }
+    ensures entries_are_out { ListLaw E N.seen }
 {}
