@@ -625,8 +625,8 @@ class Worker:
         data, references = yield from self.do("write", identity, lambda: self.write(self.pager.value(held)))
         keys, height = yield from self.children(references, place)
         key = yield from self.do("store", identity, lambda: self.store(data, keys))
-        # (only a cell gets its key, by the clone that the worker made)
-        yield from self.do("set", identity, lambda: (self.pager.set_data_key(self.clones[identity], key), ""))
+        # (a key is set only where the kind is lazy, by the clone that the worker made)
+        yield from self.do("set", identity, lambda: (is_lazy(identity[0]) and self.pager.set_data_key(self.clones[identity], key), ""))
         yield from self.do("publish", identity, lambda: (self.slots.update({identity: (self, (key, height))}), f"{key} {height}"))
         return key, height
 
@@ -651,9 +651,9 @@ class Worker:
         return worker is self and found == "waiting"
 
     def pin(self, identity, number):
-        """A clone of the reference, or of the entry, and for a lazy one a pin of the clone, or the begin of its load."""
+        """A clone of the reference, or of the entry, and of a loose one a pin of the clone, or the begin of its load."""
         own = self.clones[identity] = self.pager.clone(number)
-        pinned = self.pager.pin(own) if is_lazy(identity[0]) else own
+        pinned = self.pager.pin(own) if self.pager.handles[own].mode in LOOSE else own
         if isinstance(pinned, int):
             return pinned, f"held {pinned}"
         begun = self.pager.load_begin(own)

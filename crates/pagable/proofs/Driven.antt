@@ -12,7 +12,7 @@ use Rattle.{pagable_world.specs.Order.step_of, std.specs.{declared.{vec.Vec.Vec,
 use Rattle.std.proofs.Common.{Ok, ◌+◌, ◌++◌, Some, ℕ, subst, zero, Option, ◌≢◌, ◌∙◌, refl, ◌==◌, ◌≡◌, arith, rules, [], if◌then◌else◌, false, true, inr, ap, length, ◌∷◌, suc, Err, ◌<◌, None, List}
 use Rattle.{std.proofs.{Common.{sym, inl}, lemmas.{Bool.Decides.nat_tests, List.length-append, Grind.common_steps}}, pagable_pager.{proofs.Keeping.less-moves, specs.View.Telling}}
 use Rattle.{pagable_pager.specs.View.{type_of_root, OnlyTables, state_in, core_in, PagerView, OnlyLess, ReadsAs, value_in}, pagable_walk.{proofs.Turning.plain-fits, specs.Slots.written_of}}
-use Rattle.{pagable_walk.specs.{Tasks.IsPlain, Turns.LeavesFit, declared.{table.SlotTable.SlotTable, tasks.{Task.Task, Turn.Turn}}, Table.shelf_of}, pagable_loads.specs.Frames.{IsLoadOf, reading_of, is_cell}}
+use Rattle.{pagable_walk.specs.{Tasks.IsPlain, Turns.LeavesFit, declared.{lent_table.LentTable.LentTable, tasks.{Task.Task, Turn.Turn}}, Table.shelf_of}, pagable_loads.specs.Frames.{IsLoadOf, reading_of, is_cell}}
 use Rattle.{pagable_loads.specs.{declared.reading.Reading.Reading as Own, Working.{RefusesEntry, StartsEntry}}, pagable_laws.proofs.{ReadingSteps.{caller-free, reading-feels}, Trees.same_some}}
 use Rattle.{pagable_laws.proofs.{Trees.same-number, Effects.{owned-mine, IsMine}}, pagable_core.specs.declared.{context.writing.SerializedData.SerializedData, storage.data.PagableData.PagableData}}
 use Rattle.{pagable_tables.proofs.Worlds.{no-load-fault, still}, pagable_model.specs.declared.{error.Error.Error, numbers.{WorkerNumber.WorkerNumber, LoadNumber.LoadNumber, HandleNumber.HandleNumber, ArcRef.ArcRef}}}
@@ -83,7 +83,7 @@ with-last (y ∷ ys) x (suc n) = let more = with-last ys x n in grind (arith, na
 
 module _ {X XN XH XK XV : Type 0} {g : Environments X XN XH XK XV} {gh : Hashes XH} {go : Orders XK} {gq : Equalities XK} {gp : PartialOrders XK} {gn : Nodes XN X XN XH XK XV} where
   -- the tables with one more, which has no claim
-  shelf-added : (tables : List (SlotTable X XN XH XK XV g gh go gq gp gn)) (new : SlotTable X XN XH XK XV g gh go gq gp gn) → SameShelf no_shelf (shelf_of new) → (t : ℕ)
+  shelf-added : (tables : List (LentTable X XN XH XK XV g gh go gq gp gn)) (new : LentTable X XN XH XK XV g gh go gq gp gn) → SameShelf no_shelf (shelf_of new) → (t : ℕ)
       → SameShelf (updated (length tables + 1) no_shelf (shelf_at tables) t) (shelf_at (tables ++ new ∷ []) t)
   shelf-added tables new empty x3 = grind (arith, nat_tests, with-last, not-same, same-number)
 
@@ -272,7 +272,7 @@ module _ {X XN XH XK XV : Type 0} {g : Environments X XN XH XK XV} {gh : Hashes 
           let untyped : t ≡ None = grind (arith, nat_tests) in
           step-refused l Error.WrongMode (ready.full none) (never-typed s h l reads.load reads.owned (sym (ready.full none l.0) ∙ none) (reads.type_is ∙ untyped))
 
-  pub table-drives : (tables' : Vec (SlotTable X XN XH XK XV g gh go gq gp gn) Global) (table : SlotTable X XN XH XK XV g gh go gq gp gn) (t : TableNumber) → tables'.items ≡ held.tables.items ++ table ∷ [] → t.0 ≡ length held.tables.items + 1
+  pub table-drives : (tables' : Vec (LentTable X XN XH XK XV g gh go gq gp gn) Global) (table : LentTable X XN XH XK XV g gh go gq gp gn) (t : TableNumber) → tables'.items ≡ held.tables.items ++ table ∷ [] → t.0 ≡ length held.tables.items + 1
       → SameShelf no_shelf (shelf_of table) → Takes Event.TableNew (EventReply.TableMade (Ok t)) old (record held { tables = tables' })
   table-drives tables' table t is number empty =
       let more = length-append h.tables (table ∷ []) in

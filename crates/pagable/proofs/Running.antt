@@ -6,7 +6,7 @@ use Rattle.{pagable.specs.declared.workers.{Held.Held, Walk.Walk}, pagable_core.
 use Rattle.{pagable_laws.proofs.{Chains.headline_law, Effects.owned-mine, Goes.updated-at, ReadingSteps.{FrontMine, walk-goes}, Trees.{chains_join, same-number}}, std.specs.Option.option_map}
 use Rattle.{pagable_model.specs.declared.numbers.WorkerNumber.WorkerNumber, pagable_pager.specs.View.{PagerView, Telling, state_in}, pagable_walk.specs.{Slots.{is_same, slot_of}, Table.shelf_of}}
 use Rattle.pagable_walk.specs.{Tasks.{IsWay, todo_of, todos}, Turns.{LeavesFit, Stepped, TaskFits, answer_in, plain, plain_took, plan}}
-use Rattle.{pagable_walk.specs.declared.{table.SlotTable.SlotTable, tasks.{Task.Task, Turn.Turn}}, pagable_world.specs.{Events.{Ends, Happens, WorkerSteps, no_shelf, steps_after}, Kinds.{is_owner, owner_worker}}}
+use Rattle.{pagable_walk.specs.declared.{lent_table.LentTable.LentTable, tasks.{Task.Task, Turn.Turn}}, pagable_world.specs.{Events.{Ends, Happens, WorkerSteps, no_shelf, steps_after}, Kinds.{is_owner, owner_worker}}}
 use Rattle.pagable_world.specs.{Pager.{MachineState, PagerState, TodoBrings, WellFormed, world_of}, Plain.{if_there, updated}, Runs.{AreMoments, Does, HasRun, Moment, state_after}}
 use Rattle.pagable_world.specs.{Workers.{Site, answer_after, is_counted}, World.{Core, SameShelf, Seen, Shelf, Todo, Values, Written}, declared.events.{Event.Event, EventReply.EventReply, Took.Took}}
 use Rattle.{pagable_world.specs.declared.events.{WorkerAnswer.WorkerAnswer, WorkerReply.WorkerReply}, std.proofs.Common.{Bool, List, None, Ok, Option, Some, [], ap, arith, false, if◌then◌else◌, inl}}
@@ -33,7 +33,7 @@ front-mine n w x2 below fits = grind (arith, nat_tests, owned-mine)
 
 module _ {X XN XH XK XV : Type 0} {g : Environments X XN XH XK XV} {gh : Hashes XH} {go : Orders XK} {gq : Equalities XK} {gp : PartialOrders XK} {gn : Nodes XN X XN XH XK XV} where
   -- the shelf of a table that is set, and of the others
-  shelf-set : (tables : List (SlotTable X XN XH XK XV g gh go gq gp gn)) (place : ℕ) (table table' : SlotTable X XN XH XK XV g gh go gq gp gn) (after : Shelf) → slice_get tables place ≡ Some table → SameShelf after (shelf_of table') → (t : ℕ)
+  shelf-set : (tables : List (LentTable X XN XH XK XV g gh go gq gp gn)) (place : ℕ) (table table' : LentTable X XN XH XK XV g gh go gq gp gn) (after : Shelf) → slice_get tables place ≡ Some table → SameShelf after (shelf_of table') → (t : ℕ)
       → SameShelf (updated (suc place) after (shelf_at tables) t) (shelf_at (set tables place table') t)
   shelf-set tables place table table' after there same x7 = grind (arith, nat_tests, set-at, same-number, not-same)
 
@@ -44,7 +44,7 @@ apart q n other = first_of (grind (arith, common_steps, nat_tests), grind (arith
 works-others : (answer : Option WorkerAnswer) (n q : ℕ) (works : ℕ → Bool) → q ≢ n → works_after answer n works q ≡ works q
 works-others answer n q works other = grind (arith, nat_tests, same-number)
 
-module _ {X XN XH XK XV : Type 0} {g : Environments X XN XH XK XV} {gh : Hashes XH} {go : Orders XK} {gq : Equalities XK} {gp : PartialOrders XK} {gn : Nodes XN X XN XH XK XV} {N E : Type 0} (v : Values N) (s s' : PagerState N E) (h : Holding g gh go gq gp gn) {tables' : List (SlotTable X XN XH XK XV g gh go gq gp gn)} {walks' : ℕ → Option (Walk X XN XH XK XV g gh go gq gp gn)}
+module _ {X XN XH XK XV : Type 0} {g : Environments X XN XH XK XV} {gh : Hashes XH} {go : Orders XK} {gq : Equalities XK} {gp : PartialOrders XK} {gn : Nodes XN X XN XH XK XV} {N E : Type 0} (v : Values N) (s s' : PagerState N E) (h : Holding g gh go gq gp gn) {tables' : List (LentTable X XN XH XK XV g gh go gq gp gn)} {walks' : ℕ → Option (Walk X XN XH XK XV g gh go gq gp gn)}
     (serving : IsServing s.core h)
     (was : WellFormed v s) (n : WorkerNumber) (k k' : Walk X XN XH XK XV g gh go gq gp gn) (kept : h.walks n.0 ≡ Some k) (reply : WorkerReply (Arc SerializedData Global)) (on : WalksOn v n.0 h.tables k s reply tables' k' s')
     (keeps : KeepsOne h.walks n.0 (Some k') walks') where
@@ -91,7 +91,7 @@ module _ {X XN XH XK XV : Type 0} {g : Environments X XN XH XK XV} {gh : Hashes 
   len = ap length on.sets ∙ length-set h.tables on.place on.table'
 
   shelf-is : shelf_at h.tables k.table ≡ shelf_of on.table
-  shelf-is = ap (shelf_at h.tables) on.on ∙ ap (λ (found : Option (SlotTable X XN XH XK XV g gh go gq gp gn)). if_there shelf_of no_shelf found) on.there
+  shelf-is = ap (shelf_at h.tables) on.on ∙ ap (λ (found : Option (LentTable X XN XH XK XV g gh go gq gp gn)). if_there shelf_of no_shelf found) on.there
 
   walking-is : walking_of k' ≡ record (walking_of k) { todo = done.does.after.todo; steps = k'.steps; answer = answer_in turn }
   walking-is = first_of (grind (arith, common_steps, nat_tests), search (rules))
@@ -146,15 +146,15 @@ module _ {X XN XH XK XV : Type 0} {g : Environments X XN XH XK XV} {gh : Hashes 
 -- ---- what the machine's value shows of tables and workers is what it keeps of them
 
 module _ {X XN XH XK XV : Type 0} {g : Environments X XN XH XK XV} {gh : Hashes XH} {go : Orders XK} {gq : Equalities XK} {gp : PartialOrders XK} {gn : Nodes XN X XN XH XK XV} where
-  claims-are : (t : SlotTable X XN XH XK XV g gh go gq gp gn) → claims_of (table_view t) ≡ shelf_of t
+  claims-are : (t : LentTable X XN XH XK XV g gh go gq gp gn) → claims_of (table_view t) ≡ shelf_of t
   claims-are t = ap (λ slots. let s : Shelf = record { slots = slots; waits = λ v. lookup (nat_eq v) t.waits.entries } in s)
       (fun_ext (λ i. lookup-map_values slot_of (is_same (i.kind.0, i.node.0)) t.slots.entries))
 
-  shelves-are : (tables : List (SlotTable X XN XH XK XV g gh go gq gp gn)) (t : ℕ) → claims_at (map table_view tables) t ≡ shelf_at tables t
+  shelves-are : (tables : List (LentTable X XN XH XK XV g gh go gq gp gn)) (t : ℕ) → claims_at (map table_view tables) t ≡ shelf_at tables t
   shelves-are tables zero = refl
   shelves-are tables (suc n) = ap (if_there claims_of no_shelf) (slice_get-map table_view tables n) ∙ by (slice_get tables n)
     where
-      by : (found : Option (SlotTable X XN XH XK XV g gh go gq gp gn)) → if_there claims_of no_shelf (option_map table_view found) ≡ if_there shelf_of no_shelf found
+      by : (found : Option (LentTable X XN XH XK XV g gh go gq gp gn)) → if_there claims_of no_shelf (option_map table_view found) ≡ if_there shelf_of no_shelf found
       by None = refl
       by (Some t) = claims-are t
 

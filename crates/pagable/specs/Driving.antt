@@ -5,7 +5,7 @@ use Rattle.{pagable.specs.declared.workers.{Begun.Begun, Held.Held, Walk.Walk}, 
 use Rattle.{pagable_core.specs.declared.{context.writing.SerializedData.SerializedData, storage.data.PagableData.PagableData}, pagable_world.specs.declared.handles.Owner.Owner}
 use Rattle.{pagable_loads.specs.declared.reading.Reading.Reading as Own, pagable_model.specs.declared.numbers.LoadNumber.LoadNumber, pagable_pager.specs.View.{PagerView, Telling, core_in, state_in}}
 use Rattle.pagable_walk.specs.{Slots.{is_same, slot_of, written_of}, Table.shelf_of, Tasks.{IsPlain, IsWay, todos}, Turns.{LeavesFit, StepsTo, answer_in, plain_took, plan}}
-use Rattle.pagable_walk.specs.declared.{table.SlotTable.SlotTable, tasks.{Moved.Moved, Task.Task, Turn.Turn}}
+use Rattle.pagable_walk.specs.declared.{lent_table.LentTable.LentTable, tasks.{Moved.Moved, Task.Task, Turn.Turn}}
 use Rattle.pagable_world.specs.{Access.ReadingStep, declared.events.{Event.Event, EventReply.EventReply, LoadAnswer.LoadAnswer, LoadReply.LoadReply, TableNumber.TableNumber, WorkerReply.WorkerReply}}
 use Rattle.pagable_world.specs.{Events.{CallStep, new_walking, no_shelf, steps_after}, Headline.Headline, Kinds.{identity_of, owner_worker}}
 use Rattle.pagable_world.specs.Pager.{CallBrings, FitsRoot, IsIdle, IsMachineWhole, MachineState}
@@ -21,7 +21,7 @@ task_of (Begun.Entry r) = of_entry r.handle (identity_of r)
 
 module _ {X XN XH XK XV : Type 0} {g : Environments X XN XH XK XV} {gh : Hashes XH} {go : Orders XK} {gq : Equalities XK} {gp : PartialOrders XK} {gn : Nodes XN X XN XH XK XV} where
   -- tables, the first of number 1
-  abbrev pub shelf_at : List (SlotTable X XN XH XK XV g gh go gq gp gn) → ℕ → Shelf
+  abbrev pub shelf_at : List (LentTable X XN XH XK XV g gh go gq gp gn) → ℕ → Shelf
   shelf_at tables zero = no_shelf
   shelf_at tables (suc t) = if_there shelf_of no_shelf (slice_get tables t)
 
@@ -49,12 +49,12 @@ module _ {X XN XH XK XV : Type 0} {g : Environments X XN XH XK XV} {gh : Hashes 
     pub turn : k'.turn ≡ moved.turn
 
   -- A worker that hasn't answered makes a step on its table.
-  pub record WalksOn {N E : Type 0} (v : Values N) (n : ℕ) (tables : List (SlotTable X XN XH XK XV g gh go gq gp gn)) (k : Walk X XN XH XK XV g gh go gq gp gn) (s : PagerState N E) (reply : WorkerReply (Arc SerializedData Global))
-      (tables' : List (SlotTable X XN XH XK XV g gh go gq gp gn)) (k' : Walk X XN XH XK XV g gh go gq gp gn)
+  pub record WalksOn {N E : Type 0} (v : Values N) (n : ℕ) (tables : List (LentTable X XN XH XK XV g gh go gq gp gn)) (k : Walk X XN XH XK XV g gh go gq gp gn) (s : PagerState N E) (reply : WorkerReply (Arc SerializedData Global))
+      (tables' : List (LentTable X XN XH XK XV g gh go gq gp gn)) (k' : Walk X XN XH XK XV g gh go gq gp gn)
       (s' : PagerState N E) : Type 0 where
     pub task : Task X XN XH XK XV g gh go gq gp gn
-    pub table : SlotTable X XN XH XK XV g gh go gq gp gn
-    pub table' : SlotTable X XN XH XK XV g gh go gq gp gn
+    pub table : LentTable X XN XH XK XV g gh go gq gp gn
+    pub table' : LentTable X XN XH XK XV g gh go gq gp gn
     pub moved : Moved X XN XH XK XV g gh go gq gp gn
     pub place : ℕ
     pub had : k.turn ≡ Turn.Goes task
@@ -67,7 +67,7 @@ module _ {X XN XH XK XV : Type 0} {g : Environments X XN XH XK XV} {gh : Hashes 
     pub replies : reply ≡ record { took = moved.took; answer = answer_in moved.turn; steps = k'.steps }
 
   -- there is such a table
-  abbrev pub IsIn : ℕ → List (SlotTable X XN XH XK XV g gh go gq gp gn) → Type 0
+  abbrev pub IsIn : ℕ → List (LentTable X XN XH XK XV g gh go gq gp gn) → Type 0
   IsIn t tables = (0 < t) × (t ≤ length tables)
 
   -- whether there is no worker, or it has answered
@@ -83,7 +83,7 @@ Kept = ℕ → Option Own
 -- what is kept of loads, tables and workers
 pub record Holding {X XN XH XK XV : Type 0} (g : Environments X XN XH XK XV) (gh : Hashes XH) (go : Orders XK) (gq : Equalities XK) (gp : PartialOrders XK) (gn : Nodes XN X XN XH XK XV) : Type 0 where
   pub readings : Kept
-  pub tables : List (SlotTable X XN XH XK XV g gh go gq gp gn)
+  pub tables : List (LentTable X XN XH XK XV g gh go gq gp gn)
   pub walks : ℕ → Option (Walk X XN XH XK XV g gh go gq gp gn)
 
 -- a load is read by the machine as long as it is open
@@ -260,7 +260,7 @@ abbrev pub Answer : Type 0 → Type 0
 Answer N = EventReply N (Arc PagableData Global) (Arc SerializedData Global)
 
 module _ {X XN XH XK XV : Type 0} {g : Environments X XN XH XK XV} {gh : Hashes XH} {go : Orders XK} {gq : Equalities XK} {gp : PartialOrders XK} {gn : Nodes XN X XN XH XK XV} where
-  abbrev pub table_view : SlotTable X XN XH XK XV g gh go gq gp gn → TableView
+  abbrev pub table_view : LentTable X XN XH XK XV g gh go gq gp gn → TableView
   table_view t = record { slots = map (λ e. (e.0, slot_of e.1)) t.slots.entries; waits = t.waits.entries }
 
   abbrev pub view_of : {N S E : Type 0} → PagerView N S E → Held X XN XH XK XV g gh go gq gp gn → MachineView N S E

@@ -84,7 +84,7 @@ pub mod storage {
     /// What a store answers, what is known of the nodes that items refer to, and why a page-out fails.
     pub mod traits {
         pub use pagable_core::PagableStorage;
-        pub use pagable_walk::{PageOutError, SlotTable};
+        pub use pagable_walk::{LentTable, PageOutError};
     }
 }
 
@@ -140,7 +140,7 @@ pub use pagable_core::{
     Sha256Key, WeighHash,
 };
 pub use pagable_pager::{ArcCell, DeserializedArcCache, Pager};
-pub use pagable_walk::{PageOutError, SlotTable};
+pub use pagable_walk::{LentTable, PageOutError};
 pub use pagable_world::handles::Owner;
 pub use pagable_world::{
     Beginning, Call, Claim, Event, EventReply, Found, LoadAnswer, LoadReply, Mode, PinStep,

@@ -10,7 +10,7 @@ use pagable_core::{PagableStorage, SerializedData};
 use pagable_loads::{pin_over, read_over};
 use pagable_model::{DataKey, Error, HandleNumber};
 use pagable_pager::{Lent, Pager};
-use pagable_walk::{PageOutError, SlotTable, page_out_item_over, page_out_pending_over};
+use pagable_walk::{LentTable, PageOutError, page_out_item_over, page_out_pending_over};
 use std::alloc::Global;
 use std::sync::Arc;
 
@@ -95,7 +95,7 @@ pub fn deserialize_pagable_data<E: Env<Node: NodeSet<E>>, S: PagableStorage<E>, 
 fn page_out_item_by<'a, E: Env<Node: NodeSet<E>>, S: PagableStorage<E>>(
     lent: &mut Lent<'a, E, S>,
     alloc: Global,
-    table: &mut SlotTable<E>,
+    table: &mut LentTable<E>,
     item: Arc<SerializedData>,
 ) -> Result<DataKey, PageOutError>
     requires caller { lent.old.me ≡ owners.Caller }
@@ -111,7 +111,7 @@ fn page_out_item_by<'a, E: Env<Node: NodeSet<E>>, S: PagableStorage<E>>(
 pub fn page_out_item<E: Env<Node: NodeSet<E>>, S: PagableStorage<E>>(
     alloc: Global,
     pager: &mut Pager<E, S>,
-    table: &mut SlotTable<E>,
+    table: &mut LentTable<E>,
     item: Arc<SerializedData>,
 ) -> Result<DataKey, PageOutError>
     ensures pages { PagesOutItem (values_at E.Node.NodeSet E.Env E.Hash.KeyHash pager.old.environment) (state_in (telling S.stored S.is_closed S.failed) pager.old)

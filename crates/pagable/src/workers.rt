@@ -13,7 +13,7 @@ use pagable_model::{ArcRef, Error, WorkerNumber};
 use pagable_pager::{Lent, Pager};
 use pagable_walk::stack::{start_entry, start_item};
 use pagable_walk::step::step;
-use pagable_walk::{Moved, SlotTable, Task, Turn, Waiting};
+use pagable_walk::{Moved, LentTable, Task, Turn, Waiting};
 use pagable_world::{TableNumber, WorkerAnswer, WorkerReply};
 use std::alloc::Global;
 use std::mem::replace;
@@ -42,7 +42,7 @@ pub struct Walk<E: Env<Node: NodeSet<E>>> {
 #[derive(Drop)]
 pub struct Held<E: Env<Node: NodeSet<E>>> {
     pub readings: IndexMap<u64, Reading>,
-    pub tables: Vec<SlotTable<E>>,
+    pub tables: Vec<LentTable<E>>,
     pub walks: IndexMap<u64, Walk<E>>,
 }
 
@@ -68,14 +68,14 @@ pub fn table_new<E: Env<Node: NodeSet<E>>, S: PagableStorage<E>>(
 {
     pager.is_whole();
     held.tables.reserve(1)?;
-    held.tables.push_reserved(SlotTable::new(alloc));
+    held.tables.push_reserved(LentTable::new(alloc));
     Ok(TableNumber(held.tables.len() as u64))
 }
 
 // A place for a worker more, on a table that there is. Refused with NoSuchHandle and OutOfMemory.
 fn ready<E: Env<Node: NodeSet<E>>>(
     walks: &mut IndexMap<u64, Walk<E>>,
-    tables: &Vec<SlotTable<E>>,
+    tables: &Vec<LentTable<E>>,
     table: TableNumber,
 ) -> Result<(), Error>
     ensures same { (q : ℕ) → kept_at walks.new q ≡ kept_at walks.old q }
@@ -174,7 +174,7 @@ pub fn worker_listed<E: Env<Node: NodeSet<E>>, S: PagableStorage<E>>(
 fn step_by<'a, E: Env<Node: NodeSet<E>>, S: PagableStorage<E>>(
     lent: &mut Lent<'a, E, S>,
     alloc: Global,
-    table: &mut SlotTable<E>,
+    table: &mut LentTable<E>,
     worker: WorkerNumber,
     path: &mut Vec<Waiting<E>>,
     task: Task<E>,
@@ -202,7 +202,7 @@ fn answer_of<E: Env<Node: NodeSet<E>>>(turn: &Turn<E>) -> Option<WorkerAnswer>
 fn walk_on<E: Env<Node: NodeSet<E>>, S: PagableStorage<E>>(
     pager: &mut Pager<E, S>,
     alloc: Global,
-    tables: &mut Vec<SlotTable<E>>,
+    tables: &mut Vec<LentTable<E>>,
     worker: WorkerNumber,
     walk: &mut Walk<E>,
 ) -> WorkerReply<Arc<SerializedData>>

@@ -240,7 +240,7 @@ key-known w n set live = elim (key_at w n) as (λ own. has_key own ≡ true → 
 set-by-then : {N B W : Type 0} (m : Seen N B W) (n : ℕ) (s s' : Site) (todo : List Todo) (i : Identity) (key height : ℕ) → Does m n s todo (Took.Publish i key height) s' → AllHold s.core n todo
     → ((k : ℕ) → HasHandle s.core n k → is_some (s.core.cells k) ≡ true) → is_loose_kind i.kind.0 ≡ true → (set : ℕ) × (key_at s.core i.node.0 ≡ OptionalDataKey.Some set)
 set-by-then m n s s' (to_publish r k h ∷ below) i key height does all live kind = subst (λ (j : Identity). (set : ℕ) × (key_at s.core j.node.0 ≡ OptionalDataKey.Some set)) (sym does.0)
-    (key-known s.core r.node.0 (all.0.0 (subst (λ (j : Identity). is_loose_kind j.kind.0 ≡ true) does.0 kind)) (live r.node.0 all.0.1))
+    (let at = all.0 (subst (λ (j : Identity). is_loose_kind j.kind.0 ≡ true) does.0 kind) in key-known s.core r.node.0 at.0 (live r.node.0 at.1))
 set-by-then m n s s' todo i key height does all live kind = absurd does
 
 module _ {N B W E : Type 0} (m : Seen N B W) (s s' : MachineState N E) (trees trees' : ℕ → Tree) (before : WorkFits m.values s trees) (after : WorkFits m.values s' trees')

@@ -34,7 +34,7 @@ module _ {c : Change} {w w' : Core} (goes : CoreGoes c w w') where
   -- where the worker keeps handles
   pub all-on : (v : ℕ) → ((n : ℕ) → HasHandle w v n → HasHandle w' v n) → (todo : List Todo) → AllHold w v todo → AllHold w' v todo
   all-on v keeps [] all = tt
-  all-on v keeps (to_publish r key height ∷ below) (h, waits) = ((λ kind. key-on (h.0 kind), keeps r.node.0 h.1), waits-on below waits)
+  all-on v keeps (to_publish r key height ∷ below) (h, waits) = ((λ kind. (key-on (h kind).0, keeps r.node.0 (h kind).1)), waits-on below waits)
   all-on v keeps (x ∷ below) (h, waits) = (search (rules, stands-on), waits-on below waits)
 
 -- nothing is to be said against a claim: the reference's handle is of its node and fits its kind, and the node is there
@@ -132,9 +132,15 @@ module _ {N B W : Type 0} (m : Seen N B W) (v : ℕ) (s s' : Site) (whole : Hand
       (changed-reveals s.shelf s'.shelf KeyThere (identity_of r) (λ slot. record slot { written = Some (m.written_of out) }) t.table_is (λ old key height is. inl is))
   stepped (to_finish o ∷ below) (Took.Store i (Ok key)) e (is, p) f (h, waits) = let t = p.goes in stays t.table_stays.slots t.list_is (stands-on f h, waits-on f below waits)
   stepped (to_set r through key height ∷ below) (Took.SetKey i (Ok u)) e (is, p) f (h, waits) = let t = p.goes in
-      let sets = p.sets in stays t.table_stays.slots t.list_is ((grind (arith, nat_tests, goes-quiet, fell, updated-at), still-held v r through key u whole h p.sets), waits-on f below waits)
+      stays t.table_stays.slots t.list_is (
+        elim p.sets.does [
+          | inl (kind, sets) ↦ (let there : is_loose_kind r.kind.0 ≡ true → KeyIsSet s'.core r.node.0 = grind (arith, nat_tests, goes-quiet, fell, updated-at) in λ loose. (there loose, still-held v r through key u whole h sets))
+          | inr (held, done, a) ↦ λ loose. absurd (cc)
+        ],
+        waits-on f below waits,
+      )
   stepped (to_publish r key height ∷ below) (Took.Publish i k q) e (is, same_key, same_height, t) f (h, waits) = leaves t.list_is (tt, waits-on f below waits)
-      (changed-reveals s.shelf s'.shelf KeyThere (identity_of r) (with_outcome (published key height)) t.table_is (λ old k2 h2 known. inr (λ kind. key-on f (h.0 kind))))
+      (changed-reveals s.shelf s'.shelf KeyThere (identity_of r) (with_outcome (published key height)) t.table_is (λ old k2 h2 known. inr (λ kind. key-on f (h kind).0)))
   stepped _ step e does f all = grind (arith, nat_tests, stays, leaves, same_some, known, waits-on f, given)
 
 module _ {N B W : Type 0} (m : Seen N B W) (u u' : World) {c : Change} (goes : CoreGoes c u.core u'.core) (held : KeysHeld u) (whole : HandlesAreWhole u.core) where

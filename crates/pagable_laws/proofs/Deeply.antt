@@ -122,7 +122,8 @@ module _ {N E : Type 0} (v : Values N) (s : MachineState N E) (trees : ℕ → T
     | inr (inl (none_there, is, inr (inr (slot, still, back)))) ↦
         let other : slot.worker ≢ n = λ own. not-below n task (identity_of r) r below (omega arith) expects waits all (covers (identity_of r) slot still.claimed own still.no_result_yet) in
         inr (record { slot = slot; still = still; another = other; back = back })
-    | inr (inr memory) ↦ absurd (cc)
+    | inr (inr (inl spent)) ↦ absurd (cc)
+    | inr (inr (inr memory)) ↦ absurd (cc)
   ]
 
   -- ---- where a key is known, no path from its tree is too long

@@ -11,7 +11,7 @@ use Rattle.pagable_world.specs.{Calls.with_mode, Cascade.{Falls, IsLeast, MustLi
 use Rattle.pagable_world.specs.{Events.steps_after, Kinds.{is_at, is_loose, is_pin, is_share, is_shared, sharing}, LoadCalls.{BeginCall, EndCall, Installs, LazyCall}, Loads.ReadingDoes}
 use Rattle.pagable_world.specs.{Loads.answers_from, Pager.{EventBrings, IsCellOf, IsHandleBefore, IsIdle, IsReadingWhole, MayOwnLoad, ReadingBrings, ReplyWrites, StandsFor, TookWrites}}
 use Rattle.pagable_world.specs.{Refusals.named_fault, Runs.{Does, HoldsSettled, IsPremised, ReadsAsType, TodoTakesWell}, Workers.{claim_fault, fresh, is_counted, is_workers, is_workers_at}}
-use Rattle.{pagable_world.specs.{Workers.without_worker, World.{HasForm, Root, SameShelf, digest, is_here, of_key, to_publish, type_at}}, std.proofs.{Common.All, lemmas.Bool.agree_below}}
+use Rattle.{pagable_world.specs.{Plain.is_loose_kind, Workers.without_worker, World.{HasForm, Root, SameShelf, digest, is_here, of_key, to_publish, type_at}}, std.proofs.{Common.All, lemmas.Bool.agree_below}}
 use Rattle.std.{proofs.lemmas.{Bool.agree_below_at, List.Kept.AllPairs-cons}, specs.{List.{AllByRecursion as Each, AllPairs}, Prelude.{IfSome, is_none, nat_le, nat_lt}}}
 use Rattle.pagable_laws.specs.TwoLevels as two
 use Rattle.pagable_model.specs.Meaning as meanings
@@ -251,7 +251,7 @@ Asks w s (to_pin r place ∷ below) = (row_at w r.handle ≡ Some (row_of r.hand
     × (nat_le w.last.handle 6 ≡ true)
 Asks w s (to_write r place through ∷ below) = (value_at two.two_values r.node.0 ≡ Some (two.value_of r.node)) × HasKind (two.value_of r.node)
 Asks w s (to_finish o ∷ below) = CanStore w o.written o.keys
-Asks w s (to_set r through key height ∷ below) = (row_at w through ≡ Some (row_of through.0 r.node Mode.LoosePinned (owner_worker 1))) × AreAlone w (with_key w r.node key) nobody
+Asks w s (to_set r through key height ∷ below) = (is_loose_kind r.kind.0 ≡ true) × (row_at w through ≡ Some (row_of through.0 r.node Mode.LoosePinned (owner_worker 1))) × AreAlone w (with_key w r.node key) nobody
 Asks w s (to_publish r key height ∷ below) = Unit {0}
 Asks w s (to_release r key height ∷ below) = AreAlone w w (is_workers_at w 1 r.node.0)
 Asks w s (to_item written keys ∷ below) = CanStore w written keys
@@ -264,7 +264,7 @@ does-so w s (to_pin r place ∷ below) (live, clone_live, here, few) =
     let next : IsNext (two.handle (w.last.handle + 1)) w = record { above = refl; is_left = omega arith } in
     let cloned : CloneCall w (owner_worker 1) r.handle (Ok (two.handle (w.last.handle + 1))) (two.cloned w r.node) = search (live, next, alike-self) in
     grind (arith, nat_tests, cloned, alike-self, same-shelf)
-does-so w s (to_set r through key height ∷ below) (live, alone) = let f = falls-alone w (with_key w r.node key) nobody alone in grind (arith, nat_tests, f, same-shelf)
+does-so w s (to_set r through key height ∷ below) (loose, live, alone) = let f = falls-alone w (with_key w r.node key) nobody alone in grind (arith, nat_tests, f, same-shelf)
 does-so w s (to_release r key height ∷ below) alone = search (same-shelf, falls-alone w w (is_workers_at w 1 r.node.0) alone)
 does-so w s todo ok = grind (arith, nat_tests, alike-self, same-shelf)
 

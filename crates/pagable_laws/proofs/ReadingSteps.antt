@@ -10,7 +10,7 @@ use Rattle.pagable_laws.proofs.Words.{Some, Task, Todo, Took, Values, Walking, W
 use Rattle.pagable_laws.proofs.Words.{find_row, first_key, give, inl, inr, is_named_by, is_some, mode_of, moved, nat_tests, next_node, nothing_felt, owner_value, owner_worker, refl, row_at, rules}
 use Rattle.pagable_laws.proofs.Words.{step_of, subst, sym, to_fail, to_load, to_pin, to_release, to_set, to_start, true, updated, world_of, ◌++◌, ◌+◌, ◌<◌, ◌∙◌, ◌∷◌, ◌≡◌, ◌≤◌, ◌⊎◌}
 use Rattle.pagable_laws.specs.TreeSteps.{EventFeels, GetsRow, IsFresh, IsSteppedReading, KeepsReadings, Needs, NewNode, SameNode, StaysAway, StepsReading, by-call, by-key, by-nothing, by-reading}
-use Rattle.{pagable_laws.specs.TreeSteps.{gets-known, gets-lazy, makes-known, makes-node, reading-ends, reads-blob, reads-root, sets_key}, pagable_world.specs.Calls.{SetKeyCall, StoreCall, row_of}}
+use Rattle.{pagable_laws.specs.TreeSteps.{gets-known, gets-lazy, makes-known, makes-node, reading-ends, reads-blob, reads-root, sets_key}, pagable_world.specs.{Calls.{StoreCall, row_of}, Workers.KeySetFor}}
 use Rattle.pagable_world.specs.{Calls.{with_cached_if_open, with_known}, Cascade.{FallsAnyhow, only_handle}, Events.{Ends, ReadingsAre, Starts, Stays, new_walking, reading_after, reading_at}}
 use Rattle.pagable_world.specs.{Events.with_worker, Kinds.is_loose, Loads.{MakesNode, ReadingDoes, gone_on, with_got}, OneWorker.LeavesCache, Pager.{EventBrings, IsNewNode, IsReadingOf, IsWhole}}
 use Rattle.pagable_world.specs.{Pager.{OwnersAreThere, TodoBrings, of_caller, of_worker}, Refusals.Owns, Workers.{fresh, next_start, without_worker}, World.{Cell, digest, usable}}
@@ -256,17 +256,20 @@ module _ {N B W : Type 0} (m : Seen N B W) (v : ℕ) (s s' : Site) where
   rests next none is other e = quiet none (λ front well. no-load s' next is (other well)) e
 
   sets : (r : ArcRef) (through : HandleNumber) (key height : ℕ) (below next : List Todo) (told : Result (Unit {0}) Error)
-      → SetKeyCall s.core (owner_worker v) through key told s'.core → s'.todo ≡ next → front_reading next ≡ None → WalkFelt m v s s' (to_set r through key height ∷ below)
+      → KeySetFor s.core (owner_worker v) r through key told s'.core → s'.todo ≡ next → front_reading next ≡ None → WalkFelt m v s s' (to_set r through key height ∷ below)
   sets r through key height below next told c is other = elim c.does [
-    | inl refused ↦ rests next (λ n x b. b) is (λ well. other) (stays refused.stays)
-    | inr (row, owns, inl (mode, done, a)) ↦ rests next (λ n x b. b) is (λ well. other) (stays a)
-    | inr (row, owns, inr (loose, f)) ↦ let e : WE (to_set r through key height ∷ below) (sets_key row.node.0 key) = fell (with-key s.core row.node key) f no-one in record {
-      change = sets_key row.node.0 key;
-      does = e;
-      goes = e.goes;
-      feels = λ front well. walk-sets r through key height below row refl (record { live = owns.live; own = owns.own; as_asked = loose }) (no-load s' next is other);
-      knows = λ whole k q n known. absurd known;
-    }
+    | inr (kind, done, a) ↦ rests next (λ n x b. b) is (λ well. other) (stays a)
+    | inl (kind, call) ↦ elim call.does [
+      | inl refused ↦ rests next (λ n x b. b) is (λ well. other) (stays refused.stays)
+      | inr (row, owns, inl (mode, done, a)) ↦ rests next (λ n x b. b) is (λ well. other) (stays a)
+      | inr (row, owns, inr (loose, f)) ↦ let e : WE (to_set r through key height ∷ below) (sets_key row.node.0 key) = fell (with-key s.core row.node key) f no-one in record {
+        change = sets_key row.node.0 key;
+        does = e;
+        goes = e.goes;
+        feels = λ front well. walk-sets r through key height below row refl (record { live = owns.live; own = owns.own; as_asked = loose }) (no-load s' next is other);
+        knows = λ whole k q n known. absurd known;
+      }
+    ]
   ]
 
   pub walk-goes : (todo : List Todo) (step : Took W) → Does m v s todo step s' → WalkFelt m v s s' todo

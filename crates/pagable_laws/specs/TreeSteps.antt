@@ -292,7 +292,7 @@ Holds w v (to_load r place through reading) = StandsAt w r through
 Holds w v (to_write r place through) = StandsAt w r through
 Holds w v (to_finish o) = StandsAt w o.reference o.through
 Holds w v (to_set r through key height) = StandsAt w r through
-Holds w v (to_publish r key height) = (is_loose_kind r.kind.0 ≡ true → KeyIsSet w r.node.0) × HasHandle w v r.node.0
+Holds w v (to_publish r key height) = is_loose_kind r.kind.0 ≡ true → KeyIsSet w r.node.0 × HasHandle w v r.node.0
 Holds w v _ = Unit {0}
 
 -- nothing waits but written nodes, of which the same is held, and an item

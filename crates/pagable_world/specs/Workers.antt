@@ -5,7 +5,7 @@ use Rattle.pagable_model.specs.Merkle.{blob_of}
 use Rattle.pagable_world.specs.Plain.{Pinning, Error, ArcRef, Identity, HandleNumber, LoadNumber, type_of, Owner, HandleRow, Claim, PinStep, Took, WorkerAnswer, updated, is_eager, longest_path, above}
 use Rattle.pagable_world.specs.World.{Core, OpenLoad, Shelf, Slot, Outcome, no_result, published, failed, Written, Frame, Reading, Fault, was_refused, was_failed, answer_of_fault, Todo, to_start}
 use Rattle.pagable_world.specs.World.{to_pin, to_load, to_write, to_finish, to_item, to_set, to_publish, to_release, to_fail, Task, of_item, of_entry, row_at, is_identity, Alike, SameShelf, Values}
-use Rattle.pagable_world.specs.{Plain.{if_there, Beginning, LoadAnswer}, Kinds.{identity_of, is_owner, is_loose, owner_worker, find_row, is_at, is_owned_by}, World.{Seen, digest, seen_as}}
+use Rattle.pagable_world.specs.{Plain.{if_there, is_loose_kind, Beginning, LoadAnswer}, Kinds.{identity_of, is_owner, is_loose, owner_worker, find_row, is_at, is_owned_by}, World.{Seen, digest, seen_as}}
 use Rattle.pagable_world.specs.{Cascade.FallsAnyhow, Refusals.row_fault, Calls.{CloneCall, PinCall, SetKeyCall, ScheduleCall, StoreCall}, LoadCalls.BeginCall, Loads.{ReadingDoes, gone_on}}
 
 -- the place of a reference on the path below a node at this one; a path ends at a reference through a loose handle
@@ -133,7 +133,7 @@ Finds v s r place below Claim.AlreadyFailed s' = (place ≤ longest_path)
 
 pub record Claims (v : ℕ) (s : Site) (r : ArcRef) (place : ℕ) (below : List Todo) (result : Result Claim Error) (s' : Site) : Type 0 where
   pub finds : IfOk result (λ c. (claim_fault s.core r ≡ None) × Finds v s r place below c s')
-  pub refused : IfErr result (λ e. ((claim_fault s.core r ≡ Some e) ⊎ ((claim_fault s.core r ≡ None) × (e ≡ Error.TooDeep) × IsTooDeep s.shelf v (identity_of r) place) ⊎ (e ≡ Error.OutOfMemory))
+  pub refused : IfErr result (λ e. ((claim_fault s.core r ≡ Some e) ⊎ ((claim_fault s.core r ≡ None) × (e ≡ Error.TooDeep) × IsTooDeep s.shelf v (identity_of r) place) ⊎ (e ≡ Error.NumbersSpent) ⊎ (e ≡ Error.OutOfMemory))
       × Turns s (with_wait s.shelf v None) (failing_by e s.todo) s')
 
 pub record RowIs (w : Core) (h : HandleNumber) (loose : Bool) : Type 0 where
@@ -196,9 +196,13 @@ pub record StoresBlob {N : Type 0} (m : Values N) (s : Site) (written : Written)
   pub goes : IfOk result (λ key. GoesTo s (next key) s')
   pub refused : IfErr result (λ e. GoesTo s (failing_by e s.todo) s')
 
--- the key is set through the worker's handle of the reference's mode: on a cell it stands from now on
+-- The cell of a reference through a loose kind gets the key, by the worker's handle. Through any other kind no key is set, whatever became of the reference's handle meanwhile.
+pub record KeySetFor (w : Core) (me : Owner) (r : ArcRef) (through : HandleNumber) (key : ℕ) (result : Result (Unit {0}) Error) (w' : Core) : Type 0 where
+  pub does : ((is_loose_kind r.kind.0 ≡ true) × SetKeyCall w me through key result w') ⊎ ((is_loose_kind r.kind.0 ≡ false) × (result ≡ Ok tt) × Alike w w')
+
+-- the key of what was stored is set, where the reference's kind has one
 pub record SetsKey (v : ℕ) (s : Site) (r : ArcRef) (through : HandleNumber) (key height : ℕ) (below : List Todo) (result : Result (Unit {0}) Error) (s' : Site) : Type 0 where
-  pub sets : SetKeyCall s.core (owner_worker v) through key result s'.core
+  pub sets : KeySetFor s.core (owner_worker v) r through key result s'.core
   pub goes : IfOk result (λ u. GoesTo s (to_publish r key height ∷ below) s')
   pub refused : IfErr result (λ e. GoesTo s (failing_by e s.todo) s')
 

@@ -7,7 +7,7 @@ use crate::quick_start::page_out_and_read_back;
 use anyhow::{Context, ensure};
 use pagable::paging::{page_out_item, page_out_pending, pin};
 use pagable::{
-    DataKey, Env, Error, NodeSet, PagableStorage, PagableVecFlavor, PageOutError, Pager, SlotTable,
+    DataKey, Env, Error, NodeSet, PagableStorage, PagableVecFlavor, PageOutError, Pager, LentTable,
     WeighHash,
 };
 use pagable_examples::any::{AnyEnv, written};
@@ -65,7 +65,7 @@ where
     let shared = pager.new_shared(alloc, node(alloc, "0 hello world")?);
     shared.ok().context("a node is refused")?;
     let item = Arc::new(alloc, item(alloc, "2a:0:1:1")?)?;
-    let mut table = SlotTable::new(alloc);
+    let mut table = LentTable::new(alloc);
     Ok(page_out_item(alloc, pager, &mut table, item).ok() == DataKey::new(3484))
 }
 

@@ -5,7 +5,7 @@ use crate::times::Outcome;
 use anyhow::Context;
 use pagable::{
     ArcRef, DataKey, Env, Error, HandleNumber, Kind, NodeSet, PagableStorage, Pager,
-    SerializedData, Sha256Key, SlotTable, paging,
+    SerializedData, Sha256Key, LentTable, paging,
 };
 use pagable_examples::Draws;
 use pagable_rows::cells::{CellNode, lists};
@@ -62,7 +62,7 @@ impl<E: Env<Node: NodeSet<E>>, S: PagableStorage<E>> Filling<E, S> {
     /// The key of an item that is paged out on this table.
     fn key_of(
         &mut self,
-        table: &mut SlotTable<E>,
+        table: &mut LentTable<E>,
         item: Arc<SerializedData>,
     ) -> anyhow::Result<DataKey> {
         let key = paging::page_out_item(self.alloc, &mut self.pager, table, item);
@@ -72,7 +72,7 @@ impl<E: Env<Node: NodeSet<E>>, S: PagableStorage<E>> Filling<E, S> {
     /// The keys of items that are paged out on this table.
     fn keys_on(
         &mut self,
-        table: &mut SlotTable<E>,
+        table: &mut LentTable<E>,
         items: Vec<Arc<SerializedData>>,
     ) -> anyhow::Result<Vec<DataKey>> {
         let mut keys = Vec::with_capacity(self.alloc, items.len())?;
@@ -84,7 +84,7 @@ impl<E: Env<Node: NodeSet<E>>, S: PagableStorage<E>> Filling<E, S> {
 
     /// The same on a new table.
     fn keys_of(&mut self, items: Vec<Arc<SerializedData>>) -> anyhow::Result<Vec<DataKey>> {
-        let mut table = SlotTable::new(self.alloc);
+        let mut table = LentTable::new(self.alloc);
         let keys = self.keys_on(&mut table, items);
         let_go(table);
         keys
