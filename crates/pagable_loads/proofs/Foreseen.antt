@@ -99,8 +99,8 @@ module _ (types : Types) (t : ℕ) (blob : Blob) where
 
 -- a row that was found by stand-ins, the last of which is asked for after all others
 pub row_found : (types : Types) (f : Frame) (fs frames : List Frame) (row xs noted : List ArcRef) (last : ArcRef) (kind : Kind) (key : ℕ) → frames ≡ f ∷ fs → row ≡ xs ++ last ∷ []
-    → xs ++ last ∷ [] ≡ f.got ++ noted → kind.0 ≡ last.kind.0 → next_of types f.node_type f.blob xs ≡ asks kind key → IsAhead types frames row
-row_found types f fs frames row xs noted last kind key there is split same next = grind (arith, nat_tests, kinds_joined, row_asked)
+    → xs ≡ f.got ++ noted → kind.0 ≡ last.kind.0 → next_of types f.node_type f.blob xs ≡ asks kind key → IsAhead types frames row
+row_found types f fs frames row xs noted last kind key there is split same next = grind (arith, nat_tests, append_assoc, kinds_joined, row_asked)
 
 -- what stands in the row behind what was got
 next_in_row : (row got : List ArcRef) (r : ArcRef) (ahead : List ℕ) → kinds_of row ≡ kinds_of got ++ ahead → slice_get row (length got) ≡ Some r → (more : List ℕ) × (ahead ≡ r.kind.0 ∷ more)

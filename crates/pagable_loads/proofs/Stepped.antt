@@ -12,8 +12,8 @@ use Rattle.pagable_world.specs.Loads.{answers_from, gone_on, handles_of, need_at
 use Rattle.pagable_world.specs.{Pager.{IsCellOf, IsNewNode, Moves, PagerState, ReadingBrings, WellFormed}, Plain.if_there, Refusals.OwnsLoad, Workers.fresh, World.{Alike, Core, Frame, Reading, Root}}
 use Rattle.pagable_world.specs.{World.{Values, of_key, one_more, row_at}, declared.{answers.{Beginning.Beginning, Pinning.Pinning}, calls.Want.Want, events.LoadAnswer.LoadAnswer}}
 use Rattle.{pagable_world.specs.declared.handles.{HandleRow.HandleRow, Owner.Owner}, std.proofs.Common.{Bool, Err, List, None, Ok, Option, Result, Some, [], ap, arith, false, inl, inr, length, refl}}
-use Rattle.std.proofs.{Common.{rules, slice_get, subst, suc, sym, true, zero, ℕ, ◌++◌, ◌+◌, ◌<◌, ◌∙◌, ◌∷◌, ◌≡◌, ◌≢◌, ◌≤◌, ◌⊎◌}, lemmas.{Bool.Decides.nat_tests, Grind.common_steps}}
-use Rattle.std.{proofs.lemmas.{List.nil_from_length, Option.slice_get_within}, specs.{Arc.arc_value, Option.option_map}}
+use Rattle.std.proofs.{Common.{rules, slice_get, subst, suc, sym, true, zero, ℕ, ◌++◌, ◌+◌, ◌-◌, ◌<◌, ◌∙◌, ◌∷◌, ◌≡◌, ◌≢◌, ◌≤◌, ◌⊎◌}, lemmas.{Bool.Decides.nat_tests, Grind.common_steps}}
+use Rattle.std.{proofs.lemmas.{List.{length-append, nil_from_length}, Option.{slice_get_past, slice_get_within}}, specs.{Arc.arc_value, Option.option_map}}
 use Rattle.pagable_core.specs.Context as context
 
 -- answers by place, key and kind are those of the references got
@@ -240,6 +240,12 @@ pushed_at [] y (suc k) less = absurd (omega (arith, less))
 pushed_at (x ∷ xs) y zero less = inl (omega arith, refl)
 pushed_at (x ∷ xs) y (suc k) less = elim (pushed_at xs y k (omega (arith, less))) [ inl (l, is) ↦ inl (omega (arith, l), is) | inr (l, is) ↦ inr (ap suc l, is) ]
 
+-- what stands at a place of two lists, one behind the other
+joined_at : {X : Type 0} (xs ys : List X) (k : ℕ) (x : X) → slice_get (xs ++ ys) k ≡ Some x → (slice_get xs k ≡ Some x) ⊎ ((slice_get ys (k - length xs) ≡ Some x) × (length xs ≤ k))
+joined_at [] ys k x at = inr (let e : k - 0 ≡ k = omega arith in rw e at, omega arith)
+joined_at (y ∷ xs) ys zero x at = inl at
+joined_at (y ∷ xs) ys (suc k) x at = elim (joined_at xs ys k x at) [ inl here ↦ inl here | inr (there, past) ↦ inr (let e : suc k - suc (length xs) ≡ k - length xs = omega arith in rw e there, omega (arith, past)) ]
+
 module _ {A N E : Type 0} (see : A → N) (s : PagerState N E) (got : List ArcRef) where
   -- those before this place lend theirs
   abbrev pub LentTo : ℕ → List (Option A) → Type 0
@@ -253,8 +259,21 @@ module _ {A N E : Type 0} (see : A → N) (s : PagerState N E) (got : List ArcRe
   more_lent i r lent o same here to lends = grind (arith, nat_tests, pushed_at)
 
   -- all of them do
-  pub all_lent : (i : ℕ) (lent : List (Option A)) → length got ≤ i → LentTo i lent → LendsEach see s got lent
-  all_lent i lent past to = grind (arith, nat_tests, slice_get_within)
+  pub all_lent : (i : ℕ) (lent : List (Option A)) → length got ≤ i → length lent ≤ length got → LentTo i lent → LendsEach see s got lent
+  all_lent i lent past few to = grind (arith, nat_tests, slice_get_within)
+
+  -- what follows and is read later lends nothing
+  pub more_later : (more : List ArcRef) (lent : List (Option A)) → LendsEach see s got lent → AreLater (length more) more → LendsEach see s (got ++ more) lent
+  more_later more lent lends later = record { each = each; few = omega (arith, lends.few, length-append got more) }
+    where
+      each : (place : ℕ) (r : ArcRef) → slice_get (got ++ more) place ≡ Some r → Lends s r (lent_at see lent place)
+      each place r at = elim (joined_at got more place r at) [
+        | inl here ↦ lends.each place r here
+        | inr (there, past) ↦ let none : slice_get lent place ≡ None = slice_get_past lent place (omega (arith, lends.few, past)) in
+            let within = slice_get_within more (place - length got) r there in
+            let is = later (place - length got) r within there in
+            rw none (record { value = tt; none = inl is })
+      ]
 
 pub ruleset sharing = (nat_tests, tells_map, not_shared)
 

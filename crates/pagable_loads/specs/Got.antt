@@ -1,5 +1,5 @@
 -- What those who answer from a list of got references stand for, and what a load lends to them.
-use Rattle.std.specs.{Option.option_map, Prelude.{Bool, Err, IfNone, IfSome, IsSome, List, None, Ok, Option, Result, Some, false, if◌then◌else◌, option_and_then, slice_get, true, ℕ, ◌<◌, ◌==◌, ◌≡◌, ◌⊎◌}}
+use Rattle.std.specs.{Option.option_map, Prelude.{Bool, Err, IfNone, IfSome, IsSome, List, None, Ok, Option, Result, Some, false, if◌then◌else◌, is_some, length, option_and_then, slice_get, true, ℕ, ◌<◌, ◌==◌, ◌≡◌, ◌≤◌, ◌⊎◌}}
 use Rattle.{pagable_world.specs.{Loads.answer_of, Pager.{PagerState, ValueCall}, Plain.if_there, Refusals.live_fault, World.row_at}, pagable_model.specs.declared.{error.Error.Error, numbers.ArcRef.ArcRef}}
 use Rattle.pagable_model.specs.{Deep.is_eager, Refusals.may_refuse_reference}
 
@@ -14,6 +14,10 @@ lent_at see lent place = option_map see (option_and_then (λ o. o) (slice_get le
 abbrev pub lent_by : {A N : Type 0} → (A → N) → List ArcRef → List (Option A) → ℕ → ArcRef → Option N
 lent_by see got lent place r = if if_there (λ (found : ArcRef). found.handle.0 == r.handle.0) false (slice_get got place) then lent_at see lent place else None
 
+-- the value at this place, if a reference was got there
+abbrev pub lent_there : {A N : Type 0} → (A → N) → List ArcRef → List (Option A) → ℕ → Option N
+lent_there see got lent place = if is_some (slice_get got place) then lent_at see lent place else None
+
 -- The value that its handle pins, if it is read together with it; none where the handle pins none, or is gone.
 pub record Lends {N E : Type 0} (s : PagerState N E) (r : ArcRef) (found : Option N) : Type 0 where
   pub value : IfSome found (λ x. (is_eager r.kind.0 ≡ true) × ValueCall s r.handle (Ok (Some x)))
@@ -23,9 +27,10 @@ pub record Lends {N E : Type 0} (s : PagerState N E) (r : ArcRef) (found : Optio
 abbrev pub AreLater : ℕ → List ArcRef → Type 0
 AreLater count got = (place : ℕ) (r : ArcRef) → place < count → slice_get got place ≡ Some r → is_eager r.kind.0 ≡ false
 
--- each reference lends its own, by its place
+-- each reference lends its own, by its place, and nothing else is lent
 pub record LendsEach {A N E : Type 0} (see : A → N) (s : PagerState N E) (got : List ArcRef) (lent : List (Option A)) : Type 0 where
   pub each : (place : ℕ) (r : ArcRef) → slice_get got place ≡ Some r → Lends s r (lent_at see lent place)
+  pub few : length lent ≤ length got
 
 choice : (b : Bool) (r : ArcRef) (e : Error) → (if b then Ok r else Err Error.WrongKind) ≡ Err e → may_refuse_reference e ≡ true
 choice true r e is = cc

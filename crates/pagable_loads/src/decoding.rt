@@ -1,12 +1,12 @@
 //! A blob is read from its front, with the references that were got so far. And a row of references that the innermost blob asks for, one after the other, is known before they are got: it is found by
 //! two readings with stand-ins for the references that are read later: one that notes what is asked for, and one that asks for the last of them with all that are before it.
 
-ghost use Rattle.std.specs.Prelude.{IfOk, IfSome, IsSome, None, ◌≡◌};
-ghost use Rattle.{pagable_core.specs.Data.blob_of, pagable_loads.specs.{Decoding.{Decodes, IsAhead, Kept, ReadsWith, RowTells}, Frames.frames_of, Telling.values_at}};
+ghost use Rattle.std.specs.{Arc.arc_value, Prelude.{IfOk, IfSome, IsSome, None, ◌≡◌}};
+ghost use Rattle.{pagable_core.specs.Data.blob_of, pagable_loads.specs.{Decoding.{Decodes, IsAhead, Kept, ReadsWith, RowTells}, Frames.frames_of, Got.LendsEach, Telling.{Tells, values_at}}};
 ghost use Rattle.pagable_world.specs.Plain.{Types};
 
 use crate::access::Access;
-use crate::reading::{Reading, is_read_at_once, lend};
+use crate::reading::{Reading, are_read_later, is_read_at_once, lend};
 use pagable_codec::{Env, NodeSet, SessionContext};
 use pagable_core::{PagableData, PagableDeserializerImpl, References};
 use pagable_model::{ArcRef, DataKey, Error, HandleNumber, Kind, NodeNumber};
@@ -14,34 +14,37 @@ use std::alloc::Global;
 use std::sync::Arc;
 
 /// Answers for a blob's references from a list of those that were got so far, the first of the blob's first. One that wasn't got is refused with Storage of its kind, and one that was got as another
-/// kind with WrongKind. It lends the value of the reference that it answered last, from a list of values by the references' places, which may be shorter. Where it notes what is asked for, it answers
-/// for a reference that is read later and wasn't got with a stand-in of its kind.
+/// kind with WrongKind. It lends the value of the reference that it answered last, from a list of values by the references' places, which may be shorter: each place has what the access shares by the
+/// reference there. Where it notes what is asked for, it answers for a reference that is read later and wasn't got with a stand-in of its kind.
 #[derive(Drop)]
-pub struct GotReferences<'g, E: Env> {
-    env: &'g E,
+pub struct GotReferences<'g, E: Env<Node: NodeSet<E>>, A: Access<E>> {
+    access: &'g A,
     session: &'g SessionContext<E::CtxKey, E::CtxValue>,
     got: &'g [ArcRef],
     lent: &'g [Option<Arc<E::Node>>],
     // The place of the reference that was answered last.
     last: usize,
     noted: Option<Vec<ArcRef>>,
+    ghost each: { ∥ Tells (A.told access.now) (λ s. LendsEach arc_value s got.now lent.now) ∥₁ },
 }
 
-impl<'g, E: Env> References<E> for GotReferences<'g, E> {
-    ghost use Rattle.std.specs.{Arc.arc_value, Option.is_some, Prelude.slice_get};
+impl<'g, E: Env<Node: NodeSet<E>>, A: Access<E>> References<E> for GotReferences<'g, E, A> {
+    ghost use Rattle.std.specs.{Option.is_some, Prelude.slice_get};
     ghost use Rattle.pagable_world.specs.Loads.{answer_of};
-    ghost use Rattle.pagable_loads.specs.Got.{found_or, lent_by, may_refuse};
+    ghost use Rattle.pagable_loads.specs.Got.{found_or, lent_by, lent_there, may_refuse};
 
-    ghost environment = { λ s. s.env.now };
+    ghost environment = { λ s. (A.acting s.access.now).environment };
 
     ghost answer = { λ s place key kind. answer_of (found_or (is_some s.noted) (slice_get s.got.now place) kind) kind };
 
     ghost lends = { λ s reference. lent_by arc_value s.got.now s.lent.now s.last reference };
 
+    ghost lends_at = { λ s place. lent_there arc_value s.got.now s.lent.now place };
+
     ghost refusals = { λ s place key kind e is. may_refuse (found_or (is_some s.noted) (slice_get s.got.now place) kind) kind e is };
 
     fn env(&self) -> &E {
-        self.env
+        self.access.env()
     }
 
     fn session_context(&self) -> &SessionContext<E::CtxKey, E::CtxValue> {
@@ -70,6 +73,7 @@ impl<'g, E: Env> References<E> for GotReferences<'g, E> {
             handle: HandleNumber(0),
         };
         let _told = noted.push(reference);
+        self.last = place;
         Ok(reference)
     }
 
@@ -102,8 +106,8 @@ pub enum Decoded<N: Drop> {
 }
 
 // Reads the blob, in a session of its own, and gives back what was noted besides.
-fn read_got<E: Env<Node: NodeSet<E>>>(
-    env: &E,
+fn read_got<E: Env<Node: NodeSet<E>>, A: Access<E>>(
+    access: &A,
     alloc: Global,
     blob: &PagableData,
     node_type: u32,
@@ -111,12 +115,13 @@ fn read_got<E: Env<Node: NodeSet<E>>>(
     lent: &[Option<Arc<E::Node>>],
     noted: Option<Vec<ArcRef>>,
 ) -> (Result<E::Node, Error>, Option<Vec<ArcRef>>)
+    requires each { Tells (A.told access.now) (λ s. LendsEach arc_value s got.now lent.now) }
     ensures asked { IfOk result.0 (λ x. E.Node.type_of x ≡ node_type) }
-    ensures reads { noted ≡ None → ReadsWith (values_at E.Node.NodeSet E.Env E.Hash.KeyHash env.now) node_type (blob_of blob.now) got.now result.0 }
+    ensures reads { noted ≡ None → ReadsWith (values_at E.Node.NodeSet E.Env E.Hash.KeyHash (A.acting access.now).environment) node_type (blob_of blob.now) got.now result.0 }
 {
     let session = SessionContext::new(alloc);
     let references = GotReferences {
-        env,
+        access,
         session: &session,
         got,
         lent,
@@ -134,17 +139,18 @@ fn read_got<E: Env<Node: NodeSet<E>>>(
 
 /// Reads a blob from its front as a value of this type, with the references that were got for it so far, whose values are lent by their places. Nothing that
 /// its reader did on an earlier way is trusted: what it asks for next is told by the blob alone.
-pub fn decode<E: Env<Node: NodeSet<E>>>(
-    env: &E,
+pub fn decode<E: Env<Node: NodeSet<E>>, A: Access<E>>(
+    access: &A,
     alloc: Global,
     blob: &PagableData,
     node_type: u32,
     got: &[ArcRef],
     lent: &[Option<Arc<E::Node>>],
 ) -> Decoded<E::Node>
-    ensures decodes { Decodes (values_at E.Node.NodeSet E.Env E.Hash.KeyHash env.now) node_type (blob_of blob.now) got.now result }
+    requires each { Tells (A.told access.now) (λ s. LendsEach arc_value s got.now lent.now) }
+    ensures decodes { Decodes (values_at E.Node.NodeSet E.Env E.Hash.KeyHash (A.acting access.now).environment) node_type (blob_of blob.now) got.now result }
 {
-    let (read, _) = read_got(env, alloc, blob, node_type, got, lent, None);
+    let (read, _) = read_got(access, alloc, blob, node_type, got, lent, None);
     match read {
         Ok(value) => Decoded::Read(value),
         Err(Error::Storage(kind)) => {
@@ -171,30 +177,48 @@ pub(crate) fn keep_if(row: &mut Vec<ArcRef>, kind: Kind, reference: ArcRef)
 }
 
 impl Reading {
-    // Finds the row that is ahead of the innermost blob, with these values of what it has got.
-    fn foresee<E: Env<Node: NodeSet<E>>>(
+    // Finds the row that is ahead of the innermost blob, with the values of what it has got.
+    fn foresee<E: Env<Node: NodeSet<E>>, A: Access<E>>(
         &self,
-        env: &E,
+        access: &A,
         alloc: Global,
-        lent: &[Option<Arc<E::Node>>],
     ) -> Option<Vec<ArcRef>>
-        ensures { IfSome result (λ row. IsAhead (values_at E.Node.NodeSet E.Env E.Hash.KeyHash env.now).types (frames_of self.now.top self.now.below.items) row.items) }
+        ensures { IfSome result (λ row. IsAhead (values_at E.Node.NodeSet E.Env E.Hash.KeyHash (A.acting access.now).environment).types (frames_of self.now.top self.now.below.items) row.items) }
     {
         let Some(top) = &self.top else {
             return None;
         };
         let blob = top.blob.as_ref();
         let got = top.got.as_slice();
+        let lent = lend::<E, A>(access, alloc, got).ok()?;
         // The blob's reader may ask otherwise than the blob is spelled: none of what it notes is trusted.
         let noting = Some(Vec::new(alloc));
-        let (_read, noted) = read_got(env, alloc, blob, top.node_type, got, lent, noting);
-        let noted = noted?;
+        let (_read, noted) = read_got(
+            access,
+            alloc,
+            blob,
+            top.node_type,
+            got,
+            lent.as_slice(),
+            noting,
+        );
+        let mut noted = noted?;
+        let last = noted.pop()?;
+        if !are_read_later(noted.as_slice()) {
+            return None;
+        }
         let mut row = Vec::new(alloc);
         if row.extend_from_slice(got).is_err() || row.extend_from_slice(noted.as_slice()).is_err() {
             return None;
         }
-        let last = row.pop()?;
-        let next = decode(env, alloc, blob, top.node_type, row.as_slice(), lent);
+        let next = decode(
+            access,
+            alloc,
+            blob,
+            top.node_type,
+            row.as_slice(),
+            lent.as_slice(),
+        );
         let Decoded::Wants(kind, _) = next else {
             return None;
         };
@@ -223,10 +247,7 @@ impl Reading {
         if !row.is_empty() || left < 4 || got.last().map_or(false, |r| is_read_at_once(r.kind)) {
             return;
         }
-        let Ok(lent) = lend::<E, A>(access, alloc, got) else {
-            return;
-        };
-        if let Some(found) = self.foresee(access.env(), alloc, lent.as_slice()) {
+        if let Some(found) = self.foresee(access, alloc) {
             *row = found;
         }
     }

@@ -106,7 +106,7 @@ fn value_of<E: Env<Node: NodeSet<E>>, A: Access<E>>(
 }
 
 // Whether none of these is read together with what holds it.
-fn are_read_later(got: &[ArcRef]) -> bool
+pub(crate) fn are_read_later(got: &[ArcRef]) -> bool
     ensures { result ≡ true → AreLater (length got.now) got.now }
 {
     for reference in got {
@@ -156,8 +156,7 @@ impl Reading {
         let Ok(lent) = lend::<E, A>(access, alloc, got) else {
             return Need::Refuse(Error::OutOfMemory);
         };
-        let env = access.env();
-        match decode(env, alloc, blob, top.node_type, got, lent.as_slice()) {
+        match decode(access, alloc, blob, top.node_type, got, lent.as_slice()) {
             Decoded::Refused(e) => Need::Refuse(e),
             Decoded::Wants(kind, key) => {
                 if is_read_at_once(kind) {

@@ -20,6 +20,9 @@ pub trait References<E: Env> {
     // The nodes that it lends by references that it answered.
     ghost lends: { Self → Reference → Option E.Node };
 
+    // The node that it lends by the reference that it answers at a place.
+    ghost lends_at: { Self → ℕ → Option E.Node };
+
     fn env(&self) -> &E
         ensures { result.now ≡ environment self.now };
 
@@ -29,8 +32,10 @@ pub trait References<E: Env> {
     fn reference(&mut self, place: usize, key: DataKey, kind: Kind) -> Result<ArcRef, Error>
         ensures of_kind { IfOk result (λ r. r.kind ≡ kind) }
         ensures answer { result ≡ answer self.old place key kind.0 }
+        ensures lent { IfOk result (λ r. lends self.new r ≡ lends_at self.old place) }
         ensures same_env { environment self.new ≡ environment self.old }
-        ensures same_answers { answer self.new ≡ answer self.old };
+        ensures same_answers { answer self.new ≡ answer self.old }
+        ensures same_lent { lends_at self.new ≡ lends_at self.old };
 
     /// The node of a reference that was read together with its value; or None where none is lent.
     fn shared(&self, reference: ArcRef) -> Option<&E::Node>
@@ -64,6 +69,8 @@ impl<'e, E: Env> References<E> for NoReferences<'e, E> {
     ghost answer = { λ s place key kind. Err WrongKind };
 
     ghost lends = { λ s reference. None };
+
+    ghost lends_at = { λ s place. None };
 
     ghost refusals = { λ s place key kind e is. Prim.grind arith };
 

@@ -15,4 +15,4 @@ loop-reference-preserved g c =
     }
 
 pub returns-clause-lends : goal.returns-clause-lends
-returns-clause-lends g c = tells_map (λ s to. all_lent arc_value s c.args.got.now c.loop-reference.reference-index c.loop-reference.lent.items (omega arith) to) c.loop-reference.invariant.lent
+returns-clause-lends g c = tells_map (λ s to. all_lent arc_value s c.args.got.now c.loop-reference.reference-index c.loop-reference.lent.items (omega arith) (omega (arith, c.loop-reference.invariant.long)) to) c.loop-reference.invariant.lent
