@@ -2,7 +2,7 @@
 
 use std::alloc::Global;
 use std::io;
-use std::io::{BufRead, Read, Write};
+use std::io::{BufRead, BufWriter, Read, Write};
 
 /// The greatest length of a line in bytes, its LF not counted.
 const LONGEST_LINE: usize = 65_536;
@@ -47,9 +47,23 @@ pub trait Answering {
     ) -> io::Result<()>;
 }
 
-/// Has each line of the input answered, one after the other. Refused where reading or writing fails, or the buffer for a line can't be made; nothing
-/// more is written then.
-pub fn serve<A: Answering, R: BufRead, W: Write>(
+/// Has each line of the input answered, one after the other, and flushes each answer. Refused where reading or writing fails, or a buffer can't be made; nothing
+/// more is written then, not even what a failed write held.
+pub fn serve<A: Answering, R: BufRead, W: Write + Drop>(
+    alloc: Global,
+    answering: &mut A,
+    reader: &mut R,
+    writer: W,
+) -> io::Result<()> {
+    let mut buffered = BufWriter::new(alloc, writer)?;
+    let outcome = answer_each(alloc, answering, reader, &mut buffered);
+    // A buffer that is dropped writes what it holds, so it gives that up first.
+    let (_writer, _unwritten) = buffered.into_parts();
+    outcome
+}
+
+/// Has each line of the input answered into a buffered writer.
+fn answer_each<A: Answering, R: BufRead, W: Write>(
     alloc: Global,
     answering: &mut A,
     reader: &mut R,
@@ -64,6 +78,7 @@ pub fn serve<A: Answering, R: BufRead, W: Write>(
             Line::Whole => str::from_utf8(line.as_slice()).ok(),
         };
         answering.answer(alloc, text, writer)?;
+        writer.flush()?;
     }
     Ok(())
 }

@@ -1,4 +1,4 @@
-//! What `serve` writes to lines, where its reader and its writer may fail.
+//! What `serve` writes to lines, where its reader may fail, and its writer fails once.
 
 use crate::blobs::bytes_of;
 use crate::lines::{Answering, serve};
@@ -45,16 +45,52 @@ impl<'a> Read for Source<'a> {
     }
 }
 
-/// Whether lines are answered to their end, and how many bytes are left of the room that the answers are written to.
-fn serve_into(alloc: Global, source: Source<'_>, room: &mut [u8]) -> io::Result<(bool, usize)> {
-    let mut reader = BufReader::new(alloc, source)?;
-    let mut writer = room;
-    let outcome = serve(alloc, &mut Counting, &mut reader, &mut writer);
-    Ok((outcome.is_ok(), writer.len()))
+/// Takes so many bytes, fails once, and takes all that comes later.
+#[derive(Drop)]
+struct Faltering<'a> {
+    free: &'a mut [u8],
+    left: usize,
+    has_failed: bool,
 }
 
-/// What is written to lines, as a text in hex, and whether they are answered to their end. An input is how many bytes the writer has room for, and
-/// behind a colon the bytes that are read; behind those reading `ends` or `fails`.
+impl<'a> Write for Faltering<'a> {
+    fn write(&mut self, buf: &[u8]) -> io::Result<usize> {
+        if self.has_failed {
+            return self.free.write(buf);
+        }
+        if self.left == 0 && !buf.is_empty() {
+            self.has_failed = true;
+            return Err(io::Error::from(io::ErrorKind::BrokenPipe));
+        }
+        let count = self.left.min(buf.len());
+        self.left -= count;
+        self.free.write(&buf[..count])
+    }
+
+    fn flush(&mut self) -> io::Result<()> {
+        Ok(())
+    }
+}
+
+/// Whether lines are answered to their end, and how many bytes are left free of those that the answers are written to.
+fn serve_into(
+    alloc: Global,
+    source: Source<'_>,
+    left: usize,
+    free: &mut [u8],
+) -> io::Result<(bool, usize)> {
+    let mut reader = BufReader::new(alloc, source)?;
+    let mut writer = Faltering {
+        free,
+        left,
+        has_failed: false,
+    };
+    let outcome = serve(alloc, &mut Counting, &mut reader, &mut writer);
+    Ok((outcome.is_ok(), writer.free.len()))
+}
+
+/// What is written to lines, as a text in hex, and whether they are answered to their end. An input is how many bytes the writer takes
+/// before it fails once, and behind a colon the bytes that are read; behind those reading `ends` or `fails`.
 pub fn answer(alloc: Global, behind: &str, input: &str) -> anyhow::Result<String> {
     let (room, lines) = input.split_once(':').context("no room")?;
     let lines = bytes_of(alloc, lines)?;
@@ -64,10 +100,9 @@ pub fn answer(alloc: Global, behind: &str, input: &str) -> anyhow::Result<String
     };
     let room = room.parse::<usize>()?;
     let mut written = [0; 64];
-    let part = written.get_mut(..room).context("too much room")?;
-    let (is_whole, left) = serve_into(alloc, source, part)?;
+    let (is_whole, free) = serve_into(alloc, source, room, &mut written)?;
     let word = if is_whole { "ok" } else { "failed" };
-    let bytes = written.get(..room.saturating_sub(left));
+    let bytes = written.get(..64_usize.saturating_sub(free));
     let hex = hex::encode(alloc, bytes.unwrap_or_default())?;
     Ok(format!(in alloc; "{word} {hex}")?)
 }

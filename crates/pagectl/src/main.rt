@@ -5,7 +5,7 @@ mod named_texts;
 
 use crate::named_texts::serve::serve;
 use pagable::{KeyHash, Sha256Key, WeighHash};
-use std::io::{BufReader, BufWriter};
+use std::io::BufReader;
 use std::process::ExitCode;
 use std::{env, io};
 
@@ -27,8 +27,7 @@ fn wanted(rt: &HostRuntime) -> io::Result<Option<String>> {
 fn answer<H: KeyHash>(rt: &HostRuntime) -> io::Result<()> {
     let alloc = rt.alloc();
     let mut reader = BufReader::new(alloc, rt.reader())?;
-    let mut writer = BufWriter::new(alloc, io::writer(rt))?;
-    serve::<H, _, _>(alloc, &mut reader, &mut writer)
+    serve::<H, _, _>(alloc, &mut reader, io::writer(rt))
 }
 
 /// Serves with keys by the hash that the word names.

@@ -10,12 +10,12 @@ use std::io;
 use std::io::{BufRead, Write};
 
 /// Answers each line of the input with one line, by a pager over blobs in memory whose keys the hash `H` makes. Bad
-/// input is answered and never ends it. Refused where reading or writing fails, or the buffer for a line can't be made;
+/// input is answered and never ends it. Refused where reading or writing fails, or a buffer can't be made;
 /// nothing more is written then.
-pub fn serve<H: KeyHash, R: BufRead, W: Write>(
+pub fn serve<H: KeyHash, R: BufRead, W: Write + Drop>(
     alloc: Global,
     reader: &mut R,
-    writer: &mut W,
+    writer: W,
 ) -> io::Result<()> {
     let mut session: Session<H> = Session::new(alloc);
     lines::serve(alloc, &mut session, reader, writer)
@@ -33,13 +33,12 @@ impl<H: KeyHash> Answering for Session<H> {
             return Ok(());
         }
         match line.and_then(parse) {
-            None => writer.write_all(b"bad line\n")?,
+            None => writer.write_all(b"bad line\n"),
             Some(command) => {
                 let outcome = self.run(alloc, command);
-                write(&outcome, writer)?
+                write(&outcome, writer)
             }
         }
-        writer.flush()
     }
 }
 
