@@ -11,7 +11,9 @@ use Rattle.pagable_traits.proofs.Words.{flag, flag-form, grows_trans, handles_at
 use Rattle.pagable_traits.proofs.Words.{list, list-form, long_or, long_or_memory, longest, map, memory, memory_refuses, moves_trans, none, number_view, object_case, of_data, of_entries, of_key}
 use Rattle.pagable_traits.proofs.Words.{of_value, ordered, ordering_reverse, pair, pair_has_meaning, pos, put_all, put_sorted, read, read_with, refl, rules, seen, sequence, signed}
 use Rattle.pagable_traits.proofs.Words.{signed-form, sorted-map-form, sorted_map, string_bytes, string_cmp, subst, suc, sym, text, text-form, text_order, then, to_z-of_z, true, unsigned_at, variant}
-use Rattle.pagable_traits.{proofs.Words.{view, w64, ℕ, ℤ, ◌+◌, ◌-◌, ◌<◌, ◌^◌, ◌∙◌, ◌∷◌, ◌≡◌, ◌≤◌}, specs.{JsonData.long_or_no_memory, Clauses.{ObjectOf, front, part_of, value as form}}}
+use Rattle.pagable_traits.{proofs.Words.{view, w64, ℕ, ℤ, ◌+◌, ◌-◌, ◌<◌, ◌^◌, ◌∙◌, ◌∷◌, ◌≡◌, ◌≤◌}, specs.{JsonData.long_or_no_memory, Clauses.{ObjectOf, front, part_of}}}
+use Rattle.{pagable_model.specs.{Refusals.is_writing_fault, Writing.{NoFormOfSome, WritesSomeAll}}, pagable_traits.{proofs.Words.{get_or, take, ◌++◌}, specs.JsonFaults.{EntryFault, Fault, ItemFault, MemberFault, item-fault, json_of_value, member-fault}}}
+use Rattle.std.{proofs.{Common.drop, Math.Seq.split_at}, specs.Prelude.IsTrue}
 use Rattle.serde_json.{proofs.Views.{view-Array, view-Object}, specs.{Data.{Data, Num, array, boolean, null, number, object, string}, Find.of_integer, View.{items_view, members_view}}}
 use Rattle.{serde_json.specs.declared.{number.Number.Number, value.Value.the_lemmas}, std.{proofs.{Common.BTreeMap, lemmas.Bool.{lt-ltb, ne_eqb}}, specs.Prelude.{nat_lt, negsuc}}}
 use Rattle.{pagable_traits.proofs.Words.{IsErrAnd, Read, bool_at, text_at}, std.specs.String.{string_cmp_total}}
@@ -86,6 +88,39 @@ json-long len e h = grind arith
 
 pub json-deep : (e : Error) → e ≡ Error.TooDeep → json_causes e
 json-deep e h = inr (inl h)
+
+-- ---- faults
+
+-- want of memory is none
+pub no_fault : {F : Type 0} (e : Error) → memory e → IsTrue (is_writing_fault e) → F
+no_fault e h = λ fault. let none : is_writing_fault e ≡ false = rw h refl in absurd cc
+
+pub no_json_fault : {X : Type 0} (r : Result X Error) (v : Value) (d : Data) (n : Nesting) → IfErr r memory → IfErr r ((json_of_value v d).lacks n)
+no_json_fault (Ok x) v d n h = tt
+no_json_fault (Err e) v d n h = (memory_refuses e _ n json h, no_fault e h)
+
+pub text_faults : (F : Error → Type 0) (t : String Global) (n : Nesting) (e : Error) → (NoFormOfSome (Is of_key t) n text → F Error.TooLong) → Refused (Is of_key t) n text e → long_or memory e → IsTrue (is_writing_fault e) → F e
+text_faults F t n e is l (inl h) = λ fault. subst F (sym h) (is (l fault))
+text_faults F t n e is l (inr h) = no_fault e h
+
+pub long_faults : (F : Error → Type 0) (count len : ℕ) (e : Error) → count ≡ len → (longest < len → F Error.TooLong) → long_or_no_memory count e → IsTrue (is_writing_fault e) → F e
+long_faults F count len e same is (inl h) = λ fault. subst F (sym h.1) (is (rw same at h.0))
+long_faults F count len e same is (inr h) = no_fault e h
+
+pub deep_faults : (F : Error → Type 0) (count len : ℕ) (e : Error) → count ≡ len → count ≤ longest → (len ≤ longest → F Error.TooDeep) → e ≡ Error.TooDeep → F e
+deep_faults F count len e same le is h = subst F (sym h) (is (rw same at le))
+
+pub item_faults : (xs : List Value) (i : ℕ) (x : Value) (n : Nesting) (old mid : Out) (e : Error) → WritesSomeAll (MeanAll (Is of_value) (take i xs)) n json old mid → i < length xs → x ≡ get_or xs i x → Fault n x e → ItemFault n xs e
+item_faults xs i x n old mid e v lt is fault =
+    let P : List Value → Type 0 = λ ys. ItemFault n ys e in
+    let Q : Value → Type 0 = λ y. Fault n y e in
+    subst P (sym (split_at xs i x lt)) (item-fault n (take i xs) (get_or xs i x) (drop (suc i) xs) e (old, mid, v) (subst Q is fault))
+
+pub member_faults : (all left rest : List (String Global × Value)) (k : String Global) (x : Value) (n : Nesting) (old mid : Out) (e : Error) → Written (MeansPair (Is of_key) (Is of_value)) n (both text json) all left old mid → left ≡ (k, x) ∷ rest → EntryFault n k x e → MemberFault n all e
+member_faults all left rest k x n old mid e v f fault =
+    let P : List (String Global × Value) → Type 0 = λ ys. MemberFault n ys e in
+    let same : all ≡ v.front ++ (k, x) ∷ rest = v.is ∙ ap (λ (ys : List (String Global × Value)). v.front ++ ys) f in
+    subst P (sym same) (member-fault n v.front k x rest e (old, mid, v.wrote) fault)
 
 -- a count is refused as its length is, or by want of memory
 pub counts : (len : ℕ) (e : Error) → long_or_memory len e → long_or_no_memory len e
@@ -198,18 +233,19 @@ refuses-string t n e l = refuses_whole n n (λ m. variant 3 m) text json (Is of_
 
 module _ {S E N H K V : Type 0} (env : Environments E N H K V) (s : Serializers S E N H K V) where
   -- a case is refused for want of memory
-  pub case-err : {X Y : Type 0} {x y : S} {front : List ℕ} {e : Error} (d : Data) (r : Result Y Error) → IsErrAnd r (λ f. f ≡ e) → Wrote env s (bytes front) memory x y (let p : Result X Error = Err e in p)
-      → Wrote env s (form (Is of_data d) json) json_causes x y r
-  case-err d r is p = wrote-err env s r is p (λ n l h. memory_refuses _ _ n json h) (λ h. json-memory _ h)
+  pub case-err : {X Y : Type 0} {x y : S} {front : List ℕ} {e : Error} (v : Value) (d : Data) (r : Result Y Error) → IsErrAnd r (λ f. f ≡ e) → Wrote env s (bytes front) memory x y (let p : Result X Error = Err e in p)
+      → Wrote env s (json_of_value v d) json_causes x y r
+  case-err v d r is p = wrote-err env s r is p (λ n l h. (memory_refuses _ _ n json h, no_fault _ h)) (λ h. json-memory _ h)
 
   -- a value is what its data is
-  pub as-value : {Y : Type 0} {x y : S} (v : Value) (d : Data) (r : Result Y Error) → view v ≡ d → Wrote env s (form (Is of_data d) json) json_causes x y r → Wrote env s (form (Is of_value v) json) json_causes x y r
-  as-value {x = x} {y = y} v d r e h = let P : Data → Type 0 = λ z. Wrote env s (form (Is of_data z) json) json_causes x y r in subst P (sym e) h
+  pub as-value : {Y : Type 0} {x y : S} (v w : Value) (d : Data) (r : Result Y Error) → v ≡ w → view v ≡ d → Wrote env s (json_of_value w d) json_causes x y r → Wrote env s (json_of_value v (view v)) json_causes x y r
+  as-value {x = x} {y = y} v w d r is e h = let P : Value → Data → Type 0 = λ u z. Wrote env s (json_of_value u z) json_causes x y r in subst (λ u. P u (view v)) (sym is) (subst (λ z. P w z) (sym e) h)
 
-  pub null-value : {Y : Type 0} {x y : S} (v : Value) (r : Result Y Error) → v ≡ values.Null → Wrote env s (bytes (unsigned_form w64 0)) memory x y r → Wrote env s (form (Is of_value v) json) json_causes x y r
+  pub null-value : {Y : Type 0} {x y : S} (v : Value) (r : Result Y Error) → v ≡ values.Null → Wrote env s (bytes (unsigned_form w64 0)) memory x y r → Wrote env s (json_of_value v (view v)) json_causes x y r
   null-value v (Ok u) is p =
       record { ok = record { m = variant 0 none; is = ap of_data (sym (seen-null v is)); wrote = record { bytes = 0 ∷ []; refs = []; form = json-null-form _; grown = rw (case-byte 0 refl) at p.ok } }; refused = tt; only = tt; err = p.err; same_env = p.same_env; same_levels = p.same_levels }
-  null-value v (Err e) is p = record { ok = tt; refused = memory_refuses e _ _ json p.only; only = json-memory e p.only; err = p.err; same_env = p.same_env; same_levels = p.same_levels }
+  null-value v (Err e) is p =
+      record { ok = tt; refused = (memory_refuses e _ _ json p.only, no_fault e p.only); only = json-memory e p.only; err = p.err; same_env = p.same_env; same_levels = p.same_levels }
 
   pub count-wrote : {X Y : Type 0} {x y z : S} {u : X} (case count : ℕ) (r : Result Y Error) → Wrote env s (bytes (unsigned_form w64 case)) memory x y (Ok u) → OnOk r (s.out z ≡ added (s.out y) (length_form count) []) → OnOk r (count ≤ longest) → IfErr r (long_or_memory count) → Grows (s.out y) (s.out z)
       → s.environment z ≡ s.environment y → s.levels z ≡ s.levels y → Wrote env s (front case count) (long_or_no_memory count) x z r

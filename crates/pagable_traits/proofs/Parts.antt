@@ -2,15 +2,15 @@
 -- cells. All that a reader and a writer owe, from what those of the bytes or of the parts tell.
 use Rattle.pagable_codec.{proofs.Writing.{writes_flag, writes_letter, writes_signed, writes_unsigned}, specs.declared.{deserializer.PagableDeserializer.Ghosts as Deserializers, env.Env.Ghosts as Environments}}
 use Rattle.{pagable_codec.specs.declared.serializer.PagableSerializer.Ghosts as Serializers, pagable_flavors.specs.Calls.Appends, pagable_model.specs.Basic.{char_form, duration_at, duration_form}}
-use Rattle.pagable_model.specs.{Basic.{length_at, nanos_of_second, text_at}, Carried.{nanos_of, of_duration, of_span, seconds_of}, Form.{duration-form, none-form, pattern-form}, Lifted.MeansOnce}
+use Rattle.pagable_model.specs.{Basic.{length_at, nanos_of_second, text_at}, Carried.{nanos_of, of_duration, of_span, seconds_of}, Form.{duration-form, none-form, pattern-form}, Lifted.{MayHold, MeansOnce}}
 use Rattle.pagable_model.specs.{Meaning.pattern, Numbers.{IsSigned, bound, signed_form, unsigned_form, varint_at}, Refusals.is_reading_fault, Shape.{duration, flag as flag_shape, letter, unsigned}}
 use Rattle.{pagable_model.specs.Track.{GoesOn, Track, left}, pagable_traits.proofs.Words.{Answer, ArcRef, Bool, Context, Err, Error, FormAt, Gives, GivesSome, IfErr, Is, List, Meaning, MeansOption}}
-use Rattle.pagable_traits.proofs.Words.{MeansPair, Nesting, NoForm, None, Ok, OnOk, Option, Out, Read, Refused, Rest, Result, Shape, Some, SomeMeaning, String, WritesSome, Wrote, [], absent, added}
+use Rattle.pagable_traits.proofs.Words.{MeansPair, Nesting, NoForm, None, Ok, OnOk, Option, Out, Read, Refused, Rest, Result, Shape, SomeMeaning, String, WritesSome, Wrote, [], absent, added}
 use Rattle.pagable_traits.proofs.Words.{ap, arith, bool_at, bool_form, both, both-form, bytes_of, char_at, err-form, failure, false, grows_bytes, inr, integer, length, long_or}
 use Rattle.pagable_traits.proofs.Words.{long_or_memory, longest, means-none, means-some, memory, memory_or, memory_refuses, moves_trans, nested_in, never, number, ok-form}
 use Rattle.pagable_traits.proofs.Words.{optional, outcome, pair, present, read, read_with, refl, refused_memory, signed, signed_at, some-form, string_bytes, success, text-form, text_form, then}
 use Rattle.pagable_traits.{proofs.Words.{to_z-of_z, true, unsigned_at, w32, w64, writes_bytes, writes_is, ℕ, ℤ, ◌*◌, ◌++◌, ◌+◌, ◌^◌, ◌∙◌, ◌∷◌, ◌≡◌, ◌≤◌}, specs.Clauses.value}
-use Rattle.std.{proofs.{Common.{FitsSigned, of_z, rules, suc, to_z, zero, ◌/◌, ◌<◌}, lemmas.{Bool.{Decides.nat_tests, le-ltb}, Nat.mod_below}}, specs.{Borrow.Bor, Char.IsScalar, Duration.as_nanos}}
+use Rattle.std.{proofs.{Common.{FitsSigned, of_z, rules, suc, to_z, zero, ◌/◌, ◌<◌}, lemmas.{Bool.{Decides.nat_tests, le-ltb}, Nat.mod_below}}, specs.{Borrow.Bor, Char.IsScalar, Duration.as_nanos, Prelude.option_copied}}
 use Rattle.pagable_traits.proofs.Words.{Gets, MovesOn, Reads, context_in}
 use Rattle.std.specs.{Int.{Width, w8}, Prelude.◌≢◌, Str.IsUtf8, declared.time.Duration.Duration}
 use Rattle.pagable_model.specs.Meaning as meanings
@@ -125,9 +125,12 @@ pair_along M N M' N' p q f g m h = record { first = h.first; second = h.second; 
 -- ---- cells: what is written of what one was seen to hold is written of the cell, whatever else it may hold
 
 -- what lent values mean, they mean themselves
-pub held_means : {T : Type 0} (M : T → Meaning ArcRef → Type 0) (held : Option (Bor T)) (m : Meaning ArcRef) → MeansOption (λ x. M x.now) held m → MeansOnce M m
-held_means M _ _ means-none = record { held = None; means = means-none }
-held_means M _ _ (means-some x m is) = record { held = Some x.now; means = means-some x.now m is }
+held-values : {T : Type 0} (M : T → Meaning ArcRef → Type 0) (held : Option (Bor T)) (m : Meaning ArcRef) → MeansOption (λ x. M x.now) held m → MeansOption M (option_copied held) m
+held-values M _ _ means-none = means-none
+held-values M _ _ (means-some x m is) = means-some x.now m is
+
+pub held_means : {C T : Type 0} (M : T → Meaning ArcRef → Type 0) (cell : C) (held : Option (Bor T)) → MayHold cell (option_copied held) → (m : Meaning ArcRef) → MeansOption (λ x. M x.now) held m → MeansOnce M cell m
+held_means M cell held may m means = record { held = option_copied held; may = may; means = held-values M held m means }
 
 pub ruleset steps = (ok_along, memory_refuses, refused_memory)
 

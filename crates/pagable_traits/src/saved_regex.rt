@@ -37,10 +37,8 @@ impl Model for SavedRegex {
 fn refusal(cause: regex::Error) -> Error
     ensures { result ≡ refusal_of cause }
 {
-    match cause {
-        regex::Error::OutOfMemory => Error::OutOfMemory,
-        _ => Error::RegexRefused,
-    }
+    let is_memory = matches!(cause, regex::Error::OutOfMemory);
+    Error::of_library(is_memory, Error::RegexRefused)
 }
 
 /// What `regex` builds of a text with its default options. RegexRefused where it refuses the text, else refused by want of

@@ -1,7 +1,7 @@
 //! Items of lists, maps and sets, one after another: what they are put into as they are read, and those that a walk yields
 //! as they are written.
 
-ghost use Rattle.std.specs.{Iterator.IsFinite, Prelude.{◌≡◌, ℕ, List, [], length, min, OnOk, IfOk, IfErr}};
+ghost use Rattle.std.specs.{Iterator.IsFinite, Prelude.{◌≡◌, ℕ, List, [], length, min, ◌≤◌, OnOk, IfOk, IfErr}};
 ghost use Rattle.pagable_model.specs.{Collected.Collected, Gives.{memory, memory_or, long_or}, Reading.{items, counted, read}, Standing.MovesOn};
 ghost use Rattle.pagable_traits.specs.{Clauses.{Reads, Wrote}, Walks.{counted as walked, each}};
 
@@ -22,8 +22,14 @@ pub trait Collects<T>: Sized {
     // That it has room for so many items more, where it keeps room; a list for no others.
     ghost has_room: { Self → ℕ → Type 0 } = { λ c n. Unit {0} };
 
-    /// Nothing, with room for so many items where it keeps room. Refused by want of memory alone.
-    fn with_places(alloc: Global, places: usize) -> Result<Self, Error>
+    /// Nothing, with room for so many items where it keeps room: for no more than bytes are left to read, so that a count
+    /// alone takes no memory. Refused by want of memory alone.
+    fn with_places<E: Env, D: PagableDeserializer<E>>(
+        alloc: Global,
+        places: usize,
+        deserializer: &D,
+    ) -> Result<Self, Error>
+        requires { places ≤ length (D.rest deserializer.now).bytes }
         ensures empty { IfOk result (λ c. held c ≡ []) }
         ensures room { IfOk result (λ c. has_room c places) }
         ensures only { IfErr result memory };
@@ -34,7 +40,7 @@ pub trait Collects<T>: Sized {
         ensures only { IfErr result memory };
 }
 
-/// Nothing, to hold so many items: with room for as many of them as bytes are left, so that a count alone takes no memory.
+/// Nothing, to hold so many items: with room for as many of them as bytes are left.
 /// Refused by want of memory alone.
 pub fn with_room<E: Env, T, C: Collects<T>, D: PagableDeserializer<E>>(
     alloc: Global,
@@ -50,7 +56,7 @@ pub fn with_room<E: Env, T, C: Collects<T>, D: PagableDeserializer<E>>(
     ensures same_levels { D.levels deserializer.new ≡ D.levels deserializer.old }
 {
     let places = places_for(count, deserializer);
-    C::with_places(alloc, places)
+    C::with_places(alloc, places, deserializer)
 }
 
 /// Reads this many items and puts each in. A refusal is the first item's that is refused, or want of memory. Room is made

@@ -2,7 +2,8 @@
 //! as their first value and the tuple of the others; values that are lent; a header with a list behind it; marks of a
 //! type, of which there is nothing to write; and cells.
 
-ghost use Rattle.pagable_model.specs.{Carried.{atomic_i64, once_lock, thin}, Lifted.{MeansAtomic, MeansOnce, atomic_has_meaning, once_has_meaning, result_single}, Shape.{optional, outcome, both}};
+ghost use Rattle.pagable_model.specs.{Carried.{atomic_i64, once_lock, thin}, Lifted.{MayHold, MeansAtomic, MeansOnce, atomic_has_meaning, once_has_meaning, result_single}, Shape.{optional, outcome, both}};
+ghost use Rattle.std.specs.Prelude.{option_copied};
 ghost use Rattle.pagable_traits.specs.Meanings.{lists, options, results, pairs, seen_by, lists_single, options_single, pairs_single};
 ghost use Rattle.pagable_traits.specs.OwnCauses.{reads_memory_or, reads_either, writes_memory_or, writes_either, writes_long_or, writes_never};
 
@@ -326,18 +327,54 @@ impl<
 }
 
 // ---- cells: an atomic number, and a value that is written once. Another thread may write to a cell while it is looked at, so
-// no contract knows what one holds, and each means whatever it may hold.
+// no contract knows what one holds: each means what it may hold, and the four functions below say what that is.
+
+/// The number that a cell holds when it is looked at.
+#[tactic(auto, unfolding(pagable_model::specs::Lifted::MayHold))]
+fn number_in(cell: &AtomicI64) -> i64
+    ensures { MayHold cell.now result }
+{
+    cell.load(Ordering::SeqCst)
+}
+
+/// A cell that holds this number.
+#[tactic(auto, unfolding(pagable_model::specs::Lifted::MayHold))]
+fn atomic_of(number: i64) -> AtomicI64
+    ensures { MayHold result number }
+{
+    AtomicI64::new(number)
+}
+
+/// The value that a cell holds when it is looked at. It doesn't wait for a thread that is writing: until that is done the
+/// cell holds none.
+#[tactic(auto, unfolding(pagable_model::specs::Lifted::MayHold))]
+fn value_in<T>(cell: &OnceLock<T>) -> Option<&T>
+    ensures { MayHold cell.now (option_copied result) }
+{
+    cell.get()
+}
+
+/// A cell that holds this value, or none. No thread has seen it yet.
+#[tactic(auto, unfolding(pagable_model::specs::Lifted::MayHold))]
+fn once_of<T: Drop>(value: Option<T>) -> OnceLock<T>
+    ensures { MayHold result value }
+{
+    match value {
+        Some(value) => OnceLock::from(value),
+        None => OnceLock::new(),
+    }
+}
 
 impl<E: Env> Carried<E> for AtomicI64 {
     ghost shape = { λ e. atomic_i64 };
 
-    ghost means = { record { of = λ x. MeansAtomic; meaning = λ x. atomic_has_meaning.0; is = λ x. atomic_has_meaning.1 } };
+    ghost means = { record { of = MeansAtomic; meaning = λ x. (atomic_has_meaning x).0; is = λ x. (atomic_has_meaning x).1 } };
 }
 
 impl<E: Env> PagableSerialize<E> for AtomicI64 {
     /// Appends the number that it holds when it is looked at, as an `i64`.
     fn pagable_serialize<S: PagableSerializer<E>>(&self, serializer: &mut S) -> Result<(), Error> {
-        let held = self.load(Ordering::SeqCst);
+        let held = number_in(self);
         PagableSerialize::<E>::pagable_serialize(&held, serializer)
     }
 }
@@ -347,7 +384,8 @@ impl<'de, E: Env> PagableDeserialize<'de, E> for AtomicI64 {
         alloc: Global,
         deserializer: &mut D,
     ) -> Result<Self, Error> {
-        Ok(AtomicI64::new(PagableDeserialize::<E>::pagable_deserialize(alloc, deserializer)?))
+        let held = PagableDeserialize::<E>::pagable_deserialize(alloc, deserializer)?;
+        Ok(atomic_of(held))
     }
 }
 
@@ -356,16 +394,15 @@ impl<'de, E: Env> PagableDeserialize<'de, E> for AtomicI64 {
 impl<E: Env, T: Carried<E>> Carried<E> for OnceLock<T> {
     ghost shape = { λ e. once_lock (T.shape e) };
 
-    ghost means = { record { of = λ x. MeansOnce T.means.of; meaning = λ x. (once_has_meaning T.means.of).0; is = λ x. (once_has_meaning T.means.of).1 } };
+    ghost means = { record { of = MeansOnce T.means.of; meaning = λ x. (once_has_meaning T.means.of x).0; is = λ x. (once_has_meaning T.means.of x).1 } };
 }
 
 impl<E: Env, T: PagableSerialize<E>> PagableSerialize<E> for OnceLock<T> {
     ghost write_causes = { writes_memory_or T.write_causes };
 
-    /// Appends the value that it holds when it is looked at, or that it holds none, as an `Option`. It doesn't wait for a
-    /// thread that is writing: until that is done the lock holds none.
+    /// Appends the value that it holds when it is looked at, or that it holds none, as an `Option`.
     fn pagable_serialize<S: PagableSerializer<E>>(&self, serializer: &mut S) -> Result<(), Error> {
-        let held = self.get();
+        let held = value_in(self);
         PagableSerialize::<E>::pagable_serialize(&held, serializer)
     }
 }
@@ -373,14 +410,12 @@ impl<E: Env, T: PagableSerialize<E>> PagableSerialize<E> for OnceLock<T> {
 impl<'de, E: Env, T: PagableDeserialize<'de, E> + Drop> PagableDeserialize<'de, E> for OnceLock<T> {
     ghost read_causes = { T.read_causes };
 
-    /// Reads an `Option`. The lock is set exactly where there was a value, and no thread has seen it yet.
+    /// Reads an `Option`. The lock is set exactly where there was a value.
     fn pagable_deserialize<D: PagableDeserializer<E>>(
         alloc: Global,
         deserializer: &mut D,
     ) -> Result<Self, Error> {
-        match <Option<T>>::pagable_deserialize(alloc, deserializer)? {
-            Some(value) => Ok(OnceLock::from(value)),
-            None => Ok(OnceLock::new()),
-        }
+        let held = <Option<T>>::pagable_deserialize(alloc, deserializer)?;
+        Ok(once_of(held))
     }
 }

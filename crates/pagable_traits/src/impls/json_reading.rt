@@ -1,13 +1,14 @@
 //! JSON values, and how they are read: the case, and then its part. Arrays and objects are one level further down, which is
 //! entered after their length was read.
 
-ghost use Rattle.std.{specs.Prelude.◌≡◌, specs.Int.w64};
+ghost use Rattle.std.specs.{Prelude.{[], length, ◌≡◌, ◌≤◌}, Int.w64, Vec.vec_capacity};
 ghost use Rattle.pagable_model.specs.{Reading.{bytes_of, items as items_at, read, seen, array_case, object_case}, Gives.{Gives, memory, never}, Lifted.MeansPair, Meaning.{sequence, variant}};
 ghost use Rattle.pagable_model.specs.{Numbers.unsigned_at, Shape.{both, json, text}, Standing.{Is, MovesOn}};
 ghost use Rattle.pagable_traits.specs.{JsonData.{of_key, of_value}, Clauses.{Reads, part_of, ObjectOf}, Meanings.exactly, OwnCauses.reads_memory};
 
+use crate::impls::collecting::with_room;
 use crate::traits::{Carried, OneMeaning, PagableDeserialize};
-use pagable_codec::parts::{places_for, read_count, read_flag};
+use pagable_codec::parts::{read_count, read_flag};
 use pagable_codec::{Env, PagableDeserializer, Reader};
 use pagable_flavors::Error;
 use serde_json::Value;
@@ -104,8 +105,23 @@ fn read_items<E: Env, D: PagableDeserializer<E>>(
 ) -> Result<Value, Error>
     ensures { Reads E.Env D.PagableDeserializer memory (Is of_value) (λ c. seen (λ ms. variant 4 (sequence ms)) (items_at (read c json) count)) deserializer.old deserializer.new result }
 {
-    let places = places_for(count, deserializer);
-    let mut values = Vec::with_capacity(alloc, places)?;
+    let values = with_room(alloc, count, deserializer)?;
+    fill_array(values, alloc, count, deserializer)
+}
+
+// Reads this many items into an empty list, whose places are no more than bytes are left.
+#[cycle(reading_json)]
+#[tactic(auto, using(crate::proofs::JsonSteps::no_memory))]
+fn fill_array<E: Env, D: PagableDeserializer<E>>(
+    mut values: Vec<Value>,
+    alloc: Global,
+    count: usize,
+    deserializer: &mut D,
+) -> Result<Value, Error>
+    requires empty { values.items ≡ [] }
+    requires few { vec_capacity values ≤ length (D.rest deserializer.old).bytes }
+    ensures { Reads E.Env D.PagableDeserializer memory (Is of_value) (λ c. seen (λ ms. variant 4 (sequence ms)) (items_at (read c json) count)) deserializer.old deserializer.new result }
+{
     for index in 0..count {
         let value = read_value(alloc, deserializer)?;
         values.push(value)?;

@@ -1,10 +1,12 @@
 //! How JSON values are written: the case, and then its part. Arrays and objects are one level further down, which is
 //! entered after their length was written.
 
-ghost use Rattle.std.{specs.Int.w64, specs.String.string_bytes};
+ghost use Rattle.{pagable_model.specs.Refusals.is_writing_fault, std.specs.{Int.w64, Prelude.{IfErr, IsTrue}, String.string_bytes}};
 ghost use Rattle.pagable_model.specs.{Gives.{memory, json_causes}, Lifted.{MeanAll, MeansPair}, Numbers.unsigned_form, Shape.{both, json, text}, Standing.Is};
-ghost use Rattle.serde_json.specs.{Data.{boolean, number, string, array, object}, View.{number_view, items_view, members_view}};
-ghost use Rattle.pagable_traits.specs.{JsonData.{of_data, of_value, of_key, long_or_no_memory}, Clauses.{Wrote, bytes, front, value as form, all}, OwnCauses.writes_json};
+ghost use Rattle.serde_json.specs.{Data.{boolean, number, string, array, object}, View.{number_view, items_view, members_view, view}};
+ghost use Rattle.pagable_traits.specs.{JsonData.{of_value, of_key, long_or_no_memory}, Clauses.{Wrote, all, bytes, front, nested_in, value as form}, JsonFaults.{EntryFault, Fault, ItemFault, MemberFault}};
+ghost use Rattle.pagable_traits.specs.{JsonFaults.{json_of_value, refused_as}, OwnCauses.writes_json};
+ghost use Rattle.serde_json.specs.declared.value.Value as values;
 
 use crate::traits::PagableSerialize;
 use pagable_codec::{Env, PagableSerializer, parts};
@@ -15,7 +17,11 @@ use std::collections::BTreeMap;
 impl<E: Env> PagableSerialize<E> for Value {
     ghost write_causes = { writes_json };
 
-    fn pagable_serialize<S: PagableSerializer<E>>(&self, serializer: &mut S) -> Result<(), Error> {
+    /// Appends the value, and is refused by its first fault, as `write_value` is.
+    fn pagable_serialize<S: PagableSerializer<E>>(&self, serializer: &mut S) -> Result<(), Error>
+        ensures wrote { Wrote E.Env S.PagableSerializer (form (Is of_value self.now) json) json_causes serializer.old serializer.new result }
+        ensures first { IfErr result (λ e. IsTrue (is_writing_fault e) → Fault (nested_in E.Env S.PagableSerializer serializer.old) self.now e) }
+    {
         write_value(self, serializer)
     }
 }
@@ -40,7 +46,7 @@ fn write_front<E: Env, S: PagableSerializer<E>>(
 }
 
 fn write_flag<E: Env, S: PagableSerializer<E>>(flag: bool, serializer: &mut S) -> Result<(), Error>
-    ensures { Wrote E.Env S.PagableSerializer (form (Is of_data (boolean flag)) json) json_causes serializer.old serializer.new result }
+    ensures { Wrote E.Env S.PagableSerializer (json_of_value (values.Bool flag) (boolean flag)) json_causes serializer.old serializer.new result }
 {
     write_case(1, serializer)?;
     flag.pagable_serialize(serializer)
@@ -51,7 +57,7 @@ fn write_number<E: Env, S: PagableSerializer<E>>(
     value: &Number,
     serializer: &mut S,
 ) -> Result<(), Error>
-    ensures { Wrote E.Env S.PagableSerializer (form (Is of_data (number (number_view value.now))) json) json_causes serializer.old serializer.new result }
+    ensures { Wrote E.Env S.PagableSerializer (json_of_value (values.Number value.now) (number (number_view value.now))) json_causes serializer.old serializer.new result }
 {
     let Some(whole) = value.as_i64() else {
         return Err(Error::JsonNumber);
@@ -66,20 +72,21 @@ fn write_text<E: Env, S: PagableSerializer<E>>(
     text: &String,
     serializer: &mut S,
 ) -> Result<(), Error>
-    ensures { Wrote E.Env S.PagableSerializer (form (Is of_data (string (string_bytes text.now))) json) json_causes serializer.old serializer.new result }
+    ensures { Wrote E.Env S.PagableSerializer (json_of_value (values.String text.now) (string (string_bytes text.now))) json_causes serializer.old serializer.new result }
 {
     write_case(3, serializer)?;
     text.pagable_serialize(serializer)
 }
 
 /// Writes a JSON value. TooLong above 4,294,967,295 bytes, items or members, JsonNumber for a float or a whole number
-/// that 64 bits with a sign don't hold, and TooDeep for an array or an object where 128 levels were entered.
+/// that 64 bits with a sign don't hold, and TooDeep for an array or an object where 128 levels were entered: the first of
+/// these that is met, from the front, a length before its level and a level before what is below it.
 #[cycle(writing_json)]
 pub fn write_value<E: Env, S: PagableSerializer<E>>(
     value: &Value,
     serializer: &mut S,
 ) -> Result<(), Error>
-    ensures { Wrote E.Env S.PagableSerializer (form (Is of_value value.now) json) json_causes serializer.old serializer.new result }
+    ensures { Wrote E.Env S.PagableSerializer (json_of_value value.now (view value.now)) json_causes serializer.old serializer.new result }
 {
     match value {
         Value::Null => write_case(0, serializer),
@@ -96,7 +103,7 @@ fn write_array<E: Env, S: PagableSerializer<E>>(
     items: &Vec<Value>,
     serializer: &mut S,
 ) -> Result<(), Error>
-    ensures { Wrote E.Env S.PagableSerializer (form (Is of_data (array (items_view items.now.items))) json) json_causes serializer.old serializer.new result }
+    ensures { Wrote E.Env S.PagableSerializer (json_of_value (values.Array items.now) (array (items_view items.now.items))) json_causes serializer.old serializer.new result }
 {
     write_front(4, items.len(), serializer)?;
     serializer.enter()?;
@@ -110,7 +117,7 @@ fn write_items<E: Env, S: PagableSerializer<E>>(
     items: &Vec<Value>,
     serializer: &mut S,
 ) -> Result<(), Error>
-    ensures { Wrote E.Env S.PagableSerializer (all (MeanAll (Is of_value) items.now.items) json) json_causes serializer.old serializer.new result }
+    ensures { Wrote E.Env S.PagableSerializer (refused_as (λ n. ItemFault n items.now.items) (all (MeanAll (Is of_value) items.now.items) json)) json_causes serializer.old serializer.new result }
 {
     for item in items {
         write_value(item, serializer)?;
@@ -123,7 +130,7 @@ fn write_object<E: Env, S: PagableSerializer<E>>(
     members: &BTreeMap<String, Value>,
     serializer: &mut S,
 ) -> Result<(), Error>
-    ensures { Wrote E.Env S.PagableSerializer (form (Is of_data (object (members_view members.now.entries))) json) json_causes serializer.old serializer.new result }
+    ensures { Wrote E.Env S.PagableSerializer (json_of_value (values.Object members.now) (object (members_view members.now.entries))) json_causes serializer.old serializer.new result }
 {
     write_front(5, members.len(), serializer)?;
     serializer.enter()?;
@@ -138,7 +145,7 @@ fn write_members<E: Env, S: PagableSerializer<E>>(
     members: &BTreeMap<String, Value>,
     serializer: &mut S,
 ) -> Result<(), Error>
-    ensures { Wrote E.Env S.PagableSerializer (all (MeanAll (MeansPair (Is of_key) (Is of_value)) members.now.entries) (both text json)) json_causes serializer.old serializer.new result }
+    ensures { Wrote E.Env S.PagableSerializer (refused_as (λ n. MemberFault n members.now.entries) (all (MeanAll (MeansPair (Is of_key) (Is of_value)) members.now.entries) (both text json))) json_causes serializer.old serializer.new result }
 {
     for (key, value) in members.iter() {
         write_member(key, value, serializer)?;
@@ -152,7 +159,7 @@ fn write_member<E: Env, S: PagableSerializer<E>>(
     value: &Value,
     serializer: &mut S,
 ) -> Result<(), Error>
-    ensures { Wrote E.Env S.PagableSerializer (form (MeansPair (Is of_key) (Is of_value) (key.now, value.now)) (both text json)) json_causes serializer.old serializer.new result }
+    ensures { Wrote E.Env S.PagableSerializer (refused_as (λ n. EntryFault n key.now value.now) (form (MeansPair (Is of_key) (Is of_value) (key.now, value.now)) (both text json))) json_causes serializer.old serializer.new result }
 {
     key.pagable_serialize(serializer)?;
     write_value(value, serializer)

@@ -44,7 +44,11 @@ impl<T: Drop> Collects<T> for Vec<T> {
 
     ghost has_room = { λ v n. vec_capacity v ≡ n };
 
-    fn with_places(alloc: Global, places: usize) -> Result<Self, Error> {
+    fn with_places<E: Env, D: PagableDeserializer<E>>(
+        alloc: Global,
+        places: usize,
+        _deserializer: &D,
+    ) -> Result<Self, Error> {
         Ok(Vec::with_capacity(alloc, places)?)
     }
 
@@ -89,7 +93,11 @@ impl<T: MadeWith<Global> + Drop, const N: usize> Collects<T> for SmallVec<T, N> 
 
     ghost has_room = { λ v n. v.capacity ≡ max N n };
 
-    fn with_places(alloc: Global, places: usize) -> Result<Self, Error> {
+    fn with_places<E: Env, D: PagableDeserializer<E>>(
+        alloc: Global,
+        places: usize,
+        _deserializer: &D,
+    ) -> Result<Self, Error> {
         Ok(SmallVec::with_capacity(alloc, places)?)
     }
 

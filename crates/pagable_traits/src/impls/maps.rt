@@ -37,7 +37,11 @@ impl<K: Ord + Drop, V: Drop> Collects<(K, V)> for BTreeMap<K, V> {
 
     ghost puts = { λ es e fs. fs ≡ insert_entry K.cmp es e.0 e.1 };
 
-    fn with_places(alloc: Global, _places: usize) -> Result<Self, Error> {
+    fn with_places<E: Env, D: PagableDeserializer<E>>(
+        alloc: Global,
+        _places: usize,
+        _deserializer: &D,
+    ) -> Result<Self, Error> {
         Ok(BTreeMap::new(alloc))
     }
 
@@ -90,7 +94,11 @@ impl<T: Ord + Drop> Collects<T> for BTreeSet<T> {
 
     ghost puts = { λ ys y zs. zs ≡ insert_key T.cmp ys y };
 
-    fn with_places(alloc: Global, _places: usize) -> Result<Self, Error> {
+    fn with_places<E: Env, D: PagableDeserializer<E>>(
+        alloc: Global,
+        _places: usize,
+        _deserializer: &D,
+    ) -> Result<Self, Error> {
         Ok(BTreeSet::new(alloc))
     }
 
@@ -140,7 +148,11 @@ impl<K: Eq + Hash + Drop, V: Drop> Collects<(K, V)> for IndexMap<K, V> {
 
     ghost has_room = { λ m n. n ≤ placed_maps.spare m };
 
-    fn with_places(alloc: Global, places: usize) -> Result<Self, Error> {
+    fn with_places<E: Env, D: PagableDeserializer<E>>(
+        alloc: Global,
+        places: usize,
+        _deserializer: &D,
+    ) -> Result<Self, Error> {
         Ok(IndexMap::with_capacity(alloc, places)?)
     }
 
@@ -196,7 +208,11 @@ impl<T: Eq + Hash + Drop> Collects<T> for IndexSet<T> {
 
     ghost has_room = { λ s n. n ≤ placed_sets.spare s };
 
-    fn with_places(alloc: Global, places: usize) -> Result<Self, Error> {
+    fn with_places<E: Env, D: PagableDeserializer<E>>(
+        alloc: Global,
+        places: usize,
+        _deserializer: &D,
+    ) -> Result<Self, Error> {
         Ok(IndexSet::with_capacity(alloc, places)?)
     }
 
@@ -246,7 +262,11 @@ impl<K: Eq + Hash + Drop, V: Drop> Collects<(K, V)> for HashMap<K, V> {
 
     ghost has_room = { λ m n. n ≤ spare m };
 
-    fn with_places(alloc: Global, places: usize) -> Result<Self, Error> {
+    fn with_places<E: Env, D: PagableDeserializer<E>>(
+        alloc: Global,
+        places: usize,
+        _deserializer: &D,
+    ) -> Result<Self, Error> {
         Ok(HashMap::with_capacity(alloc, places)?)
     }
 

@@ -70,21 +70,24 @@ object_part-returns-in_err-enter g t c =
     let down = c.in_err-enter.ensures in
     read-deep g.E.Env g.D.PagableDeserializer c.from_residual-in_err-enter.result c.from_residual-in_err-enter.ensures.1 told.moves told.same_env told.same_levels down.err down.same_standing down.same_env (object-deep _ _ _ _ _ told.gives)
 
-pub read_items-loop-index-init : goal.read_items-loop-index-init
-read_items-loop-index-init g t c =
-    let placed = c.places_for-places.ensures in
-    none-so-far g.E.Env g.D.PagableDeserializer _ _ (rw c.in_ok-values.ensures.items mean-none) placed.same_rest placed.moves placed.same_env placed.same_levels
+pub read_items-returns : goal.read_items-returns
+read_items-returns g t c =
+    let made = c.in_ok-values.ensures in
+    then-is g.E.Env g.D.PagableDeserializer c.fill_array.result made.moves made.same_env made.same_levels c.fill_array.ensures (rw made.same_rest refl)
 
-pub read_items-loop-index-preserved : goal.read_items-loop-index-preserved
-read_items-loop-index-preserved g t c = one-more g.E.Env g.D.PagableDeserializer _ _ _ c.loop-index-test.true c.loop-index.invariant c.in_ok-value.ensures
+pub fill_array-loop-index-init : goal.fill_array-loop-index-init
+fill_array-loop-index-init g t c = none-so-far g.E.Env g.D.PagableDeserializer _ _ (rw c.requires.empty mean-none) refl (moves_refl _) refl refl
+
+pub fill_array-loop-index-preserved : goal.fill_array-loop-index-preserved
+fill_array-loop-index-preserved g t c = one-more g.E.Env g.D.PagableDeserializer _ _ _ c.loop-index-test.true c.loop-index.invariant c.in_ok-value.ensures
     (λ ms m each is. rw c.in_ok-push.ensures.items (mean_last (Is of_value) c.loop-index.values.items ms c.in_ok-value.value m each is))
 
-pub read_items-returns-in_err-value : goal.read_items-returns-in_err-value
-read_items-returns-in_err-value g t c =
-    refused-so-far g.E.Env g.D.PagableDeserializer _ _ _ c.from_residual-in_err-value.result c.from_residual-in_err-value.ensures.1 c.loop-index-test.true c.loop-index.invariant c.in_err-value.ensures (either-memory _) (λ h. rw h refl)
+pub fill_array-returns-in_err-value : goal.fill_array-returns-in_err-value
+fill_array-returns-in_err-value g t c =
+    refused-so-far g.E.Env g.D.PagableDeserializer _ _ _ c.from_residual.result c.from_residual.ensures.1 c.loop-index-test.true c.loop-index.invariant c.in_err-value.ensures (either-memory _) (λ h. rw h refl)
 
-pub read_items-returns : goal.read_items-returns
-read_items-returns g t c = all-read g.E.Env g.D.PagableDeserializer _ _ _ (values.Array c.loop-index.values) (λ ms. variant 4 (sequence ms)) c.loop-index-test.false c.loop-index.invariant (λ ms each. is-array c.loop-index.values ms each) refl
+pub fill_array-returns : goal.fill_array-returns
+fill_array-returns g t c = all-read g.E.Env g.D.PagableDeserializer _ _ _ (values.Array c.loop-index.values) (λ ms. variant 4 (sequence ms)) c.loop-index-test.false c.loop-index.invariant (λ ms each. is-array c.loop-index.values ms each) refl
 
 pub read_members-loop-index-init : goal.read_members-loop-index-init
 read_members-loop-index-init g t c =

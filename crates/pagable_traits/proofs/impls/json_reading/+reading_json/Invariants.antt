@@ -11,7 +11,10 @@ abbrev pub decreases-object_part : goal.decreases-object_part
 decreases-object_part g l = 4 * (deepest - g.D.PagableDeserializer.levels l.deserializer.now)
 
 abbrev pub decreases-read_items : goal.decreases-read_items
-decreases-read_items g l = 4 * (deepest - g.D.PagableDeserializer.levels l.deserializer.now) + 2
+decreases-read_items g l = 4 * (deepest - g.D.PagableDeserializer.levels l.deserializer.now) + 3
+
+abbrev pub decreases-fill_array : goal.decreases-fill_array
+decreases-fill_array g l = 4 * (deepest - g.D.PagableDeserializer.levels l.deserializer.now) + 2
 
 abbrev pub decreases-read_members : goal.decreases-read_members
 decreases-read_members g l = 4 * (deepest - g.D.PagableDeserializer.levels l.deserializer.now) + 3
@@ -19,8 +22,8 @@ decreases-read_members g l = 4 * (deepest - g.D.PagableDeserializer.levels l.des
 abbrev pub decreases-read_member : goal.decreases-read_member
 decreases-read_member g l = 4 * (deepest - g.D.PagableDeserializer.levels l.deserializer.now) + 2
 
-abbrev pub invariant-read_items-loop-index : goal.invariant-read_items-loop-index
-invariant-read_items-loop-index g l = SoFar g.E.Env g.D.PagableDeserializer (λ ms. MeanAll (Is of_value) l.values.items ms) (λ c. read c json) l.count l.index l.fn.deserializer l.deserializer
+abbrev pub invariant-fill_array-loop-index : goal.invariant-fill_array-loop-index
+invariant-fill_array-loop-index g l = SoFar g.E.Env g.D.PagableDeserializer (λ ms. MeanAll (Is of_value) l.values.items ms) (λ c. read c json) l.count l.index l.fn.deserializer l.deserializer
 
 abbrev pub invariant-read_members-loop-index : goal.invariant-read_members-loop-index
 invariant-read_members-loop-index g l =
