@@ -1,0 +1,52 @@
+#!/usr/bin/env python3
+"""Prints where the library's text invents a want of memory, as file:line, and nothing else; the status is 1 where it does.
+
+In the src/ of every library crate `Error::OutOfMemory` is written as a value in one function alone, which makes it of a growth that the allocator refused
+(crates/pagable_model/src/error.rt). All others pass such a refusal on, so none says that memory is wanting where no growth was refused. It may stand in
+patterns, clauses and comments. `AllocError` and `AllocFailed`, the refused growth itself, are values nowhere.
+"""
+import re
+import sys
+from pathlib import Path
+
+CRATES = Path(__file__).resolve().parent.parent / "crates"
+# The programs, and the crates of rows and examples, which make refusals of their own to test.
+OTHERS = ("pagectl", "vectors", "pagable_rows", "pagable_examples")
+CONVERSION = "fn from(_e: AllocError) -> Error"
+NOT_CODE = re.compile(r"//.*|\"(?:\\.|[^\"\\])*\"|^\s*(?:pub )?(?:use|ghost|ensures|requires|invariant|decreases)\b.*")
+WANT = re.compile(r"\b(?:Error|Self)::OutOfMemory\b")
+# What stands behind a pattern: its end, other patterns beside it, and the arrow, the `=` of a `let`, or the end of a `matches!`.
+PATTERN = re.compile(r"[\s)]*(?:\|[^=;]*)?(?:=>|=(?!=)|\bif\b.*=>)")
+# A type is written behind `<`, `:` or `,`, or before `>`; a value isn't.
+REFUSED_GROWTH = re.compile(r"(?:[({=]|=>|\breturn|^)\s*(?:AllocError\b(?!\s*[>:])|AllocFailed\s*\{[^{}]*\})")
+
+
+def offences(text):
+    """The lines, counted from 1, that write a want of memory as a value; and those that do in the one function that may."""
+    function, found, allowed = "", [], []
+    for number, line in enumerate(text.splitlines(), 1):
+        code = NOT_CODE.sub("", line)
+        if re.search(r"\bfn \w+", code):
+            function = code.strip()
+        for at in WANT.finditer(code):
+            if not PATTERN.match(code, at.end()):
+                (allowed if function.startswith(CONVERSION) else found).append(number)
+        growths = REFUSED_GROWTH.finditer(re.sub(r"\b(?:fn|impl) .*", "", code))
+        found += [number for at in growths if not PATTERN.match(code, at.end())]
+    return found, allowed
+
+
+def main():
+    lines = []
+    for file in sorted(CRATES.glob("*/src/**/*.rt")):
+        if file.relative_to(CRATES).parts[0] in OTHERS:
+            continue
+        found, allowed = offences(file.read_text(encoding="utf-8"))
+        is_home = file == CRATES / "pagable_model/src/error.rt"
+        lines += [(file, number) for number in found + (allowed[1:] if is_home else allowed)]
+    for file, number in lines:
+        print(f"{file.relative_to(CRATES.parent)}:{number}")
+    sys.exit(1 if lines else 0)
+
+
+main()
