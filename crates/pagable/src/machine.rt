@@ -1,7 +1,8 @@
 //! A pager that is driven by lists of events.
 
 ghost use Rattle.std.specs.Prelude.{◌≡◌, IfOk, IfErr, OnErr};
-ghost use Rattle.{pagable_loads.specs.Telling.values_at, pagable.specs.Driving.{Runs, machine_in}, pagable_pager.specs.View.{state_in, telling}, pagable_world.specs.Pager.{IsIdle, IsNew}};
+ghost use Rattle.{pagable_laws.specs.{FallLaws.StartsWell, PageOutLaws.NobodyWorks}, pagable_loads.specs.Telling.values_at, pagable.specs.Driving.{Runs, machine_in}};
+ghost use Rattle.{pagable_pager.specs.View.{core_in, state_in, telling}, pagable_world.specs.Pager.{IsIdle, IsNew}};
 
 use crate::events;
 use crate::workers::Held;
@@ -38,21 +39,31 @@ impl<E: Env<Node: NodeSet<E>>, S: PagableStorage<E>> Model for Machine<E, S> {
 }
 
 impl<E: Env<Node: NodeSet<E>>, S: PagableStorage<E>> Machine<E, S> {
-    /// A machine over a pager of nothing, over a storage as it stands. It takes no memory.
-    pub fn new(alloc: Global, storage: S, env: E) -> Machine<E, S>
-        ensures empty { IsNew (state_in (telling S.stored S.is_closed S.failed) result.pager) }
+    /// A machine over a pager as it stands, for which no worker is at work: so it is between any two calls, since a page-out by one call ends its workers. It takes
+    /// no memory.
+    pub fn new(alloc: Global, pager: Pager<E, S>) -> Machine<E, S>
+        requires nobody { NobodyWorks (core_in (telling S.stored S.is_closed S.failed) pager) }
+        ensures pager { result.pager ≡ pager }
         ensures idle { IsIdle (machine_in (telling S.stored S.is_closed S.failed) result) }
-        ensures storage { result.pager.storage ≡ storage }
-        ensures environment { result.pager.environment ≡ env }
     {
         Machine {
-            pager: Pager::new(alloc, storage, env),
+            pager,
             held: Held {
                 readings: IndexMap::new(alloc),
                 tables: Vec::new(alloc),
                 walks: IndexMap::new(alloc),
             },
         }
+    }
+
+    /// A machine over a new pager, over a storage as it stands. It takes no memory. A chain that begins at it meets what the headline asks of its start.
+    pub fn over(alloc: Global, storage: S, env: E) -> Machine<E, S>
+        ensures empty { IsNew (state_in (telling S.stored S.is_closed S.failed) result.pager) }
+        ensures starts { StartsWell (values_at E.Node.NodeSet E.Env E.Hash.KeyHash env) (machine_in (telling S.stored S.is_closed S.failed) result) }
+        ensures storage { result.pager.storage ≡ storage }
+        ensures environment { result.pager.environment ≡ env }
+    {
+        Machine::new(alloc, Pager::new(alloc, storage, env))
     }
 
     /// The pager, to look at its values between two runs.
@@ -80,8 +91,9 @@ impl<E: Env<Node: NodeSet<E>>, S: PagableStorage<E>> Machine<E, S> {
         ensures nothing { OnErr result (self.new ≡ self.old) }
         ensures back { IfErr result (λ e. (e.0 ≡ Error.OutOfMemory) × (e.1 ≡ events)) }
     {
-        let Ok(mut replies) = Vec::with_capacity(alloc, events.len()) else {
-            return Err((Error::OutOfMemory, events));
+        let mut replies = match Vec::with_capacity(alloc, events.len()) {
+            Ok(replies) => replies,
+            Err(e) => return Err((Error::from(e), events)),
         };
         let mut rest = VecDeque::from_vec(events);
         while let Some(event) = rest.pop_front() {

@@ -111,7 +111,11 @@ fn item_walk<E: Env<Node: NodeSet<E>>>(
     })
 }
 
-fn entry_walk<E: Env<Node: NodeSet<E>>>(alloc: Global, table: TableNumber, reference: ArcRef) -> Walk<E>
+fn entry_walk<E: Env<Node: NodeSet<E>>>(
+    alloc: Global,
+    table: TableNumber,
+    reference: ArcRef,
+) -> Walk<E>
     ensures { IsBegun table (of_entry reference.handle (identity_of reference)) result }
 {
     let (task, path) = start_entry(alloc, reference);

@@ -48,8 +48,8 @@ impl Calls {
     /// A machine without cells, over a storage as the word tells, or with keys by SHA-256.
     pub fn new(alloc: Global, word: &str) -> Calls {
         match word {
-            "sha256" => Calls::Sha256(Machine::new(alloc, storage_of(alloc, ""), CellEnv::new())),
-            _ => Calls::Weigh(Machine::new(alloc, storage_of(alloc, word), CellEnv::new())),
+            "sha256" => Calls::Sha256(Machine::over(alloc, storage_of(alloc, ""), CellEnv::new())),
+            _ => Calls::Weigh(Machine::over(alloc, storage_of(alloc, word), CellEnv::new())),
         }
     }
 
