@@ -7,8 +7,8 @@ ghost use Rattle.pagable_world.specs.Plain.{Types};
 
 use crate::access::Access;
 use crate::reading::{Reading, is_read_at_once, lend};
-use pagable_codec::{Env, NodeSet, SessionContext};
-use pagable_core::{PagableData, PagableDeserializerImpl, References};
+use pagable_codec::{Env, NodeSet};
+use pagable_core::{PagableData, PagableDeserializerImpl, References, SessionOf};
 use pagable_model::{ArcRef, DataKey, Error, HandleNumber, Kind, NodeNumber};
 use std::alloc::Global;
 use std::sync::Arc;
@@ -19,7 +19,7 @@ use std::sync::Arc;
 #[derive(Drop)]
 pub struct GotReferences<'g, E: Env> {
     env: &'g E,
-    session: &'g SessionContext<E::CtxKey, E::CtxValue>,
+    session: &'g SessionOf<E>,
     got: &'g [ArcRef],
     lent: &'g [Option<Arc<E::Node>>],
     // The place of the reference that was answered last.
@@ -44,7 +44,7 @@ impl<'g, E: Env> References<E> for GotReferences<'g, E> {
         self.env
     }
 
-    fn session_context(&self) -> &SessionContext<E::CtxKey, E::CtxValue> {
+    fn session_context(&self) -> &SessionOf<E> {
         self.session
     }
 
@@ -101,9 +101,10 @@ pub enum Decoded<N: Drop> {
     Refused(Error),
 }
 
-// Reads the blob, in a session of its own, and gives back what was noted besides.
+// Reads the blob, and gives back what was noted besides.
 fn read_got<E: Env<Node: NodeSet<E>>>(
     env: &E,
+    session: &SessionOf<E>,
     alloc: Global,
     blob: &PagableData,
     node_type: u32,
@@ -114,10 +115,9 @@ fn read_got<E: Env<Node: NodeSet<E>>>(
     ensures asked { IfOk result.0 (λ x. E.Node.type_of x ≡ node_type) }
     ensures reads { noted ≡ None → ReadsWith (values_at E.Node.NodeSet E.Env E.Hash.KeyHash env.now) node_type (blob_of blob.now) got.now result.0 }
 {
-    let session = SessionContext::new(alloc);
     let references = GotReferences {
         env,
-        session: &session,
+        session,
         got,
         lent,
         last: 0,
@@ -136,6 +136,7 @@ fn read_got<E: Env<Node: NodeSet<E>>>(
 /// its reader did on an earlier way is trusted: what it asks for next is told by the blob alone.
 pub fn decode<E: Env<Node: NodeSet<E>>>(
     env: &E,
+    session: &SessionOf<E>,
     alloc: Global,
     blob: &PagableData,
     node_type: u32,
@@ -144,7 +145,7 @@ pub fn decode<E: Env<Node: NodeSet<E>>>(
 ) -> Decoded<E::Node>
     ensures decodes { Decodes (values_at E.Node.NodeSet E.Env E.Hash.KeyHash env.now) node_type (blob_of blob.now) got.now result }
 {
-    let (read, _) = read_got(env, alloc, blob, node_type, got, lent, None);
+    let (read, _) = read_got(env, session, alloc, blob, node_type, got, lent, None);
     match read {
         Ok(value) => Decoded::Read(value),
         Err(Error::Storage(kind)) => {
@@ -175,6 +176,7 @@ impl Reading {
     fn foresee<E: Env<Node: NodeSet<E>>>(
         &self,
         env: &E,
+        session: &SessionOf<E>,
         alloc: Global,
         lent: &[Option<Arc<E::Node>>],
     ) -> Option<Vec<ArcRef>>
@@ -187,14 +189,14 @@ impl Reading {
         let got = top.got.as_slice();
         // The blob's reader may ask otherwise than the blob is spelled: none of what it notes is trusted.
         let noting = Some(Vec::new(alloc));
-        let (_read, noted) = read_got(env, alloc, blob, top.node_type, got, lent, noting);
+        let (_read, noted) = read_got(env, session, alloc, blob, top.node_type, got, lent, noting);
         let noted = noted?;
         let mut row = Vec::new(alloc);
         if row.extend_from_slice(got).is_err() || row.extend_from_slice(noted.as_slice()).is_err() {
             return None;
         }
         let last = row.pop()?;
-        let next = decode(env, alloc, blob, top.node_type, row.as_slice(), lent);
+        let next = decode(env, session, alloc, blob, top.node_type, row.as_slice(), lent);
         let Decoded::Wants(kind, _) = next else {
             return None;
         };
@@ -226,7 +228,8 @@ impl Reading {
         let Ok(lent) = lend::<E, A>(access, alloc, got) else {
             return;
         };
-        if let Some(found) = self.foresee(access.env(), alloc, lent.as_slice()) {
+        let session = access.session_context();
+        if let Some(found) = self.foresee(access.env(), session, alloc, lent.as_slice()) {
             *row = found;
         }
     }

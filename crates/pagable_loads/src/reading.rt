@@ -157,7 +157,8 @@ impl Reading {
             return Need::Refuse(Error::OutOfMemory);
         };
         let env = access.env();
-        match decode(env, alloc, blob, top.node_type, got, lent.as_slice()) {
+        let session = access.session_context();
+        match decode(env, session, alloc, blob, top.node_type, got, lent.as_slice()) {
             Decoded::Refused(e) => Need::Refuse(e),
             Decoded::Wants(kind, key) => {
                 if is_read_at_once(kind) {
