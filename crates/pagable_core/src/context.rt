@@ -3,4 +3,5 @@
 pub mod keys;
 pub mod reading;
 pub mod references;
+pub mod setting;
 pub mod writing;

@@ -7,7 +7,8 @@ pub mod storage;
 
 pub use context::keys::PagableKeys;
 pub use context::reading::PagableDeserializerImpl;
-pub use context::references::{NoReferences, References};
+pub use context::references::{NoReferences, References, SessionOf};
+pub use context::setting::Setting;
 pub use context::writing::{PagableSerializerImpl, SerializedData, SerializerForPaging};
 pub use storage::data::PagableData;
 pub use storage::in_memory::InMemoryBlobs;

@@ -11,7 +11,7 @@ ghost use Rattle.pagable_world.specs.World.{seen_as};
 
 use either::Either;
 use pagable_codec::{Env, NodeSet};
-use pagable_core::PagableData;
+use pagable_core::{PagableData, SessionOf};
 use pagable_model::{
     ArcRef, DataKey, Error, HandleNumber, Kind, LoadNumber, NodeNumber, OptionalDataKey,
     WorkerNumber,
@@ -41,6 +41,9 @@ pub trait Access<E: Env<Node: NodeSet<E>>> {
     /// The environment.
     fn env(&self) -> &E
         ensures { result.now ≡ (acting self.now).environment };
+
+    /// Lends the context of the one session of all values that are read and written over this pager's storage. Which values it keeps no clause says.
+    fn session_context(&self) -> &SessionOf<E>;
 
     /// A pin of a loose handle, where its value is in memory, and else a load of its cell. Refused with NoSuchHandle, NotYours, WrongMode, NumbersSpent and OutOfMemory.
     fn begin_pin(&mut self, handle: HandleNumber) -> Result<PinStart, Error>

@@ -7,8 +7,8 @@ ghost use Rattle.pagable_world.specs.Plain.{Types};
 
 use crate::access::Access;
 use crate::reading::{Reading, are_read_later, is_read_at_once, lend};
-use pagable_codec::{Env, NodeSet, SessionContext};
-use pagable_core::{PagableData, PagableDeserializerImpl, References};
+use pagable_codec::{Env, NodeSet};
+use pagable_core::{PagableData, PagableDeserializerImpl, References, SessionOf};
 use pagable_model::{ArcRef, DataKey, Error, HandleNumber, Kind, NodeNumber};
 use std::alloc::Global;
 use std::sync::Arc;
@@ -19,7 +19,6 @@ use std::sync::Arc;
 #[derive(Drop)]
 pub struct GotReferences<'g, E: Env<Node: NodeSet<E>>, A: Access<E>> {
     access: &'g A,
-    session: &'g SessionContext<E::CtxKey, E::CtxValue>,
     got: &'g [ArcRef],
     lent: &'g [Option<Arc<E::Node>>],
     // The place of the reference that was answered last.
@@ -47,8 +46,8 @@ impl<'g, E: Env<Node: NodeSet<E>>, A: Access<E>> References<E> for GotReferences
         self.access.env()
     }
 
-    fn session_context(&self) -> &SessionContext<E::CtxKey, E::CtxValue> {
-        self.session
+    fn session_context(&self) -> &SessionOf<E> {
+        self.access.session_context()
     }
 
     fn reference(&mut self, place: usize, _key: DataKey, kind: Kind) -> Result<ArcRef, Error> {
@@ -105,7 +104,7 @@ pub enum Decoded<N: Drop> {
     Refused(Error),
 }
 
-// Reads the blob, in a session of its own, and gives back what was noted besides.
+// Reads the blob, and gives back what was noted besides.
 fn read_got<E: Env<Node: NodeSet<E>>, A: Access<E>>(
     access: &A,
     alloc: Global,
@@ -119,10 +118,8 @@ fn read_got<E: Env<Node: NodeSet<E>>, A: Access<E>>(
     ensures asked { IfOk result.0 (λ x. E.Node.type_of x ≡ node_type) }
     ensures reads { noted ≡ None → ReadsWith (values_at E.Node.NodeSet E.Env E.Hash.KeyHash (A.acting access.now).environment) node_type (blob_of blob.now) got.now result.0 }
 {
-    let session = SessionContext::new(alloc);
     let references = GotReferences {
         access,
-        session: &session,
         got,
         lent,
         last: 0,

@@ -8,7 +8,7 @@ ghost use Rattle.pagable_world.specs.{Calls.{ClearCall, OfferCall, RecallCall}, 
 use crate::pager::Pager;
 use either::Either;
 use pagable_codec::{Env, NodeSet};
-use pagable_core::{PagableData, PagableStorage};
+use pagable_core::{PagableData, PagableStorage, SessionOf};
 use pagable_loads::{Access, PinStart, Taken, WorkerAccess};
 use pagable_model::{
     ArcRef, DataKey, Error, HandleNumber, Kind, LoadNumber, NodeNumber, OptionalDataKey,
@@ -77,6 +77,10 @@ impl<'a, E: Env<Node: NodeSet<E>>, S: PagableStorage<E>> Access<E> for Lent<'a, 
 
     fn env(&self) -> &E {
         self.pager.env()
+    }
+
+    fn session_context(&self) -> &SessionOf<E> {
+        self.pager.session_context()
     }
 
     fn begin_pin(&mut self, handle: HandleNumber) -> Result<PinStart, Error> {

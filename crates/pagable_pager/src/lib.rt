@@ -3,6 +3,7 @@
 
 pub mod lent;
 pub mod pager;
+mod setting;
 
 pub use lent::{ArcCell, DeserializedArcCache, Lent};
 pub use pager::Pager;

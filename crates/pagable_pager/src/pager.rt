@@ -10,10 +10,11 @@ ghost use Rattle.pagable_world.specs.{Refusals.load_fault, World.{greatest, seen
 pub mod births;
 pub mod handles;
 
+use crate::setting::PagerSetting;
 use either::Either;
 use indexmap::IndexMap;
 use pagable_codec::{Env, NodeSet};
-use pagable_core::{PagableData, PagableStorage};
+use pagable_core::{PagableData, PagableStorage, SessionOf, Setting};
 use pagable_model::{DataKey, Error, HandleNumber, Kind, LoadNumber};
 use pagable_tables::tables::{LoadRoot, Tables};
 use pagable_tables::{giving, loading, lookups, tables};
@@ -29,21 +30,21 @@ pub struct Pager<E: Env<Node: NodeSet<E>>, S: PagableStorage<E>> {
     pub(crate) tables: Tables,
     values: IndexMap<u64, Arc<E::Node>>,
     storage: S,
-    env: E,
+    setting: PagerSetting<E>,
 }
 
 impl<E: Env<Node: NodeSet<E>>, S: PagableStorage<E>> Model for Pager<E, S> {
     ghost use Rattle.std.specs.Coded.{codes};
-    ghost use Rattle.{pagable_loads.specs.Telling.values_at, pagable_pager.specs.View.{PagerView, IsPager, telling}, indexmap.specs.Layout.hash_map_code};
+    ghost use Rattle.{pagable_loads.specs.Telling.values_at, pagable_pager.specs.{Setting.environment_of, View.{PagerView, IsPager, telling}}, indexmap.specs.Layout.hash_map_code};
 
     ghost Value = { PagerView E.Node S E };
 
     ghost coded = { Prim.hlevel (codes, hash_map_code) };
 
-    ghost view = { λ p. record { tables = p.tables; values = p.values; storage = p.storage; environment = p.env } };
+    ghost view = { λ p. record { tables = p.tables; values = p.values; storage = p.storage; environment = environment_of p.setting } };
 
     ghost invariant = { λ p. IsPager (telling S.stored S.is_closed S.failed) (values_at E.Node.NodeSet E.Env E.Hash.KeyHash)
-        (record { tables = p.tables; values = p.values; storage = p.storage; environment = p.env }) };
+        (record { tables = p.tables; values = p.values; storage = p.storage; environment = environment_of p.setting }) };
 }
 
 /// The type of the cell's value, where it is a load of one.
@@ -67,7 +68,22 @@ impl<E: Env<Node: NodeSet<E>>, S: PagableStorage<E>> Pager<E, S> {
             tables: tables::new(alloc),
             values: IndexMap::new(alloc),
             storage,
-            env,
+            setting: PagerSetting::Owned(Setting::new(alloc, env)),
+        }
+    }
+
+    /// Makes a pager of nothing, over a storage as it stands, whose environment and session stand outside it too, as they do outside the
+    /// lock of a pager that threads share. It takes no memory.
+    pub fn shared(alloc: Global, storage: S, setting: Arc<Setting<E>>) -> Pager<E, S>
+        ensures empty { IsNew (state_in (telling S.stored S.is_closed S.failed) result) }
+        ensures storage { result.storage ≡ storage }
+        ensures environment { result.environment ≡ (arc_value setting).env }
+    {
+        Pager {
+            tables: tables::new(alloc),
+            values: IndexMap::new(alloc),
+            storage,
+            setting: PagerSetting::Shared(setting),
         }
     }
 
@@ -111,7 +127,12 @@ impl<E: Env<Node: NodeSet<E>>, S: PagableStorage<E>> Pager<E, S> {
     pub fn env(&self) -> &E
         ensures { result.now ≡ self.now.environment }
     {
-        &self.env
+        &self.setting.get().env
+    }
+
+    /// Lends the context of the one session of all values that this pager's storage holds. Which values it keeps no clause says.
+    pub fn session_context(&self) -> &SessionOf<E> {
+        &self.setting.get().session
     }
 
     /// The storage.

@@ -1,0 +1,27 @@
+//! The setting of a pager.
+
+ghost use Rattle.std.specs.Prelude.{◌≡◌};
+ghost use Rattle.pagable_pager.specs.Setting.{environment_of};
+
+use pagable_codec::Env;
+use pagable_core::Setting;
+use std::sync::Arc;
+
+/// Environment and session of a pager: its own, or one that stands outside the pager too, as it does outside a lock.
+#[derive(Drop)]
+pub(crate) enum PagerSetting<E: Env> {
+    Owned(Setting<E>),
+    Shared(Arc<Setting<E>>),
+}
+
+impl<E: Env> PagerSetting<E> {
+    /// Lends the setting.
+    pub(crate) fn get(&self) -> &Setting<E>
+        ensures { result.now.env ≡ environment_of self.now }
+    {
+        match self {
+            PagerSetting::Owned(setting) => setting,
+            PagerSetting::Shared(setting) => setting.as_ref(),
+        }
+    }
+}
