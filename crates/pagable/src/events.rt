@@ -1,6 +1,6 @@
 //! Each event of the machine: a step of the plain world that leaves the machine whole. A call is one of the pager's, with a reply of the call's type; a load that the caller began goes on by steps.
 
-ghost use Rattle.std.specs.{Arc.arc_value, Prelude.◌≡◌};
+ghost use Rattle.std.specs.{Arc.arc_value, Prelude.{IfErr, None, OnOk, false, is_none, true, ◌*◌, ◌≡◌}};
 ghost use Rattle.pagable.specs.Driving.{Drives, Forgets, IsInStep, IsPrepared, KeepsOne, Serves, Stepped, kept_at, plain_found, rest_after};
 ghost use Rattle.{pagable_core.specs.Data.blob_of, pagable_loads.specs.Telling.values_at, pagable_pager.specs.View.{core_in, given_as, state_in, telling}};
 ghost use Rattle.pagable_world.specs.{Events.given_of, World.seen_as, declared.handles.Owner.Owner};
@@ -98,23 +98,24 @@ fn prepare(
     load: LoadNumber,
     key: DataKey,
     cell_type: Option<u32>,
-)
-    ensures { IsPrepared (kept_at readings.old) load key cell_type (kept_at readings.new) }
+) -> Result<(), Error>
+    ensures kept { IsPrepared (kept_at readings.old) load key cell_type (kept_at readings.new) }
+    ensures placed { OnOk result (kept_at readings.new load.0 ≡ None → is_none cell_type ≡ true) }
+    ensures short { IfErr result (λ e. (e ≡ Error.OutOfMemory) × (kept_at readings.new load.0 ≡ None) × (is_none cell_type ≡ false)) }
 {
     if readings.get(&load.0).is_some() {
-        return;
+        return Ok(());
     }
     let Some(node_type) = cell_type else {
-        return;
+        return Ok(());
     };
-    if readings.reserve(1).is_err() {
-        return;
-    }
+    readings.reserve(1)?;
     put(
         readings,
         load.0,
         Reading::new(alloc, load, key, node_type, true),
     );
+    Ok(())
 }
 
 // One step of a load over a lent pager: the borrow checker takes a lent struct where its own type is asked, and not where any access is.
@@ -146,19 +147,18 @@ fn load_step<E: Env<Node: NodeSet<E>>, S: PagableStorage<E>>(
 {
     pager.is_whole();
     let (key, cell_type) = pager.load_of(load)?;
-    prepare(&mut held.readings, alloc, load, key, cell_type);
-    let Some(own) = held.readings.get_mut(&load.0) else {
-        // Nobody said as what it is read.
-        if cell_type.is_none() {
-            return Err(Error::WrongMode);
-        }
+    if let Err(e) = prepare(&mut held.readings, alloc, load, key, cell_type) {
         // It has no place for its reading, and is given up: this is its only step.
         let _told = pager.load_drop(load);
         pager.is_whole();
         return Ok(LoadReply {
-            ended: Some(LoadAnswer::Refused(Error::OutOfMemory)),
+            ended: Some(LoadAnswer::Refused(e)),
             steps: 1,
         });
+    }
+    let Some(own) = held.readings.get_mut(&load.0) else {
+        // Nobody said as what it is read.
+        return Err(Error::WrongMode);
     };
     let mut lent = Lent::new(pager);
     let reply = step_by(&mut lent, alloc, own);

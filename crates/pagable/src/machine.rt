@@ -80,8 +80,9 @@ impl<E: Env<Node: NodeSet<E>>, S: PagableStorage<E>> Machine<E, S> {
         ensures nothing { OnErr result (self.new ≡ self.old) }
         ensures back { IfErr result (λ e. (e.0 ≡ Error.OutOfMemory) × (e.1 ≡ events)) }
     {
-        let Ok(mut replies) = Vec::with_capacity(alloc, events.len()) else {
-            return Err((Error::OutOfMemory, events));
+        let mut replies = match Vec::with_capacity(alloc, events.len()) {
+            Ok(replies) => replies,
+            Err(e) => return Err((e.into(), events)),
         };
         let mut rest = VecDeque::from_vec(events);
         while let Some(event) = rest.pop_front() {

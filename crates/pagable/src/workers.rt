@@ -13,7 +13,7 @@ use pagable_model::{ArcRef, Error, WorkerNumber};
 use pagable_pager::{Lent, Pager};
 use pagable_walk::stack::{start_entry, start_item};
 use pagable_walk::step::step;
-use pagable_walk::{Moved, LentTable, Task, Turn, Waiting};
+use pagable_walk::{LentTable, Moved, Task, Turn, Waiting};
 use pagable_world::{TableNumber, WorkerAnswer, WorkerReply};
 use std::alloc::Global;
 use std::mem::replace;
@@ -111,7 +111,11 @@ fn item_walk<E: Env<Node: NodeSet<E>>>(
     })
 }
 
-fn entry_walk<E: Env<Node: NodeSet<E>>>(alloc: Global, table: TableNumber, reference: ArcRef) -> Walk<E>
+fn entry_walk<E: Env<Node: NodeSet<E>>>(
+    alloc: Global,
+    table: TableNumber,
+    reference: ArcRef,
+) -> Walk<E>
     ensures { IsBegun table (of_entry reference.handle (identity_of reference)) result }
 {
     let (task, path) = start_entry(alloc, reference);
