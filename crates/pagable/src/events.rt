@@ -1,6 +1,6 @@
 //! Each event of the machine: a step of the plain world that leaves the machine whole. A call is one of the pager's, with a reply of the call's type; a load that the caller began goes on by steps.
 
-ghost use Rattle.std.specs.{Arc.arc_value, Prelude.{IfErr, None, OnOk, is_none, true, false, ◌≡◌}};
+ghost use Rattle.std.specs.{Arc.arc_value, Prelude.{IfErr, None, OnOk, false, is_none, true, ◌*◌, ◌≡◌}};
 ghost use Rattle.pagable.specs.Driving.{Drives, Forgets, IsInStep, IsPrepared, KeepsOne, Serves, Stepped, kept_at, plain_found, rest_after};
 ghost use Rattle.{pagable_core.specs.Data.blob_of, pagable_loads.specs.Telling.values_at, pagable_pager.specs.View.{core_in, given_as, state_in, telling}};
 ghost use Rattle.pagable_world.specs.{Events.given_of, World.seen_as, declared.handles.Owner.Owner};
@@ -90,7 +90,7 @@ fn end<N: Drop>(readings: &mut IndexMap<u64, Reading>, load: u64, ended: &Option
     }
 }
 
-// Sees to it that an open load's reading is kept: it is, or begins now, at the first step of a load of a cell. Refused by want of memory, where it would begin.
+// Sees to it that an open load's reading is kept, where there is a place for it: it is, or begins now, at the first step of a load of a cell.
 #[tactic(auto, using(crate::proofs::Driven::unprepared))]
 fn prepare(
     readings: &mut IndexMap<u64, Reading>,
@@ -99,9 +99,9 @@ fn prepare(
     key: DataKey,
     cell_type: Option<u32>,
 ) -> Result<(), Error>
-    ensures ready { IsPrepared (kept_at readings.old) load key cell_type (kept_at readings.new) }
-    ensures done { OnOk result (kept_at readings.new load.0 ≡ None → is_none cell_type ≡ true) }
-    ensures refused { IfErr result (λ e. (e ≡ Error.OutOfMemory) × (is_none cell_type ≡ false)) }
+    ensures kept { IsPrepared (kept_at readings.old) load key cell_type (kept_at readings.new) }
+    ensures placed { OnOk result (kept_at readings.new load.0 ≡ None → is_none cell_type ≡ true) }
+    ensures short { IfErr result (λ e. (e ≡ Error.OutOfMemory) × (kept_at readings.new load.0 ≡ None) × (is_none cell_type ≡ false)) }
 {
     if readings.get(&load.0).is_some() {
         return Ok(());
@@ -147,19 +147,18 @@ fn load_step<E: Env<Node: NodeSet<E>>, S: PagableStorage<E>>(
 {
     pager.is_whole();
     let (key, cell_type) = pager.load_of(load)?;
-    let prepared = prepare(&mut held.readings, alloc, load, key, cell_type);
-    let Some(own) = held.readings.get_mut(&load.0) else {
-        let Err(refused) = prepared else {
-            // Nobody said as what it is read.
-            return Err(Error::WrongMode);
-        };
+    if let Err(e) = prepare(&mut held.readings, alloc, load, key, cell_type) {
         // It has no place for its reading, and is given up: this is its only step.
         let _told = pager.load_drop(load);
         pager.is_whole();
         return Ok(LoadReply {
-            ended: Some(LoadAnswer::Refused(refused)),
+            ended: Some(LoadAnswer::Refused(e)),
             steps: 1,
         });
+    }
+    let Some(own) = held.readings.get_mut(&load.0) else {
+        // Nobody said as what it is read.
+        return Err(Error::WrongMode);
     };
     let mut lent = Lent::new(pager);
     let reply = step_by(&mut lent, alloc, own);

@@ -13,7 +13,7 @@ use pagable_model::{ArcRef, Error, WorkerNumber};
 use pagable_pager::{Lent, Pager};
 use pagable_walk::stack::{start_entry, start_item};
 use pagable_walk::step::step;
-use pagable_walk::{Moved, LentTable, Task, Turn, Waiting};
+use pagable_walk::{LentTable, Moved, Task, Turn, Waiting};
 use pagable_world::{TableNumber, WorkerAnswer, WorkerReply};
 use std::alloc::Global;
 use std::mem::replace;
