@@ -13,7 +13,7 @@ use Rattle.pagable_laws.proofs.Words.{Some, Task, Todo, Took, Tree, Values, Walk
 use Rattle.pagable_laws.proofs.Words.{append_assoc, cases_Bool, false, give, held, identity_of, if_there, inl, inr, is_some, key_at, nat_eq, nat_tests, no_result, nothing_felt, of_cell, of_entry}
 use Rattle.pagable_laws.proofs.Words.{of_item, one, refl, subst, sum_by-cons, sym, times, to_fail, to_finish, to_item, to_load, to_pin, to_release, to_set, to_start, to_write, true, with_handle, ◌+◌}
 use Rattle.pagable_laws.{proofs.Words.{world_of, ◌&&◌, ◌++◌, ◌==◌, ◌∙◌, ◌∷◌, ◌≡◌, ◌≤◌}, specs.TreeSteps.{AllHold, Ground, HasHandle, IsDone, KeyIsSet, KeysHeld, Waits, Walks, ground_of}}
-use Rattle.{pagable_model.specs.Merkle.KeyOfItem, pagable_world.specs.Access.{AccessState, AllHaveResults, LoadAsksWell, LoadRun, PinLaw, ReadLaw, ReadingStep, WalkStep, WorkerRun, load-ends}}
+use Rattle.{pagable_model.specs.Merkle.KeyOfItem, pagable_world.specs.Access.{AccessState, AllHaveResults, KeyStarts, LoadAsksWell, LoadRun, LoadStarts, PinLaw, ReadLaw, ReadingStep, WalkStep, WorkerRun, load-ends}}
 use Rattle.pagable_world.specs.{Access.{load-goes-on, worker-ends, worker-goes-on}, Headline.{AnswerIsKey, AnswerLeavesAll, AreKeysOf, FailedElsewhere, IsKeyOfTask, IsMetFailure}}
 use Rattle.pagable_world.specs.{Headline.{LeavesAll, Meets, PublishIsKey, ReadIsRight, meets-below, meets-entry, meets-of-item}, Kinds.has_key, LoadCalls.with_load, Loads.{Does as LoadDoes, gone_on}}
 use Rattle.pagable_world.specs.{Order.{Follows, Leads, is_claim_of, is_later_of}, Pager.{Moves, SameTrees, StandsFor, kids_of}, Plain.{is_loose_kind, longest_path}, Runs.TakesWell, Workers.fresh}
@@ -86,24 +86,37 @@ module _ {N E : Type 0} {v : Values N} (lawful : IsLawful v) (readable : ReadsIt
         let going = going-new {v = v} mid trees (fresh l t) refl (let e = ap (λ (x : Last). x.load) a.last in omega (arith, e, next)) in
         grind (arith, nat_tests, same_some, still, whole, begun.stands, going)
 
-pub pin_law : {N E : Type 0} (v : Values N) → PinLaw E v
-pin_law v s mid s' h k reading x row run well starts asks live held lawful readable settled trees stands =
+-- a load of a cell by one call keeps trees
+pub pin-after : {N E : Type 0} (v : Values N) (s mid s' : PagerState N E) (h : HandleNumber) (reading : Reading) (answer : LoadAnswer N) (run : LoadRun v Owner.Caller reading mid answer s') → WellFormed v s
+    → LoadStarts v s h reading mid → LoadAsksWell run → IsLawful v → ReadsItsTypes v.types → HoldsSettled v s → (trees : ℕ → Tree) → Represents v s trees → (trees' : ℕ → Tree) × After v s trees s' trees'
+pin-after v s mid s' h reading answer run well starts asks lawful readable settled trees stands =
     let c = starts.begins in let b = c.step.begins.2 in
     let first = begun lawful readable s mid trees well settled stands (begin-goes _ c.step) c.moves c.whole in
     let f : (t : ℕ) × (reading ≡ fresh reading.load t) = grind (arith, nat_tests, same_some) in
     let u = under lawful readable s mid trees well settled stands (begin-goes _ c.step) c.moves c.whole (with_handle s.core c.step.begins.0.node Mode.LooseUnpinned (Owner.Load reading.load)) reading.load f.0 starts.key (of_cell c.step.begins.0.node b.4.0 h) b.2.above b.4.2 in
     let r = comes lawful readable run asks trees starts.key (subst (λ z. Under v mid trees starts.key z) (sym f.1) u) in
-    let after = after-then first r.after in
-    (r.trees', after.same, after.stands, stands-here (after.stands.stands row.node.0 (row-held s'.core k row live)) held)
+    (r.trees', after-then first r.after)
 
-pub read_law : {N E : Type 0} (v : Values N) → ReadLaw E v
-read_law v s mid s' key t l x run well starts asks settled_value lawful readable settled trees stands =
+-- so does a load of a key, and a value that it reads stands for the tree that the key reads as
+pub read-after : {N E : Type 0} (v : Values N) (s mid s' : PagerState N E) (key t : ℕ) (l : LoadNumber) (answer : LoadAnswer N) (run : LoadRun v Owner.Caller (fresh l t) mid answer s') → WellFormed v s
+    → KeyStarts v s key l mid → LoadAsksWell run → IsLawful v → ReadsItsTypes v.types → HoldsSettled v s → (trees : ℕ → Tree) → Represents v s trees
+    → (trees' : ℕ → Tree) × After v s trees s' trees' × ((x : N) → answer ≡ LoadAnswer.Read x → ReadIsRight v s' key x)
+read-after v s mid s' key t l answer run well starts asks lawful readable settled trees stands =
     let b = starts.step.begins in
     let goes : Goes nothing_felt s.core mid.core = (begins-key {lists = false} {Asks = Unit {0}} {Leaves = Unit {0}} _ starts.step).goes in
     let first = begun lawful readable s mid trees well settled stands goes starts.moves starts.whole in
     let u = under lawful readable s mid trees well settled stands goes starts.moves starts.whole s.core l t key of_key b.1.above b.2 in
-    let r = comes lawful readable run asks trees key u in let after = after-then first r.after in
-    (r.trees', after.same, after.stands, r.right x refl)
+    let r = comes lawful readable run asks trees key u in
+    (r.trees', after-then first r.after, λ x is. r.right x (ap Some is))
+
+pub pin_law : {N E : Type 0} (v : Values N) → PinLaw E v
+pin_law v s mid s' h k reading x row run well starts asks live held lawful readable settled trees stands =
+    let r = pin-after v s mid s' h reading (LoadAnswer.Pinned k) run well starts asks lawful readable settled trees stands in
+    (r.0, r.1.same, r.1.stands, stands-here (r.1.stands.stands row.node.0 (row-held s'.core k row live)) held)
+
+pub read_law : {N E : Type 0} (v : Values N) → ReadLaw E v
+read_law v s mid s' key t l x run well starts asks settled_value lawful readable settled trees stands =
+    let r = read-after v s mid s' key t l (LoadAnswer.Read x) run well starts asks lawful readable settled trees stands in (r.0, r.1.same, r.1.stands, r.2 x refl)
 
 -- the stage k is this one or comes after it, from p on
 abbrev from : ℕ → ℕ → Bool → ℕ

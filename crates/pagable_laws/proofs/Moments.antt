@@ -3,9 +3,9 @@ use Rattle.pagable_laws.proofs.{Answered.{After, after-then}, Chains.{IsGoingOn,
 use Rattle.pagable_laws.proofs.Words.{Alike, Bool, Call, Core, Event, EventReply, HandleNumber, HandleRow, Happens, HoldsSettled, IsLawful, IsMachineWhole, IsWellAsked, KeepsOpen, List, MachineState, Moment, None, Ok, OpenLoad, Option, Owner}
 use Rattle.pagable_laws.proofs.Words.{PagerState, Reading, ReadsItsTypes, Reply, Represents, Result, Seen, Shelf, Site, Some, Task, Todo, Took, Tree, Values, WalkDoes, Walking, WellFormed, WorkerAnswer, WorkerReply}
 use Rattle.pagable_laws.proofs.Words.{answer_after, ap, arith, cases_Bool, false, if_there, inl, inr, length, nat_tests, of_item, refl, rules, subst, sym, true, updated, world_of}
-use Rattle.pagable_laws.{proofs.Words.{ℕ, ◌+◌, ◌<◌, ◌==◌, ◌∙◌, ◌≡◌, ◌≤◌}, specs.{FallLaws.no_work, PageOutLaws.{EachIsPagedOut, EntryAsksWell, EntryIsPagedOut, ItemAsksWell, ItemLaw, LeavesPagedOut, ListAsksWell, ListLaw, NobodyWorks, WorkerAsksWell}}}
+use Rattle.pagable_laws.{proofs.Words.{ℕ, ◌+◌, ◌<◌, ◌==◌, ◌∙◌, ◌≡◌, ◌≤◌}, specs.{CallerLaws.{CallIsRight, IsCall}, FallLaws.no_work, PageOutLaws.{EachIsPagedOut, EntryAsksWell, EntryIsPagedOut, ItemAsksWell, ItemLaw, LeavesPagedOut, ListAsksWell, ListLaw, NobodyWorks, WorkerAsksWell}}}
 use Rattle.pagable_world.specs.{Access.{AccessState, Called, EntryRun, ItemRun, ListRun, WalkStep, WorkerRun, WorkerStarts, entry-is-refused, entry-is-walked, fails, item-is-walked, no-entry-worker, no-more, no-worker, pages, skips, worker-ends, worker-goes-on}, Events.{CallStep, Ends, IsEntry, Starts, entry_task, no_shelf, steps_after, with_entry_taken, with_worker}}
-use Rattle.pagable_world.specs.{Headline.{IsRight, LeavesAll}, Kinds.HasKinds, Pager.{CallBrings, Moves, ReplyWrites}, Runs.{AsksWell, Does as DoesMoment, IsPremised, TodoTakesWell}, Workers.{first_todo, is_counted}, World.{SameShelf, Work}}
+use Rattle.pagable_world.specs.{Headline.{IsRight, LeavesAll, PinGives}, Kinds.HasKinds, Pager.{CallBrings, Moves, ReplyWrites}, Runs.{AsksWell, Does as DoesMoment, IsPremised, TodoTakesWell}, Workers.{first_todo, is_counted}, World.{SameShelf, Work}}
 use Rattle.std.specs.Prelude.{is_none}
 
 -- this worker alone is at work, or nobody
@@ -50,7 +50,8 @@ with-worker-at base n t shelf walking = record { shelves = updated t shelf base.
 abbrev pub reply-of : {W : Type 0} → List Todo → ℕ → Took W → WorkerReply W
 reply-of todo count step = record { took = step; answer = answer_after todo step; steps = steps_after count (is_counted todo step) }
 
-pub works-alone : {N E : Type 0} (n : ℕ) (core : Core) (mid : PagerState N E) → Alike (with_worker core) mid.core → n ≡ core.last.worker + 1 → NobodyWorks core → WorksAlone mid.core n true
+pub works-alone : {N E : Type 0} (n : ℕ) (core : Core) (mid : PagerState N E) → Alike (with_worker core) mid.core → n ≡ core.last.worker + 1 → NobodyWorks core
+    → WorksAlone mid.core n true
 works-alone n core mid a next nobody = record {
   self = ap mid.core.workers next ∙ a.workers (core.last.worker + 1) ∙ updated-at (core.last.worker + 1) true core.workers;
   others = λ q e. a.workers q ∙ (let other = nobody q in (grind (arith, nat_tests)));
@@ -96,7 +97,8 @@ module _ {N E B W : Type 0} (m : Seen N B W) where
     abbrev pub at-work : AccessState N E → List Todo → ℕ → Option WorkerAnswer → MachineState N E
     at-work s todo count answer = record { pager = s.pager; work = with-worker-at base n t s.shelf (walking-on t task todo count answer) }
 
-    is-whole : (s : AccessState N E) (todo : List Todo) (count : ℕ) (answer : Option WorkerAnswer) → WellFormed m.values s.pager → WorksAlone s.pager.core n (is_none answer)
+    is-whole : (s : AccessState N E) (todo : List Todo) (count : ℕ) (answer : Option WorkerAnswer) → WellFormed m.values s.pager
+        → WorksAlone s.pager.core n (is_none answer)
         → IsMachineWhole m.values (at-work s todo count answer)
     is-whole s todo count answer well alone = record {
       pager = well;
@@ -125,8 +127,10 @@ module _ {N E B W : Type 0} (m : Seen N B W) where
       };
     }
 
-    began : (core : Core) (s : AccessState N E) (mid : PagerState N E) (event : Event N B W) (reply : EventReply N B W) → WorkerStarts m.values core s.pager n mid → NobodyWorks core → core.last.worker ≡ s.pager.core.last.worker
-        → Happens m (world_of (at-rest s.pager base)) event reply (world_of (at-work (record { pager = mid; shelf = s.shelf }) (first_todo task) 0 None)) → ReplyWrites m s.pager reply
+    began : (core : Core) (s : AccessState N E) (mid : PagerState N E) (event : Event N B W) (reply : EventReply N B W)
+        → WorkerStarts m.values core s.pager n mid → NobodyWorks core → core.last.worker ≡ s.pager.core.last.worker
+        → Happens m (world_of (at-rest s.pager base)) event reply (world_of (at-work (record { pager = mid; shelf = s.shelf }) (first_todo task) 0 None))
+        → ReplyWrites m s.pager reply
         → DoesMoment m (at-rest s.pager base) event reply (at-work (record { pager = mid; shelf = s.shelf }) (first_todo task) 0 None)
     began core s mid event reply starts nobody last happens writes =
         let c = starts.begins in
@@ -137,7 +141,8 @@ module _ {N E B W : Type 0} (m : Seen N B W) where
           whole = is-whole _ (first_todo task) 0 None c.whole (works-alone n core mid c.step (starts.next ∙ ap (λ k. k + 1) (sym last)) nobody);
         }
 
-    pub item-began : (item : W) (s : AccessState N E) (mid : PagerState N E) → task ≡ of_item (m.written_of item) → base.shelves t ≡ s.shelf → WorkerStarts m.values s.pager.core s.pager n mid → NobodyWorks s.pager.core
+    pub item-began : (item : W) (s : AccessState N E) (mid : PagerState N E) → task ≡ of_item (m.written_of item) → base.shelves t ≡ s.shelf
+        → WorkerStarts m.values s.pager.core s.pager n mid → NobodyWorks s.pager.core
         → DoesMoment m (at-rest s.pager base) (Event.WorkerItem (record { 0 = t }) item) (EventReply.WorkerMade (Ok (record { 0 = n }))) (at-work (record { pager = mid; shelf = s.shelf }) (first_todo task) 0 None)
     item-began item s mid is on starts nobody = began s.pager.core s mid (Event.WorkerItem (record { 0 = t }) item) (EventReply.WorkerMade (Ok (record { 0 = n }))) starts nobody refl (record {
       starts = subst (λ (x : Task). Starts (world_of (at-rest s.pager base)) (record { 0 = t }) x s.pager.core (record { 0 = n }) (world_of (at-work (record { pager = mid; shelf = s.shelf }) (first_todo task) 0 None))) is
@@ -145,7 +150,8 @@ module _ {N E B W : Type 0} (m : Seen N B W) where
       refused = tt;
     }) tt
 
-    pub entry-began : (place : ℕ) (h : HandleNumber) (row : HandleRow) (type : ℕ) (s : AccessState N E) (mid : PagerState N E) → task ≡ entry_task h row type → base.shelves t ≡ s.shelf → IsEntry s.pager.core place h row type → HasKinds type
+    pub entry-began : (place : ℕ) (h : HandleNumber) (row : HandleRow) (type : ℕ) (s : AccessState N E) (mid : PagerState N E) → task ≡ entry_task h row type
+        → base.shelves t ≡ s.shelf → IsEntry s.pager.core place h row type → HasKinds type
         → WorkerStarts m.values (with_entry_taken s.pager.core place h (record { 0 = n })) s.pager n mid → NobodyWorks s.pager.core
         → DoesMoment m (at-rest s.pager base) (Event.WorkerListed (record { 0 = t }) place) (EventReply.WorkerMade (Ok (record { 0 = n }))) (at-work (record { pager = mid; shelf = s.shelf }) (first_todo task) 0 None)
     entry-began place h row type s mid is on entry kinds starts nobody =
@@ -221,7 +227,8 @@ pub record Ended {N E : Type 0} (v : Values N) (s : PagerState N E) (trees : ℕ
   pub nobody : NobodyWorks s'.pager.core
   pub out : (key : ℕ) → answer ≡ WorkerAnswer.Key key → LeavesPagedOut v s'.pager s'.shelf trees' task key
 
-from-after : {N E : Type 0} {v : Values N} {s mid : PagerState N E} {trees trees' : ℕ → Tree} {answer : WorkerAnswer} {task : Task} {s' : AccessState N E} → After v s trees mid trees' → Ended v mid trees' answer task s' → Ended v s trees answer task s'
+from-after : {N E : Type 0} {v : Values N} {s mid : PagerState N E} {trees trees' : ℕ → Tree} {answer : WorkerAnswer} {task : Task} {s' : AccessState N E}
+    → After v s trees mid trees' → Ended v mid trees' answer task s' → Ended v s trees answer task s'
 from-after a r = record { trees' = r.trees'; after = after-then a r.after; well = r.well; settled = r.settled; nobody = r.nobody; out = r.out }
 
 module _ {N E B W : Type 0} (m : Seen N B W) (lawful : IsLawful m.values) (readable : ReadsItsTypes m.values.types) where
@@ -232,7 +239,8 @@ module _ {N E B W : Type 0} (m : Seen N B W) (lawful : IsLawful m.values) (reada
     pub right : IsRight m.values a trees x.event x.reply x.after trees'
     pub going : IsGoingOn m.values x.after trees'
 
-  comes : (a : MachineState N E) (trees : ℕ → Tree) (x : Moment N E B W) → IsGoingOn m.values a trees → DoesMoment m a x.event x.reply x.after → IsPremised m.values a trees x.event x.reply x.after → Came a trees x
+  comes : (a : MachineState N E) (trees : ℕ → Tree) (x : Moment N E B W) → IsGoingOn m.values a trees → DoesMoment m a x.event x.reply x.after
+      → IsPremised m.values a trees x.event x.reply x.after → Came a trees x
   comes a trees x on does premised =
       let g = goes m lawful readable a trees x on does premised in
       let e = event-goes m (world_of a) (world_of x.after) x.event x.reply premised.stays_open does.step.happens in
@@ -242,7 +250,8 @@ module _ {N E B W : Type 0} (m : Seen N B W) (lawful : IsLawful m.values) (reada
     abbrev at : AccessState N E → List Todo → ℕ → Option WorkerAnswer → MachineState N E
     at = at-work m base rests n t there task
 
-    step-comes : (s s' : AccessState N E) (todo next : List Todo) (count : ℕ) (step : Took W) (trees : ℕ → Tree) → WalkStep m n todo s step next s' → WorksAlone s.pager.core n true
+    step-comes : (s s' : AccessState N E) (todo next : List Todo) (count : ℕ) (step : Took W) (trees : ℕ → Tree) → WalkStep m n todo s step next s'
+        → WorksAlone s.pager.core n true
         → IsGoingOn m.values (at s todo count None) trees → HoldsSettled m.values s'.pager → TodoTakesWell m.values s.pager todo
         → Came (at s todo count None) trees (record {
           event = Event.WorkerStep (record { 0 = n });
@@ -257,8 +266,10 @@ module _ {N E B W : Type 0} (m : Seen N B W) (lawful : IsLawful m.values) (reada
           well = λ walking is. subst (λ (x : Walking). TodoTakesWell m.values s.pager x.todo) (same_some _ _ (sym (updated-at n (Some (walking-on t task todo count None)) base.walkings) ∙ is)) takes;
         })
 
-    pub ends : {todo : List Todo} {s s' : AccessState N E} {steps : List (Took W)} {answer : WorkerAnswer} (run : WorkerRun m n todo s steps answer s') → WorkerAsksWell run
-        → (count : ℕ) (trees : ℕ → Tree) → WorksAlone s.pager.core n true → IsGoingOn m.values (at s todo count None) trees → Ended m.values s.pager trees answer task s'
+    pub ends : {todo : List Todo} {s s' : AccessState N E} {steps : List (Took W)} {answer : WorkerAnswer} (run : WorkerRun m n todo s steps answer s')
+        → WorkerAsksWell run
+        → (count : ℕ) (trees : ℕ → Tree) → WorksAlone s.pager.core n true → IsGoingOn m.values (at s todo count None) trees
+        → Ended m.values s.pager trees answer task s'
     unfolding WorkerAsksWell
     ends (worker-ends todo next step answer s s' w is) asks count trees alone on =
         let c = step-comes s s' todo next count step trees w alone on asks.0 asks.1 in
@@ -318,7 +329,8 @@ module _ {N E B W : Type 0} (m : Seen N B W) (lawful : IsLawful m.values) (reada
       (at-work m tabled tabled-rests n 1 (omega arith, omega arith) task (record { pager = mid; shelf = s.shelf }) (first_todo task) 0 None)
       → KeepsOpen event → IsWellAsked m.values (at-rest m s.pager tabled) with-a-table.trees' event (EventReply.WorkerMade (Ok (record { 0 = n })))
       → WorkerStarts m.values core s.pager n mid → NobodyWorks core → core.last.worker ≡ s.pager.core.last.worker
-      → (run : WorkerRun m n (first_todo task) (record { pager = mid; shelf = s.shelf }) steps answer s') → WorkerAsksWell run → Ended m.values s.pager trees answer task s'
+      → (run : WorkerRun m n (first_todo task) (record { pager = mid; shelf = s.shelf }) steps answer s') → WorkerAsksWell run
+      → Ended m.values s.pager trees answer task s'
   on-new n task core mid s' steps answer event does stays well starts nobody last run asks =
       let c = comes m lawful readable _ with-a-table.trees' _ with-a-table.going does (record {
         settled = λ q x has. elim (starts.begins.moves.each q x has) [ inl was ↦ settled q x was | inr came ↦ absurd came.1 ];
@@ -329,15 +341,17 @@ module _ {N E B W : Type 0} (m : Seen N B W) (lawful : IsLawful m.values) (reada
       from-after with-a-table.after (from-after c.after (ends m lawful readable tabled tabled-rests n 1 (omega arith, omega arith) task run asks 0 c.trees'
       (works-alone n core mid starts.begins.step (starts.next ∙ ap (λ k. k + 1) (sym last)) nobody) c.going))
 
-  pub item-leaves : (item : W) {s' : AccessState N E} {answer : WorkerAnswer} (run : ItemRun m s (m.written_of item) answer s') (key : ℕ) → answer ≡ WorkerAnswer.Key key → ItemAsksWell run
+  item-walks : (item : W) {n : ℕ} {mid : PagerState N E} {s' : AccessState N E} {steps : List (Took W)} {answer : WorkerAnswer}
+      → WorkerStarts m.values s.pager.core s.pager n mid
+      → (run : WorkerRun m n (first_todo (of_item (m.written_of item))) (record { pager = mid; shelf = s.shelf }) steps answer s') → WorkerAsksWell run
       → Ended m.values s.pager trees answer (of_item (m.written_of item)) s'
-  item-leaves item (no-worker s' c same_shelf) key same asks = absurd (cc)
-  item-leaves item (item-is-walked n steps answer mid s' starts run) key same asks =
+  item-walks item {n} {mid} {s'} {steps} {answer} starts run asks =
       let task = of_item (m.written_of item) in
       on-new n task s.pager.core mid s' steps answer (Event.WorkerItem (record { 0 = 1 }) item)
       (item-began m tabled tabled-rests n 1 (omega arith, omega arith) task item s mid refl (updated-at 1 s.shelf no_work.shelves) starts nobody) tt tt starts nobody refl run asks
 
-  pub entry-walks : (place : ℕ) (h : HandleNumber) (row : HandleRow) (type n : ℕ) (mid : PagerState N E) {s' : AccessState N E} {steps : List (Took W)} {answer : WorkerAnswer} → IsEntry s.pager.core place h row type → HasKinds type
+  entry-walks : (place : ℕ) (h : HandleNumber) (row : HandleRow) (type n : ℕ) (mid : PagerState N E) {s' : AccessState N E} {steps : List (Took W)} {answer : WorkerAnswer}
+      → IsEntry s.pager.core place h row type → HasKinds type
       → WorkerStarts m.values (with_entry_taken s.pager.core place h (record { 0 = n })) s.pager n mid
       → (run : WorkerRun m n (first_todo (entry_task h row type)) (record { pager = mid; shelf = s.shelf }) steps answer s') → WorkerAsksWell run
       → Ended m.values s.pager trees answer (entry_task h row type) s'
@@ -346,23 +360,14 @@ module _ {N E B W : Type 0} (m : Seen N B W) (lawful : IsLawful m.values) (reada
       on-new n task (with_entry_taken s.pager.core place h (record { 0 = n })) mid s' steps answer (Event.WorkerListed (record { 0 = 1 }) place)
       (entry-began m tabled tabled-rests n 1 (omega arith, omega arith) task place h row type s mid refl (updated-at 1 s.shelf no_work.shelves) entry kinds starts nobody) tt tt starts nobody refl run asks
 
-pub item_law : {N B W : Type 0} (E : Type 0) (m : Seen N B W) → ItemLaw E m
-item_law E m s s' item key run well nobody new asks lawful readable settled trees stands =
-    let r = item-leaves m lawful readable s well nobody new settled trees stands item run key refl asks in (r.trees', r.after.same, r.after.stands, r.out key refl)
-
 -- ---- calls
 
 module _ {N E B W : Type 0} (m : Seen N B W) where
-  -- a call of the caller's: the step that it is, and which value comes by it
-  pub record Calls (s : PagerState N E) (call : Call N B) (reply : Reply N B) (s' : PagerState N E) : Type 0 where
-    pub step : CallStep m s.core Owner.Caller call reply s'.core
-    pub moves : Moves (CallBrings s.core call) s s'
-    pub whole : WellFormed m.values s'
-
-  call-nobody : {s s' : PagerState N E} {call : Call N B} {reply : Reply N B} → Calls s call reply s' → KeepsOpen {N = N} {B = B} {W = W} (Event.Call call) → NobodyWorks s.core → NobodyWorks s'.core
+  pub call-nobody : {s s' : PagerState N E} {call : Call N B} {reply : Reply N B} → IsCall m s call reply s'
+      → KeepsOpen {N = N} {B = B} {W = W} (Event.Call call) → NobodyWorks s.core → NobodyWorks s'.core
   call-nobody {s} {s'} {call} {reply} c stays nobody q = (calls-go m s.core Owner.Caller caller-free s'.core call reply stays c.step.does).does.workers q ∙ nobody q
 
-  pub called : (s s' : PagerState N E) (work : Work) (call : Call N B) (reply : Reply N B) → IsAtRest work → Calls s call reply s' → NobodyWorks s'.core
+  pub called : (s s' : PagerState N E) (work : Work) (call : Call N B) (reply : Reply N B) → IsAtRest work → IsCall m s call reply s' → NobodyWorks s'.core
       → DoesMoment m (at-rest m s work) (Event.Call call) (EventReply.CallReply reply) (at-rest m s' work)
   called s s' work call reply rests c nobody = record {
     step = record {
@@ -377,43 +382,53 @@ module _ {N E B W : Type 0} (m : Seen N B W) where
     whole = rest-whole m s' work rests c.whole nobody;
   }
 
--- ---- the list, entry by entry
+-- ---- an operation after the other
+
+-- where the pager stands for trees, with all that is asked of it
+pub record Stands {N E : Type 0} (v : Values N) (s : PagerState N E) (trees : ℕ → Tree) : Type 0 where
+  pub well : WellFormed v s
+  pub nobody : NobodyWorks s.core
+  pub settled : HoldsSettled v s
+  pub stands : Represents v s trees
+
+-- afterwards, with the trees that there are then
+pub record Stays {N E : Type 0} (v : Values N) (s : PagerState N E) (trees : ℕ → Tree) (s' : PagerState N E) : Type 0 where
+  pub trees' : ℕ → Tree
+  pub after : After v s trees s' trees'
+  pub now : Stands v s' trees'
+
+call-right : (W : Type 0) {N E B : Type 0} (v : Values N) (s s' : MachineState N E) (trees trees' : ℕ → Tree) (call : Call N B) (reply : Reply N B)
+    → PinGives {W = W} v s trees (Event.Call call) (EventReply.CallReply reply) s' trees' → CallIsRight v s'.pager trees' call reply
+call-right W v s s' trees trees' x6 x7 gives = grind (arith, nat_tests)
 
 module _ {N E B W : Type 0} (m : Seen N B W) (lawful : IsLawful m.values) (readable : ReadsItsTypes m.values.types) where
-  -- where the pager stands for trees, with all that is asked of it
-  record Stands (s : PagerState N E) (trees : ℕ → Tree) : Type 0 where
-    pub well : WellFormed m.values s
-    pub nobody : NobodyWorks s.core
-    pub settled : HoldsSettled m.values s
-    pub stands : Represents m.values s trees
-
-  -- afterwards, with the trees that there are then
-  record Stays (s : PagerState N E) (trees : ℕ → Tree) (s' : PagerState N E) : Type 0 where
-    pub trees' : ℕ → Tree
-    pub after : After m.values s trees s' trees'
-    pub now : Stands s' trees'
-
-  call-stays : {s s' : PagerState N E} {call : Call N B} {reply : Reply N B} {trees : ℕ → Tree} → Stands s trees → Calls m s call reply s' → KeepsOpen {N = N} {B = B} {W = W} (Event.Call call)
-      → AsksWell m.values s trees call reply → HoldsSettled m.values s' → Stays s trees s'
-  call-stays {s} {s'} {call} {reply} {trees} at c stays asks settled =
+  pub call-stays : {s s' : PagerState N E} {trees : ℕ → Tree} (call : Call N B) (reply : Reply N B) → Stands m.values s trees → IsCall m s call reply s'
+      → KeepsOpen {N = N} {B = B} {W = W} (Event.Call call)
+      → AsksWell m.values s trees call reply → HoldsSettled m.values s' → (a : Stays m.values s trees s') × CallIsRight m.values s' a.trees' call reply
+  call-stays {s} {s'} {trees} call reply at c stays asks settled =
       let nobody = call-nobody m c stays at.nobody in
       let g = comes m lawful readable _ trees _ (starting m lawful readable s at.well at.nobody at.settled trees at.stands) (called m s s' no_work call reply nobody-yet c nobody)
-      (record { settled = settled; reads_settled = λ x is. absurd (cc); stays_open = stays; well = asks }) in
-      record { trees' = g.trees'; after = g.after; now = record { well = c.whole; nobody = nobody; settled = settled; stands = g.after.stands } }
+      (record { settled = settled; reads_settled = λ x is. absurd (cc); stays_open = stays; well = asks }) in (
+        record { trees' = g.trees'; after = g.after; now = record { well = c.whole; nobody = nobody; settled = settled; stands = g.after.stands } },
+        call-right W m.values (at-rest m s no_work) (at-rest m s' no_work) trees g.trees' call reply g.right.pins_give,
+      )
 
-  still-settled : {does : Core → Type 0} {s s' : PagerState N E} {trees : ℕ → Tree} → Stands s trees → Called m.values does s s' → HoldsSettled m.values s'
+  pub still-settled : {does : Core → Type 0} {s s' : PagerState N E} {trees : ℕ → Tree} → Stands m.values s trees → Called m.values does s s'
+      → HoldsSettled m.values s'
   still-settled at c = λ q x has. elim (c.moves.each q x has) [ inl was ↦ at.settled q x was | inr came ↦ absurd came.1 ]
 
-  no-value : {s s' : PagerState N E} (call : Call N B) → Moves (λ n x. ⊥) s s' → Moves (CallBrings s.core call) s s'
+  pub no-value : {s s' : PagerState N E} (call : Call N B) → Moves (λ n x. ⊥) s s' → Moves (CallBrings s.core call) s s'
   no-value call moves = record { each = λ q x is. elim (moves.each q x is) [ inl was ↦ inl was | inr came ↦ absurd came.1 ]; environment = moves.environment }
 
   -- nothing that can be told of changes
-  unchanged : {s s' : PagerState N E} {trees : ℕ → Tree} → Stands s trees → Called m.values (λ w'. Alike s.core w') s s' → Stays s trees s'
-  unchanged {s} at c = call-stays {call = Call.Pending} {reply = Reply.Length (length s.core.list)} at
-      (record { step = record { does = (refl, c.step) }; moves = no-value Call.Pending c.moves; whole = c.whole }) tt tt (still-settled at c)
+  pub unchanged : {s s' : PagerState N E} {trees : ℕ → Tree} → Stands m.values s trees → Called m.values (λ w'. Alike s.core w') s s'
+      → Stays m.values s trees s'
+  unchanged {s} at c = (call-stays Call.Pending (Reply.Length (length s.core.list)) at
+      (record { step = record { does = (refl, c.step) }; moves = no-value Call.Pending c.moves; whole = c.whole }) tt tt (still-settled at c)).0
 
-  entry-stays : {s s' : PagerState N E} {place : ℕ} {answer : WorkerAnswer} {trees : ℕ → Tree} → Stands s trees → (run : EntryRun m s place answer s') → EntryAsksWell run
-      → (a : Stays s trees s') × ((key : ℕ) → answer ≡ WorkerAnswer.Key key → EntryIsPagedOut m.values s.core place s' a.trees' key)
+  entry-stays : {s s' : PagerState N E} {place : ℕ} {answer : WorkerAnswer} {trees : ℕ → Tree} → Stands m.values s trees → (run : EntryRun m s place answer s')
+      → EntryAsksWell run
+      → (a : Stays m.values s trees s') × ((key : ℕ) → answer ≡ WorkerAnswer.Key key → EntryIsPagedOut m.values s.core place s' a.trees' key)
   entry-stays at (entry-is-refused h row t s' is none c) asks = (unchanged at c, λ key same. absurd (cc))
   entry-stays at (no-entry-worker s' c) asks = (unchanged at c, λ key same. absurd (cc))
   entry-stays {s} {place = place} {trees = trees} at (entry-is-walked h row t n steps answer mid s' is kinds starts run) asks =
@@ -422,23 +437,36 @@ module _ {N E B W : Type 0} (m : Seen N B W) (lawful : IsLawful m.values) (reada
         λ key same. record { h = h; row = row; t = t; shelf = s'.shelf; entry = is; out = r.out key same },
       )
 
-  list-stays : {i : ℕ} {s s' : PagerState N E} {answer : Result (Unit {0}) WorkerAnswer} {trees : ℕ → Tree} (run : ListRun m i s answer s') → Stands s trees → ListAsksWell run
-      → (trees' : ℕ → Tree) × After m.values s trees s' trees' × EachIsPagedOut run trees
+  pub item-stays : {s s' : AccessState N E} {answer : WorkerAnswer} {trees : ℕ → Tree} (item : W) → Stands m.values s.pager trees → SameShelf no_shelf s.shelf
+      → (run : ItemRun m s (m.written_of item) answer s') → ItemAsksWell run
+      → (a : Stays m.values s.pager trees s'.pager) × ((key : ℕ) → answer ≡ WorkerAnswer.Key key → LeavesPagedOut m.values s'.pager s'.shelf a.trees' (of_item (m.written_of item)) key)
+  item-stays item at new (no-worker s' c same_shelf) asks = (unchanged at c, λ key same. absurd (cc))
+  item-stays {s} {trees = trees} item at new (item-is-walked n steps answer mid s' starts run) asks =
+      let r = item-walks m lawful readable s at.well at.nobody new at.settled trees at.stands item starts run asks in
+      (record { trees' = r.trees'; after = r.after; now = record { well = r.well; nobody = r.nobody; settled = r.settled; stands = r.after.stands } }, r.out)
+
+  pub list-stays : {i : ℕ} {s s' : PagerState N E} {answer : Result (Unit {0}) WorkerAnswer} {trees : ℕ → Tree} (run : ListRun m i s answer s')
+      → Stands m.values s trees → ListAsksWell run
+      → Stays m.values s trees s' × EachIsPagedOut run trees
   unfolding ListAsksWell EachIsPagedOut
-  list-stays {trees = trees} (no-more s) at asks = (trees, record { same = λ n within. refl; nodes = omega arith; stands = at.stands }, tt)
+  list-stays {trees = trees} (no-more s) at asks = (record { trees' = trees; after = record { same = λ n within. refl; nodes = omega arith; stands = at.stands }; now = at }, tt)
   list-stays (skips i place key h told answer s mid low s' is has takes releases more) at asks =
-      let a = call-stays {call = Call.TakePending place} {reply = Reply.Taken (Some h)} at (record { step = record { does = takes.step }; moves = no-value (Call.TakePending place) takes.moves; whole = takes.whole }) tt tt (still-settled at takes) in
-      let b = call-stays {call = Call.Release h} {reply = Reply.Done told} a.now
-      (record { step = record { does = releases.step }; moves = no-value (Call.Release h) releases.moves; whole = releases.whole }) tt tt (still-settled a.now releases) in
+      let a = (call-stays (Call.TakePending place) (Reply.Taken (Some h)) at (record { step = record { does = takes.step }; moves = no-value (Call.TakePending place) takes.moves; whole = takes.whole }) tt tt (still-settled at takes)).0 in
+      let b = (call-stays (Call.Release h) (Reply.Done told) a.now
+      (record { step = record { does = releases.step }; moves = no-value (Call.Release h) releases.moves; whole = releases.whole }) tt tt (still-settled a.now releases)).0 in
       let r = list-stays more b.now asks in
       let both = after-then a.after b.after in
-      (r.0, after-then both r.1, (b.trees', both.same, both.stands, r.2))
+      (record { trees' = r.0.trees'; after = after-then both r.0.after; now = r.0.now }, (b.trees', both.same, both.stands, r.1))
   list-stays (pages i place key h answer s mid s' is has entry more) at asks =
       let (a, out) = entry-stays at entry asks.0 in
       let r = list-stays more a.now asks.1 in
-      (r.0, after-then a.after r.1, (a.trees', a.after.same, a.after.stands, out key refl, r.2))
-  list-stays (fails i place h e s s' is has entry) at asks = let (a, out) = entry-stays at entry asks in (a.trees', a.after, tt)
+      (record { trees' = r.0.trees'; after = after-then a.after r.0.after; now = r.0.now }, (a.trees', a.after.same, a.after.stands, out key refl, r.1))
+  list-stays (fails i place h e s s' is has entry) at asks = let (a, out) = entry-stays at entry asks in (a, tt)
 
 pub list_law : {N B W : Type 0} (E : Type 0) (m : Seen N B W) → ListLaw E m
 list_law E m i s s' answer run well nobody asks lawful readable settled trees stands =
-    let r = list-stays m lawful readable run (record { well = well; nobody = nobody; settled = settled; stands = stands }) asks in (r.0, r.1.same, r.1.stands, r.2)
+    let r = list-stays m lawful readable run (record { well = well; nobody = nobody; settled = settled; stands = stands }) asks in (r.0.trees', r.0.after.same, r.0.after.stands, r.1)
+
+pub item_law : {N B W : Type 0} (E : Type 0) (m : Seen N B W) → ItemLaw E m
+item_law E m s s' item key run well nobody new asks lawful readable settled trees stands =
+    let (a, out) = item-stays m lawful readable item (record { well = well; nobody = nobody; settled = settled; stands = stands }) new run asks in (a.trees', a.after.same, a.after.stands, out key refl)

@@ -17,6 +17,7 @@ use Rattle.pagable_laws.proofs.{Called.releases, Goes.{among-found, fell-anyhow,
 use Rattle.{pagable_laws.proofs.Called.gets-known as was-known, std.proofs.{Common.get_or, lemmas.{List.{Edits.length-remove, Sums.sum_by-remove}, Option.{get_or_from_slice_get, slice_get-get_or}}}}
 use Rattle.{pagable_world.specs.{Loads.{Does as LoadDoes, asks, gone_on, handles_of, need_of, needs_nested, nested_frame, to_adopt, with_got}, Pager.FrameFits, Runs.Does}, std.specs.List.remove}
 use Rattle.pagable_world.specs.{Events.Ends, OneWorker.GetsReference, Pager.{IsReadingOf, IsWhole, NodeStands, OwnersAreThere, SameTrees, StandsFor}}
+use Rattle.pagable_laws.specs.{FallLaws.ReadingFills, TreeSteps.Knows}
 use Rattle.pagable_world.specs.{Headline.{LoadsHaveStepsLeft, ReadGives, ReadIsRight, StepIsWithin}, OneWorker.{IsFilledByReading, LeavesCache, OneIdentityLaw, StaysAlive}, World.{type_at, usable}}
 use Rattle.pagable_world.specs.{Calls.{ReleaseCall, with_node}, LoadCalls.{HandOverCall, is_owned_in, numbers_of}, Order.{IsWithinBound, Unfolds, UnfoldsFrom, after_kinds, unfolds}}
 use Rattle.pagable_world.specs.Workers as workers
@@ -368,6 +369,29 @@ module _ {N B W E : Type 0} (m : Seen N B W) (kind : Kind) (key n : ℕ) where
             let h' : IsHeldFor kind.0 key n x.after.pager.core.rows = record { row = a.row; live = a.live; at = a.at; pins_it = λ is. grind (arith, nat_tests) } in
             used alive ((g.lasts kept kind.0 key n).lasts e h h') h',
       )
+
+known-twice : (c : Change) (w : Core) (kind key k q n : ℕ) → Knows c w kind key n → Knows c w k q n → (k ≡ kind) × (q ≡ key)
+known-twice x0 w kind key k q n a b = grind (arith, nat_tests)
+
+filled-goes : {c : Change} {w w' : Core} → IsWhole w → Goes c w w' → KnowsNext c w → IsFilledByReading w → IsFilledByReading w'
+filled-goes {c} {w} whole g next filled kind key k q n a b =
+    let old : (kind key : ℕ) → w.cache kind key ≡ Some n → (k q : ℕ) → Knows c w k q n → ⊥ = λ kind key was k q new. let given = (whole.cache kind key n was).given in let e = next k q n new in omega (arith, given, e) in
+    elim (g.cache kind key n a) [
+      | inl was ↦ elim (g.cache k q n b) [ inl too ↦ filled kind key k q n was too | inr new ↦ absurd (old kind key was k q new) ]
+      | inr new ↦ elim (g.cache k q n b) [ inl was ↦ absurd (old k q was kind key new) | inr too ↦ known-twice c w kind key k q n new too ]
+    ]
+
+filled-along : {N E B W : Type 0} (m : Seen N B W) (s : MachineState N E) (xs : List (Moment N E B W)) → IsMachineWhole m.values s → AreMoments m s xs → ((x : Moment N E B W) → Among xs x → LeavesCache x.event)
+    → IsFilledByReading s.pager.core → IsFilledByReading (state_after s xs).pager.core
+unfolding state_after
+filled-along m s [] whole chain leaves filled = filled
+filled-along m s (x ∷ xs) whole (does, more) leaves filled =
+    let kept = leaves x (zero, refl) in
+    let g = event-goes m (world_of s) (world_of x.after) x.event x.reply (keeps-open x.event kept) does.step.happens in
+    filled-along m x.after xs does.whole more (λ y (i, is). leaves y (suc i, is)) (filled-goes whole.pager.whole g.goes (g.knows whole.pager.whole kept) filled)
+
+pub reading_fills : {N B W : Type 0} (E : Type 0) (m : Seen N B W) → ReadingFills E m
+reading_fills E m = record { new = λ s new kind key k q n a b. absurd (let e = new.cache kind key in cc); stays = filled-along m }
 
 same : {u last : Core} (kind other_kind : Kind) (key other_key n other_n : ℕ) → Got u other_kind other_key other_n last
     → (IsKnownOnce kind.0 key n u → other_n ≡ n → other_key ≡ key) × (usable u kind.0 key ≡ Some n → other_kind ≡ kind → other_key ≡ key → other_n ≡ n)

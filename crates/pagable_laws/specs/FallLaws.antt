@@ -2,7 +2,7 @@
 use Rattle.std.specs.Prelude.{Bool, List, None, Ok, Option, Some, [], false, filter, length, ℕ, ◌&&◌, ◌++◌, ◌==◌, ◌||◌, ◌∷◌, ◌≡◌}
 use Rattle.pagable_world.specs.declared.rows.Mode.{Mode}
 use Rattle.pagable_world.specs.{Calls.{UnpinCall, row_of}, Cascade.IsLeast, Events.no_shelf, Kinds.{is_owned_by, is_pinning, owner_value, pins}, Loads.{asks, is_faulty, next_in, reads}, Pager.IsIdle}
-use Rattle.pagable_world.specs.{Pager.{IsMachineWhole, IsNew, MachineState, StandsFor}, Plain.{Among, ArcRef, Blob, Error, HandleNumber, Kind, Meaning, NodeNumber, OptionalDataKey, Tree, Types}}
+use Rattle.pagable_world.specs.{OneWorker.{IsFilledByReading, LeavesCache}, Pager.{IsMachineWhole, IsNew, MachineState, PagerState, StandsFor}, Plain.{Among, ArcRef, Blob, Error, HandleNumber, Kind, Meaning, NodeNumber, OptionalDataKey, Tree, Types}}
 use Rattle.pagable_world.specs.{Plain.{times, updated}, Runs.{AreMoments, HoldsSettled, Moment, state_after}, World.{Core, Frame, IsLawful, Places, Seen, Values, Work}, declared.handles.{HandleRow.HandleRow, Owner.Owner}}
 
 -- nothing but what a storage holds, with these places
@@ -107,6 +107,12 @@ pub record NewIsWhole {N : Type 0} (E : Type 0) (v : Values N) : Type 0 where
   pub new : (stored : ℕ → Option Blob) (places : Places) (env : E) → IsNew (let s : MachineState N E = new_machine stored places env in s.pager)
   pub idle : (stored : ℕ → Option Blob) (places : Places) (env : E) → IsIdle (let s : MachineState N E = new_machine stored places env in s)
   pub starts : (s : MachineState N E) → IsNew s.pager → IsIdle s → IsLawful v → StartsWell v s
+
+-- The cache of a new pager has each node once, since it knows none; and so it stays along chains of which no event clears it, puts a caller's reference into it or closes the storage.
+pub record ReadingFills {N B W : Type 0} (E : Type 0) (m : Seen N B W) : Type 0 where
+  pub new : (s : PagerState N E) → IsNew s → IsFilledByReading s.core
+  pub stays : (s : MachineState N E) (moments : List (Moment N E B W)) → IsMachineWhole m.values s → AreMoments m s moments → ((x : Moment N E B W) → Among moments x → LeavesCache x.event)
+      → IsFilledByReading s.pager.core → IsFilledByReading (state_after s moments).pager.core
 
 -- A blob is read, asks for one reference, or is refused: at most one of these.
 pub record NextIsOne (types : Types) (frame : Frame) : Type 0 where

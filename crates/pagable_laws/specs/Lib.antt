@@ -4,3 +4,4 @@ pub mod TreeSteps
 pub mod TwoLevels
 pub mod DeepLaws
 pub mod PageOutLaws
+pub mod CallerLaws

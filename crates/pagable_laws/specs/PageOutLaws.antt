@@ -10,11 +10,13 @@ abbrev pub NobodyWorks : Core → Type 0
 NobodyWorks w = (v : ℕ) → w.workers v ≡ false
 
 -- what is asked of each step of a worker, as of a load's: no value in memory is written later, and keys that are taken without being read read as some value
-unfoldable pub WorkerAsksWell : {N E B W : Type 0} {m : Seen N B W} {n : ℕ} {todo : List Todo} {s s' : AccessState N E} {steps : List (Took W)} {answer : WorkerAnswer} → WorkerRun m n todo s steps answer s' → Type 0
+unfoldable pub WorkerAsksWell : {N E B W : Type 0} {m : Seen N B W} {n : ℕ} {todo : List Todo} {s s' : AccessState N E} {steps : List (Took W)} {answer : WorkerAnswer}
+    → WorkerRun m n todo s steps answer s' → Type 0
 WorkerAsksWell {m = m} (worker-ends todo next step answer s s' does is) = HoldsSettled m.values s'.pager × TodoTakesWell m.values s.pager todo
 WorkerAsksWell {m = m} (worker-goes-on todo next step steps answer s mid s' does is more) = HoldsSettled m.values mid.pager × TodoTakesWell m.values s.pager todo × WorkerAsksWell more
 
-abbrev pub ItemAsksWell : {N E B W : Type 0} {m : Seen N B W} {s s' : AccessState N E} {item : Written} {answer : WorkerAnswer} → ItemRun m s item answer s' → Type 0
+abbrev pub ItemAsksWell : {N E B W : Type 0} {m : Seen N B W} {s s' : AccessState N E} {item : Written} {answer : WorkerAnswer} → ItemRun m s item answer s'
+    → Type 0
 ItemAsksWell (item-is-walked n steps answer mid s' starts run) = WorkerAsksWell run
 ItemAsksWell run = Unit {0}
 
@@ -38,18 +40,21 @@ pub record EntryIsPagedOut {N E : Type 0} (v : Values N) (w : Core) (place : ℕ
   pub entry : IsEntry w place h row t
   pub out : LeavesPagedOut v s shelf trees (entry_task h row t) key
 
-abbrev pub EntryAsksWell : {N E B W : Type 0} {m : Seen N B W} {s s' : PagerState N E} {place : ℕ} {answer : WorkerAnswer} → EntryRun m s place answer s' → Type 0
+abbrev pub EntryAsksWell : {N E B W : Type 0} {m : Seen N B W} {s s' : PagerState N E} {place : ℕ} {answer : WorkerAnswer} → EntryRun m s place answer s'
+    → Type 0
 EntryAsksWell (entry-is-walked h row t n steps answer mid s' is kinds starts run) = WorkerAsksWell run
 EntryAsksWell run = Unit {0}
 
-unfoldable pub ListAsksWell : {N E B W : Type 0} {m : Seen N B W} {i : ℕ} {s s' : PagerState N E} {answer : Result (Unit {0}) WorkerAnswer} → ListRun m i s answer s' → Type 0
+unfoldable pub ListAsksWell : {N E B W : Type 0} {m : Seen N B W} {i : ℕ} {s s' : PagerState N E} {answer : Result (Unit {0}) WorkerAnswer}
+    → ListRun m i s answer s' → Type 0
 ListAsksWell (no-more s) = Unit {0}
 ListAsksWell (skips i place key h told answer s mid low s' is has takes releases more) = ListAsksWell more
 ListAsksWell (pages i place key h answer s mid s' is has entry more) = EntryAsksWell entry × ListAsksWell more
 ListAsksWell (fails i place h e s s' is has entry) = EntryAsksWell entry
 
 -- each entry that is paged out leaves all that it met, by trees that nodes keep from one entry to the next
-unfoldable pub EachIsPagedOut : {N E B W : Type 0} {m : Seen N B W} {i : ℕ} {s s' : PagerState N E} {answer : Result (Unit {0}) WorkerAnswer} → ListRun m i s answer s' → (ℕ → Tree) → Type 0
+unfoldable pub EachIsPagedOut : {N E B W : Type 0} {m : Seen N B W} {i : ℕ} {s s' : PagerState N E} {answer : Result (Unit {0}) WorkerAnswer}
+    → ListRun m i s answer s' → (ℕ → Tree) → Type 0
 EachIsPagedOut (no-more s) trees = Unit {0}
 EachIsPagedOut {m = m} (skips i place key h told answer s mid low s' is has takes releases more) trees = (trees' : ℕ → Tree) × SameTrees s.core.last.node trees trees' × Represents m.values low trees' × EachIsPagedOut more trees'
 EachIsPagedOut {m = m} (pages i place key h answer s mid s' is has entry more) trees =

@@ -3,7 +3,7 @@
 
 ghost use Rattle.pagable_world.specs.{Access.{PinLaw, ReadLaw}, Headline.HeadlineLaw, OneWorker.{KeyIsShallow, OneIdentityLaw}, Plain.Types, World.{Frame, Seen}};
 ghost use Rattle.pagable_laws.specs.DeepLaws.{ClaimIsDeep, DepthIsTold, HoldsAlong, LoadIsDeep, LoadIsFaultless, SoundLaw};
-ghost use Rattle.pagable_laws.specs.{FallLaws.{FallLaws, ChainsJoin, NewIsWhole, NextIsOne}, PageOutLaws.{ItemLaw, ListLaw}, TwoLevels.TwoLevelsMeetTheHeadline};
+ghost use Rattle.pagable_laws.specs.{FallLaws.{FallLaws, ChainsJoin, NewIsWhole, NextIsOne, ReadingFills}, CallerLaws.CallerLaw, PageOutLaws.{ItemLaw, ListLaw}, TwoLevels.TwoLevelsMeetTheHeadline};
 
 /// How values of this type are seen, with blobs B and what is written W: any values, so that a law is one of all.
 pub trait SeenAs<B, W>: Sized {
@@ -51,12 +51,14 @@ pub fn depth<N: SeenAs<B, W>, B, W, E>()
 /// - A load of a cell whose key a page-out set is refused by chance or by a handle: never by a blob that it reads, by a key or by a path.
 /// - A load of a cell whose key a page-out set is refused by chance alone, where each load begins in the chain and is done in one piece.
 /// - Two references that are got through one cache, which reading alone fills, have one identity only if kind and key are the same, and then always while the node is held.
+/// - The cache of a new pager is such a one, and stays so while it isn't cleared and no caller puts a reference into it.
 /// - The value that a load of a cell pins stands for its node's tree.
 /// - The value that a load of a key reads stands for the tree that the key reads as, and its references are the caller's.
 pub fn loads<N: SeenAs<B, W>, B, W, E>()
     ensures loads_are_faultless { HoldsAlong E N.seen LoadIsFaultless }
     ensures loads_are_sound { SoundLaw E N.seen }
     ensures one_identity { OneIdentityLaw E N.seen }
+    ensures reading_fills { ReadingFills E N.seen }
     ensures pins_stand { PinLaw E N.seen.values }
     ensures readings_stand { ReadLaw E N.seen.values }
 {}
@@ -67,4 +69,10 @@ pub fn loads<N: SeenAs<B, W>, B, W, E>()
 pub fn page_outs<N: SeenAs<B, W>, B, W, E>()
     ensures items_are_out { ItemLaw E N.seen }
     ensures entries_are_out { ListLaw E N.seen }
+{}
+
+/// Whoever makes calls of a pager, and pins, readings and page-outs by one call, in any order, has what the headline says of trees: each node keeps its tree along them, each
+/// pin gives it, what a key is read as stands for the key's tree, and what a page-out that answers a key met is left stored under it. A table is new for each item.
+pub fn callers<N: SeenAs<B, W>, B, W, E>()
+    ensures { CallerLaw E N.seen }
 {}
