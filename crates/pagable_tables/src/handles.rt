@@ -141,12 +141,13 @@ fn make_room(handles: &mut Handles) -> Result<(), AllocError>
     ensures ok { OnOk result (vec_len handles.new.places < vec_capacity handles.new.places) }
     ensures full { OnErr result (vec_capacity handles.old.places ≤ length (live handles.old.places.items)) }
 {
-    if handles.places.reserve(1).is_err() {
-        if handles.dead == 0 {
-            return Err(AllocError);
-        }
-        compact(handles);
+    let Err(refused) = handles.places.reserve(1) else {
+        return Ok(());
+    };
+    if handles.dead == 0 {
+        return Err(refused);
     }
+    compact(handles);
     Ok(())
 }
 
@@ -173,7 +174,7 @@ pub fn reserve(handles: &mut Handles, more: usize) -> Result<(), AllocError>
     requires { AreSound handles.old }
     ensures widens { Widens handles.old handles.new }
     ensures ok { OnOk result (more ≤ room handles.new) }
-    ensures err { OnErr result (room handles.old < more) }
+    ensures err { OnErr result (room handles.new < more) }
 {
     if room_of(handles) < more {
         compact(handles);

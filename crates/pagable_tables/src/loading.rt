@@ -364,14 +364,14 @@ pub fn prepare_end(
     match own(t, me, handle) {
         Ok(at) => {
             let is_away = !is_here(tables::counts_of(&t.holdings.nodes, at.row.node.0));
-            let Ok(()) = handles::reserve(&mut t.holdings.handles, 1) else {
-                return Err(Unended::Refused(Error::OutOfMemory));
-            };
-            Ok(Ending {
-                load: row,
-                row: at.row,
-                is_away,
-            })
+            match handles::reserve(&mut t.holdings.handles, 1) {
+                Ok(()) => Ok(Ending {
+                    load: row,
+                    row: at.row,
+                    is_away,
+                }),
+                Err(e) => Err(Unended::Refused(e.into())),
+            }
         }
         Err(e) => Err(Unended::InVain(e)),
     }

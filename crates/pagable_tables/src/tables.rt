@@ -170,16 +170,13 @@ pub fn room(t: &Tables) -> usize
     handles::room_of(&t.holdings.handles).min(entries)
 }
 
-/// Makes places ready for so many more handles and entries, if it can.
+/// Makes places ready for so many more handles and entries. Refused with OutOfMemory where either can't grow.
 pub fn reserve(t: &mut Tables, more: usize) -> Result<(), Error>
     requires { IsWhole t.old }
     ensures { Does t.old (λ w w'. ReserveCall w more result w') t.new }
 {
-    let _ = handles::reserve(&mut t.holdings.handles, more);
-    let _ = t.holdings.list.reserve(more);
-    if room(t) < more {
-        return Err(Error::OutOfMemory);
-    }
+    handles::reserve(&mut t.holdings.handles, more)?;
+    t.holdings.list.reserve(more)?;
     Ok(())
 }
 

@@ -43,15 +43,15 @@ returns-in-Ok-reserve-clause-ready c stored closed failures =
 pub returns-in-Ok-reserve-clause-does : goal.returns-in-Ok-reserve-clause-does
 returns-in-Ok-reserve-clause-does c = widens-does c.args.t.now c.reserve.new.handles c.args.t.now.holdings.nodes c.args.t.now.cache c.requires c.reserve.ensures.widens (λ n. refl) (λ n. refl) (λ kind key. refl)
 
-pub returns-in_default-reserve-clause-unended : goal.returns-in_default-reserve-clause-unended
-returns-in_default-reserve-clause-unended c stored closed failures =
+pub returns-in-Err-reserve-clause-unended : goal.returns-in-Err-reserve-clause-unended
+returns-in-Err-reserve-clause-unended c stored closed failures =
     let w = core_of c.args.t.now stored closed failures in
     let may = ends-at c.args.t.now stored closed failures c.args.me c.args.load c.args.node_type c.args.references.now c.unwrap-row.result _ _ _
     (sym c.in_default.is ∙ c.end_fault.ensures stored closed failures) (sym c.unwrap-row.ensures ∙ c.load_of.ensures) c.in-Cell.is in
     grind (arith, nat_tests, no-load-fault, alike, c.reserve.ensures.widens.rows, c.reserve.ensures.widens.capacity)
 
-pub returns-in_default-reserve-clause-does : goal.returns-in_default-reserve-clause-does
-returns-in_default-reserve-clause-does c = widens-does c.args.t.now c.reserve.new.handles c.args.t.now.holdings.nodes c.args.t.now.cache c.requires c.reserve.ensures.widens (λ n. refl) (λ n. refl) (λ kind key. refl)
+pub returns-in-Err-reserve-clause-does : goal.returns-in-Err-reserve-clause-does
+returns-in-Err-reserve-clause-does c = widens-does c.args.t.now c.reserve.new.handles c.args.t.now.holdings.nodes c.args.t.now.cache c.requires c.reserve.ensures.widens (λ n. refl) (λ n. refl) (λ kind key. refl)
 
 pub returns-in-Err-clause-unended : goal.returns-in-Err-clause-unended
 returns-in-Err-clause-unended c stored closed failures =

@@ -1,5 +1,5 @@
-use Rattle.pagable_tables.proofs.{Fitting.rows-told, Newer.{does-as, does-so}, Told.alike-goes, Words.{Alike, Holdings, Tables, arith, nat_tests, refl, rules, subst, vec_capacity, ◌+◌, ◌<◌, ◌≡◌}}
-use Rattle.pagable_tables.{proofs.{Words.◌≤◌, Worlds.same-cache}, specs.{Core.{Does, IsWhole}, Falling.Widens}}
+use Rattle.pagable_tables.proofs.{Fitting.rows-told, Newer.{does-as, does-so}, Told.alike-goes, Words.{Alike, Holdings, Tables, arith, nat_tests, refl, vec_capacity, ◌+◌, ◌≡◌}}
+use Rattle.pagable_tables.{proofs.{Words.◌≤◌, Worlds.{failed, same-cache}}, specs.{Core.{Does, IsWhole}, Falling.Widens}}
 use Rattle.pagable_tables.proofs.tables.reserve.Goals as goal
 
 -- there is room, and all else is as it was
@@ -9,18 +9,17 @@ grown t u w e items capacity = does-so (λ stored closed failures. grind (arith,
     (record { sound = e.sound; next = e.next (t.holdings.last_handle + 1) w.steady.next; fits = rows-told _ _ _ _ t.holdings.top e.rows w.steady.fits })
     (alike-goes w.core) refl refl
 
-pub room-requires : goal.room-requires
-room-requires c =
-    (grown c.args.t.now (record c.args.t.now.holdings { handles = c.reserve.new.handles; list = c.reserve-2.new.self }) c.requires c.reserve.ensures.widens c.reserve-2.ensures.items c.reserve-2.ensures.capacity).whole
+pub returns-in_err-reserve : goal.returns-in_err-reserve
+returns-in_err-reserve c = rw (failed c.from_residual.result c.from_residual.ensures.1)
+    (does-as (grown c.args.t.now (record c.args.t.now.holdings { handles = c.reserve.new.handles }) c.requires c.reserve.ensures.widens refl (omega arith))
+    (λ stored closed failures grown. record { stays = grown; enough = tt; wanting = (refl, grind (arith, nat_tests, c.in_err-reserve.ensures.err)) }))
 
-pub returns-then-room-more : goal.returns-then-room-more
-returns-then-room-more c =
-    let less : c.room.result < c.args.more = search rules in
-    does-as (grown c.args.t.now (record c.args.t.now.holdings { handles = c.reserve.new.handles; list = c.reserve-2.new.self }) c.requires c.reserve.ensures.widens c.reserve-2.ensures.items c.reserve-2.ensures.capacity)
-    (λ stored closed failures grown. record { stays = grown; enough = tt; wanting = (refl, subst (λ n. n < c.args.more) (c.room.ensures) less) })
+pub returns-in_err-reserve-2 : goal.returns-in_err-reserve-2
+returns-in_err-reserve-2 c = rw (failed c.from_residual-in_err-reserve-2.result c.from_residual-in_err-reserve-2.ensures.1)
+    (does-as (grown c.args.t.now (record c.args.t.now.holdings { handles = c.reserve.new.handles; list = c.reserve-2.new.self }) c.requires c.reserve.ensures.widens c.reserve-2.ensures.items c.reserve-2.ensures.capacity)
+    (λ stored closed failures grown. record { stays = grown; enough = tt; wanting = (refl, grind (arith, nat_tests, c.in_err-reserve-2.ensures.full, c.in_err-reserve-2.ensures.err, c.reserve-2.ensures.len)) }))
 
 pub returns : goal.returns
 returns c =
-    let enough : c.args.more ≤ c.room.result = search rules in
     does-as (grown c.args.t.now (record c.args.t.now.holdings { handles = c.reserve.new.handles; list = c.reserve-2.new.self }) c.requires c.reserve.ensures.widens c.reserve-2.ensures.items c.reserve-2.ensures.capacity)
-    (λ stored closed failures grown. record { stays = grown; enough = subst (λ n. c.args.more ≤ n) (c.room.ensures) enough; wanting = tt })
+    (λ stored closed failures grown. record { stays = grown; enough = grind (arith, nat_tests, c.in_ok-reserve.ensures.ok, c.in_ok-reserve-2.ensures.ok); wanting = tt })
