@@ -100,8 +100,10 @@ fn value_of<E: Env<Node: NodeSet<E>>, A: Access<E>>(
     }
     match access.share(reference.handle) {
         Ok(found) => Ok(found),
-        Err(Error::OutOfMemory) => Err(Error::OutOfMemory),
-        Err(_) => Ok(None),
+        Err(e) => match e {
+            Error::OutOfMemory => Err(e),
+            _ => Ok(None),
+        },
     }
 }
 
@@ -153,8 +155,9 @@ impl Reading {
         };
         let blob = top.blob.as_ref();
         let got = top.got.as_slice();
-        let Ok(lent) = lend::<E, A>(access, alloc, got) else {
-            return Need::Refuse(Error::OutOfMemory);
+        let lent = match lend::<E, A>(access, alloc, got) {
+            Ok(lent) => lent,
+            Err(e) => return Need::Refuse(e),
         };
         match decode(access, alloc, blob, top.node_type, got, lent.as_slice()) {
             Decoded::Refused(e) => Need::Refuse(e),

@@ -114,10 +114,7 @@ impl<E: Env<Node: NodeSet<E>>, S: PagableStorage<E>> Pager<E, S> {
         ensures { Shares arc_value (state_in (telling S.stored S.is_closed S.failed) self.now) handle result }
     {
         match self.held(handle) {
-            Ok(Some(value)) => match value.clone() {
-                Ok(shared) => Ok(Some(shared)),
-                Err(_) => Err(Error::OutOfMemory),
-            },
+            Ok(Some(value)) => Ok(Some(value.clone()?)),
             Ok(None) => Ok(None),
             Err(e) => Err(e),
         }

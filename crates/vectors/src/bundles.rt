@@ -13,15 +13,19 @@ use std::alloc::Global;
 use std::sync::Arc;
 
 /// The blobs of a link, of one before it, and of a bundle of that one, shared and pinned. Keys are sums of each byte times its place.
-const BLOBS: [&'static str; 3] = ["00", "01:1", "010001:20,20"];
+const ONE: [&'static str; 3] = ["00", "01:1", "010001:20,20"];
+
+/// The blobs of a link before both, and of a bundle of the latter two, both shared, and the first of them pinned too.
+const TWO: [&'static str; 2] = ["01:20", "020001:20,210,20"];
 
 /// Stores the blobs. The last one's key is answered.
-fn store<S: PagableStorage<Linked>>(
+fn store<S: PagableStorage<Linked>, const COUNT: usize>(
     alloc: Global,
     pager: &mut Pager<Linked, S>,
+    blobs: [&'static str; COUNT],
 ) -> Option<DataKey> {
     let mut last = None;
-    for text in BLOBS {
+    for text in blobs {
         last = pager.store(alloc, blob(alloc, text).ok()?).ok();
     }
     last
@@ -49,21 +53,27 @@ fn stands<const KIND: u32, S: PagableStorage<Linked>>(
 
 /// Whether a bundle holds the links that stand in the pager.
 fn holds<S: PagableStorage<Linked>>(pager: &Pager<Linked, S>, bundle: &Bundle) -> bool {
-    let (Some(shared), Some(pinned)) = (bundle.shared.first(), bundle.pinned.first()) else {
+    let Some(pinned) = bundle.pinned.first() else {
         return false;
     };
-    stands(pager, shared.get(), shared.reference::<Linked>().handle)
-        && stands(pager, pinned.get(), pinned.reference::<Linked>().handle)
+    for shared in bundle.shared.as_slice() {
+        if !stands(pager, shared.get(), shared.reference::<Linked>().handle) {
+            return false;
+        }
+    }
+    stands(pager, pinned.get(), pinned.reference::<Linked>().handle)
 }
 
-/// The bundle of a key, if it holds what stands in the pager.
+/// The bundle of a key, if it holds so many shared links, and what stands in the pager.
 fn read<S: PagableStorage<Linked>>(
     alloc: Global,
     pager: &mut Pager<Linked, S>,
     key: DataKey,
+    count: usize,
 ) -> Option<Arc<Bundle>> {
     let bundle: Arc<Bundle> = deserialize_pagable_data(alloc, pager, key).ok()?;
-    holds(pager, bundle.as_ref()).then_some(bundle)
+    let links = bundle.as_ref();
+    (links.shared.len() == count && holds(pager, links)).then_some(bundle)
 }
 
 /// The key under which a page-out stores a value, which begins without one.
@@ -78,12 +88,14 @@ fn paged_out<T: OfNode<Linked> + Drop, S: PagableStorage<Linked>>(
     pager.key(cell).ok()
 }
 
-/// Whether a bundle holds the links of the pager where they are read with it, and where they were there; and whether it is written as it was.
+/// Whether bundles hold the links of the pager where they are read with them, where they were there, and where one of two was there; and whether such a bundle is written as it was.
 fn hold_in<S: PagableStorage<Linked>>(alloc: Global, pager: &mut Pager<Linked, S>) -> Option<bool> {
-    let key = store(alloc, pager)?;
-    let_go(read(alloc, pager, key)?);
-    let second = read(alloc, pager, key)?;
-    Some(paged_out(alloc, pager, second)? == OptionalDataKey::Some(key))
+    let one = store(alloc, pager, ONE)?;
+    let_go(read(alloc, pager, one, 1)?);
+    let_go(read(alloc, pager, one, 1)?);
+    let two = store(alloc, pager, TWO)?;
+    let both = read(alloc, pager, two, 2)?;
+    Some(paged_out(alloc, pager, both)? == OptionalDataKey::Some(two))
 }
 
 /// The same in a new pager.

@@ -17,27 +17,28 @@ use pagable_world::handles::Owner;
 use std::alloc::Global;
 use std::sync::Arc;
 
-/// A value is in memory from now on, if it comes, and else it is dropped. Refused by memory alone, and the value comes back.
+/// A value is in memory from now on, if it comes, and else it is dropped. Refused with OutOfMemory, and the value comes back.
 fn place<N: Drop>(
     values: &mut IndexMap<u64, Arc<N>>,
     alloc: Global,
     node: u64,
     comes: bool,
     value: N,
-) -> Result<(), N>
+) -> Result<(), (Error, N)>
     ensures placed { OnOk result ((n : ℕ) → value_in values.new n ≡ with_value comes node value (value_in values.old) n) }
-    ensures back { IfErr result (λ x. x ≡ value) }
+    ensures only { IfErr result (λ e. e.0 ≡ Error.OutOfMemory) }
+    ensures back { IfErr result (λ e. e.1 ≡ value) }
     ensures kept { OnErr result ((n : ℕ) → value_in values.new n ≡ value_in values.old n) }
 {
     if !comes {
         return Ok(());
     }
-    let Ok(()) = values.reserve(1) else {
-        return Err(value);
-    };
+    if let Err(e) = values.reserve(1) {
+        return Err((Error::from(e), value));
+    }
     let shared = match Arc::new(alloc, value) {
         Ok(shared) => shared,
-        Err(refused) => return Err(refused.value),
+        Err(refused) => return Err(Error::parted(refused)),
     };
     let Ok(_) = values.insert(node, shared) else {
         unreachable!();
@@ -66,8 +67,8 @@ impl<E: Env<Node: NodeSet<E>>, S: PagableStorage<E>> Pager<E, S> {
         }
         let node_type = node.node_type();
         let number = self.tables.last_node + 1;
-        if let Err(node) = place(&mut self.values, alloc, number, true, node) {
-            return Err((Error::OutOfMemory, node));
+        if let Err((e, node)) = place(&mut self.values, alloc, number, true, node) {
+            return Err((e, node));
         }
         let tables = &mut self.tables;
         Ok(making::bear(tables, Owner::Caller, node_type, 0, references, mode))
@@ -143,8 +144,8 @@ impl<E: Env<Node: NodeSet<E>>, S: PagableStorage<E>> Pager<E, S> {
             return Err((e, node));
         }
         let number = self.tables.last_node + 1;
-        if let Err(node) = place(&mut self.values, alloc, number, true, node) {
-            return Err((Error::OutOfMemory, node));
+        if let Err((e, node)) = place(&mut self.values, alloc, number, true, node) {
+            return Err((e, node));
         }
         let lists = !self.storage.has_closed();
         let tables = &mut self.tables;
@@ -246,8 +247,8 @@ impl<E: Env<Node: NodeSet<E>>, S: PagableStorage<E>> Pager<E, S> {
             }
         };
         let node = ready.row.node.0;
-        if let Err(value) = place(&mut self.values, alloc, node, ready.is_away, value) {
-            return Err((Error::OutOfMemory, Some(value)));
+        if let Err((e, value)) = place(&mut self.values, alloc, node, ready.is_away, value) {
+            return Err((e, Some(value)));
         }
         let lists = !self.storage.has_closed();
         let (tables, values) = (&mut self.tables, &mut self.values);

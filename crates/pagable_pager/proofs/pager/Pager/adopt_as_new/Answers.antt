@@ -12,7 +12,7 @@ invariant_of-self-in-Err-place g c = roomier c.self.invariant c.place.new.values
 
 pub returns-in-Err-place-clause-step : goal.returns-in-Err-place-clause-step
 returns-in-Err-place-clause-step g c =
-    rw (← c.self.view_is) (new-memory c.self.invariant c.self.view_is _ _ _ _ c.args.node c.requires.listed c.requires.fresh c.requires.unknown c.place.new.values
+    rw (← c.self.view_is, c.in-Err-place.ensures.only) (new-memory c.self.invariant c.self.view_is _ _ _ _ c.args.node c.requires.listed c.requires.fresh c.requires.unknown c.place.new.values
     c.make_ready_to_learn.ensures.does c.in-Err-place.ensures.back)
 
 pub adopt-requires-clause-later : goal.adopt-requires-clause-later

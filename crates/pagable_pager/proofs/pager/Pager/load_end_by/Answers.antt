@@ -24,7 +24,7 @@ pub invariant_of-self-in-Err : goal.invariant_of-self-in-Err
 invariant_of-self-in-Err g c = roomier c.self.invariant c.place.new.values c.prepare_end.ensures.does c.in-Err.ensures.kept
 
 pub returns-in-Err-clause-step : goal.returns-in-Err-clause-step
-returns-in-Err-clause-step g c = rw (← c.self.view_is) (no-room c.self.invariant c.place.new.values c.prepare_end.ensures.does c.in-Err.ensures.back (c.in-Ok-prepare_end.ensures.ready _ _ _))
+returns-in-Err-clause-step g c = rw (← c.self.view_is, c.in-Err.ensures.only) (no-room c.self.invariant c.place.new.values c.prepare_end.ensures.does c.in-Err.ensures.back (c.in-Ok-prepare_end.ensures.ready _ _ _))
 
 pub install-requires-clause-ready : goal.install-requires-clause-ready
 install-requires-clause-ready g c stored closed failures = ready-told refl c.deref.ensures.value (c.in-Ok-prepare_end.ensures.ready stored closed failures)

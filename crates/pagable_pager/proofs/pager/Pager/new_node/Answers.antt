@@ -10,7 +10,7 @@ invariant_of-self-in-Err-place g c = roomier c.self.invariant c.place.new.values
 pub returns-in-Err-place-clause-step : goal.returns-in-Err-place-clause-step
 returns-in-Err-place-clause-step g c =
     let stays = room-alike (only-room c.self.invariant c.place.new.values c.prepare.ensures.does) in
-    rw (← c.self.view_is) (record { made = tt; refused = (c.in-Err-place.ensures.back, record { why = inr (refl, refl, tt); stays = stays }) })
+    rw (← c.self.view_is) (record { made = tt; refused = (c.in-Err-place.ensures.back, record { why = inr (c.in-Err-place.ensures.only, refl, tt); stays = stays }) })
 
 pub invariant_of-self-2 : goal.invariant_of-self-2
 invariant_of-self-2 g c = born-so c.self.invariant c.place.new.values c.prepare.ensures.does c.bear.new.t c.args.node c.in_default-place.ensures.placed c.bear.ensures.does
