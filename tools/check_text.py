@@ -3,7 +3,8 @@
 
 In the src/ of every library crate `Error::OutOfMemory` is written as a value in one function alone, which makes it of a growth that the allocator refused
 (crates/pagable_model/src/error.rt). All others pass such a refusal on, so none says that memory is wanting where no growth was refused. It may stand in
-patterns, clauses and comments. `AllocError` and `AllocFailed`, the refused growth itself, are values nowhere.
+patterns, clauses and comments. `AllocError` and `AllocFailed`, the refused growth itself, are values nowhere; and only what `regex` refuses is named by
+`Error::of_library`, which takes its caller's word. LEFT names what docs/PROOFS.md tells as open.
 """
 import re
 import sys
@@ -12,27 +13,37 @@ from pathlib import Path
 CRATES = Path(__file__).resolve().parent.parent / "crates"
 # The programs, and the crates of rows and examples, which make refusals of their own to test.
 OTHERS = ("pagectl", "vectors", "pagable_rows", "pagable_examples")
-CONVERSION = "fn from(_e: AllocError) -> Error"
+CONVERSION = "fn out_of_memory() -> Error"
+OF_LIBRARY = "pagable_traits/src/saved_regex.rt"
+LEFT = {
+    ("pagable_loads/src/step.rt", "pin_over"),
+    ("pagable_pager/src/pager/births.rt", "unlisted"),
+    ("pagable_tables/src/giving.rt", "worker_begin"),
+}
 NOT_CODE = re.compile(r"//.*|\"(?:\\.|[^\"\\])*\"|^\s*(?:pub )?(?:use|ghost|ensures|requires|invariant|decreases)\b.*")
 WANT = re.compile(r"\b(?:Error|Self)::OutOfMemory\b")
-# What stands behind a pattern: its end, other patterns beside it, and the arrow, the `=` of a `let`, or the end of a `matches!`.
+# What stands behind a pattern: its end, other patterns beside it, and the arrow, or the `=` of a `let`.
 PATTERN = re.compile(r"[\s)]*(?:\|[^=;]*)?(?:=>|=(?!=)|\bif\b.*=>)")
+MATCHES = re.compile(r"\bmatches!\([^;]*\)")
 # A type is written behind `<`, `:` or `,`, or before `>`; a value isn't.
 REFUSED_GROWTH = re.compile(r"(?:[({=]|=>|\breturn|^)\s*(?:AllocError\b(?!\s*[>:])|AllocFailed\s*\{[^{}]*\})")
 
 
-def offences(text):
+def offences(text, file):
     """The lines, counted from 1, that write a want of memory as a value; and those that do in the one function that may."""
     function, found, allowed = "", [], []
     for number, line in enumerate(text.splitlines(), 1):
-        code = NOT_CODE.sub("", line)
-        if re.search(r"\bfn \w+", code):
-            function = code.strip()
+        code = MATCHES.sub("", NOT_CODE.sub("", line))
+        named = re.search(r"\bfn (\w+)", code)
+        if named:
+            function, name = code.strip(), named[1]
         for at in WANT.finditer(code):
-            if not PATTERN.match(code, at.end()):
+            if not PATTERN.match(code, at.end()) and (file, name) not in LEFT:
                 (allowed if function.startswith(CONVERSION) else found).append(number)
         growths = REFUSED_GROWTH.finditer(re.sub(r"\b(?:fn|impl) .*", "", code))
         found += [number for at in growths if not PATTERN.match(code, at.end())]
+        if "Error::of_library(" in code and file != OF_LIBRARY:
+            found.append(number)
     return found, allowed
 
 
@@ -41,7 +52,7 @@ def main():
     for file in sorted(CRATES.glob("*/src/**/*.rt")):
         if file.relative_to(CRATES).parts[0] in OTHERS:
             continue
-        found, allowed = offences(file.read_text(encoding="utf-8"))
+        found, allowed = offences(file.read_text(encoding="utf-8"), str(file.relative_to(CRATES)))
         is_home = file == CRATES / "pagable_model/src/error.rt"
         lines += [(file, number) for number in found + (allowed[1:] if is_home else allowed)]
     for file, number in lines:

@@ -39,8 +39,8 @@ impl<E: Env<Node: NodeSet<E>>, S: PagableStorage<E>> Model for Machine<E, S> {
 }
 
 impl<E: Env<Node: NodeSet<E>>, S: PagableStorage<E>> Machine<E, S> {
-    /// A machine over a pager as it stands, for which no worker is at work: so it is between any two calls, since a page-out by one call ends its workers. It takes
-    /// no memory.
+    /// Makes a machine over a pager as it stands, for which no worker is at work, as `Pager::is_at_rest` tells: so it is between any two calls, since a page-out by
+    /// one call ends its workers. It takes no memory.
     pub fn new(alloc: Global, pager: Pager<E, S>) -> Machine<E, S>
         requires nobody { NobodyWorks (core_in (telling S.stored S.is_closed S.failed) pager) }
         ensures pager { result.pager ≡ pager }
@@ -56,7 +56,7 @@ impl<E: Env<Node: NodeSet<E>>, S: PagableStorage<E>> Machine<E, S> {
         }
     }
 
-    /// A machine over a new pager, over a storage as it stands. It takes no memory. A chain that begins at it meets what the headline asks of its start.
+    /// Makes a machine over a new pager, over a storage as it stands. It takes no memory. A chain that begins at it meets what the headline asks of its start.
     pub fn over(alloc: Global, storage: S, env: E) -> Machine<E, S>
         ensures empty { IsNew (state_in (telling S.stored S.is_closed S.failed) result.pager) }
         ensures starts { StartsWell (values_at E.Node.NodeSet E.Env E.Hash.KeyHash env) (machine_in (telling S.stored S.is_closed S.failed) result) }

@@ -1,6 +1,6 @@
 //! The pager: values in memory, in step with tables of who holds them, over a storage of blobs; and loads, by steps.
 
-ghost use Rattle.std.specs.{Arc.arc_value, Option.option_map, Prelude.{IfErr, IfNone, IfOk, Some, nat_lt, true, ◌≡◌}};
+ghost use Rattle.std.specs.{Arc.arc_value, Option.option_map, Prelude.{IfErr, IfNone, IfOk, Some, false, nat_lt, true, ℕ, ◌≡◌}};
 ghost use Rattle.{pagable_core.specs.Data.blob_of, pagable_loads.specs.{Starting.Shares, Telling.values_at}, pagable_model.specs.Blob.key_of, pagable_tables.specs.{Core.root_in, Ready.AsksKnown}};
 ghost use Rattle.pagable_pager.specs.View.{Calls, FewerValues, OnlyStorage, OnlyTables, ReadsAs, SameValues, core_in, given_as, is_at_work, state_in, telling, type_of_root};
 ghost use Rattle.pagable_world.specs.{Calls.{CloseCall, FetchCall, FlushCall, StoreCall}, LoadCalls.{AskCall, BeginCall, BeginKeyCall, LazyCall}, Pager.{IsNew, ValueCall, WellFormed}};
@@ -130,6 +130,13 @@ impl<E: Env<Node: NodeSet<E>>, S: PagableStorage<E>> Pager<E, S> {
     /// Lends the context of the one session of all values that this pager's storage holds. Which values it keeps no clause says.
     pub fn session_context(&self) -> &SessionOf<E> {
         &self.setting.get().session
+    }
+
+    /// Tells whether no worker of a page-out is at work here, as between any two calls: only a machine has workers from one event to the next.
+    pub fn is_at_rest(&self) -> bool
+        ensures { result ≡ true → (v : ℕ) → (core_in (telling S.stored S.is_closed S.failed) self.now).workers v ≡ false }
+    {
+        self.tables.workers.is_empty()
     }
 
     /// What is true of every pager: each kept count is the number of pinning handles, a value is in memory exactly while its node is pinned or has no key, and it owns the handles of its references.
