@@ -13,19 +13,19 @@ use std::alloc::Global;
 use std::sync::Arc;
 
 /// The blobs of a link, of one before it, and of a bundle of that one, shared and pinned. Keys are sums of each byte times its place.
-const ONE: [&'static str; 3] = ["00", "01:1", "010001:20,20"];
+const ONE: &'static str = "00 01:1 010001:20,20";
 
 /// The blobs of a link before both, and of a bundle of the latter two, both shared, and the first of them pinned too.
-const TWO: [&'static str; 2] = ["01:20", "020001:20,210,20"];
+const TWO: &'static str = "01:20 020001:20,210,20";
 
-/// Stores the blobs. The last one's key is answered.
-fn store<S: PagableStorage<Linked>, const COUNT: usize>(
+/// Stores the blobs, which are parted by spaces. The last one's key is answered.
+fn store<S: PagableStorage<Linked>>(
     alloc: Global,
     pager: &mut Pager<Linked, S>,
-    blobs: [&'static str; COUNT],
+    blobs: &str,
 ) -> Option<DataKey> {
     let mut last = None;
-    for text in blobs {
+    for text in blobs.split(' ') {
         last = pager.store(alloc, blob(alloc, text).ok()?).ok();
     }
     last
