@@ -49,7 +49,11 @@ impl<S> FailingStorage<S> {
 impl<E: Env, S: PagableStorage<E>> PagableStorage<E> for FailingStorage<S> {
     ghost stored = { λ s. S.stored s.inner };
 
+    ghost flushed = { λ s. S.flushed s.inner };
+
     ghost is_closed = { λ s. S.is_closed s.inner };
+
+    ghost is_honest = { λ s. S.is_honest s.inner };
 
     ghost failed = { λ s. failures_of s.has_failed (S.failed s.inner) };
 
