@@ -15,7 +15,7 @@ use either::Either;
 use indexmap::IndexMap;
 use pagable_codec::{Env, NodeSet};
 use pagable_core::{PagableData, PagableStorage, SessionOf, Setting};
-use pagable_model::{DataKey, Error, HandleNumber, Kind, LoadNumber};
+use pagable_model::{DataKey, Error, HandleNumber, Kind, LoadNumber, WorkerNumber};
 use pagable_tables::tables::{LoadRoot, Tables};
 use pagable_tables::{giving, loading, lookups, tables};
 use pagable_world::handles::Owner;
@@ -137,6 +137,13 @@ impl<E: Env<Node: NodeSet<E>>, S: PagableStorage<E>> Pager<E, S> {
         ensures { result ≡ true → (v : ℕ) → (core_in (telling S.stored S.is_closed S.failed) self.now).workers v ≡ false }
     {
         self.tables.workers.is_empty()
+    }
+
+    /// Tells whether this worker of a page-out is at work here.
+    pub fn has_worker(&self, worker: WorkerNumber) -> bool
+        ensures { result ≡ (core_in (telling S.stored S.is_closed S.failed) self.now).workers worker.0 }
+    {
+        self.tables.workers.get(&worker.0).is_some()
     }
 
     /// The storage.
