@@ -1,5 +1,6 @@
 -- What a session's map answers.
-use Rattle.{pagable_model.specs.Lifted.MayHold, std.specs.Prelude.{◌≡◌, Option, Some, None, IsSome}}
+use Rattle.pagable_model.specs.Lifted.{MayHold}
+use Rattle.std.specs.Prelude.{◌≡◌, Option, Some, None, IsSome}
 
 -- none where there is none, and else a clone of what is there
 abbrev pub IsCloneOf : {V : Type 0} → (V → V → Type 0) → Option V → Option V → Type 0

@@ -7,7 +7,7 @@ use crate::quick_start::page_out_and_read_back;
 use anyhow::{Context, ensure};
 use pagable::paging::{page_out_item, page_out_pending, pin};
 use pagable::{
-    DataKey, Env, Error, NodeSet, PagableStorage, PagableVecFlavor, PageOutError, Pager, LentTable,
+    DataKey, Env, Error, LentTable, NodeSet, PagableStorage, PagableVecFlavor, PageOutError, Pager,
     WeighHash,
 };
 use pagable_examples::any::{AnyEnv, written};

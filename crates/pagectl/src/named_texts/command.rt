@@ -1,5 +1,8 @@
 //! The lines that `pagectl` reads.
 
+ghost use Rattle.pagectl.specs.{Line.{AnswersLine, IsName, LacksSpace, word_of}, declared.named_texts.command.Verb.Verb};
+ghost use Rattle.std.specs.{Char.is_ascii_alphanumeric, List.list_all, Prelude.{IfNone, IfSome, IsTrue, codes, length, ℕ, ◌++◌, ◌≡◌, ◌↔◌, ◌∷◌, ◌≢◌}};
+
 /// What is asked of the handle of one name.
 #[derive(Clone, Copy)]
 pub enum Verb {
@@ -30,30 +33,62 @@ pub enum Command<'a> {
 }
 
 /// What a line asks for, or None for a line that isn't one of these. Words are separated by one space.
-pub fn parse(line: &str) -> Option<Command<'_>> {
+pub fn parse(line: &str) -> Option<Command<'_>>
+    ensures { AnswersLine line.now result }
+{
     match line {
         "pending" => return Some(Command::Pending),
         "pageout" => return Some(Command::PageOut),
         _ => {}
     }
-    let (verb, rest) = line.split_once(' ')?;
-    // The text of `new` is all after the second space, and may be empty.
-    let (name, behind) = rest.split_once(' ').unwrap_or((rest, ""));
+    let (word, rest) = line.split_once(' ')?;
+    match rest.split_once(' ') {
+        None => of_name(word, rest),
+        Some((name, behind)) => of_two(word, name, behind),
+    }
+}
+
+/// What a word and a name ask for.
+#[tactic(auto, using(crate::proofs::Lines::two_words))]
+fn of_name<'a>(word: &str, name: &'a str) -> Option<Command<'a>>
+    requires word { LacksSpace word.now }
+    requires name { LacksSpace name.now }
+    ensures { AnswersLine (word.now ++ 32 ∷ name.now) result }
+{
     if !is_name(name) {
         return None;
     }
-    match verb {
+    match word {
+        "new" => Some(Command::New(name, "")),
+        "release" => Some(Command::Release(name)),
+        _ => Some(Command::Of(verb_of(word)?, name)),
+    }
+}
+
+/// What a word, a name and what stands behind its space ask for. The text of `new` is all behind that space.
+#[tactic(auto, using(crate::proofs::Lines::more_words))]
+fn of_two<'a>(word: &str, name: &'a str, behind: &'a str) -> Option<Command<'a>>
+    requires word { LacksSpace word.now }
+    requires name { LacksSpace name.now }
+    ensures { AnswersLine (word.now ++ 32 ∷ (name.now ++ 32 ∷ behind.now)) result }
+{
+    if !is_name(name) {
+        return None;
+    }
+    match word {
         "new" => Some(Command::New(name, behind)),
-        "pin" if is_name(behind) => Some(Command::Pin(name, behind)),
-        "clone" if is_name(behind) => Some(Command::Clone(name, behind)),
-        "release" if name.len() == rest.len() => Some(Command::Release(name)),
-        _ if name.len() == rest.len() => Some(Command::Of(verb_of(verb)?, name)),
+        _ if !is_name(behind) => None,
+        "pin" => Some(Command::Pin(name, behind)),
+        "clone" => Some(Command::Clone(name, behind)),
         _ => None,
     }
 }
 
 /// What a word asks of a name.
-fn verb_of(word: &str) -> Option<Verb> {
+fn verb_of(word: &str) -> Option<Verb>
+    ensures some { IfSome result (λ verb. word.now ≡ word_of verb) }
+    ensures none { IfNone result ((verb : Verb) → word.now ≢ word_of verb) }
+{
     match word {
         "unpin" => Some(Verb::Unpin),
         "loose" => Some(Verb::Loose),
@@ -65,7 +100,16 @@ fn verb_of(word: &str) -> Option<Verb> {
 }
 
 /// Whether the word is a name.
-fn is_name(word: &str) -> bool {
+fn is_name(word: &str) -> bool
+    ensures { IsTrue result ↔ IsName word.now }
+{
     let fits = word.len() >= 1 && word.len() <= 16;
-    fits && word.bytes().all(|byte| byte.is_ascii_alphanumeric())
+    fits && has_letters_and_digits_alone(word)
+}
+
+/// Whether each byte of the word is an ASCII letter or digit.
+fn has_letters_and_digits_alone(word: &str) -> bool
+    ensures { result ≡ list_all is_ascii_alphanumeric word.now }
+{
+    word.bytes().all(|byte| byte.is_ascii_alphanumeric())
 }

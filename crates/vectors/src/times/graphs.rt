@@ -4,8 +4,8 @@ use crate::calls::{let_go, pager_over};
 use crate::times::Outcome;
 use anyhow::Context;
 use pagable::{
-    ArcRef, DataKey, Env, Error, HandleNumber, Kind, NodeSet, PagableStorage, Pager,
-    SerializedData, Sha256Key, LentTable, paging,
+    ArcRef, DataKey, Env, Error, HandleNumber, Kind, LentTable, NodeSet, PagableStorage, Pager,
+    SerializedData, Sha256Key, paging,
 };
 use pagable_examples::Draws;
 use pagable_rows::cells::{CellNode, lists};
