@@ -1,7 +1,7 @@
 -- Each event of the machine, by what the pager and what is kept of loads, tables and workers say of it.
 use Rattle.pagable.specs.{Driving.{IsWalkKept, IsIn, shelf_at, IsBegun}, declared.workers.{Held.Held, Walk.Walk}, Paged.{value-is-read, node-comes-back, reading-is-refused}}
-use Rattle.pagable.specs.Driving.{Drives, Given, kept_at, IsInStep, holding, Answer, ByNumber, Serves, plainly, plain_reply, Forgets, machine_of, IsPrepared, Kept, ReadsFor, rest_after}
-use Rattle.pagable.{specs.Driving.{IsServing, Stepped, IsTaken, Holding, Makes, KeepsOne, readings_in, IsKept}, proofs.Keeping.{Leaves, call-leaves, at-one, nothing-done, drives}}
+use Rattle.pagable.specs.Driving.{IsOnTable, Given, kept_at, holding, Answer, ByNumber, Serves, plainly, plain_reply, Forgets, machine_of, IsPrepared, Kept, ReadsFor, rest_after}
+use Rattle.pagable.{specs.Driving.{IsServing, Stepped, IsTaken, Holding, Makes, KeepsOne, readings_in, IsKept}, proofs.Keeping.{Leaves, call-leaves, at-one, nothing-done, Served, as-made}}
 use Rattle.pagable.proofs.Keeping.{event-passes, kept-one, makes-with, one-serves, like, still-kept, are-these, kept-on, as-before, makes, not-same, same-work, leaves-so, by-call, refused}
 use Rattle.{pagable_laws.proofs.Goes.updated-at, pagable_world.specs.{LoadCalls.{LoadCloses, DropCall}, declared.{calls.{Call.Call, Reply.Reply}, handles.Owner.Owner, events.EventReply.EventReply}}}
 use Rattle.pagable_world.specs.{declared.{events.{LoadReply.LoadReply, TableNumber.TableNumber, Event.Event, LoadAnswer.LoadAnswer}, answers.Beginning.Beginning}, World.{Reading, one_more, Alike}}
@@ -9,7 +9,7 @@ use Rattle.pagable_world.specs.{World.{OpenLoad, Written, of_item, of_key, Frame
 use Rattle.pagable_world.specs.{Access.{WorkerStarts, ReadingStep}, Pager.{Moves, CallBrings, PagerState, world_of, FitsRoot, WellFormed}, Events.{reading_at, Happens, entry_task, reading_after}}
 use Rattle.pagable_world.specs.{Events.{Starts, with_entry_taken, step_fault, IsTable, reading_of_root, with_worker, no_shelf, Does}, Kinds.{identity_of, is_owner}, Workers.fresh, Refusals.OwnsLoad}
 use Rattle.{pagable_world.specs.Order.step_of, std.specs.{declared.{vec.Vec.Vec, sync.Arc.Arc, alloc.Global.Global}, Prelude.{is_none, is_some, Result, slice_get}, Option.option_map}}
-use Rattle.std.proofs.Common.{Ok, ◌+◌, ◌++◌, Some, ℕ, subst, zero, Option, ◌≢◌, ◌∙◌, refl, ◌==◌, ◌≡◌, arith, rules, [], if◌then◌else◌, false, true, inr, ap, length, ◌∷◌, suc, Err, ◌<◌, None, List}
+use Rattle.std.proofs.Common.{Ok, ◌+◌, ◌≤◌, ◌++◌, Some, ℕ, subst, zero, Option, ◌≢◌, ◌∙◌, refl, ◌==◌, ◌≡◌, arith, rules, [], if◌then◌else◌, false, true, inr, ap, length, ◌∷◌, suc, Err, ◌<◌, None, List}
 use Rattle.{std.proofs.{Common.{sym, inl}, lemmas.{Bool.Decides.nat_tests, List.length-append, Grind.common_steps}}, pagable_pager.{proofs.Keeping.less-moves, specs.View.Telling}}
 use Rattle.{pagable_pager.specs.View.{type_of_root, OnlyTables, state_in, core_in, PagerView, OnlyLess, ReadsAs, value_in}, pagable_walk.{proofs.Turning.plain-fits, specs.Slots.written_of}}
 use Rattle.{pagable_walk.specs.{Tasks.IsPlain, Turns.LeavesFit, declared.{lent_table.LentTable.LentTable, tasks.{Task.Task, Turn.Turn}}, Table.shelf_of}, pagable_loads.specs.Frames.{IsLoadOf, reading_of, is_cell}}
@@ -87,6 +87,10 @@ module _ {X XN XH XK XV : Type 0} {g : Environments X XN XH XK XV} {gh : Hashes 
       → SameShelf (updated (length tables + 1) no_shelf (shelf_at tables) t) (shelf_at (tables ++ new ∷ []) t)
   shelf-added tables new empty x3 = grind (arith, nat_tests, with-last, not-same, same-number)
 
+-- a worker that has just begun is on its table
+pub begun-on : {X XN XH XK XV : Type 0} {g : Environments X XN XH XK XV} {gh : Hashes XH} {go : Orders XK} {gq : Equalities XK} {gp : PartialOrders XK} {gn : Nodes XN X XN XH XK XV} {last : ℕ} {t : TableNumber} {task : world.Task} {k : Walk X XN XH XK XV g gh go gq gp gn} → (0 < t.0) × (t.0 ≤ last) → IsBegun t task k → IsOnTable last k
+begun-on {t = t} {k = k} there begun = let same : k.table ≡ t.0 = ap (λ (x : world.Walking). x.table) begun.walking in record { table = rw same there; way = begun.way }
+
 begun-fits : {X XN XH XK XV : Type 0} {g : Environments X XN XH XK XV} {gh : Hashes XH} {go : Orders XK} {gq : Equalities XK} {gp : PartialOrders XK} {gn : Nodes XN X XN XH XK XV} (v : ℕ) (w : Core) (turn : Turn X XN XH XK XV g gh go gq gp gn) → ((task : Task X XN XH XK XV g gh go gq gp gn) → turn ≡ Turn.Goes task → IsPlain task) → LeavesFit v w turn
 begun-fits v w (Turn.Goes task) plain = plain-fits v w task (plain task refl)
 begun-fits v w (Turn.Answers answer) plain = tt
@@ -143,7 +147,7 @@ unprepared l key t same = record { taken = λ own is. record { why = inl (sym (s
 pub keeps-after : {Y : Type 0} {k mid kept' : ℕ → Option Y} {l : ℕ} {own : Option Y} → ((q : ℕ) → mid q ≡ k q) → KeepsOne mid l own kept' → KeepsOne k l own kept'
 keeps-after as_was keeps = record { here = keeps.here; others = λ q other. keeps.others q other ∙ as_was q }
 
-module _ {X XN XH XK XV : Type 0} {g : Environments X XN XH XK XV} {gh : Hashes XH} {go : Orders XK} {gq : Equalities XK} {gp : PartialOrders XK} {gn : Nodes XN X XN XH XK XV} {N S E : Type 0} (v : E → Values N) (tells : Telling S) (old new : PagerView N S E) (held : Held X XN XH XK XV g gh go gq gp gn) (serving : IsInStep tells old held)
+module _ {X XN XH XK XV : Type 0} {g : Environments X XN XH XK XV} {gh : Hashes XH} {go : Orders XK} {gq : Equalities XK} {gp : PartialOrders XK} {gn : Nodes XN X XN XH XK XV} {N S E : Type 0} (v : E → Values N) (tells : Telling S) (old new : PagerView N S E) (held : Held X XN XH XK XV g gh go gq gp gn) (serving : IsServing (core_in tells old) (holding held))
     (was : WellFormed (v old.environment) (state_in tells old)) where
   abbrev m : Seen N PagableData Written
   m = plainly (v old.environment)
@@ -158,16 +162,16 @@ module _ {X XN XH XK XV : Type 0} {g : Environments X XN XH XK XV} {gh : Hashes 
   h = holding held
 
   abbrev Takes : Given N → Answer N → PagerView N S E → Held X XN XH XK XV g gh go gq gp gn → Type 0
-  Takes event reply now left = Drives (v old.environment) tells old held event reply now left
+  Takes event reply now left = Served (v old.environment) tells old held event reply now left
 
   whole-still : {comes : ℕ → N → Type 0} → Moves comes s s' → WellFormed (v new.environment) s' → WellFormed (v old.environment) s'
   whole-still moves formed = subst (λ e. WellFormed (v e) s') moves.environment formed
 
-  pub start-drives : (through : HandleNumber) (r : Result Beginning Error) → Serves (v old.environment) tells old (Call.LoadBegin through) (Reply.Begun r) new → WellFormed (v new.environment) s'
+  pub start-made : (through : HandleNumber) (r : Result Beginning Error) → Serves (v old.environment) tells old (Call.LoadBegin through) (Reply.Begun r) new → WellFormed (v new.environment) s'
       → Takes (Event.LoadStart through) (EventReply.Started r) new held
-  start-drives through r serves formed =
+  start-made through r serves formed =
       let w = whole-still serves.moves formed in
-      drives (by-call m s s' h h.readings serving was w _ _ serves.step (record { still = λ l load is. refl; only = λ l own is. is }) (Event.LoadStart through) (EventReply.Started r) (λ q. refl)
+      as-made (by-call m s s' h h.readings serving was w _ _ serves.step (record { still = λ l load is. refl; only = λ l own is. is }) (Event.LoadStart through) (EventReply.Started r) (λ q. refl)
       (λ readings. record { step = serves.step.does; readings = readings; work = same-work m s s' h h.readings serving was w }) serves.moves tt)
 
   module _ (kept' : ByNumber Own) where
@@ -177,18 +181,18 @@ module _ {X XN XH XK XV : Type 0} {g : Environments X XN XH XK XV} {gh : Hashes 
     abbrev anew : Held X XN XH XK XV g gh go gq gp gn
     anew = record held { readings = kept' }
 
-    pub call-drives : (call : Call N PagableData) (reply : Reply N (Arc PagableData Global)) → Serves (v old.environment) tells old call reply new → WellFormed (v new.environment) s'
+    pub call-made : (call : Call N PagableData) (reply : Reply N (Arc PagableData Global)) → Serves (v old.environment) tells old call reply new → WellFormed (v new.environment) s'
         → Forgets s'.core (kept_at kept) (kept_at kept') → Takes (Event.Call call) (EventReply.CallReply reply) new anew
-    call-drives call reply serves formed f =
+    call-made call reply serves formed f =
         let w = whole-still serves.moves formed in
-        drives (by-call m s s' h (kept_at kept') serving was w _ _ serves.step f (Event.Call call) (EventReply.CallReply (plain_reply reply)) (λ q. refl)
+        as-made (by-call m s s' h (kept_at kept') serving was w _ _ serves.step f (Event.Call call) (EventReply.CallReply (plain_reply reply)) (λ q. refl)
         (λ readings. record { step = serves.step; readings = readings; work = same-work m s s' h (kept_at kept') serving was w }) serves.moves tt)
 
     -- a load of a key has begun
-    pub key-drives : (key t : ℕ) (l : LoadNumber) (k : ℕ) (own : Own) → Serves (v old.environment) tells old (Call.LoadKey key) (Reply.Begun (Ok (Beginning.Load l k))) new
+    pub key-made : (key t : ℕ) (l : LoadNumber) (k : ℕ) (own : Own) → Serves (v old.environment) tells old (Call.LoadKey key) (Reply.Begun (Ok (Beginning.Load l k))) new
         → WellFormed (v new.environment) s' → reading_of own ≡ fresh l t → own.key ≡ key → own.for_cell ≡ false → KeepsOne (kept_at kept) l.0 (Some own) (kept_at kept')
         → Takes (Event.LoadKey key t) (EventReply.Started (Ok (Beginning.Load l k))) new anew
-    key-drives key t l k own serves formed is key_is sort keeps =
+    key-made key t l k own serves formed is key_is sort keeps =
         let w = whole-still serves.moves formed in
         let step = serves.step.does in
         let on = call-leaves s.core s'.core m (Call.LoadKey key) (Reply.Begun (Ok (Beginning.Load l k))) step in
@@ -204,7 +208,7 @@ module _ {X XN XH XK XV : Type 0} {g : Environments X XN XH XK XV} {gh : Hashes 
           given = omega (arith, next, last);
           reads = λ other open_load. subst (λ x. ReadsFor x own) (same_some _ _ (sym there ∙ open_load)) reads;
         } in
-        drives (makes m s s' {h' = holding anew} serving was w (omega arith) (λ q. refl) on (Event.LoadKey key t) (EventReply.Started (Ok (Beginning.Load l k))) (λ q. refl)
+        as-made (makes m s s' {h' = holding anew} serving was w (omega arith) (λ q. refl) on (Event.LoadKey key t) (EventReply.Started (Ok (Beginning.Load l k))) (λ q. refl)
         (record {
           step = step;
           begun = are-these s'.core (kept_at kept') (updated l.0 (Some (fresh l t)) (readings_in h.readings s.core))
@@ -215,28 +219,28 @@ module _ {X XN XH XK XV : Type 0} {g : Environments X XN XH XK XV} {gh : Hashes 
         (kept-one serving.readings on l.0 (Some own) keeps (λ other same. subst (λ x. IsKept s'.core l.0 x) (same_some _ _ same) new_one)))
 
     -- or none begins, and the pager is as it was
-    pub key-none-drives : (key t : ℕ) (e : Error) → Serves (v old.environment) tells old (Call.LoadKey key) (Reply.Begun (Err e)) new → WellFormed (v new.environment) s'
+    pub key-none-made : (key t : ℕ) (e : Error) → Serves (v old.environment) tells old (Call.LoadKey key) (Reply.Begun (Err e)) new → WellFormed (v new.environment) s'
         → ((q : ℕ) → kept_at kept' q ≡ kept_at kept q) → Takes (Event.LoadKey key t) (EventReply.Started (Err e)) new anew
-    key-none-drives key t e serves formed as_was = drives (refused m serving was (record { step = serves.step.does.refused.stays; moves = serves.moves; whole = whole-still serves.moves formed })
+    key-none-made key t e serves formed as_was = as-made (refused m serving was (record { step = serves.step.does.refused.stays; moves = serves.moves; whole = whole-still serves.moves formed })
         as_was refl (λ q. refl) (Event.LoadKey key t) (EventReply.Started (Err e)) (λ q. refl)
         (λ stays. record { step = serves.step.does; begun = tt; refused = stays.readings; work = stays.work }) tt)
 
     pub step-refused : (l : LoadNumber) (e : Error) → ((q : ℕ) → kept_at kept' q ≡ kept_at kept q) → step_fault (world_of (machine_of s h)) l ≡ Some e
         → Takes (Event.LoadStep l) (EventReply.LoadMoved (Err e)) old anew
-    step-refused l e as_was why = drives (refused m serving was (nothing-done s was) as_was refl (λ q. refl) (Event.LoadStep l)
+    step-refused l e as_was why = as-made (refused m serving was (nothing-done s was) as_was refl (λ q. refl) (Event.LoadStep l)
         (EventReply.LoadMoved (Err e)) (λ q. refl) (λ stays. record { moves = tt; refused = (why, stays) }) tt)
 
     module _ (l : LoadNumber) (key : ℕ) (t : Option ℕ) (reads : ReadsAs s.core l key t) where
-      pub step-drives : (kept1 : ByNumber Own) (mid : Kept) (reply : LoadReply N) → IsPrepared (kept_at kept) l key t (kept_at kept1)
+      pub step-made : (kept1 : ByNumber Own) (mid : Kept) (reply : LoadReply N) → IsPrepared (kept_at kept) l key t (kept_at kept1)
           → KeepsOne mid l.0 (rest_after reply.ended (mid l.0)) (kept_at kept') → (own own' : Own) → kept_at kept1 l.0 ≡ Some own → Stepped (v old.environment) Owner.Caller own reply own' s s'
           → KeepsOne (kept_at kept1) l.0 (Some own') mid → Takes (Event.LoadStep l) (EventReply.LoadMoved (Ok reply)) new anew
-      step-drives kept1 mid reply ready ends own own' there step keeps1 =
+      step-made kept1 mid reply ready ends own own' there step keeps1 =
           let keeps : KeepsOne (kept_at kept) l.0 (rest_after reply.ended (Some own')) (kept_at kept') =
           record { here = ends.here ∙ ap (rest_after reply.ended) keeps1.here; others = λ q other. ends.others q other ∙ keeps1.others q other ∙ ready.others q other } in
           let r = reads-taken s serving l reads.load key t own reads.owned reads.key_is reads.type_is (ready.taken own there) in
           let of : IsLoadOf s.core Owner.Caller own =
           record { load = reads.load; owned = subst (λ n. OwnsLoad s.core Owner.Caller n reads.load) (sym r.0) reads.owned; key = r.1.key; sort = r.1.sort } in
-          drives (steps m s s' h (kept_at kept') serving was l reads.load (reading_of own) (rest_after reply.ended (Some own')) reply (reading_of own').frames reads.owned r.2
+          as-made (steps m s s' h (kept_at kept') serving was l reads.load (reading_of own) (rest_after reply.ended (Some own')) reply (reading_of own').frames reads.owned r.2
           (step.does of) step.counts (owned-mine of.owned) keeps (goes-on reply.ended) (λ now is.
           let e = only reply.ended now is in
           (ap (λ (x : Own). x.load) (sym e) ∙ step.same.load ∙ r.0, subst (λ x. ReadsFor reads.load x) e (let mine = r.1 in let same = step.same in grind (arith, nat_tests)))))
@@ -249,16 +253,16 @@ module _ {X XN XH XK XV : Type 0} {g : Environments X XN XH XK XV} {gh : Hashes 
           only None now is = same_some _ _ is
           only (Some answer) now is = absurd (cc)
 
-      pub no-place-drives : IsPrepared (kept_at kept) l key t (kept_at kept') → kept_at kept' l.0 ≡ None → is_none t ≡ false
+      pub no-place-made : IsPrepared (kept_at kept) l key t (kept_at kept') → kept_at kept' l.0 ≡ None → is_none t ≡ false
           → (told : Result (Unit {0}) Error) → DropCall s.core Owner.Caller l told s'.core → OnlyLess old new → WellFormed (v new.environment) s'
           → Takes (Event.LoadStep l) (EventReply.LoadMoved (Ok (record { ended = Some (LoadAnswer.Refused Error.OutOfMemory); steps = 1 }))) new anew
-      no-place-drives ready none of_cell told drop only formed =
+      no-place-made ready none of_cell told drop only formed =
           let unkept : kept_at kept l.0 ≡ None = sym (ready.full none l.0) ∙ none in
           let (type, typed) = typed-so t of_cell in
           let moves : Moves (λ n x. ⊥) s s' = less-moves tells old new only in
           let closes : LoadCloses s.core l told s'.core =
           elim drop.does [ inl r ↦ absurd (let f : None ≡ Some r.e = sym (no-load-fault _ _ _ _ reads.owned) ∙ r.why in cc) | inr (other, owned, c) ↦ c ] in
-          drives (steps m s s' h (kept_at kept') serving was l reads.load (fresh l type) None (record { ended = Some (LoadAnswer.Refused Error.OutOfMemory); steps = 1 }) [] reads.owned
+          as-made (steps m s s' h (kept_at kept') serving was l reads.load (fresh l type) None (record { ended = Some (LoadAnswer.Refused Error.OutOfMemory); steps = 1 }) [] reads.owned
           (at-found s h l reads.load reads.owned None unkept ∙ (of_root reads.load.root type (reads.type_is ∙ typed)).2 l)
           (record {
             does = record { does = (inl (record { mid = s.core; meets = inl (inr (inr refl), still s.core); told = told; closes = closes }), refl) };
@@ -266,18 +270,18 @@ module _ {X XN XH XK XV : Type 0} {g : Environments X XN XH XK XV} {gh : Hashes 
             whole = whole-still moves formed;
           }) refl (owned-mine reads.owned) (record { here = none; others = ready.others }) refl (λ now is. absurd (cc)))
 
-      pub untyped-drives : IsPrepared (kept_at kept) l key t (kept_at kept') → kept_at kept' l.0 ≡ None → is_none t ≡ true
+      pub untyped-made : IsPrepared (kept_at kept) l key t (kept_at kept') → kept_at kept' l.0 ≡ None → is_none t ≡ true
           → Takes (Event.LoadStep l) (EventReply.LoadMoved (Err Error.WrongMode)) old anew
-      untyped-drives ready none no_type =
+      untyped-made ready none no_type =
           let untyped : t ≡ None = grind (arith, nat_tests) in
           step-refused l Error.WrongMode (ready.full none) (never-typed s h l reads.load reads.owned (sym (ready.full none l.0) ∙ none) (reads.type_is ∙ untyped))
 
-  pub table-drives : (tables' : Vec (LentTable X XN XH XK XV g gh go gq gp gn) Global) (table : LentTable X XN XH XK XV g gh go gq gp gn) (t : TableNumber) → tables'.items ≡ held.tables.items ++ table ∷ [] → t.0 ≡ length held.tables.items + 1
+  pub table-made : (tables' : Vec (LentTable X XN XH XK XV g gh go gq gp gn) Global) (table : LentTable X XN XH XK XV g gh go gq gp gn) (t : TableNumber) → tables'.items ≡ held.tables.items ++ table ∷ [] → t.0 ≡ length held.tables.items + 1
       → SameShelf no_shelf (shelf_of table) → Takes Event.TableNew (EventReply.TableMade (Ok t)) old (record held { tables = tables' })
-  table-drives tables' table t is number empty =
+  table-made tables' table t is number empty =
       let more = length-append h.tables (table ∷ []) in
       let unmoved : Leaves Owner.Caller s.core.workers s.core s.core = like (still s.core) (λ l. refl) refl in
-      drives (rw is (makes m s s {h' = record h { tables = h.tables ++ table ∷ [] }} serving was was (omega (arith, more)) (λ v. refl) unmoved Event.TableNew (EventReply.TableMade (Ok t))
+      as-made (rw is (makes m s s {h' = record h { tables = h.tables ++ table ∷ [] }} serving was was (omega (arith, more)) (λ v. refl) unmoved Event.TableNew (EventReply.TableMade (Ok t))
       (λ v. refl) (record {
         made = (
           number,
@@ -299,7 +303,7 @@ module _ {X XN XH XK XV : Type 0} {g : Environments X XN XH XK XV} {gh : Hashes 
 
     pub entry-refused : (e : Error) (i : ℕ) → IsIn t.0 held.tables.items → i < length s.core.list → RefusesEntry (v old.environment) s i e s'
         → ((q : ℕ) → kept_at walks' q ≡ kept_at held.walks q) → Takes (Event.WorkerListed t i) (EventReply.WorkerMade (Err e)) new left
-    entry-refused e i there within r same_walks = drives (refused m serving was r.stays (λ l. refl) refl same_walks (Event.WorkerListed t i) (EventReply.WorkerMade (Err e)) (λ q. refl)
+    entry-refused e i there within r same_walks = as-made (refused m serving was r.stays (λ l. refl) refl same_walks (Event.WorkerListed t i) (EventReply.WorkerMade (Err e)) (λ q. refl)
         (λ stays. record {
           starts = tt;
           refused = (
@@ -315,14 +319,14 @@ module _ {X XN XH XK XV : Type 0} {g : Environments X XN XH XK XV} {gh : Hashes 
           let starts = entry.starts in
           let task : world.Task = entry_task entry.h entry.row entry.type in
           let own : IsBegun t task k = subst (λ (x : ArcRef). IsBegun t (of_entry x.handle (identity_of x)) k) entry.is begun in
-          drives (worker-made m s s' h serving was starts.begins.whole
+          as-made (worker-made m s s' h serving was starts.begins.whole
           (like {u = with_worker (with_entry_taken s.core i entry.h n)} starts.begins.step (λ l. refl) refl) t task n k table starts.next own keeps (with_entry_taken s.core i entry.h n)
           starts.begins.step (Event.WorkerListed t i) (λ q. refl)
           (λ begins. record { starts = (entry.h, entry.row, entry.type, entry.entry, entry.kinds, begins); refused = tt }) starts.begins.moves)
 
       pub item-started : (item : SerializedData) → WorkerStarts (v old.environment) s.core s n.0 s' → IsBegun t (of_item (written_of item)) k
           → Takes (Event.WorkerItem t item) (EventReply.WorkerMade (Ok n)) new left
-      item-started item starts begun = drives (worker-made m s s' h serving was starts.begins.whole
+      item-started item starts begun = as-made (worker-made m s s' h serving was starts.begins.whole
           (like {u = with_worker s.core} starts.begins.step (λ l. refl) refl) t (of_item (written_of item)) n k table starts.next begun keeps s.core starts.begins.step
           (Event.WorkerItem t (written_of item)) (λ q. refl) (λ begins. record { starts = begins; refused = tt }) starts.begins.moves)
 

@@ -1,23 +1,37 @@
 -- What a machine keeps of loads and workers stays in step with its pager, whatever event happens: by what each call, each step and each begin and end leaves, and what it leaves to others' workers.
-use Rattle.pagable.specs.Driving.{AllKept, Answer, Drives, Forgets, Given, Holding, IsKept, IsServing, IsWalkKept, KeepsOne, Kept, Makes, holding, machine_of, plain_answer, plain_event, plainly}
+use Rattle.pagable.specs.Driving.{AllKept, AllOnTables, Answer, Drives, IsInStep, IsOnTable, is_done, kept_at, Forgets, Given, Holding, IsKept, IsServing, IsWalkKept, KeepsOne, Kept, Makes, holding, machine_of, plain_answer, plain_event, plainly}
 use Rattle.{pagable.specs.{Driving.{readings_in, walking_of, work_of}, declared.workers.{Held.Held, Walk.Walk}}, pagable_laws.proofs.{Called.calls-go, Effects.{Effect, Spares, listed-free}}}
 use Rattle.pagable_laws.proofs.{Effects.{then-fell, worker-apart}, Goes.{Goes, RowsGo, fell-anyhow, quiet-goes, stands-whole}, ReadingSteps.{caller-free, event-goes}, SparingSteps.event-spares}
 use Rattle.{pagable_laws.{proofs.Trees.{counted, one-true, same-number, same_some, self-number}, specs.TreeSteps.{Change, nothing_felt}}, pagable_loads.specs.{Frames.reading_of, Telling.Acting}}
 use Rattle.{pagable_loads.specs.declared.reading.Reading.Reading as Own, pagable_model.specs.declared.numbers.{ArcRef.ArcRef, HandleNumber.HandleNumber}, pagable_pager.specs.View.PagerView}
-use Rattle.{pagable_pager.specs.View.{Telling, state_in}, pagable_tables.proofs.Worlds.still, pagable_walk.specs.Turns.{IsOfKind, LeavesFit, TaskFits}}
-use Rattle.pagable_walk.specs.declared.{tasks.{Task.Task, Turn.Turn}}
-use Rattle.pagable_world.specs.{Access.Called, Calls.{CloseCall, is_listed, shut}, Cascade.fallen, Events.{CallStep, Does, Ends, Happens, ReadingsAre, Stays, WorkStays}, Kinds.is_owner}
+use Rattle.{pagable_pager.specs.View.{Telling, core_in, state_in}, pagable_tables.proofs.Worlds.still, pagable_walk.specs.{Both.both, Turns.{IsOfKind, LeavesFit, TaskFits}}}
+use Rattle.pagable_walk.specs.declared.{lent_table.LentTable.LentTable, tasks.{Task.Task, Turn.Turn}}
+use Rattle.pagable_world.specs.{Access.{Called, Told}, Calls.{CloseCall, is_listed, shut}, Cascade.fallen, Events.{CallStep, Does, Ends, Happens, ReadingsAre, Stays, WorkStays}, Kinds.is_owner}
 use Rattle.pagable_world.specs.{Kinds.owner_worker, Order.step_of, Pager.{EventBrings, HandlesAreWhole, IsMachineWhole, IsReadingWhole, IsWalkingWhole, IsWhole, Moves, OwnersAreThere, PagerState}}
 use Rattle.pagable_world.specs.{Pager.{ReplyWrites, WellFormed, world_of}, Plain.{SameAt, if_there, one, times, updated}, World.{Alike, Cell, Core, OpenLoad, Reading, Seen, Values, Walking, World}}
-use Rattle.{pagable_world.specs.declared.{calls.{Call.Call, Reply.Reply}, events.{Event.Event, EventReply.EventReply, WorkerAnswer.WorkerAnswer}, handles.Owner.Owner}, std.proofs.Common.{Bool, None}}
+use Rattle.{pagable_world.specs.declared.{calls.{Call.Call, Reply.Reply}, events.{Event.Event, EventReply.EventReply, WorkerAnswer.WorkerAnswer}, handles.Owner.Owner}, std.proofs.Common.{Bool, List, None}}
 use Rattle.std.proofs.Common.{Option, Some, [], ap, arith, false, inl, inr, length, refl, rules, subst, sym, true, ℕ, ◌<◌, ◌==◌, ◌∙◌, ◌≡◌, ◌≢◌, ◌≤◌, ◌⊎◌}
-use Rattle.std.{proofs.lemmas.{Bool.{Decides.nat_tests, false_from_ne_true}, Grind.common_steps}, specs.{Option.option_map, Prelude.{Result, is_some}}}
+use Rattle.std.{proofs.lemmas.{Bool.{Decides.nat_tests, false_from_ne_true}, Grind.common_steps}, specs.{Option.option_map, Prelude.{IsTrue, Result, if◌then◌else◌, is_some}}}
 use Rattle.pagable_codec.specs.declared.{env.Env.Ghosts as Environments, hash.KeyHash.Ghosts as Hashes, nodes.NodeSet.Ghosts as Nodes}
 use Rattle.std.specs.declared.cmp.{Ord.Ghosts as Orders, PartialEq.Ghosts as Equalities, PartialOrd.Ghosts as PartialOrders}
 
 -- an access lends what it lent before
 pub lender-is : {E : Type 0} {a b : Acting E} → a ≡ b → a.lender ≡ b.lender
 lender-is {E} e = ap (λ (a : Acting E). a.lender) e
+
+-- what is told afterwards was told before
+pub told-so : {A : Type 0} {R : A → A → Type 0} (b b' : Bool) (s t : A) → Told (if b then Some s else None) (if b' then Some t else None) R → IsTrue b' → IsTrue b × R s t
+told-so true true s t told is = (refl, told.holds)
+told-so false true s t told is = absurd told.holds
+told-so true false s t told is = absurd (cc)
+told-so false false s t told is = absurd (cc)
+
+-- and so of what is told of an access and of a table together
+pub told-both : {A T : Type 0} {R : A × T → A × T → Type 0} (b b' : Bool) (s t : A) (q q' : T) → Told (both (if b then Some s else None) (Some q)) (both (if b' then Some t else None) (Some q')) R → IsTrue b' → IsTrue b × R (s, q) (t, q')
+told-both true true s t q q' told is = (refl, told.holds)
+told-both false true s t q q' told is = absurd told.holds
+told-both true false s t q q' told is = absurd (cc)
+told-both false false s t q q' told is = absurd (cc)
 
 -- of loads and workers, as far as the machine sees them
 pub record Leaves (me : Owner) (works : ℕ → Bool) (w w' : Core) : Type 0 where
@@ -269,7 +283,53 @@ module _ {X XN XH XK XV : Type 0} {g : Environments X XN XH XK XV} {gh : Hashes 
 pub nothing-done : {N E : Type 0} {v : Values N} (s : PagerState N E) → WellFormed v s → Called v (λ w'. Alike s.core w') s s
 nothing-done s was = record { step = still s.core; moves = record { each = λ n x is. inl is; environment = refl }; whole = was }
 
--- a machine over a pager does what is made of both
-pub drives : {X XN XH XK XV : Type 0} {g : Environments X XN XH XK XV} {gh : Hashes XH} {go : Orders XK} {gq : Equalities XK} {gp : PartialOrders XK} {gn : Nodes XN X XN XH XK XV} {N S E : Type 0} {v : Values N} {tells : Telling S} {old new : PagerView N S E} {held held' : Held X XN XH XK XV g gh go gq gp gn} {event : Given N} {reply : Answer N}
-    → Makes (plainly v) (state_in tells old) (holding held) (plain_event event) (plain_answer reply) (state_in tells new) (holding held') → Drives v tells old held event reply new held'
-drives makes = record { makes = makes }
+-- ---- workers stay on their tables, whatever the storage answers
+
+module _ {X XN XH XK XV : Type 0} {g : Environments X XN XH XK XV} {gh : Hashes XH} {go : Orders XK} {gq : Equalities XK} {gp : PartialOrders XK} {gn : Nodes XN X XN XH XK XV} where
+  -- those that are kept are kept as before, beside no fewer tables
+  pub stay-on : {tables tables' : List (LentTable X XN XH XK XV g gh go gq gp gn)} {walks walks' : ℕ → Option (Walk X XN XH XK XV g gh go gq gp gn)} → AllOnTables tables walks → ((v : ℕ) → walks' v ≡ walks v) → length tables ≤ length tables' → AllOnTables tables' walks'
+  stay-on all same more = record {
+    each = λ v k is.
+        let on = all.each v k (sym (same v) ∙ is) in
+        let few = on.table.1 in
+        record { table = (on.table.0, omega (arith, few, more)); way = on.way };
+  }
+
+  -- and one is kept anew
+  pub one-on : {tables tables' : List (LentTable X XN XH XK XV g gh go gq gp gn)} {walks walks' : ℕ → Option (Walk X XN XH XK XV g gh go gq gp gn)} → AllOnTables tables walks → (n : ℕ) (new : Walk X XN XH XK XV g gh go gq gp gn) → KeepsOne walks n (Some new) walks' → length tables' ≡ length tables
+      → IsOnTable (length tables') new → AllOnTables tables' walks'
+  one-on {tables} {tables'} all n new keeps len on = record {
+    each = λ v k is. elim (one-or-old n (Some new) keeps v k is) [
+      | inl was ↦ subst (λ last. IsOnTable last k) (sym len) (all.each v k was.1)
+      | inr same ↦ subst (λ x. IsOnTable (length tables') x) (same_some _ _ same.1) on
+    ];
+  }
+
+  -- a worker that hasn't answered is at work
+  pub at-work : {w : Core} {h : Holding g gh go gq gp gn} → IsServing w h → (v : ℕ) → is_done (h.walks v) ≡ false → w.workers v ≡ true
+  at-work {w} {h} serving v left = grind (arith, nat_tests, serving.walks)
+
+-- what a machine over a pager does, made of both
+pub record Served {X XN XH XK XV : Type 0} {g : Environments X XN XH XK XV} {gh : Hashes XH} {go : Orders XK} {gq : Equalities XK} {gp : PartialOrders XK} {gn : Nodes XN X XN XH XK XV} {N S E : Type 0} (v : Values N) (tells : Telling S) (old : PagerView N S E) (held : Held X XN XH XK XV g gh go gq gp gn) (event : Given N)
+    (reply : Answer N) (new : PagerView N S E) (held' : Held X XN XH XK XV g gh go gq gp gn) : Type 0 where
+  pub made : Makes (plainly v) (state_in tells old) (holding held) (plain_event event) (plain_answer reply) (state_in tells new) (holding held')
+
+pub as-made : {X XN XH XK XV : Type 0} {g : Environments X XN XH XK XV} {gh : Hashes XH} {go : Orders XK} {gq : Equalities XK} {gp : PartialOrders XK} {gn : Nodes XN X XN XH XK XV} {N S E : Type 0} {v : Values N} {tells : Telling S} {old new : PagerView N S E} {held held' : Held X XN XH XK XV g gh go gq gp gn} {event : Given N} {reply : Answer N}
+    → Makes (plainly v) (state_in tells old) (holding held) (plain_event event) (plain_answer reply) (state_in tells new) (holding held') → Served v tells old held event reply new held'
+as-made makes = record { made = makes }
+
+module _ {X XN XH XK XV : Type 0} {g : Environments X XN XH XK XV} {gh : Hashes XH} {go : Orders XK} {gq : Equalities XK} {gp : PartialOrders XK} {gn : Nodes XN X XN XH XK XV} {N S E : Type 0} {honest : S → Bool} {v : Values N} {tells : Telling S} {old new : PagerView N S E} {held held' : Held X XN XH XK XV g gh go gq gp gn}
+    {event : Given N} {reply : Answer N} (was : IsInStep honest tells old held) where
+  -- a machine over a pager does what is made of both, as long as the storage is honest
+  pub drives : (IsTrue (honest new.storage) → IsTrue (honest old.storage)) → AllOnTables held'.tables.items (kept_at held'.walks) → (IsTrue (honest new.storage) → IsServing (core_in tells old) (holding held) → Served v tells old held event reply new held') → Drives honest v tells old held event reply new held'
+  drives keeps on_tables does = record { makes = λ is. (does is (was.serving (keeps is))).made; honest = keeps; on_tables = on_tables }
+
+  -- the storage isn't asked, and no other worker is kept
+  pub drives-beside : new.storage ≡ old.storage → length held.tables.items ≤ length held'.tables.items → ((q : ℕ) → kept_at held'.walks q ≡ kept_at held.walks q) → (IsServing (core_in tells old) (holding held) → Served v tells old held event reply new held')
+      → Drives honest v tells old held event reply new held'
+  drives-beside same more walks does = drives (λ is. ap honest (sym same) ∙ is) (stay-on was.on_tables walks more) (λ is serving. does serving)
+
+  -- and nothing is done
+  pub refuses : new.storage ≡ old.storage → length held.tables.items ≤ length held'.tables.items → ((q : ℕ) → kept_at held'.walks q ≡ kept_at held.walks q) → (IsServing (core_in tells old) (holding held) → Makes (plainly v) (state_in tells old) (holding held) (plain_event event) (plain_answer reply) (state_in tells new) (holding held'))
+      → Drives honest v tells old held event reply new held'
+  refuses same more walks does = drives-beside same more walks (λ serving. as-made (does serving))

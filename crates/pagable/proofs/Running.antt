@@ -13,7 +13,7 @@ use Rattle.{pagable_world.specs.declared.events.{WorkerAnswer.WorkerAnswer, Work
 use Rattle.std.proofs.{Common.{inr, length, map, refl, rules, subst, suc, sym, true, zero, ℕ, ◌++◌, ◌==◌, ◌∙◌, ◌∷◌, ◌≡◌, ◌≢◌, ◌≤◌}, Math.{ListN.set, Path.fun_ext}, lemmas.Bool.Decides.nat_tests}
 use Rattle.std.proofs.lemmas.{Grind.common_steps, List.{append-nil, append_assoc, get_or-set_other, get_or-set_same, length-map, length-set, map-append, nil_from_length}, Map.Made.lookup-map_values}
 use Rattle.std.proofs.lemmas.Option.{slice_get-map, slice_get_cases, slice_get_past, slice_get_read, slice_get_within}
-use Rattle.std.specs.{Prelude.{is_none, is_some, nat_eq}, declared.{alloc.Global.Global, sync.Arc.Arc}}
+use Rattle.std.specs.{Prelude.{IsTrue, is_none, is_some, nat_eq}, declared.{alloc.Global.Global, sync.Arc.Arc}}
 use Rattle.pagable_world.specs.Workers as workers
 use Rattle.pagable_codec.specs.declared.{env.Env.Ghosts as Environments, hash.KeyHash.Ghosts as Hashes, nodes.NodeSet.Ghosts as Nodes}
 use Rattle.std.specs.declared.cmp.{Ord.Ghosts as Orders, PartialEq.Ghosts as Equalities, PartialOrd.Ghosts as PartialOrders}
@@ -37,7 +37,7 @@ module _ {X XN XH XK XV : Type 0} {g : Environments X XN XH XK XV} {gh : Hashes 
       → SameShelf (updated (suc place) after (shelf_at tables) t) (shelf_at (set tables place table') t)
   shelf-set tables place table table' after there same x7 = grind (arith, nat_tests, set-at, same-number, not-same)
 
-apart : (q n : ℕ) → q ≢ n → (q == n) ≡ false
+pub apart : (q n : ℕ) → q ≢ n → (q == n) ≡ false
 apart q n other = first_of (grind (arith, common_steps, nat_tests), grind (arith, nat_tests, same-number), search (rules, same-number))
 
 -- who is at work after its answer
@@ -123,9 +123,8 @@ module _ {X XN XH XK XV : Type 0} {g : Environments X XN XH XK XV} {gh : Hashes 
   still =
       let at_work : s.core.workers n.0 ≡ true = mine.at_work ∙ ap (λ t. is_none (answer_in t)) on.had in
       record {
-        table = rw (on.after.table, len) mine.table;
+        stands = record { table = rw (on.after.table, len) mine.stands.table; way = subst (λ t. IsWay (plan t k'.path.items)) (sym on.after.turn) on.way };
         at_work = grind (arith, nat_tests, at_work, leaves, updated-at);
-        way = subst (λ t. IsWay (plan t k'.path.items)) (sym on.after.turn) on.way;
         fits = subst (λ t. LeavesFit n.0 s'.core t) (sym on.after.turn) done.fits;
       }
 
@@ -185,46 +184,51 @@ module _ {N E B W : Type 0} (m : Seen N B W) where
         chain = (chains_join E m).joins old run.moments (x ∷ []) run.chain (subst (λ s. Does m s event reply new) (sym run.ends) does, tt);
       }
 
-module _ {N S E : Type 0} {X XN XH XK XV : Type 0} {g : Environments X XN XH XK XV} {gh : Hashes XH} {go : Orders XK} {gq : Equalities XK} {gp : PartialOrders XK} {gn : Nodes XN X XN XH XK XV} (tells : Telling S) (v : E → Values N) (old : MachineView N S E) where
-  -- the events so far have happened, and the others are left
+module _ {N S E : Type 0} {X XN XH XK XV : Type 0} {g : Environments X XN XH XK XV} {gh : Hashes XH} {go : Orders XK} {gq : Equalities XK} {gp : PartialOrders XK} {gn : Nodes XN X XN XH XK XV} (honest : S → Bool) (tells : Telling S) (v : E → Values N) (old : MachineView N S E) where
+  -- the events so far have happened, as long as the storage is honest, and the others are left
   pub record SoFar (all rest : List (Given N)) (replies : List (Answer N)) (p : PagerView N S E) (h : Held X XN XH XK XV g gh go gq gp gn) : Type 0 where
     pub done : List (Given N)
     pub left : done ++ rest ≡ all
-    pub run : HasRun (plainly (v old.pager.environment)) (machine_in tells old) (map plain_event done) (map plain_answer replies) (raw_in tells p h)
-    pub environment : p.environment ≡ old.pager.environment
-    pub in_step : IsInStep tells p h
+    pub run : IsTrue (honest p.storage) → HasRun (plainly (v old.pager.environment)) (machine_in tells old) (map plain_event done) (map plain_answer replies) (raw_in tells p h)
+    pub environment : IsTrue (honest p.storage) → p.environment ≡ old.pager.environment
+    pub faithful : IsTrue (honest p.storage) → IsTrue (honest old.pager.storage)
+    pub in_step : IsInStep honest tells p h
 
-  pub at-first : (all : List (Given N)) (p : PagerView N S E) (h : Held X XN XH XK XV g gh go gq gp gn) → old ≡ view_of p h → IsInStep tells p h → SoFar all all [] p h
+  pub at-first : (all : List (Given N)) (p : PagerView N S E) (h : Held X XN XH XK XV g gh go gq gp gn) → old ≡ view_of p h → IsInStep honest tells p h → SoFar all all [] p h
   unfolding state_after
   at-first all p h is in_step = record {
     done = [];
     left = refl;
-    run = subst (λ x. HasRun (plainly (v old.pager.environment)) (machine_in tells old) [] [] x) (ap (machine_in tells) is ∙ view-is tells p h)
+    run = λ is_true. subst (λ x. HasRun (plainly (v old.pager.environment)) (machine_in tells old) [] [] x) (ap (machine_in tells) is ∙ view-is tells p h)
         (record { moments = []; events_are = refl; replies_are = refl; ends = refl; chain = tt });
-    environment = ap (λ (x : MachineView N S E). x.pager.environment) (sym is);
+    environment = λ is_true. ap (λ (x : MachineView N S E). x.pager.environment) (sym is);
+    faithful = λ is_true. ap (λ (x : MachineView N S E). honest x.pager.storage) is ∙ is_true;
     in_step = in_step;
   }
 
   pub one-more : (all rest : List (Given N)) (event : Given N) (replies : List (Answer N)) (reply : Answer N) (p q : PagerView N S E) (h h' : Held X XN XH XK XV g gh go gq gp gn)
-      → SoFar all (event ∷ rest) replies p h → Drives (v p.environment) tells p h event reply q h' → SoFar all rest (replies ++ reply ∷ []) q h'
+      → SoFar all (event ∷ rest) replies p h → Drives honest (v p.environment) tells p h event reply q h' → SoFar all rest (replies ++ reply ∷ []) q h'
   one-more all rest event replies reply p q h h' so made =
-      let does = subst (λ e. Does (plainly (v e)) (raw_in tells p h) (plain_event event) (plain_answer reply) (raw_in tells q h')) so.environment made.makes.does in
-      let more = run-more _ _ _ _ _ _ (plain_event event) (plain_answer reply) so.run does in
       record {
         done = so.done ++ event ∷ [];
         left = append_assoc so.done (event ∷ []) rest ∙ so.left;
-        run = rw (map-append plain_event so.done (event ∷ []), map-append plain_answer replies (reply ∷ [])) more;
-        environment = made.makes.does.moves.environment ∙ so.environment;
-        in_step = made.makes.serving;
+        run = λ is.
+            let same = so.environment (made.honest is) in
+            let does = subst (λ e. Does (plainly (v e)) (raw_in tells p h) (plain_event event) (plain_answer reply) (raw_in tells q h')) same (made.makes is).does in
+            let more = run-more _ _ _ _ _ _ (plain_event event) (plain_answer reply) (so.run (made.honest is)) does in
+            rw (map-append plain_event so.done (event ∷ []), map-append plain_answer replies (reply ∷ [])) more;
+        environment = λ is. (made.makes is).does.moves.environment ∙ so.environment (made.honest is);
+        faithful = λ is. so.faithful (made.honest is);
+        in_step = record { on_tables = made.on_tables; serving = λ is. (made.makes is).serving };
       }
 
   pub all-ran : (all rest : List (Given N)) (replies : List (Answer N)) (p : PagerView N S E) (h : Held X XN XH XK XV g gh go gq gp gn)
-      → length rest ≡ 0 → SoFar all rest replies p h → Runs (v old.pager.environment) tells old all replies (view_of p h)
-  all-ran all rest replies p h none so =
+      → length rest ≡ 0 → SoFar all rest replies p h → IsTrue (honest p.storage) → Runs (v old.pager.environment) tells old all replies (view_of p h)
+  all-ran all rest replies p h none so is_true =
       let is : so.done ≡ all = sym (append-nil so.done) ∙ ap (λ xs. so.done ++ xs) (sym (nil_from_length rest none)) ∙ so.left in
       let m = plainly (v old.pager.environment) in
       let run = subst (λ xs. HasRun m (machine_in tells old) (map plain_event xs) (map plain_answer replies) (machine_in tells (view_of p h))) is
-      (subst (λ x. HasRun m (machine_in tells old) (map plain_event so.done) (map plain_answer replies) x) (sym (view-is tells p h)) so.run) in
+      (subst (λ x. HasRun m (machine_in tells old) (map plain_event so.done) (map plain_answer replies) x) (sym (view-is tells p h)) (so.run is_true)) in
       record {
         run = run;
         right = λ start before whole idle chain ends.

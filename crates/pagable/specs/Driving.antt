@@ -1,6 +1,6 @@
 -- What a machine keeps of loads, tables and workers, as the plain world knows it, and when it is in step with its pager; what its calls, events and runs are.
 use Rattle.std.specs.{Arc.arc_value, HashMap.{HashMap, get}, Map.lookup, Option.option_map, Prelude.{Bool, List, None, Option, Some, is_none, is_some, length, map, nat_eq, set, slice_get, suc}}
-use Rattle.std.specs.{Prelude.{true, zero, ℕ, ◌++◌, ◌<◌, ◌≡◌, ◌≢◌, ◌≤◌, ◌⊎◌}, declared.{alloc.Global.Global, hash.{BuildHasherDefault.BuildHasherDefault, FoldHasher.FoldHasher}, sync.Arc.Arc}}
+use Rattle.std.specs.{Prelude.{IsTrue, true, zero, ℕ, ◌++◌, ◌<◌, ◌≡◌, ◌≢◌, ◌≤◌, ◌⊎◌}, declared.{alloc.Global.Global, hash.{BuildHasherDefault.BuildHasherDefault, FoldHasher.FoldHasher}, sync.Arc.Arc}}
 use Rattle.{pagable.specs.declared.workers.{Begun.Begun, Held.Held, Walk.Walk}, pagable_core.specs.Data.blob_of, pagable_loads.specs.{Frames.{IsLoadOf, is_cell, reading_of}, Stepping.IsSameLoad}}
 use Rattle.{pagable_core.specs.declared.{context.writing.SerializedData.SerializedData, storage.data.PagableData.PagableData}, pagable_world.specs.declared.handles.Owner.Owner}
 use Rattle.{pagable_loads.specs.declared.reading.Reading.Reading as Own, pagable_model.specs.declared.numbers.LoadNumber.LoadNumber, pagable_pager.specs.View.{PagerView, Telling, core_in, state_in}}
@@ -28,11 +28,15 @@ module _ {X XN XH XK XV : Type 0} {g : Environments X XN XH XK XV} {gh : Hashes 
   abbrev pub walking_of : Walk X XN XH XK XV g gh go gq gp gn → Walking
   walking_of k = record { table = k.table; task = task_of k.begun; todo = plan k.turn k.path.items; steps = k.steps; answer = answer_in k.turn }
 
-  -- Its table is there; it is at work until it has answered; its list is in order, and its task fits.
-  pub record IsWalkKept (w : Core) (last v : ℕ) (k : Walk X XN XH XK XV g gh go gq gp gn) : Type 0 where
+  -- Its table is there, and its list is in order.
+  pub record IsOnTable (last : ℕ) (k : Walk X XN XH XK XV g gh go gq gp gn) : Type 0 where
     pub table : (0 < k.table) × (k.table ≤ last)
-    pub at_work : w.workers v ≡ is_none (answer_in k.turn)
     pub way : IsWay (plan k.turn k.path.items)
+
+  -- It is on its table and at work until it has answered, and its task fits.
+  pub record IsWalkKept (w : Core) (last v : ℕ) (k : Walk X XN XH XK XV g gh go gq gp gn) : Type 0 where
+    pub stands : IsOnTable last k
+    pub at_work : w.workers v ≡ is_none (answer_in k.turn)
     pub fits : LeavesFit v w k.turn
 
   -- a worker that has just begun on this table
@@ -113,7 +117,11 @@ abbrev pub AllKept : Core → Kept → Type 0
 AllKept w kept = (l : ℕ) (own : Own) → kept l ≡ Some own → IsKept w l own
 
 module _ {X XN XH XK XV : Type 0} {g : Environments X XN XH XK XV} {gh : Hashes XH} {go : Orders XK} {gq : Equalities XK} {gp : PartialOrders XK} {gn : Nodes XN X XN XH XK XV} where
-  -- what is true of a machine after each event, beside what is true of its pager
+  -- each worker is on its table, whatever the storage answered
+  pub record AllOnTables (tables : List (LentTable X XN XH XK XV g gh go gq gp gn)) (walks : ℕ → Option (Walk X XN XH XK XV g gh go gq gp gn)) : Type 0 where
+    pub each : (v : ℕ) (k : Walk X XN XH XK XV g gh go gq gp gn) → walks v ≡ Some k → IsOnTable (length tables) k
+
+  -- what is true of a machine after each event, beside what is true of its pager, as long as its storage is honest
   pub record IsServing (w : Core) (h : Holding g gh go gq gp gn) : Type 0 where
     pub readings : AllKept w h.readings
     pub walks : (v : ℕ) (k : Walk X XN XH XK XV g gh go gq gp gn) → h.walks v ≡ Some k → IsWalkKept w (length h.tables) v k
@@ -270,13 +278,16 @@ module _ {X XN XH XK XV : Type 0} {g : Environments X XN XH XK XV} {gh : Hashes 
   holding h = record { readings = kept_at h.readings; tables = h.tables.items; walks = kept_at h.walks }
 
 module _ {N S E : Type 0} {X XN XH XK XV : Type 0} {g : Environments X XN XH XK XV} {gh : Hashes XH} {go : Orders XK} {gq : Equalities XK} {gp : PartialOrders XK} {gn : Nodes XN X XN XH XK XV} where
-  -- what is true of each machine
-  abbrev pub IsInStep : Telling S → PagerView N S E → Held X XN XH XK XV g gh go gq gp gn → Type 0
-  IsInStep tells p h = IsServing (core_in tells p) (holding h)
+  -- what is true of each machine: whatever its storage answered, and as long as that is honest
+  pub record IsInStep (is_honest : S → Bool) (tells : Telling S) (p : PagerView N S E) (h : Held X XN XH XK XV g gh go gq gp gn) : Type 0 where
+    pub on_tables : AllOnTables h.tables.items (kept_at h.walks)
+    pub serving : IsTrue (is_honest p.storage) → IsServing (core_in tells p) (holding h)
 
-  -- One event.
-  pub record Drives (v : Values N) (tells : Telling S) (old : PagerView N S E) (held : Held X XN XH XK XV g gh go gq gp gn) (event : Given N) (reply : Answer N) (new : PagerView N S E) (held' : Held X XN XH XK XV g gh go gq gp gn) : Type 0 where
-    pub makes : Makes (plainly v) (state_in tells old) (holding held) (plain_event event) (plain_answer reply) (state_in tells new) (holding held')
+  -- One event, as long as the storage is honest afterwards. Doubt doesn't go away.
+  pub record Drives (is_honest : S → Bool) (v : Values N) (tells : Telling S) (old : PagerView N S E) (held : Held X XN XH XK XV g gh go gq gp gn) (event : Given N) (reply : Answer N) (new : PagerView N S E) (held' : Held X XN XH XK XV g gh go gq gp gn) : Type 0 where
+    pub makes : IsTrue (is_honest new.storage) → Makes (plainly v) (state_in tells old) (holding held) (plain_event event) (plain_answer reply) (state_in tells new) (holding held')
+    pub honest : IsTrue (is_honest new.storage) → IsTrue (is_honest old.storage)
+    pub on_tables : AllOnTables held'.tables.items (kept_at held'.walks)
 
 -- These events, with these replies, led from the old machine to the new one; and the headline holds of them after whatever led from an idle machine to the old one.
 pub record Runs {N S E : Type 0} (v : Values N) (tells : Telling S) (old : MachineView N S E) (happened : List (Given N)) (replied : List (Answer N)) (new : MachineView N S E) : Type 0 where

@@ -1,6 +1,6 @@
-//! Each event of the machine: a step of the plain world that leaves the machine whole. A call is one of the pager's, with a reply of the call's type; a load that the caller began goes on by steps.
+//! Each event of the machine: a step of the plain world that leaves the machine whole, as long as the storage is honest afterwards. A call is one of the pager's, with a reply of the call's type; a load that the caller began goes on by steps.
 
-ghost use Rattle.std.specs.{Arc.arc_value, Prelude.{IfErr, None, OnOk, false, is_none, true, ◌*◌, ◌≡◌}};
+ghost use Rattle.std.specs.{Arc.arc_value, Prelude.{IfErr, IsTrue, None, OnOk, false, is_none, true, ◌*◌, ◌≡◌}};
 ghost use Rattle.pagable.specs.Driving.{Drives, Forgets, IsInStep, IsPrepared, KeepsOne, Serves, Stepped, kept_at, plain_found, rest_after};
 ghost use Rattle.{pagable_core.specs.Data.blob_of, pagable_loads.specs.Telling.values_at, pagable_pager.specs.View.{core_in, given_as, state_in, telling}};
 ghost use Rattle.pagable_world.specs.{Events.given_of, World.seen_as, declared.handles.Owner.Owner};
@@ -34,7 +34,8 @@ fn make_call<E: Env<Node: NodeSet<E>>, S: PagableStorage<E>>(
     alloc: Global,
     call: Call<E::Node, PagableData>,
 ) -> Reply<E::Node, Arc<PagableData>>
-    ensures { Serves (values_at E.Node.NodeSet E.Env E.Hash.KeyHash pager.old.environment) (telling S.stored S.is_closed S.failed) pager.old call result pager.new }
+    ensures serves { IsTrue (S.is_honest pager.new.storage) → Serves (values_at E.Node.NodeSet E.Env E.Hash.KeyHash pager.old.environment) (telling S.stored S.is_closed S.failed) pager.old call result pager.new }
+    ensures honest { IsTrue (S.is_honest pager.new.storage) → IsTrue (S.is_honest pager.old.storage) }
 {
     match call {
         Call::NewPinned(node) => Reply::Made(pager.new_pinned(alloc, node)),
@@ -125,8 +126,9 @@ fn step_by<'a, E: Env<Node: NodeSet<E>>, S: PagableStorage<E>>(
     own: &mut Reading,
 ) -> LoadReply<E::Node>
     requires { lent.old.me ≡ Owner.Caller }
-    ensures step { Stepped (values_at E.Node.NodeSet E.Env E.Hash.KeyHash lent.old.pager.now.environment) Owner.Caller own.old result own.new
+    ensures step { IsTrue (S.is_honest lent.new.pager.now.storage) → Stepped (values_at E.Node.NodeSet E.Env E.Hash.KeyHash lent.old.pager.now.environment) Owner.Caller own.old result own.new
         (state_in (telling S.stored S.is_closed S.failed) lent.old.pager.now) (state_in (telling S.stored S.is_closed S.failed) lent.new.pager.now) }
+    ensures honest { IsTrue (S.is_honest lent.new.pager.now.storage) → IsTrue (S.is_honest lent.old.pager.now.storage) }
     ensures lender { lent.new.pager.ghost_name ≡ lent.old.pager.ghost_name }
 {
     let ended = own.step(lent, alloc);
@@ -141,8 +143,8 @@ fn load_step<E: Env<Node: NodeSet<E>>, S: PagableStorage<E>>(
     alloc: Global,
     load: LoadNumber,
 ) -> Result<LoadReply<E::Node>, Error>
-    requires { IsInStep (telling S.stored S.is_closed S.failed) pager.old held.old }
-    ensures { Drives (values_at E.Node.NodeSet E.Env E.Hash.KeyHash pager.old.environment) (telling S.stored S.is_closed S.failed)
+    requires { IsInStep S.is_honest (telling S.stored S.is_closed S.failed) pager.old held.old }
+    ensures { Drives S.is_honest (values_at E.Node.NodeSet E.Env E.Hash.KeyHash pager.old.environment) (telling S.stored S.is_closed S.failed)
         pager.old held.old (Event.LoadStep load) (EventReply.LoadMoved result) pager.new held.new }
 {
     pager.is_whole();
@@ -196,8 +198,8 @@ fn load_key<E: Env<Node: NodeSet<E>>, S: PagableStorage<E>>(
     key: DataKey,
     node_type: u32,
 ) -> Result<Beginning, Error>
-    requires { IsInStep (telling S.stored S.is_closed S.failed) pager.old held.old }
-    ensures { Drives (values_at E.Node.NodeSet E.Env E.Hash.KeyHash pager.old.environment) (telling S.stored S.is_closed S.failed)
+    requires { IsInStep S.is_honest (telling S.stored S.is_closed S.failed) pager.old held.old }
+    ensures { Drives S.is_honest (values_at E.Node.NodeSet E.Env E.Hash.KeyHash pager.old.environment) (telling S.stored S.is_closed S.failed)
         pager.old held.old (Event.LoadKey key node_type) (EventReply.Started result) pager.new held.new }
 {
     pager.is_whole();
@@ -227,8 +229,8 @@ pub fn serve<E: Env<Node: NodeSet<E>>, S: PagableStorage<E>>(
     alloc: Global,
     event: Event<E::Node, PagableData, SerializedData>,
 ) -> EventReply<E::Node, Arc<PagableData>, Arc<SerializedData>>
-    requires { IsInStep (telling S.stored S.is_closed S.failed) pager.old held.old }
-    ensures { Drives (values_at E.Node.NodeSet E.Env E.Hash.KeyHash pager.old.environment) (telling S.stored S.is_closed S.failed)
+    requires { IsInStep S.is_honest (telling S.stored S.is_closed S.failed) pager.old held.old }
+    ensures { Drives S.is_honest (values_at E.Node.NodeSet E.Env E.Hash.KeyHash pager.old.environment) (telling S.stored S.is_closed S.failed)
         pager.old held.old event result pager.new held.new }
 {
     pager.is_whole();

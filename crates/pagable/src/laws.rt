@@ -1,7 +1,9 @@
-//! What the laws of the definitions give for carried types, as contracts of functions that do nothing.
+//! What the laws of the definitions give for carried types, and what is always so of blobs in memory, as contracts of functions that do nothing.
 
+ghost use Rattle.std.specs.Prelude.{IsTrue};
 ghost use Rattle.{pagable_laws.specs.FormLaws.{IsReadAgain, IsPrefixFree}, pagable_traits.specs.ReadBack.IsReadThroughout};
 
+use pagable_core::{InMemoryBlobs, PagableStorage};
 use pagable_traits::{Carried, Env};
 
 /// The forms of a type are read again where its shape is one that is read throughout, as `carried_types_are_read` and its
@@ -13,3 +15,11 @@ pub fn forms_are_read_again<A, B, E: Env, T: Carried<E>>()
     ensures again { (e : E) → IsReadThroughout (E.parts e) (T.shape e) → IsReadAgain A B (E.parts e) (T.shape e) }
     ensures prefix_free { (e : E) → IsReadThroughout (E.parts e) (T.shape e) → IsPrefixFree A (E.parts e) (T.shape e) }
 {}
+
+/// Blobs in memory are honest, whatever was called: no wrong answer was taken as true. So what the calls of a pager or a machine over them say as long as the
+/// storage is honest holds always.
+pub fn memory_is_honest<E: Env>(storage: &InMemoryBlobs<E>)
+    ensures { IsTrue (⟦<InMemoryBlobs<E> as PagableStorage<E>>⟧.is_honest storage.now) }
+{
+    let _blobs = storage;
+}

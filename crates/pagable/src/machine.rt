@@ -1,6 +1,6 @@
 //! A pager that is driven by lists of events.
 
-ghost use Rattle.std.specs.Prelude.{◌≡◌, IfOk, IfErr, OnErr};
+ghost use Rattle.std.specs.Prelude.{◌≡◌, IfOk, IfErr, IsTrue, OnErr};
 ghost use Rattle.{pagable_laws.specs.{FallLaws.StartsWell, PageOutLaws.NobodyWorks}, pagable_loads.specs.Telling.values_at, pagable.specs.Driving.{Runs, machine_in}};
 ghost use Rattle.{pagable_pager.specs.View.{core_in, state_in, telling}, pagable_world.specs.Pager.{IsIdle, IsNew}};
 
@@ -35,7 +35,7 @@ impl<E: Env<Node: NodeSet<E>>, S: PagableStorage<E>> Model for Machine<E, S> {
 
     ghost view = { λ m. view_of m.pager m.held };
 
-    ghost invariant = { λ m. IsInStep (telling S.stored S.is_closed S.failed) m.pager m.held };
+    ghost invariant = { λ m. IsInStep S.is_honest (telling S.stored S.is_closed S.failed) m.pager m.held };
 }
 
 impl<E: Env<Node: NodeSet<E>>, S: PagableStorage<E>> Machine<E, S> {
@@ -77,7 +77,8 @@ impl<E: Env<Node: NodeSet<E>>, S: PagableStorage<E>> Machine<E, S> {
     /// with the events.
     ///
     /// Replies and machines are a run of the plain world, for which the headline holds, as of whatever led from an idle machine to this one: each event is one step
-    /// that leaves the machine whole, and where events meet what is asked of them, every node keeps its tree and each pin gives it.
+    /// that leaves the machine whole, and where events meet what is asked of them, every node keeps its tree and each pin gives it. This holds as long as no wrong
+    /// answer of the storage was taken as true (`PagableStorage::is_honest`), which in memory is always so.
     pub fn run(
         &mut self,
         alloc: Global,
@@ -86,8 +87,9 @@ impl<E: Env<Node: NodeSet<E>>, S: PagableStorage<E>> Machine<E, S> {
         Vec<EventReply<E::Node, Arc<PagableData>, Arc<SerializedData>>>,
         (Error, Vec<Event<E::Node, PagableData, SerializedData>>),
     >
-        ensures run { IfOk result (λ replies.
+        ensures run { IsTrue (S.is_honest self.new.pager.storage) → IfOk result (λ replies.
             Runs (values_at E.Node.NodeSet E.Env E.Hash.KeyHash self.old.pager.environment) (telling S.stored S.is_closed S.failed) self.old events.items replies.items self.new) }
+        ensures honest { IsTrue (S.is_honest self.new.pager.storage) → IsTrue (S.is_honest self.old.pager.storage) }
         ensures nothing { OnErr result (self.new ≡ self.old) }
         ensures back { IfErr result (λ e. (e.0 ≡ Error.OutOfMemory) × (e.1 ≡ events)) }
     {

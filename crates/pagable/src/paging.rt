@@ -1,6 +1,6 @@
-//! Pins, readings and page-outs of a lent pager.
+//! Pins, readings and page-outs of a lent pager. What they do is told as long as the storage is honest afterwards.
 
-ghost use Rattle.std.specs.{Arc.arc_value, Prelude.◌≡◌};
+ghost use Rattle.std.specs.{Arc.arc_value, Prelude.{IsTrue, ◌≡◌}};
 ghost use Rattle.{pagable.specs.Paged.{PagesOutItem, PagesOutList, ReadsValue}, pagable_loads.specs.Telling.values_at, pagable_pager.specs.View.{state_in, telling}};
 ghost use Rattle.{pagable_walk.specs.{Over.{answer_of, PagesItem, PagesList}, Slots.written_of, Table.shelf_of}, pagable_world.specs.{Access.{PinsOver, ReadsOver}, World.seen_as}};
 ghost use Rattle.pagable_world.specs.declared.handles.Owner.TheVariants as owners;
@@ -21,8 +21,9 @@ fn pin_by<'a, E: Env<Node: NodeSet<E>>, S: PagableStorage<E>>(
     handle: HandleNumber,
 ) -> Result<(HandleNumber, Arc<E::Node>), Error>
     requires caller { lent.old.me ≡ owners.Caller }
-    ensures pins { PinsOver (values_at E.Node.NodeSet E.Env E.Hash.KeyHash lent.old.pager.now.environment) (state_in (telling S.stored S.is_closed S.failed) lent.old.pager.now)
+    ensures pins { IsTrue (S.is_honest lent.new.pager.now.storage) → PinsOver (values_at E.Node.NodeSet E.Env E.Hash.KeyHash lent.old.pager.now.environment) (state_in (telling S.stored S.is_closed S.failed) lent.old.pager.now)
         handle (seen_as (λ a. (a.0, arc_value a.1)) result) (state_in (telling S.stored S.is_closed S.failed) lent.new.pager.now) }
+    ensures honest { IsTrue (S.is_honest lent.new.pager.now.storage) → IsTrue (S.is_honest lent.old.pager.now.storage) }
     ensures lender { lent.new.pager.ghost_name ≡ lent.old.pager.ghost_name }
 {
     pin_over(lent, alloc, handle)
@@ -35,8 +36,9 @@ pub fn pin<E: Env<Node: NodeSet<E>>, S: PagableStorage<E>>(
     pager: &mut Pager<E, S>,
     handle: HandleNumber,
 ) -> Result<(HandleNumber, Arc<E::Node>), Error>
-    ensures pins { PinsOver (values_at E.Node.NodeSet E.Env E.Hash.KeyHash pager.old.environment) (state_in (telling S.stored S.is_closed S.failed) pager.old)
+    ensures pins { IsTrue (S.is_honest pager.new.storage) → PinsOver (values_at E.Node.NodeSet E.Env E.Hash.KeyHash pager.old.environment) (state_in (telling S.stored S.is_closed S.failed) pager.old)
         handle (seen_as (λ a. (a.0, arc_value a.1)) result) (state_in (telling S.stored S.is_closed S.failed) pager.new) }
+    ensures honest { IsTrue (S.is_honest pager.new.storage) → IsTrue (S.is_honest pager.old.storage) }
 {
     let mut lent = Lent::new(pager);
     pin_by(&mut lent, alloc, handle)
@@ -49,8 +51,9 @@ fn read_by<'a, E: Env<Node: NodeSet<E>>, S: PagableStorage<E>>(
     node_type: u32,
 ) -> Result<E::Node, Error>
     requires caller { lent.old.me ≡ owners.Caller }
-    ensures reads { ReadsOver (values_at E.Node.NodeSet E.Env E.Hash.KeyHash lent.old.pager.now.environment) (state_in (telling S.stored S.is_closed S.failed) lent.old.pager.now)
+    ensures reads { IsTrue (S.is_honest lent.new.pager.now.storage) → ReadsOver (values_at E.Node.NodeSet E.Env E.Hash.KeyHash lent.old.pager.now.environment) (state_in (telling S.stored S.is_closed S.failed) lent.old.pager.now)
         key node_type result (state_in (telling S.stored S.is_closed S.failed) lent.new.pager.now) }
+    ensures honest { IsTrue (S.is_honest lent.new.pager.now.storage) → IsTrue (S.is_honest lent.old.pager.now.storage) }
     ensures lender { lent.new.pager.ghost_name ≡ lent.old.pager.ghost_name }
 {
     read_over(lent, alloc, key, node_type)
@@ -64,8 +67,9 @@ pub fn read<E: Env<Node: NodeSet<E>>, S: PagableStorage<E>>(
     key: DataKey,
     node_type: u32,
 ) -> Result<E::Node, Error>
-    ensures reads { ReadsOver (values_at E.Node.NodeSet E.Env E.Hash.KeyHash pager.old.environment) (state_in (telling S.stored S.is_closed S.failed) pager.old)
+    ensures reads { IsTrue (S.is_honest pager.new.storage) → ReadsOver (values_at E.Node.NodeSet E.Env E.Hash.KeyHash pager.old.environment) (state_in (telling S.stored S.is_closed S.failed) pager.old)
         key node_type result (state_in (telling S.stored S.is_closed S.failed) pager.new) }
+    ensures honest { IsTrue (S.is_honest pager.new.storage) → IsTrue (S.is_honest pager.old.storage) }
 {
     let mut lent = Lent::new(pager);
     read_by(&mut lent, alloc, key, node_type)
@@ -79,8 +83,9 @@ pub fn deserialize_pagable_data<E: Env<Node: NodeSet<E>>, S: PagableStorage<E>, 
     pager: &mut Pager<E, S>,
     key: DataKey,
 ) -> Result<Arc<T>, (Error, Option<E::Node>)>
-    ensures reads { ReadsValue (values_at E.Node.NodeSet E.Env E.Hash.KeyHash pager.old.environment) arc_value T.held (state_in (telling S.stored S.is_closed S.failed) pager.old)
+    ensures reads { IsTrue (S.is_honest pager.new.storage) → ReadsValue (values_at E.Node.NodeSet E.Env E.Hash.KeyHash pager.old.environment) arc_value T.held (state_in (telling S.stored S.is_closed S.failed) pager.old)
         key T.TYPE result (state_in (telling S.stored S.is_closed S.failed) pager.new) }
+    ensures honest { IsTrue (S.is_honest pager.new.storage) → IsTrue (S.is_honest pager.old.storage) }
 {
     match read(alloc, pager, key, T::TYPE) {
         Ok(node) => match T::from_node(alloc, &node) {
@@ -99,8 +104,9 @@ fn page_out_item_by<'a, E: Env<Node: NodeSet<E>>, S: PagableStorage<E>>(
     item: Arc<SerializedData>,
 ) -> Result<DataKey, PageOutError>
     requires caller { lent.old.me ≡ owners.Caller }
-    ensures pages { PagesItem (values_at E.Node.NodeSet E.Env E.Hash.KeyHash lent.old.pager.now.environment) (shelf_of table.old) (written_of (arc_value item)) (shelf_of table.new) (answer_of result)
+    ensures pages { IsTrue (S.is_honest lent.new.pager.now.storage) → PagesItem (values_at E.Node.NodeSet E.Env E.Hash.KeyHash lent.old.pager.now.environment) (shelf_of table.old) (written_of (arc_value item)) (shelf_of table.new) (answer_of result)
         (state_in (telling S.stored S.is_closed S.failed) lent.old.pager.now) (state_in (telling S.stored S.is_closed S.failed) lent.new.pager.now) }
+    ensures honest { IsTrue (S.is_honest lent.new.pager.now.storage) → IsTrue (S.is_honest lent.old.pager.now.storage) }
     ensures lender { lent.new.pager.ghost_name ≡ lent.old.pager.ghost_name }
 {
     page_out_item_over(lent, alloc, table, item)
@@ -114,8 +120,9 @@ pub fn page_out_item<E: Env<Node: NodeSet<E>>, S: PagableStorage<E>>(
     table: &mut LentTable<E>,
     item: Arc<SerializedData>,
 ) -> Result<DataKey, PageOutError>
-    ensures pages { PagesOutItem (values_at E.Node.NodeSet E.Env E.Hash.KeyHash pager.old.environment) (state_in (telling S.stored S.is_closed S.failed) pager.old)
+    ensures pages { IsTrue (S.is_honest pager.new.storage) → PagesOutItem (values_at E.Node.NodeSet E.Env E.Hash.KeyHash pager.old.environment) (state_in (telling S.stored S.is_closed S.failed) pager.old)
         (shelf_of table.old) (written_of (arc_value item)) (answer_of result) (state_in (telling S.stored S.is_closed S.failed) pager.new) (shelf_of table.new) }
+    ensures honest { IsTrue (S.is_honest pager.new.storage) → IsTrue (S.is_honest pager.old.storage) }
 {
     pager.is_whole();
     let mut lent = Lent::new(pager);
@@ -127,8 +134,9 @@ fn page_out_pending_by<'a, E: Env<Node: NodeSet<E>>, S: PagableStorage<E>>(
     alloc: Global,
 ) -> Result<(), PageOutError>
     requires caller { lent.old.me ≡ owners.Caller }
-    ensures pages { PagesList (values_at E.Node.NodeSet E.Env E.Hash.KeyHash lent.old.pager.now.environment) result
+    ensures pages { IsTrue (S.is_honest lent.new.pager.now.storage) → PagesList (values_at E.Node.NodeSet E.Env E.Hash.KeyHash lent.old.pager.now.environment) result
         (state_in (telling S.stored S.is_closed S.failed) lent.old.pager.now) (state_in (telling S.stored S.is_closed S.failed) lent.new.pager.now) }
+    ensures honest { IsTrue (S.is_honest lent.new.pager.now.storage) → IsTrue (S.is_honest lent.old.pager.now.storage) }
     ensures lender { lent.new.pager.ghost_name ≡ lent.old.pager.ghost_name }
 {
     page_out_pending_over(lent, alloc)
@@ -141,8 +149,9 @@ pub fn page_out_pending<E: Env<Node: NodeSet<E>>, S: PagableStorage<E>>(
     alloc: Global,
     pager: &mut Pager<E, S>,
 ) -> Result<(), PageOutError>
-    ensures pages { PagesOutList (values_at E.Node.NodeSet E.Env E.Hash.KeyHash pager.old.environment) (state_in (telling S.stored S.is_closed S.failed) pager.old)
+    ensures pages { IsTrue (S.is_honest pager.new.storage) → PagesOutList (values_at E.Node.NodeSet E.Env E.Hash.KeyHash pager.old.environment) (state_in (telling S.stored S.is_closed S.failed) pager.old)
         result (state_in (telling S.stored S.is_closed S.failed) pager.new) }
+    ensures honest { IsTrue (S.is_honest pager.new.storage) → IsTrue (S.is_honest pager.old.storage) }
 {
     pager.is_whole();
     let mut lent = Lent::new(pager);

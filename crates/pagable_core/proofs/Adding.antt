@@ -1,8 +1,8 @@
 -- Adding a blob to what is stored, and how many blobs a map holds.
-use Rattle.std.proofs.{Common.{◌≡◌, ◌∙◌, ℕ, Bool, false, cond, Option, Some, None, sym, inl, inr, arith}, lemmas.Bool.{eqb-true, Decides.{Decides-eqb, nat_tests}}}
+use Rattle.std.proofs.{Common.{◌≡◌, ◌∙◌, ℕ, Bool, false, cond, Option, Some, None, Result, sym, inl, inr, arith}, lemmas.Bool.{eqb-true, Decides.{Decides-eqb, nat_tests}}}
 use Rattle.std.{proofs.lemmas.Map.{Entries.length-keys_of, Made.AllPairs-from_IsDistinct, Views.{IsSome-lookup_from_Contains, Contains-keys_from_lookup}}, specs.{Arc.arc_value, Cmp.nat_eq_equiv}}
-use Rattle.std.specs.{Global.Global, HashMap.{IsUnique, get, hash_map_len}, Map.keys_of, Prelude.{◌==◌, ◌↔◌, ◌≢◌, IsSome, IsTrue, nat_eq, option_map, if◌then◌else◌}, declared.sync.Arc.Arc}
-use Rattle.{pagable_core.specs.{Data.{Blobs, blob_of, stored_in}, declared.storage.data.PagableData.PagableData}, pagable_model.specs.{Blob.Blob, Stored.{Adds, IsCount}}}
+use Rattle.std.specs.{Global.Global, HashMap.{IsUnique, get, hash_map_len}, Map.keys_of, Prelude.{◌==◌, ◌↔◌, ◌≢◌, IsSome, IsTrue, OnErr, OnOk, nat_eq, option_map, if◌then◌else◌}, declared.sync.Arc.Arc}
+use Rattle.{pagable_core.specs.{Data.{Blobs, blob_of, stored_in}, declared.storage.data.PagableData.PagableData}, pagable_model.specs.{Blob.Blob, Stored.{Adds, AreNamed, IsCount, Keeps}, declared.error.Error.Error}}
 
 -- a blob that stands there already adds nothing
 pub adds_nothing : (stored : ℕ → Option Blob) (key : ℕ) (blob : Blob) → stored key ≡ Some blob → Adds key blob stored stored
@@ -34,5 +34,13 @@ counts m count many unique = record {
   );
   many = many ∙ sym (length-keys_of m.entries);
 }
+
+-- each blob stays under its own key, whether one came or not
+pub all_named : {key_of : Blob → ℕ} {old : ℕ → Option Blob} {key : ℕ} (new : ℕ → Option Blob) (blob : Blob) (r : Result (Unit {0}) Error) → key ≡ key_of blob → AreNamed key_of old
+    → OnOk r ((q : ℕ) → new q ≡ (if q == key then Some blob else old q)) → OnErr r (new ≡ old) → AreNamed key_of new
+all_named new blob r own named comes stays q b is = let here = named q b in grind (arith, nat_tests, eqb-true)
+
+pub keeps_same : {old new : ℕ → Option Blob} → new ≡ old → Keeps old new
+keeps_same same key blob is = rw same is
 
 pub ruleset adding = (adds_nothing, adds_one, taken)

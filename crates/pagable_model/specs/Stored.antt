@@ -7,6 +7,14 @@ pub record Adds (key : ℕ) (blob : Blob) (old new : ℕ → Option Blob) : Type
   pub each : (q : ℕ) → new q ≡ (if q == key then Some blob else old q)
   pub free : (old key ≡ None) ⊎ (old key ≡ Some blob)
 
+-- Each blob stands under its own key.
+abbrev pub AreNamed : (Blob → ℕ) → (ℕ → Option Blob) → Type 0
+AreNamed key_of stored = (key : ℕ) (blob : Blob) → stored key ≡ Some blob → key_of blob ≡ key
+
+-- What stands under a key goes on standing there.
+abbrev pub Keeps : (ℕ → Option Blob) → (ℕ → Option Blob) → Type 0
+Keeps old new = (key : ℕ) (blob : Blob) → old key ≡ Some blob → new key ≡ Some blob
+
 -- the storage failed: its count rose, or stood at its end
 abbrev pub HasFailed : ℕ → ℕ → Type 0
 HasFailed before after = (before < after) ⊎ ((before ≡ 2 ^ 64 - 1) × (after ≡ before))

@@ -1,24 +1,24 @@
 -- What leaves the pager in step: values that go with their nodes, calls by which no value comes or goes, what is asked of the storage, and what comes with a value.
 use Rattle.pagable_laws.proofs.{Goes.{NotValues, among-found, find-both, found-number, good, low-whole, new-handle, stands-fell}, ReadingSteps.cached-rows, SparingSteps.{entered-of, named-among}}
 use Rattle.{pagable_laws.proofs.Taking.{row-held, row-pins}, pagable_loads.{proofs.Stepped.begun_is, specs.declared.access.PinStart.PinStart}, std.specs.Option.option_map}
-use Rattle.{pagable_loads.specs.Telling.IsMade, pagable_model.specs.{Stored.{Adds, RefusesFetch, RefusesStore}, declared.{data_key.OptionalDataKey.OptionalDataKey, numbers.WorkerNumber.WorkerNumber}}}
+use Rattle.{either.specs.declared.Either.Either, pagable_loads.specs.Telling.{AsksFor, Brings, IsMade}, pagable_model.specs.{Stored.{Adds, RefusesFetch, RefusesStore}, declared.{data_key.OptionalDataKey.OptionalDataKey, numbers.WorkerNumber.WorkerNumber}}}
 use Rattle.pagable_world.specs.LoadCalls.{AdoptCall, Adopts, AskCall, BeginCall, DropCall, EndCall, EndRefused, GetsKnown, Installs, LazyCall, MayEnd, adopt_fault, adopted, end_fault, first_key, from_cache}
 use Rattle.{pagable_loads.specs.Starting.StartsPin, pagable_model.specs.declared.numbers.{ArcRef.ArcRef, HandleNumber.HandleNumber, Kind.Kind, LoadNumber.LoadNumber, NodeNumber.NodeNumber}}
-use Rattle.pagable_steps.proofs.Owning.{IsRight, IsShut, Leaves, Rests, Spares, adopts-new, asked as spares-asked, born, closed, installed_away, installed_there, known-here}
+use Rattle.pagable_steps.proofs.Owning.{IsRight, IsShut, Leaves, Rests, Spares, adopts-new, born, closed, installed_away, installed_there, known-here}
 use Rattle.{pagable_steps.proofs.Owning.{not-load, pinned-here, recalls, rests-then, spared, spares-same, starts-listed, stayed, unmoved}, pagable_tables.proofs.Worlds.adopted-past}
 use Rattle.pagable_tables.proofs.Worlds.{adopts-new as made-new, born-past, early-past, fault-by, next-past, no-load-fault, refused-memory, refused-new, room-alike, room-fault, still, told-later}
 use Rattle.pagable_tables.specs.{Core.{AreLater, Bears, BeginsWorker, Does, DoesShed, IsWhole}, Ready.{AsksKnown, IsReady, IsVain, ShedsBeside, early_fault, has_come}, declared.tables.Counts.Counts}
 use Rattle.pagable_tables.{proofs.Installed.{installs-wider, may-wider}, specs.{Core.{OnlyRoom, TakesWorker, core_of, plain_of}, declared.{loading.Ending.Ending, tables.Tables.Tables}}}
 use Rattle.{pagable_laws.proofs.{Following.cell-of, Trees.same_some}, pagable_tables.specs.Falling.{AreKept, Sheds, cell_in, counts_at, has_value, key_in, known_at, load_at, pins_in, worker_at}}
-use Rattle.pagable_world.specs.{Access.Called, Kinds.{HasKinds, find_row, has_key, is_handle, is_loose, is_owner, is_pinning, loose_kind, mode_of, pins}, declared.answers.Beginning.Beginning}
-use Rattle.pagable_pager.specs.View.{Calls, FewerValues, IsPager, OnlyLess, PagerView, SameValues, Settles, TakesEntry, Telling, ValuesByNode, core_in, is_at_work, state_in, value_in, with_value}
+use Rattle.pagable_world.specs.{Access.{Called, Told}, Kinds.{HasKinds, find_row, has_key, is_handle, is_loose, is_owner, is_pinning, loose_kind, mode_of, pins}, declared.answers.Beginning.Beginning}
+use Rattle.pagable_pager.specs.View.{AsksStorage, Calls, FewerValues, IsPager, KeepsWorkers, OnlyLess, PagerView, SameValues, Settles, TakesEntry, Telling, ValuesByNode, core_in, given_as, is_at_work, state_in, value_in, with_value}
 use Rattle.pagable_world.specs.{Pager.{HandlesAreWhole, IsCellOf, IsNew, IsNewNode, MayOwnLoad, Moves, PagerState, ValueCall, WellFormed}, Plain.{Blob, Error, if_there, or_else, type_of, updated}}
 use Rattle.pagable_world.specs.{Refusals.{Refused, load_fault, references_fault}, World.{Alike, Core, OpenLoad, Reading, Values, greatest, is_here, row_at, seen_as, usable}}
 use Rattle.pagable_world.specs.{Calls.{Asked, BirthCall, CloseCall, FetchCall, IsNext, Looks, StoreCall, birth_fault, is_named_by, next_node, row_of, with_handle, with_node}, declared.calls.Want.Want}
 use Rattle.{pagable_world.specs.{Events.{IsEntry, reading_of_load}, Workers.RowIs, declared.{handles.{HandleRow.HandleRow, Owner.Owner}, rows.Mode.Mode}}, std.proofs.Common.{Bool, Err, List, None}}
 use Rattle.std.proofs.Common.{Ok, Option, Result, Some, [], ap, arith, false, if◌then◌else◌, inl, inr, nat_eq, not, refl, rules, subst, sym, true, ℕ, ◌&&◌, ◌++◌, ◌+◌, ◌<◌, ◌==◌, ◌∙◌, ◌∷◌, ◌≡◌, ◌≤◌}
 use Rattle.std.{proofs.lemmas.{Bool.{Decides.nat_tests, cases_Bool, cases_eq, false_from_ne_true}, Option.slice_get_within}, specs.{Arc.arc_value, HashMap.get, Prelude.{IfErr, IfOk}}}
-use Rattle.std.specs.Prelude.{IsSome, OnErr, OnOk, is_some, nat_lt, ◌⊎◌}
+use Rattle.std.specs.Prelude.{IsSome, IsTrue, OnErr, OnOk, is_some, nat_lt, ◌⊎◌}
 use Rattle.pagable_world.specs.Pager as pager
 
 -- the plain world is whole, whatever is stored, if nothing is listed or known once the storage is closed
@@ -137,6 +137,9 @@ pub known_found : {w w' : Core} {me : Owner} {l : LoadNumber} {kind : Kind} {key
     → AskCall w me l (Want.Nested kind key) (Ok (from_cache k)) w'
 known_found found some known = grind (arith, nat_tests)
 
+pub asks-kept : {w w' : Core} {me : Owner} {l : LoadNumber} {kind : Kind} {key : ℕ} (r : Result (Option HandleNumber) Error) → AsksKnown w me l kind key r w' → KeepsWorkers w w'
+asks-kept r c = grind (arith, nat_tests)
+
 -- and no value comes or goes by that
 pub asks : {w w' : Core} {me : Owner} {l : LoadNumber} {kind : Kind} {key : ℕ} → pager.IsWhole w → (r : Result (Option HandleNumber) Error) → AsksKnown w me l kind key r w' → Rests w w'
 asks {l = l} whole (Ok found) c = recalls whole (not-load l) (Ok found) (record { answers = c.gives.2; refused = tt })
@@ -147,23 +150,21 @@ module _ {N S E : Type 0} {tells : Telling S} {says : E → Values N} {p : Pager
   abbrev stored-in : PagerView N S E
   stored-in = record p { storage = s }
 
-  told-in : Spares (core_in tells p) (core_in tells stored-in) → IsPager tells says stored-in
-  told-in spares = in-step stored-in is.tables is.later (spared is.state (record { spares = spares; shut = λ shut. is.state.whole.shut (sym stays ∙ shut) }) (λ n. refl))
+  -- whatever is stored, the pager stays in step
+  pub kept-so : IsPager tells says stored-in
+  kept-so = in-step stored-in is.tables is.later (spared is.state (record { spares = spares-same refl (λ n. refl) refl; shut = λ shut. is.state.whole.shut (sym stays ∙ shut) }) (λ n. refl))
 
   pub asked : tells.stored s ≡ tells.stored p.storage → Asked (core_in tells p) (core_in tells stored-in)
   asked same = grind (arith, nat_tests, still)
 
-  pub asked-so : tells.stored s ≡ tells.stored p.storage → IsPager tells says stored-in
-  asked-so same = told-in (spares-asked (asked same))
+  pub store-call : (digest : Blob → ℕ) (blob : Blob) (r : Result ℕ Error) → IfOk r (λ key. key ≡ digest blob) → OnOk r (Adds (digest blob) blob (tells.stored p.storage) (tells.stored s))
+      → OnOk r (tells.closed p.storage ≡ false) → IfErr r (RefusesStore blob (tells.stored p.storage (digest blob)) (tells.closed p.storage) (tells.failed p.storage) (tells.failed s))
+      → OnErr r (tells.stored s ≡ tells.stored p.storage) → StoreCall digest (core_in tells p) blob r (core_in tells stored-in)
+  store-call digest blob r keyed adds was only same = grind (arith, nat_tests, asked, still)
 
-  module _ (digest : Blob → ℕ) (blob : Blob) (r : Result ℕ Error) (keyed : IfOk r (λ key. key ≡ digest blob)) (adds : OnOk r (Adds (digest blob) blob (tells.stored p.storage) (tells.stored s)))
-      (was : OnOk r (tells.closed p.storage ≡ false)) (only : IfErr r (RefusesStore blob (tells.stored p.storage (digest blob)) (tells.closed p.storage) (tells.failed p.storage) (tells.failed s)))
-      (same : OnErr r (tells.stored s ≡ tells.stored p.storage)) where
-    pub store-call : StoreCall digest (core_in tells p) blob r (core_in tells stored-in)
-    store-call = grind (arith, nat_tests, asked, still)
-
-    pub stored-so : IsPager tells says stored-in
-    stored-so = told-in (let c = store-call in grind (arith, nat_tests, spares-asked, spares-same))
+  pub asks-it : {honest : S → Bool} {makes : Core → Core → Type 0} → (IsTrue (honest s) → makes (core_in tells p) (core_in tells stored-in)) → (IsTrue (honest s) → IsTrue (honest p.storage))
+      → AsksStorage honest tells p makes stored-in
+  asks-it step faithful = record { step = step; honest = faithful; closed = stays; only = record { tables = refl; values = refl; environment = refl } }
 
 pub fetch-call : {X : Type 0} (see : X → Blob) (w w' : Core) (key : ℕ) (r : Result X Error) → Asked w w' → IfOk r (λ x. w.stored key ≡ Some (see x)) → IfErr r (RefusesFetch key (w.stored key) w.failures w'.failures) → FetchCall w key (seen_as see r) w'
 fetch-call see w w' key r asks found only = grind (arith, nat_tests)
@@ -373,8 +374,19 @@ module _ {N S E : Type 0} (tells : Telling S) (v : E → Values N) (p q : PagerV
   pub called_fewer : (D : Core → Type 0) → D (core_in tells q) → FewerValues p q → WellFormed (v q.environment) (state_in tells q) → Called (v p.environment) D (state_in tells p) (state_in tells q)
   called_fewer D step only whole = grind (arith, nat_tests)
 
+  pub brings-so : (D : Core → Type 0) {comes : ℕ → N → Type 0} → D (core_in tells q) → Moves comes (state_in tells p) (state_in tells q) → WellFormed (v q.environment) (state_in tells q)
+      → Brings (v p.environment) D comes (state_in tells p) (state_in tells q)
+  brings-so D step moves whole = record { step = step; moves = moves; whole = subst (λ e. WellFormed (v e) (state_in tells q)) moves.environment whole }
+
   pub all_there : SameValues p q → FewerValues p q
   all_there only = record { values = λ n x has. subst (λ (values : ValuesByNode N). value_in values n ≡ Some x) only.values has; environment = only.environment }
+
+-- what an access tells that tells its state as long as it is in no doubt
+pub told-if : {A : Type 0} {R : A → A → Type 0} (b b' : Bool) (s t : A) → (IsTrue b' → IsTrue b) → (IsTrue b' → R s t) → Told (if b then Some s else None) (if b' then Some t else None) R
+told-if true true s t keeps does = record { holds = does refl }
+told-if false true s t keeps does = let is = keeps refl in absurd cc
+told-if true false s t keeps does = record { holds = tt }
+told-if false false s t keeps does = record { holds = tt }
 
 pub stored_key : {digest : Blob → ℕ} {w w' : Core} {blob : Blob} (r : Result ℕ Error) → StoreCall digest w blob r w' → IfOk r (λ key. key ≡ digest blob)
 stored_key r c = grind (arith, nat_tests)
@@ -401,6 +413,17 @@ born_live w w' l kind key own references k next a =
 
 pub known_live : {w w' : Core} {l : LoadNumber} {kind : Kind} {key : ℕ} {k : HandleNumber} → GetsKnown w l kind key k w' → IsSome (row_at w' k)
 known_live {w} {w'} {l} {kind} {k = k} c = last_live w w' k w.rows (row_of (w.last.handle + 1) (record { 0 = c.n }) (mode_of kind.0) (Owner.Load l)) c.next refl c.leaves.rows
+
+-- a handle that the cache gives, as a reference
+pub found-made : {B : Type 0} (see : B → Blob) {w w' : Core} {me : Owner} {l : LoadNumber} {kind : Kind} {key : ℕ} {r : ArcRef} {k : HandleNumber} (given : Either HandleNumber B) → given ≡ Either.Left k
+    → r.handle ≡ k → (IsSome (row_at w' k) → IsMade w' kind r) → AskCall w me l (Want.Nested kind key) (Ok (given_as see given)) w' → AsksFor see w me l kind key (Ok (Either.Left r)) w'
+found-made {B} see {w} {w'} {me} {l} {kind} {key} {r} {k} given is same made ask =
+    let found : AskCall w me l (Want.Nested kind key) (Ok (from_cache k)) w' = subst (λ x. AskCall w me l (Want.Nested kind key) (Ok (given_as see x)) w') is ask in
+    record { asked = subst (λ x. AskCall w me l (Want.Nested kind key) (Ok (from_cache x)) w') (sym same) found; made = made (known_live found.gives.2) }
+
+-- whose calls they are is still at work
+pub still-at-work : {w w' : Core} (me : Owner) → KeepsWorkers w w' → is_at_work w me ≡ true → is_at_work w' me ≡ true
+still-at-work me kept was = grind (arith, nat_tests)
 
 pub lazy_live : {w w' : Core} {me : Owner} {l : LoadNumber} {kind : Kind} {key : ℕ} {k : HandleNumber} → LazyCall w me l kind key (Ok k) w' → IsSome (row_at w' k)
 lazy_live {w} {w'} {l = l} {kind} {key} {k} c = elim c.makes.3 [

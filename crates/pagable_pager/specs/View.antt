@@ -1,10 +1,10 @@
 -- What contracts see of a pager and its open loads, and the plain state that it tells.
 use Rattle.std.specs.declared.{hash.{BuildHasherDefault.BuildHasherDefault, FoldHasher.FoldHasher}, sync.Arc.Arc}
-use Rattle.std.specs.{Arc.arc_value, Global.Global, HashMap.{HashMap, get}, Option.option_map, Prelude.{Bool, None, Option, Some, false, nat_eq, true, ℕ, ◌+◌, ◌≡◌}}
+use Rattle.std.specs.{Arc.arc_value, Global.Global, HashMap.{HashMap, get}, Option.option_map, Prelude.{Bool, IsTrue, None, Option, Some, false, nat_eq, true, ℕ, ◌+◌, ◌≡◌}}
 use Rattle.{either.specs.declared.Either.Either, pagable_model.specs.declared.numbers.{ArcRef.ArcRef, HandleNumber.HandleNumber, LoadNumber.LoadNumber, WorkerNumber.WorkerNumber}}
 use Rattle.{pagable_tables.specs.{Core.{AreLater, core_of}, Falling.{counts_at, pins_in}, declared.tables.Tables.Tables}, pagable_world.specs.Kinds.{HasKinds, loose_kind}}
 use Rattle.pagable_world.specs.{Events.{IsEntry, with_entry_taken, with_worker}, LoadCalls.{Given, from_cache, from_store}, Pager.{PagerState, WellFormed}, Plain.{Blob, updated}, Refusals.OwnsLoad}
-use Rattle.pagable_world.specs.{Access.Called, World.{Alike, Core, OpenLoad, Root, Values, of_cell, of_key}, declared.handles.{HandleRow.HandleRow, Owner.Owner}}
+use Rattle.pagable_world.specs.{Access.Called, World.{Alike, Core, OpenLoad, Root, Values, of_cell, of_key}, declared.{calls.Want.Want, handles.{HandleRow.HandleRow, Owner.Owner}}}
 use Rattle.pagable_tables.specs.Core as tables
 
 abbrev pub ValuesByNode : Type 0 → Type 0
@@ -81,16 +81,33 @@ abbrev pub given_as : {B : Type 0} → (B → Blob) → Either HandleNumber B �
 given_as see (Either.Left k) = from_cache k
 given_as see (Either.Right blob) = from_store (see blob)
 
+-- the blob of a load's own key is never the cache's to give
+abbrev pub FitsWant : {B : Type 0} → Want → Either HandleNumber B → Type 0
+FitsWant Want.Root (Either.Left k) = ⊥
+FitsWant want given = Unit {0}
+
 -- whether the owner is the caller, or a worker at work
 abbrev pub is_at_work : Core → Owner → Bool
 is_at_work w Owner.Caller = true
 is_at_work w (Owner.Worker v) = w.workers v.0
 is_at_work w _ = false
 
+-- the same workers are at work, and the storage is closed where it was
+pub record KeepsWorkers (w w' : Core) : Type 0 where
+  pub workers : w'.workers ≡ w.workers
+  pub closed : w'.closed ≡ w.closed
+
 -- a call's step in the plain world, and what else it may change
 pub record Calls {N S E : Type 0} (Only : PagerView N S E → PagerView N S E → Type 0) (tells : Telling S) (old : PagerView N S E) (makes : Core → Core → Type 0) (new : PagerView N S E) : Type 0 where
   pub step : makes (core_in tells old) (core_in tells new)
   pub only : Only old new
+
+-- What a call asks of the storage: its step in the plain world, as long as the storage is honest afterwards. Whatever the storage is, nothing else changes, it is closed where it was, and doubt doesn't go away.
+pub record AsksStorage {N S E : Type 0} (is_honest : S → Bool) (tells : Telling S) (old : PagerView N S E) (makes : Core → Core → Type 0) (new : PagerView N S E) : Type 0 where
+  pub step : IsTrue (is_honest new.storage) → makes (core_in tells old) (core_in tells new)
+  pub honest : IsTrue (is_honest new.storage) → IsTrue (is_honest old.storage)
+  pub closed : tells.closed new.storage ≡ tells.closed old.storage
+  pub only : OnlyStorage old new
 
 -- the same of a call by which no value comes, and after which the pager is whole
 pub record Settles {N S E : Type 0} (Only : PagerView N S E → PagerView N S E → Type 0) (tells : Telling S) (says : E → Values N) (old : PagerView N S E) (makes : Core → Core → Type 0)

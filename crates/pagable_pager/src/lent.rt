@@ -20,7 +20,7 @@ use pagable_world::{Beginning, Want};
 use std::alloc::Global;
 use std::sync::Arc;
 
-/// The caller's access to a pager that is lent, or that of a worker at work. It tells the pager's state.
+/// The caller's access to a pager that is lent, or that of a worker at work. It tells the pager's state as long as the storage is honest.
 #[derive(Drop)]
 pub struct Lent<'a, E: Env<Node: NodeSet<E>>, S: PagableStorage<E>> {
     pager: &'a mut Pager<E, S>,
@@ -68,10 +68,10 @@ fn settled<E: Env<Node: NodeSet<E>>, S: PagableStorage<E>, X: Drop>(
 }
 
 impl<'a, E: Env<Node: NodeSet<E>>, S: PagableStorage<E>> Access<E> for Lent<'a, E, S> {
-    ghost use Rattle.std.specs.Prelude.{Some};
+    ghost use Rattle.std.specs.Prelude.{None, Some, if◌then◌else◌};
     ghost use Rattle.pagable_pager.specs.View.{state_in, telling};
 
-    ghost told = { λ l. Some (state_in (telling S.stored S.is_closed S.failed) l.pager.now) };
+    ghost told = { λ l. if S.is_honest l.pager.now.storage then Some (state_in (telling S.stored S.is_closed S.failed) l.pager.now) else None };
 
     ghost acting = { λ l. record { me = l.me; environment = l.pager.now.environment; lender = l.pager.ghost_name } };
 

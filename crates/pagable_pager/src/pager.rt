@@ -1,8 +1,8 @@
 //! The pager: values in memory, in step with tables of who holds them, over a storage of blobs; and loads, by steps.
 
-ghost use Rattle.std.specs.{Arc.arc_value, Option.option_map, Prelude.{IfErr, IfNone, IfOk, Some, false, nat_lt, true, ℕ, ◌≡◌}};
-ghost use Rattle.{pagable_core.specs.Data.blob_of, pagable_loads.specs.{Starting.Shares, Telling.values_at}, pagable_model.specs.Blob.key_of, pagable_tables.specs.{Core.root_in, Ready.AsksKnown}};
-ghost use Rattle.pagable_pager.specs.View.{Calls, FewerValues, OnlyStorage, OnlyTables, ReadsAs, SameValues, core_in, given_as, is_at_work, state_in, telling, type_of_root};
+ghost use Rattle.std.specs.{Arc.arc_value, Option.option_map, Prelude.{IfErr, IfNone, IfOk, IsTrue, None, OnOk, Option, Some, false, nat_lt, true, ℕ, ◌≡◌}};
+ghost use Rattle.{pagable_core.specs.Data.blob_of, pagable_loads.specs.{Starting.Shares, Telling.values_at}, pagable_model.specs.{Blob.{Blob, key_of}, Stored.{RefusesFetch, RefusesFlush, RefusesStore}}, pagable_tables.specs.{Core.root_in, Ready.AsksKnown}};
+ghost use Rattle.pagable_pager.specs.View.{AsksStorage, Calls, FewerValues, FitsWant, KeepsWorkers, OnlyTables, ReadsAs, SameValues, core_in, given_as, is_at_work, state_in, telling, type_of_root};
 ghost use Rattle.pagable_world.specs.{Calls.{CloseCall, FetchCall, FlushCall, StoreCall}, LoadCalls.{AskCall, BeginCall, BeginKeyCall, LazyCall}, Pager.{IsNew, ValueCall, WellFormed}};
 ghost use Rattle.pagable_world.specs.{Refusals.load_fault, World.{greatest, seen_as}};
 
@@ -15,7 +15,7 @@ use either::Either;
 use indexmap::IndexMap;
 use pagable_codec::{Env, NodeSet};
 use pagable_core::{PagableData, PagableStorage, SessionOf, Setting};
-use pagable_model::{DataKey, Error, HandleNumber, Kind, LoadNumber};
+use pagable_model::{DataKey, Error, HandleNumber, Kind, LoadNumber, WorkerNumber};
 use pagable_tables::tables::{LoadRoot, Tables};
 use pagable_tables::{giving, loading, lookups, tables};
 use pagable_world::handles::Owner;
@@ -139,6 +139,29 @@ impl<E: Env<Node: NodeSet<E>>, S: PagableStorage<E>> Pager<E, S> {
         self.tables.workers.is_empty()
     }
 
+    /// Tells whether this worker of a page-out is at work here.
+    pub fn has_worker(&self, worker: WorkerNumber) -> bool
+        ensures { result ≡ (core_in (telling S.stored S.is_closed S.failed) self.now).workers worker.0 }
+    {
+        self.tables.workers.get(&worker.0).is_some()
+    }
+
+    /// The storage.
+    pub fn storage(&self) -> &S
+        ensures { result.now ≡ self.now.storage }
+    {
+        &self.storage
+    }
+
+    /// Gives the storage back, as it stands; values, handles and loads are gone. It closes and flushes nothing.
+    pub fn into_storage(self) -> S
+    where
+        E: Drop,
+        ensures { result ≡ self.storage }
+    {
+        self.storage
+    }
+
     /// What is true of every pager: each kept count is the number of pinning handles, a value is in memory exactly while its node is pinned or has no key, and it owns the handles of its references.
     pub fn is_whole(&self)
         ensures { WellFormed (values_at E.Node.NodeSet E.Env E.Hash.KeyHash self.now.environment) (state_in (telling S.stored S.is_closed S.failed) self.now) }
@@ -148,21 +171,27 @@ impl<E: Env<Node: NodeSet<E>>, S: PagableStorage<E>> Pager<E, S> {
 
     /// The blob under a key. Refused with NoData, OutOfMemory and Storage, as the storage refuses it.
     pub fn fetch(&mut self, alloc: Global, key: DataKey) -> Result<Arc<PagableData>, Error>
-        ensures { Calls OnlyStorage (telling S.stored S.is_closed S.failed) self.old (λ w w'. FetchCall w key (seen_as (λ d. blob_of (arc_value d)) result) w') self.new }
+        ensures asks { AsksStorage S.is_honest (telling S.stored S.is_closed S.failed) self.old (λ w w'. FetchCall w key (seen_as (λ d. blob_of (arc_value d)) result) w') self.new }
+        ensures named { IfOk result (λ found. key_of E.Hash.digest (blob_of (arc_value found)) ≡ key) }
+        ensures refused { IfErr result (RefusesFetch key None (S.failed self.old.storage) (S.failed self.new.storage)) }
     {
         self.storage.fetch_data_blocking(alloc, key)
     }
 
     /// Stores a blob, and answers its key. Refused with OutOfMemory, Storage, KeyTaken and Closed, as the storage refuses it.
     pub fn store(&mut self, alloc: Global, blob: PagableData) -> Result<DataKey, Error>
-        ensures { Calls OnlyStorage (telling S.stored S.is_closed S.failed) self.old (λ w w'. StoreCall (key_of E.Hash.digest) w (blob_of blob) result w') self.new }
+        ensures asks { AsksStorage S.is_honest (telling S.stored S.is_closed S.failed) self.old (λ w w'. StoreCall (key_of E.Hash.digest) w (blob_of blob) result w') self.new }
+        ensures key { IfOk result (λ key. key ≡ key_of E.Hash.digest (blob_of blob)) }
+        ensures refused { IfErr result (λ e. (found : Option Blob) × RefusesStore (blob_of blob) found (S.is_closed self.old.storage) (S.failed self.old.storage) (S.failed self.new.storage) e) }
     {
         self.storage.store_data(alloc, blob)
     }
 
-    /// Has the storage write what it has held back. Refused with OutOfMemory and Storage.
+    /// Has the storage write what it has held back: then all that is stored is made sure of. Refused with OutOfMemory and Storage.
     pub fn flush(&mut self) -> Result<(), Error>
-        ensures { Calls OnlyStorage (telling S.stored S.is_closed S.failed) self.old (λ w w'. FlushCall w result w') self.new }
+        ensures asks { AsksStorage S.is_honest (telling S.stored S.is_closed S.failed) self.old (λ w w'. FlushCall w result w') self.new }
+        ensures sure { IsTrue (S.is_honest self.new.storage) → OnOk result (S.flushed self.new.storage ≡ S.stored self.new.storage) }
+        ensures refused { IfErr result (RefusesFlush (S.failed self.old.storage) (S.failed self.new.storage)) }
     {
         self.storage.flush()
     }
@@ -170,7 +199,8 @@ impl<E: Env<Node: NodeSet<E>>, S: PagableStorage<E>> Pager<E, S> {
     /// Closes the storage, which lets all blobs go. The list gives up all entries, with all that goes with them, and the cache forgets all that it knows; from then
     /// on nothing is listed or known. It isn't refused, and takes no memory.
     pub fn close(&mut self) -> Result<(), Error>
-        ensures { Calls FewerValues (telling S.stored S.is_closed S.failed) self.old (λ w w'. CloseCall w result w') self.new }
+        ensures calls { Calls FewerValues (telling S.stored S.is_closed S.failed) self.old (λ w w'. CloseCall w result w') self.new }
+        ensures honest { IsTrue (S.is_honest self.new.storage) → IsTrue (S.is_honest self.old.storage) }
     {
         self.storage.close();
         giving::close(&mut self.tables, &mut self.values);
@@ -233,7 +263,10 @@ impl<E: Env<Node: NodeSet<E>>, S: PagableStorage<E>> Pager<E, S> {
         load: LoadNumber,
         want: Want,
     ) -> Result<Either<HandleNumber, Arc<PagableData>>, Error>
-        ensures step { AskCall (core_in (telling S.stored S.is_closed S.failed) self.old) Owner.Caller load want (seen_as (given_as (λ d. blob_of (arc_value d))) result) (core_in (telling S.stored S.is_closed S.failed) self.new) }
+        ensures step { IsTrue (S.is_honest self.new.storage) → AskCall (core_in (telling S.stored S.is_closed S.failed) self.old) Owner.Caller load want (seen_as (given_as (λ d. blob_of (arc_value d))) result) (core_in (telling S.stored S.is_closed S.failed) self.new) }
+        ensures honest { IsTrue (S.is_honest self.new.storage) → IsTrue (S.is_honest self.old.storage) }
+        ensures kept { KeepsWorkers (core_in (telling S.stored S.is_closed S.failed) self.old) (core_in (telling S.stored S.is_closed S.failed) self.new) }
+        ensures fits { IfOk result (FitsWant want) }
         ensures only { SameValues self.old self.new }
     {
         self.load_fetch_by(Owner::Caller, alloc, load, want)
@@ -247,7 +280,10 @@ impl<E: Env<Node: NodeSet<E>>, S: PagableStorage<E>> Pager<E, S> {
         load: LoadNumber,
         want: Want,
     ) -> Result<Either<HandleNumber, Arc<PagableData>>, Error>
-        ensures step { AskCall (core_in (telling S.stored S.is_closed S.failed) self.old) me load want (seen_as (given_as (λ d. blob_of (arc_value d))) result) (core_in (telling S.stored S.is_closed S.failed) self.new) }
+        ensures step { IsTrue (S.is_honest self.new.storage) → AskCall (core_in (telling S.stored S.is_closed S.failed) self.old) me load want (seen_as (given_as (λ d. blob_of (arc_value d))) result) (core_in (telling S.stored S.is_closed S.failed) self.new) }
+        ensures honest { IsTrue (S.is_honest self.new.storage) → IsTrue (S.is_honest self.old.storage) }
+        ensures kept { KeepsWorkers (core_in (telling S.stored S.is_closed S.failed) self.old) (core_in (telling S.stored S.is_closed S.failed) self.new) }
+        ensures fits { IfOk result (FitsWant want) }
         ensures only { SameValues self.old self.new }
     {
         match want {

@@ -1,6 +1,6 @@
--- The refusals of a storage that fails once.
+-- The refusals of a storage that fails once, and of one that passes those of its memory on.
 use Rattle.{pagable_rows.specs.Failing.failures_of, pagable_model.specs.{Blob.Blob, Stored.{HasFailed, RefusesFetch, RefusesStore, RefusesFlush}, declared.error.Error.Error}}
-use Rattle.std.{proofs.{Common.{◌≡◌, ◌+◌, ◌-◌, ◌^◌, ◌<◌, ℕ, Bool, true, false, min, arith, Option, Result, inl, inr}, lemmas.Bool.cases_lt}, specs.{Int.from_bool, Prelude.IfErr}}
+use Rattle.std.{proofs.{Common.{◌≡◌, ◌+◌, ◌-◌, ◌^◌, ◌<◌, ℕ, Bool, true, false, min, arith, Option, Result, Ok, Err, inl, inr}, lemmas.Bool.cases_lt}, specs.{Int.from_bool, Prelude.IfErr}}
 
 -- counts that are cut off at the greatest
 cut : (before after : ℕ) → before < after → HasFailed (min (2 ^ 64 - 1) before) (min (2 ^ 64 - 1) after)
@@ -22,7 +22,34 @@ module _ {X : Type 0} (failed : Bool) (before after : ℕ) where
       → IfErr r (RefusesStore blob found closed (failures_of failed before) (failures_of failed after))
   store_refused x0 blob found closed h = grind (arith, passed-on)
 
+  pub store_may_refuse : (r : Result X Error) (blob : Blob) (closed : Bool) → IfErr r (λ e. (found : Option Blob) × RefusesStore blob found closed before after e)
+      → IfErr r (λ e. (found : Option Blob) × RefusesStore blob found closed (failures_of failed before) (failures_of failed after) e)
+  store_may_refuse (Ok x) blob closed h = tt
+  store_may_refuse (Err e) blob closed h = (h.0, store_refused (Err e) blob h.0 closed h.1)
+
   pub flush_refused : (r : Result X Error) → IfErr r (RefusesFlush before after) → IfErr r (RefusesFlush (failures_of failed before) (failures_of failed after))
   flush_refused x0 h = grind (arith, passed-on)
 
-pub ruleset refusing = (own_failure, fetch_refused, store_refused, flush_refused)
+pub ruleset refusing = (own_failure, fetch_refused, store_refused, store_may_refuse, flush_refused)
+
+-- what memory refuses, which never fails, beside failures that were counted before
+never : (c : ℕ) → HasFailed 0 0 → HasFailed c c
+never c (inl lt) = absurd (omega (arith, lt))
+never c (inr h) = absurd (omega (arith, h.0))
+
+module _ {X : Type 0} (c : ℕ) where
+  pub fetch_passed : (r : Result X Error) (key : ℕ) (found : Option Blob) → IfErr r (RefusesFetch key found 0 0) → IfErr r (RefusesFetch key found c c)
+  fetch_passed x0 key found h = grind (arith, never)
+
+  pub store_passed : (r : Result X Error) (blob : Blob) (found : Option Blob) (closed : Bool) → IfErr r (RefusesStore blob found closed 0 0) → IfErr r (RefusesStore blob found closed c c)
+  store_passed x0 blob found closed h = grind (arith, never)
+
+  pub store_may_be_passed : (r : Result X Error) (blob : Blob) (closed : Bool) → IfErr r (λ e. (found : Option Blob) × RefusesStore blob found closed 0 0 e)
+      → IfErr r (λ e. (found : Option Blob) × RefusesStore blob found closed c c e)
+  store_may_be_passed (Ok x) blob closed h = tt
+  store_may_be_passed (Err e) blob closed h = (h.0, store_passed (Err e) blob h.0 closed h.1)
+
+  pub flush_passed : (r : Result X Error) → IfErr r (RefusesFlush 0 0) → IfErr r (RefusesFlush c c)
+  flush_passed x0 h = grind (arith, never)
+
+pub ruleset unfailing = (fetch_passed, store_passed, store_may_be_passed, flush_passed)

@@ -1,5 +1,5 @@
 //! What rows of events are made of: blobs, values that refer to others, and events as lines spell them, and what comes of these; an environment of texts; types
-//! that refer to each other, and their environment; a storage over another storage, which fails once; and lines of input, which are answered one by one.
+//! that refer to each other, and their environment; a storage over another storage, which fails once, and one that answers wrongly once; and lines of input, which are answered one by one.
 #![tactic(auto)]
 
 pub mod answers;
@@ -13,4 +13,4 @@ pub mod spelled;
 pub mod storages;
 pub mod text;
 
-pub use storages::FailingStorage;
+pub use storages::{DoubtfulBlobs, FailingStorage, Lie};

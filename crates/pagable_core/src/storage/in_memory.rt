@@ -1,7 +1,7 @@
 //! Blobs in memory: a storage for tests, and for stores that one run fills and forgets.
 
 ghost use Rattle.std.specs.Prelude.{◌≡◌, ◌↔◌, ◌==◌, if◌then◌else◌, ℕ, IsTrue, OnOk, OnErr, IfErr, None, Some, false, true, option_map};
-ghost use Rattle.{pagable_core.specs.Data.{blob_of, stored_in}, pagable_model.specs.{Gives.memory, Stored.IsCount}};
+ghost use Rattle.{pagable_core.specs.Data.{blob_of, stored_in}, pagable_model.specs.{Blob.key_of, Gives.memory, Stored.{AreNamed, IsCount}}};
 
 use crate::storage::data::PagableData;
 use crate::storage::traits::PagableStorage;
@@ -12,12 +12,14 @@ use std::collections::HashMap;
 use std::marker::PhantomData;
 use std::sync::Arc;
 
-/// A map of blobs by key, in memory. Another blob under a taken key is refused, and the first stays.
+/// A map of blobs by key, in memory. Another blob under a taken key is refused, and the first stays. What is stored is made sure of at once, and nothing lies below that
+/// could answer wrongly: the storage is honest, whatever is called.
 #[derive(Drop)]
-pub struct InMemoryBlobs<E> {
+pub struct InMemoryBlobs<E: Env> {
     blobs: HashMap<DataKey, Arc<PagableData>>,
     closed: bool,
     environment: PhantomData<E>,
+    ghost named: { AreNamed (key_of E.Hash.digest) (stored_in blobs) },
 }
 
 impl<E: Env> InMemoryBlobs<E> {
@@ -77,6 +79,8 @@ fn put(
 
 impl<E: Env> PagableStorage<E> for InMemoryBlobs<E> {
     ghost stored = { λ s. stored_in s.blobs };
+
+    ghost flushed = { λ s. stored_in s.blobs };
 
     ghost is_closed = { λ s. s.closed };
 

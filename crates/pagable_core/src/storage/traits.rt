@@ -1,7 +1,7 @@
 //! What a storage of blobs offers.
 
-ghost use Rattle.std.specs.{Arc.arc_value, Prelude.{◌≡◌, ◌≤◌, ◌↔◌, ℕ, Bool, true, false, Option, Some, None, OnOk, OnErr, IfOk, IfErr}};
-ghost use Rattle.{pagable_core.specs.Data.blob_of, pagable_model.specs.{Blob.{Blob, key_of}, Stored.{Adds, RefusesFetch, RefusesStore, RefusesFlush}}};
+ghost use Rattle.std.specs.{Arc.arc_value, Prelude.{◌≡◌, ◌≤◌, ◌↔◌, ℕ, Bool, true, false, IsTrue, Option, Some, None, OnOk, OnErr, IfOk, IfErr}};
+ghost use Rattle.{pagable_core.specs.Data.blob_of, pagable_model.specs.{Blob.{Blob, key_of}, Stored.{Adds, Keeps, RefusesFetch, RefusesStore, RefusesFlush}}};
 
 use crate::storage::data::PagableData;
 use pagable_codec::Env;
@@ -10,11 +10,19 @@ use std::alloc::Global;
 use std::sync::Arc;
 
 /// A storage of blobs: a map from keys to blobs that only grows, until it is closed. It counts its own failures, so that no other can blame it.
+///
+/// What it answers of values holds as long as the storage is honest afterwards. Which refusals there are, and that a blob has the key that was asked for, holds always.
 pub trait PagableStorage<E: Env>: Sized {
     // What is stored under each key.
     ghost stored: { Self → ℕ → Option Blob };
 
+    // What a flush has made sure of under each key.
+    ghost flushed: { Self → ℕ → Option Blob };
+
     ghost is_closed: { Self → Bool };
+
+    // No wrong answer of what lies below has been taken as true. No call tells, and doubt doesn't go away.
+    ghost is_honest: { Self → Bool } = { λ _. true };
 
     // How often the storage has failed, up to 2^64 - 1.
     ghost failed: { Self → ℕ };
@@ -26,35 +34,45 @@ pub trait PagableStorage<E: Env>: Sized {
         alloc: Global,
         key: DataKey,
     ) -> Result<Arc<PagableData>, Error>
-        ensures ok { IfOk result (λ found. stored self.old key ≡ Some (blob_of (arc_value found))) }
-        ensures only { IfErr result (RefusesFetch key (stored self.old key) (failed self.old) (failed self.new)) }
-        ensures same { stored self.new ≡ stored self.old }
+        ensures ok { IsTrue (is_honest self.new) → IfOk result (λ found. stored self.old key ≡ Some (blob_of (arc_value found))) }
+        ensures named { IfOk result (λ found. key_of E.Hash.digest (blob_of (arc_value found)) ≡ key) }
+        ensures refused { IfErr result (RefusesFetch key None (failed self.old) (failed self.new)) }
+        ensures only { IsTrue (is_honest self.new) → IfErr result (RefusesFetch key (stored self.old key) (failed self.old) (failed self.new)) }
+        ensures same { IsTrue (is_honest self.new) → (stored self.new ≡ stored self.old) × (flushed self.new ≡ flushed self.old) }
+        ensures honest { IsTrue (is_honest self.new) → IsTrue (is_honest self.old) }
         ensures open { is_closed self.new ≡ is_closed self.old }
         ensures later { failed self.old ≤ failed self.new };
 
     /// Adds a blob under its key, and answers the key. Where the blob stands there already, nothing changes. It is
     /// refused with KeyTaken only where another blob stands there, with Closed only after `close`, with OutOfMemory,
-    /// and with Storage only where the count of failures rose; then nothing changes either.
+    /// and with Storage only where the count of failures rose; then nothing changes either. What a flush has made sure
+    /// of stays so.
     fn store_data(&mut self, alloc: Global, blob: PagableData) -> Result<DataKey, Error>
         ensures key { IfOk result (λ key. key ≡ key_of E.Hash.digest (blob_of blob)) }
-        ensures adds { OnOk result (Adds (key_of E.Hash.digest (blob_of blob)) (blob_of blob) (stored self.old) (stored self.new)) }
+        ensures adds { IsTrue (is_honest self.new) → OnOk result (Adds (key_of E.Hash.digest (blob_of blob)) (blob_of blob) (stored self.old) (stored self.new)) }
         ensures was_open { OnOk result (is_closed self.old ≡ false) }
-        ensures only { IfErr result (RefusesStore (blob_of blob) (stored self.old (key_of E.Hash.digest (blob_of blob))) (is_closed self.old) (failed self.old) (failed self.new)) }
-        ensures err { OnErr result (stored self.new ≡ stored self.old) }
+        ensures refused { IfErr result (λ e. (found : Option Blob) × RefusesStore (blob_of blob) found (is_closed self.old) (failed self.old) (failed self.new) e) }
+        ensures only { IsTrue (is_honest self.new) → IfErr result (RefusesStore (blob_of blob) (stored self.old (key_of E.Hash.digest (blob_of blob))) (is_closed self.old) (failed self.old) (failed self.new)) }
+        ensures err { IsTrue (is_honest self.new) → OnErr result (stored self.new ≡ stored self.old) }
+        ensures keeps { IsTrue (is_honest self.new) → Keeps (flushed self.old) (flushed self.new) }
+        ensures honest { IsTrue (is_honest self.new) → IsTrue (is_honest self.old) }
         ensures open { is_closed self.new ≡ is_closed self.old }
         ensures later { failed self.old ≤ failed self.new };
 
-    /// Writes what the storage has held back. What is stored stays as it is.
+    /// Writes what the storage has held back: then all that is stored is made sure of. What is stored stays as it is.
     fn flush(&mut self) -> Result<(), Error>
+        ensures sure { IsTrue (is_honest self.new) → OnOk result (flushed self.new ≡ stored self.new) }
         ensures only { IfErr result (RefusesFlush (failed self.old) (failed self.new)) }
-        ensures same { stored self.new ≡ stored self.old }
+        ensures same { IsTrue (is_honest self.new) → stored self.new ≡ stored self.old }
+        ensures honest { IsTrue (is_honest self.new) → IsTrue (is_honest self.old) }
         ensures open { is_closed self.new ≡ is_closed self.old }
         ensures later { failed self.old ≤ failed self.new };
 
-    /// Lets every blob go. From then on nothing is stored.
+    /// Lets every blob go. From then on nothing is stored. It flushes nothing.
     fn close(&mut self)
         ensures empty { (key : ℕ) → stored self.new key ≡ None }
         ensures closed { is_closed self.new ≡ true }
+        ensures honest { IsTrue (is_honest self.new) → IsTrue (is_honest self.old) }
         ensures later { failed self.old ≤ failed self.new };
 
     /// Whether the storage was closed.

@@ -57,6 +57,7 @@ impl<E: Env<Node: NodeSet<E>>, S: PagableStorage<E>> Pager<E, S> {
         requires { is_pinning mode ≡ true }
         ensures step { BirthCall (core_in (telling S.stored S.is_closed S.failed) self.old) Owner.Caller node (E.Node.type_of node) (E.Node.refs_of node) mode result (core_in (telling S.stored S.is_closed S.failed) self.new) }
         ensures moves { Moves (λ n x. (x ≡ node) × IsNewNode (core_in (telling S.stored S.is_closed S.failed) self.old) n) (state_in (telling S.stored S.is_closed S.failed) self.old) (state_in (telling S.stored S.is_closed S.failed) self.new) }
+        ensures storage { self.new.storage ≡ self.old.storage }
     {
         let references = match node.refs(alloc) {
             Ok(references) => references,
@@ -83,6 +84,7 @@ impl<E: Env<Node: NodeSet<E>>, S: PagableStorage<E>> Pager<E, S> {
     ) -> Result<HandleNumber, (Error, E::Node)>
         ensures step { BirthCall (core_in (telling S.stored S.is_closed S.failed) self.old) Owner.Caller node (E.Node.type_of node) (E.Node.refs_of node) Mode.Pinned result (core_in (telling S.stored S.is_closed S.failed) self.new) }
         ensures moves { Moves (λ n x. (x ≡ node) × IsNewNode (core_in (telling S.stored S.is_closed S.failed) self.old) n) (state_in (telling S.stored S.is_closed S.failed) self.old) (state_in (telling S.stored S.is_closed S.failed) self.new) }
+        ensures storage { self.new.storage ≡ self.old.storage }
     {
         self.new_node(alloc, node, Mode::Pinned)
     }
@@ -95,6 +97,7 @@ impl<E: Env<Node: NodeSet<E>>, S: PagableStorage<E>> Pager<E, S> {
     ) -> Result<HandleNumber, (Error, E::Node)>
         ensures step { BirthCall (core_in (telling S.stored S.is_closed S.failed) self.old) Owner.Caller node (E.Node.type_of node) (E.Node.refs_of node) Mode.LoosePinned result (core_in (telling S.stored S.is_closed S.failed) self.new) }
         ensures moves { Moves (λ n x. (x ≡ node) × IsNewNode (core_in (telling S.stored S.is_closed S.failed) self.old) n) (state_in (telling S.stored S.is_closed S.failed) self.old) (state_in (telling S.stored S.is_closed S.failed) self.new) }
+        ensures storage { self.new.storage ≡ self.old.storage }
     {
         self.new_node(alloc, node, Mode::LoosePinned)
     }
@@ -107,6 +110,7 @@ impl<E: Env<Node: NodeSet<E>>, S: PagableStorage<E>> Pager<E, S> {
     ) -> Result<HandleNumber, (Error, E::Node)>
         ensures step { BirthCall (core_in (telling S.stored S.is_closed S.failed) self.old) Owner.Caller node (E.Node.type_of node) (E.Node.refs_of node) Mode.Shared result (core_in (telling S.stored S.is_closed S.failed) self.new) }
         ensures moves { Moves (λ n x. (x ≡ node) × IsNewNode (core_in (telling S.stored S.is_closed S.failed) self.old) n) (state_in (telling S.stored S.is_closed S.failed) self.old) (state_in (telling S.stored S.is_closed S.failed) self.new) }
+        ensures storage { self.new.storage ≡ self.old.storage }
     {
         self.new_node(alloc, node, Mode::Shared)
     }
@@ -139,6 +143,7 @@ impl<E: Env<Node: NodeSet<E>>, S: PagableStorage<E>> Pager<E, S> {
         requires unknown { usable (plain_of self.old.tables) kind.0 key ≡ None }
         ensures step { AdoptCall (core_in (telling S.stored S.is_closed S.failed) self.old) me load kind key node (E.Node.type_of node) (E.Node.refs_of node) result (core_in (telling S.stored S.is_closed S.failed) self.new) }
         ensures moves { Moves (λ n x. (x ≡ node) × IsNewNode (core_in (telling S.stored S.is_closed S.failed) self.old) n) (state_in (telling S.stored S.is_closed S.failed) self.old) (state_in (telling S.stored S.is_closed S.failed) self.new) }
+        ensures storage { self.new.storage ≡ self.old.storage }
     {
         if let Err(e) = loading::make_ready_to_learn(&mut self.tables) {
             return Err((e, node));
@@ -177,6 +182,7 @@ impl<E: Env<Node: NodeSet<E>>, S: PagableStorage<E>> Pager<E, S> {
     ) -> Result<HandleNumber, (Error, E::Node)>
         ensures step { AdoptCall (core_in (telling S.stored S.is_closed S.failed) self.old) Owner.Caller load kind key node (E.Node.type_of node) (E.Node.refs_of node) result (core_in (telling S.stored S.is_closed S.failed) self.new) }
         ensures moves { Moves (λ n x. (x ≡ node) × IsNewNode (core_in (telling S.stored S.is_closed S.failed) self.old) n) (state_in (telling S.stored S.is_closed S.failed) self.old) (state_in (telling S.stored S.is_closed S.failed) self.new) }
+        ensures storage { self.new.storage ≡ self.old.storage }
     {
         self.load_adopt_by(Owner::Caller, alloc, load, kind, key, node)
     }
@@ -192,6 +198,7 @@ impl<E: Env<Node: NodeSet<E>>, S: PagableStorage<E>> Pager<E, S> {
     ) -> Result<HandleNumber, (Error, E::Node)>
         ensures step { AdoptCall (core_in (telling S.stored S.is_closed S.failed) self.old) me load kind key node (E.Node.type_of node) (E.Node.refs_of node) result (core_in (telling S.stored S.is_closed S.failed) self.new) }
         ensures moves { Moves (λ n x. (x ≡ node) × IsNewNode (core_in (telling S.stored S.is_closed S.failed) self.old) n) (state_in (telling S.stored S.is_closed S.failed) self.old) (state_in (telling S.stored S.is_closed S.failed) self.new) }
+        ensures storage { self.new.storage ≡ self.old.storage }
     {
         let Ok(references) = node.refs(alloc) else {
             return Err((self.unlisted(me, load), node));
@@ -219,6 +226,7 @@ impl<E: Env<Node: NodeSet<E>>, S: PagableStorage<E>> Pager<E, S> {
     ) -> Result<HandleNumber, (Error, Option<E::Node>)>
         ensures step { EndCall (core_in (telling S.stored S.is_closed S.failed) self.old) Owner.Caller load value (E.Node.type_of value) (E.Node.refs_of value) result (core_in (telling S.stored S.is_closed S.failed) self.new) }
         ensures moves { Moves (λ n x. (x ≡ value) × IsCellOf (core_in (telling S.stored S.is_closed S.failed) self.old) load n) (state_in (telling S.stored S.is_closed S.failed) self.old) (state_in (telling S.stored S.is_closed S.failed) self.new) }
+        ensures storage { self.new.storage ≡ self.old.storage }
     {
         self.load_end_by(Owner::Caller, alloc, load, value)
     }
@@ -232,6 +240,7 @@ impl<E: Env<Node: NodeSet<E>>, S: PagableStorage<E>> Pager<E, S> {
     ) -> Result<HandleNumber, (Error, Option<E::Node>)>
         ensures step { EndCall (core_in (telling S.stored S.is_closed S.failed) self.old) me load value (E.Node.type_of value) (E.Node.refs_of value) result (core_in (telling S.stored S.is_closed S.failed) self.new) }
         ensures moves { Moves (λ n x. (x ≡ value) × IsCellOf (core_in (telling S.stored S.is_closed S.failed) self.old) load n) (state_in (telling S.stored S.is_closed S.failed) self.old) (state_in (telling S.stored S.is_closed S.failed) self.new) }
+        ensures storage { self.new.storage ≡ self.old.storage }
     {
         let Ok(references) = value.refs(alloc) else {
             return Err((self.unlisted(me, load), Some(value)));

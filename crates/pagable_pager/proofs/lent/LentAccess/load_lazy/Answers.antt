@@ -1,15 +1,14 @@
-use Rattle.{pagable_loads.specs.Telling.{TakesLazily, values_at}, pagable_pager.{proofs.Keeping.{all_there, called_fewer, lazy_live}, specs.View.{core_in, telling}}, std.proofs.Common.{Ok, rules}}
+use Rattle.{pagable_loads.specs.Telling.{TakesLazily, values_at}, pagable_pager.{proofs.Keeping.{all_there, called_fewer, lazy_live, told-if}, specs.View.{core_in, telling}}, std.{proofs.Common.{Ok, rules, subst}, specs.Prelude.IsTrue}}
 
 pub returns : Rattle.pagable_pager.proofs.lent.LentAccess.load_lazy.Goals.returns
 returns g c =
     let tells = telling g.S.PagableStorage.stored g.S.PagableStorage.is_closed g.S.PagableStorage.failed in
     let e = c.in_ok-taken.ensures in
     record {
-      step = record {
-        holds = called_fewer tells (λ e. values_at g.E.Node.NodeSet g.E.Env g.E.Hash.KeyHash e) c.args.self.now.pager.now c.load_lazy_by-taken.new.self
-            (λ w'. TakesLazily (core_in tells c.args.self.now.pager.now) c.args.self.now.me c.args.load c.args.kind c.args.key (Ok c.reference.result) w')
-            (record { taken = rw c.reference.ensures.handle e.step; made = c.reference.ensures.made (lazy_live e.step) })
-            (all_there tells (λ e. values_at g.E.Node.NodeSet g.E.Env g.E.Hash.KeyHash e) _ _ (record { values = e.only.values; environment = e.only.environment })) c.is_whole.ensures;
-      };
+      step = told-if _ _ _ _ (λ h. subst (λ s. IsTrue (g.S.PagableStorage.is_honest s)) e.only.storage h)
+          (λ h. called_fewer tells (λ e. values_at g.E.Node.NodeSet g.E.Env g.E.Hash.KeyHash e) c.args.self.now.pager.now c.load_lazy_by-taken.new.self
+          (λ w'. TakesLazily (core_in tells c.args.self.now.pager.now) c.args.self.now.me c.args.load c.args.kind c.args.key (Ok c.reference.result) w')
+          (record { taken = rw c.reference.ensures.handle e.step; made = c.reference.ensures.made (lazy_live e.step) })
+          (all_there tells (λ e. values_at g.E.Node.NodeSet g.E.Env g.E.Hash.KeyHash e) _ _ (record { values = e.only.values; environment = e.only.environment })) c.is_whole.ensures);
       acting = search rules;
     }

@@ -33,4 +33,4 @@ pub returns : goal.returns
 returns g c =
     let new = new-told c.self.invariant c.self.view_is _ _ _ _ c.args.node c.requires.listed c.requires.fresh c.requires.unknown c.place.new.values
     c.make_ready_to_learn.ensures.does c.in_default-place.ensures.placed c.adopt.new.t c.has_closed-lists.ensures c.in_default.ensures.ready.node_left c.adopt.ensures in
-    rw (← c.self.view_is) (record { step = new.0; moves = new.1 })
+    rw (← c.self.view_is) (record { step = new.0; moves = new.1; storage = refl })

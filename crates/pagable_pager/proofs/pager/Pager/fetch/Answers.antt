@@ -1,11 +1,11 @@
-use Rattle.pagable_pager.specs.Setting.{environment_of}
-use Rattle.{pagable_core.specs.Data.blob_of, pagable_pager.proofs.Keeping.{asked, asked-so, fetch-call}, std.{proofs.Common.refl, specs.Arc.arc_value}}
+use Rattle.{pagable_core.specs.Data.blob_of, pagable_pager.proofs.Keeping.{asked, asks-it, fetch-call, kept-so}, std.specs.Arc.arc_value}
 
 pub invariant_of-self : Rattle.pagable_pager.proofs.pager.Pager.fetch.Goals.invariant_of-self
-invariant_of-self g c = let e = c.fetch_data_blocking.ensures in asked-so c.self.invariant c.fetch_data_blocking.new.self e.open e.later e.same
+invariant_of-self g c = let e = c.fetch_data_blocking.ensures in kept-so c.self.invariant c.fetch_data_blocking.new.self e.open e.later
 
-pub returns : Rattle.pagable_pager.proofs.pager.Pager.fetch.Goals.returns
-returns g c =
+pub returns-clause-asks : Rattle.pagable_pager.proofs.pager.Pager.fetch.Goals.returns-clause-asks
+returns-clause-asks g c =
     let e = c.fetch_data_blocking.ensures in
-    let asks = asked c.self.invariant c.fetch_data_blocking.new.self e.open e.later e.same in
-    rw (← c.self.view_is) (record { step = fetch-call (λ d. blob_of (arc_value d)) _ _ c.args.key c.fetch_data_blocking.result asks e.ok e.only; only = record { tables = refl {a = c.self.inside.tables}; values = refl {a = c.self.inside.values}; environment = refl {a = environment_of c.self.inside.setting} } })
+    let s = c.fetch_data_blocking.new.self in
+    rw (← c.self.view_is) (asks-it c.self.invariant s e.open e.later
+    (λ h. fetch-call (λ d. blob_of (arc_value d)) _ _ c.args.key c.fetch_data_blocking.result (asked c.self.invariant s e.open e.later (e.same h).0) (e.ok h) (e.only h)) e.honest)

@@ -1,10 +1,10 @@
-use Rattle.pagable_pager.specs.Setting.{environment_of}
-use Rattle.{pagable_pager.proofs.Keeping.{asked, asked-so}, std.proofs.Common.refl}
+use Rattle.pagable_pager.proofs.Keeping.{asked, asks-it, kept-so}
 
 pub invariant_of-self : Rattle.pagable_pager.proofs.pager.Pager.flush.Goals.invariant_of-self
-invariant_of-self g c = let e = c.flush.ensures in asked-so c.self.invariant c.flush.new.self e.open e.later e.same
+invariant_of-self g c = let e = c.flush.ensures in kept-so c.self.invariant c.flush.new.self e.open e.later
 
-pub returns : Rattle.pagable_pager.proofs.pager.Pager.flush.Goals.returns
-returns g c =
+pub returns-clause-asks : Rattle.pagable_pager.proofs.pager.Pager.flush.Goals.returns-clause-asks
+returns-clause-asks g c =
     let e = c.flush.ensures in
-    rw (← c.self.view_is) (record { step = record { asked = asked c.self.invariant c.flush.new.self e.open e.later e.same; refused = e.only }; only = record { tables = refl {a = c.self.inside.tables}; values = refl {a = c.self.inside.values}; environment = refl {a = environment_of c.self.inside.setting} } })
+    let s = c.flush.new.self in
+    rw (← c.self.view_is) (asks-it c.self.invariant s e.open e.later (λ h. record { asked = asked c.self.invariant s e.open e.later (e.same h); refused = e.only }) e.honest)

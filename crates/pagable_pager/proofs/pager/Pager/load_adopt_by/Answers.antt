@@ -18,6 +18,7 @@ returns-in-Ok-Some g c =
     rw (← c.self.view_is, ← c.node_type-node_type.ensures.value, ← (c.deref.ensures.value ∙ c.in-Ok.ensures.ok)) (record {
       step = record { adopts = (rw c.in-Ok-Some.field-0-is at e.known) _ _ _ (ap not c.has_closed-lists.ensures); refused = tt };
       moves = record { each = λ n x has. inl (less.values n x has); environment = less.environment };
+      storage = refl;
     })
 
 pub invariant_of-self-in-Ok-None : goal.invariant_of-self-in-Ok-None
@@ -34,7 +35,7 @@ adopt_as_new-requires-clause-unknown g c = let e = c.in-Ok-None.ensures in rw (r
 pub returns-in-Ok-None : goal.returns-in-Ok-None
 returns-in-Ok-None g c =
     let e = c.in-Ok-None.ensures in
-    rw (← c.self.view_is, ← (rw c.in-Ok-None.field-0-is at e.same), ← (rw c.in-Ok-None.field-0-is at e.kept)) (record { step = c.adopt_as_new.ensures.step; moves = c.adopt_as_new.ensures.moves })
+    rw (← c.self.view_is, ← (rw c.in-Ok-None.field-0-is at e.same), ← (rw c.in-Ok-None.field-0-is at e.kept)) (record { step = c.adopt_as_new.ensures.step; moves = c.adopt_as_new.ensures.moves; storage = c.adopt_as_new.ensures.storage })
 
 pub invariant_of-self-in-Err-adopt_if_known : goal.invariant_of-self-in-Err-adopt_if_known
 invariant_of-self-in-Err-adopt_if_known g c = let e = c.in-Err.ensures in same-so c.self.invariant _ _ e.whole e.later e.sheds (e.refused _ _ _).stays
@@ -46,4 +47,5 @@ returns-in-Err g c =
     rw (← c.self.view_is) (record {
       step = not-adopted c.node_type-node_type.ensures.value (c.deref.ensures.value ∙ c.in-Ok.ensures.ok) refl (e.refused _ _ _);
       moves = record { each = λ n x has. inl (less.values n x has); environment = less.environment };
+      storage = refl;
     })

@@ -38,4 +38,4 @@ pub returns : goal.returns
 returns g c =
     let ended = ended-told c.self.invariant c.args.value c.place.new.values c.install.new.values c.node_type-node_type.ensures.value c.deref.ensures.value c.in-Ok.ensures.ok
     c.prepare_end.ensures.does c.prepare_end.ensures.nodes c.in-Ok-prepare_end.ensures.ready c.install.ensures.does c.has_closed-lists.ensures c.in_default-place.ensures.placed c.install.ensures.sheds in
-    rw (← c.self.view_is) (record { step = ended.0; moves = ended.1 })
+    rw (← c.self.view_is) (record { step = ended.0; moves = ended.1; storage = refl })

@@ -20,4 +20,4 @@ pub returns : goal.returns
 returns g c =
     let born = born-told c.self.invariant c.place.new.values c.prepare.ensures.does c.bear.new.t c.args.node c.in_default-place.ensures.placed c.bear.ensures.does
     c.in_default.ensures.ready.node_left c.in_default.ensures.fit c.deref.ensures.value c.node_type-node_type.ensures.value c.in-Ok.ensures.ok in
-    rw (← c.self.view_is) (record { step = born.0; moves = born.1 })
+    rw (← c.self.view_is) (record { step = born.0; moves = born.1; storage = refl })
