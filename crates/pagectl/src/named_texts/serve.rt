@@ -1,7 +1,8 @@
 //! Lines about named texts, and their answers.
 
 use crate::named_texts::command::parse;
-use crate::named_texts::session::{Answer, Refusal, Session};
+use crate::named_texts::names::Refusal;
+use crate::named_texts::session::{Answer, Session};
 use pagable::KeyHash;
 use pagable_rows::lines;
 use pagable_rows::lines::Answering;
@@ -43,10 +44,11 @@ impl<H: KeyHash> Answering for Session<H> {
 }
 
 /// Writes an answer, or why there is none.
-fn write<W: Write>(outcome: &Result<Answer<'_>, Refusal>, writer: &mut W) -> io::Result<()> {
+fn write<W: Write>(outcome: &Result<Answer, Refusal>, writer: &mut W) -> io::Result<()> {
     match outcome {
-        Ok(Answer::Text(text)) => writeln!(writer, "{text}"),
+        Ok(Answer::Word(word)) => writeln!(writer, "{word}"),
         Ok(Answer::Number(number)) => writeln!(writer, "{number}"),
+        Ok(Answer::Value(node)) => writeln!(writer, "{}", node.as_str()),
         Err(Refusal::BadName) => writeln!(writer, "bad name"),
         Err(Refusal::NoName) => writeln!(writer, "no name"),
         Err(Refusal::Error(e)) => writeln!(writer, "error {}", e.number()),
