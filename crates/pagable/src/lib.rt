@@ -81,9 +81,10 @@ pub mod storage {
         pub use pagable_core::SerializerForPaging;
     }
 
-    /// What a store answers, what is known of the nodes that items refer to, and why a page-out fails.
+    /// What a store answers, the setting that its writes and reads share, what is known of the nodes that items refer to,
+    /// and why a page-out fails.
     pub mod traits {
-        pub use pagable_core::PagableStorage;
+        pub use pagable_core::{PagableStorage, Setting};
         pub use pagable_walk::{LentTable, PageOutError};
     }
 }
@@ -137,7 +138,7 @@ pub use machine::Machine;
 pub use pagable_core::{
     InMemoryBlobs, NoReferences, PagableData, PagableDeserializerImpl, PagableKeys,
     PagableSerializerImpl, PagableStorage, References, SerializedData, SerializerForPaging,
-    Sha256Key, WeighHash,
+    Setting, Sha256Key, WeighHash,
 };
 pub use pagable_pager::{ArcCell, DeserializedArcCache, Pager};
 pub use pagable_walk::{LentTable, PageOutError};

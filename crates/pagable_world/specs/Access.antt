@@ -16,7 +16,7 @@ tells s None R = Unit {0}
 tells None (Some t) R = ⊥
 tells (Some s) (Some t) R = R s t
 
--- R holds between two states, where they are told: a state that is told once is told always
+-- R holds between two states, where both are told: what is told afterwards was told before
 pub record Told {S : Type 0} (s t : Option S) (R : S → S → Type 0) : Type 0 where
   pub holds : tells s t R
 
