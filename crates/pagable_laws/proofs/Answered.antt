@@ -8,7 +8,7 @@ use Rattle.pagable_laws.proofs.{ReadingSteps.{caller-free, reading-feels}, Spari
 use Rattle.pagable_laws.proofs.{Standing.{some-none, some-same}, Stepping.{all-known, all-low, done-on, keys-same, stands-for}, Taking.{Going, fits-nothing, given-nodes, going-new, going-step}}
 use Rattle.pagable_laws.proofs.{Taking.{reading-fits, row-held, stands-here, trees-go-on, was-open}, Trees.{same-number, same_some, steps_follow}, Words.{Alike, ArcRef, Blob, Bool, Claim, Core, Ok}}
 use Rattle.pagable_laws.proofs.Words.{Does, Event, EventReply, Frame, FramesFit, HandleNumber, Happens, HoldsSettled, Identity, IsLawful, IsMachineWhole, IsPublished, Last, List, LoadAnswer, Mode, ℕ}
-use Rattle.pagable_laws.proofs.Words.{LoadNumber, MachineState, None, OpenLoad, Option, OptionalDataKey, Owner, PagerState, Reading, ReadingFeels, ReadsItsTypes, Represents, Seen, Shelf, Site, Slot}
+use Rattle.pagable_laws.proofs.Words.{LoadNumber, MachineState, None, OpenLoad, Option, OptionalDataKey, Owner, PagerState, Reading, ReadingFeels, Represents, Seen, Shelf, Site, Slot}
 use Rattle.pagable_laws.proofs.Words.{Some, Task, Todo, Took, Tree, Values, Walking, WellFormed, WorkFits, WorkerAnswer, WorkerNumber, WorkerReply, WorkerSteps, Written, [], answer_after, ap, arith}
 use Rattle.pagable_laws.proofs.Words.{append_assoc, cases_Bool, false, give, held, identity_of, if_there, inl, inr, is_some, key_at, nat_eq, nat_tests, no_result, nothing_felt, of_cell, of_entry}
 use Rattle.pagable_laws.proofs.Words.{of_item, one, refl, subst, sum_by-cons, sym, times, to_fail, to_finish, to_item, to_load, to_pin, to_release, to_set, to_start, to_write, true, with_handle, ◌+◌}
@@ -36,7 +36,7 @@ pub record After {N E : Type 0} (v : Values N) (s : PagerState N E) (trees : ℕ
 pub after-then : {N E : Type 0} {v : Values N} {s m t : PagerState N E} {trees mid after : ℕ → Tree} → After v s trees m mid → After v m mid t after → After v s trees t after
 after-then a b = record { same = λ n within. b.same n (let c = a.nodes in omega (arith, within, c)) ∙ a.same n within; nodes = let c = a.nodes in let d = b.nodes in omega (arith, c, d); stands = b.stands }
 
-module _ {N E : Type 0} {v : Values N} (lawful : IsLawful v) (readable : ReadsItsTypes v.types) where
+module _ {N E : Type 0} {v : Values N} (lawful : IsLawful v) where
   -- what a step comes to: a load that goes on is so again, and the value that it answers is that of its key
   record Stepped (s : PagerState N E) (trees : ℕ → Tree) (key : ℕ) (reading : Reading) (answer : Option (LoadAnswer N)) (frames : List Frame) (s' : PagerState N E) : Type 0 where
     pub trees' : ℕ → Tree
@@ -50,7 +50,8 @@ module _ {N E : Type 0} {v : Values N} (lawful : IsLawful v) (readable : ReadsIt
       let seen : Seen N Blob Written = record { values = v; blob_of = λ b. b; written_of = λ w. w } in
       let felt = reading-feels seen s.core Owner.Caller caller-free s'.core reading answer frames step.does in
       let feels = felt.feels u.well.whole.handles in
-      let fit = reading-fits lawful u.settled u.well step.whole u.stands readable reading u.going.fits (given-nodes reading.frames u.going.held) felt.does.goes takes felt.opens feels in
+      let fit = reading-fits lawful u.settled u.well step.whole u.stands reading takes u.going.fits
+      (given-nodes reading.frames u.going.held) felt.does.goes felt.opens feels in
       let stands = trees-go-on lawful u.settled u.well step.whole u.stands step.moves felt.does.goes fit.1 in
       record {
         trees' = fit.0;
@@ -63,7 +64,7 @@ module _ {N E : Type 0} {v : Values N} (lawful : IsLawful v) (readable : ReadsIt
         right = λ x is.
             let read = (subst (λ (o : Option (LoadAnswer N)). LoadDoes v s.core Owner.Caller reading o frames s'.core) is step.does.does).0 in
             let load = read.of_key_load in subst (λ q. ReadIsRight v s' q x) (u.keyed load.load load.open_load)
-            (read-right lawful readable s s' trees fit.0 fit.1.same felt.does.goes.stored step.whole stands reading u.going load.load load.open_load x read.reads_root
+            (read-right lawful s s' trees fit.0 fit.1.same felt.does.goes.stored step.whole stands reading takes.types u.going load.load load.open_load x read.reads_root
             (hands reading.load (v.references x) u.well.whole.handles read.handed));
       }
 
@@ -88,35 +89,37 @@ module _ {N E : Type 0} {v : Values N} (lawful : IsLawful v) (readable : ReadsIt
 
 -- a load of a cell by one call keeps trees
 pub pin-after : {N E : Type 0} (v : Values N) (s mid s' : PagerState N E) (h : HandleNumber) (reading : Reading) (answer : LoadAnswer N) (run : LoadRun v Owner.Caller reading mid answer s') → WellFormed v s
-    → LoadStarts v s h reading mid → LoadAsksWell run → IsLawful v → ReadsItsTypes v.types → HoldsSettled v s → (trees : ℕ → Tree) → Represents v s trees → (trees' : ℕ → Tree) × After v s trees s' trees'
-pin-after v s mid s' h reading answer run well starts asks lawful readable settled trees stands =
+    → LoadStarts v s h reading mid → LoadAsksWell run → IsLawful v → HoldsSettled v s → (trees : ℕ → Tree) → Represents v s trees
+    → (trees' : ℕ → Tree) × After v s trees s' trees'
+pin-after v s mid s' h reading answer run well starts asks lawful settled trees stands =
     let c = starts.begins in let b = c.step.begins.2 in
-    let first = begun lawful readable s mid trees well settled stands (begin-goes _ c.step) c.moves c.whole in
+    let first = begun lawful s mid trees well settled stands (begin-goes _ c.step) c.moves c.whole in
     let f : (t : ℕ) × (reading ≡ fresh reading.load t) = grind (arith, nat_tests, same_some) in
-    let u = under lawful readable s mid trees well settled stands (begin-goes _ c.step) c.moves c.whole (with_handle s.core c.step.begins.0.node Mode.LooseUnpinned (Owner.Load reading.load)) reading.load f.0 starts.key (of_cell c.step.begins.0.node b.4.0 h) b.2.above b.4.2 in
-    let r = comes lawful readable run asks trees starts.key (subst (λ z. Under v mid trees starts.key z) (sym f.1) u) in
+    let u = under lawful s mid trees well settled stands (begin-goes _ c.step) c.moves c.whole (with_handle s.core
+    c.step.begins.0.node Mode.LooseUnpinned (Owner.Load reading.load)) reading.load f.0 starts.key (of_cell c.step.begins.0.node b.4.0 h) b.2.above b.4.2 in
+    let r = comes lawful run asks trees starts.key (subst (λ z. Under v mid trees starts.key z) (sym f.1) u) in
     (r.trees', after-then first r.after)
 
 -- so does a load of a key, and a value that it reads stands for the tree that the key reads as
 pub read-after : {N E : Type 0} (v : Values N) (s mid s' : PagerState N E) (key t : ℕ) (l : LoadNumber) (answer : LoadAnswer N) (run : LoadRun v Owner.Caller (fresh l t) mid answer s') → WellFormed v s
-    → KeyStarts v s key l mid → LoadAsksWell run → IsLawful v → ReadsItsTypes v.types → HoldsSettled v s → (trees : ℕ → Tree) → Represents v s trees
+    → KeyStarts v s key l mid → LoadAsksWell run → IsLawful v → HoldsSettled v s → (trees : ℕ → Tree) → Represents v s trees
     → (trees' : ℕ → Tree) × After v s trees s' trees' × ((x : N) → answer ≡ LoadAnswer.Read x → ReadIsRight v s' key x)
-read-after v s mid s' key t l answer run well starts asks lawful readable settled trees stands =
+read-after v s mid s' key t l answer run well starts asks lawful settled trees stands =
     let b = starts.step.begins in
     let goes : Goes nothing_felt s.core mid.core = (begins-key {lists = false} {Asks = Unit {0}} {Leaves = Unit {0}} _ starts.step).goes in
-    let first = begun lawful readable s mid trees well settled stands goes starts.moves starts.whole in
-    let u = under lawful readable s mid trees well settled stands goes starts.moves starts.whole s.core l t key of_key b.1.above b.2 in
-    let r = comes lawful readable run asks trees key u in
+    let first = begun lawful s mid trees well settled stands goes starts.moves starts.whole in
+    let u = under lawful s mid trees well settled stands goes starts.moves starts.whole s.core l t key of_key b.1.above b.2 in
+    let r = comes lawful run asks trees key u in
     (r.trees', after-then first r.after, λ x is. r.right x (ap Some is))
 
 pub pin_law : {N E : Type 0} (v : Values N) → PinLaw E v
-pin_law v s mid s' h k reading x row run well starts asks live held lawful readable settled trees stands =
-    let r = pin-after v s mid s' h reading (LoadAnswer.Pinned k) run well starts asks lawful readable settled trees stands in
+pin_law v s mid s' h k reading x row run well starts asks live held lawful settled trees stands =
+    let r = pin-after v s mid s' h reading (LoadAnswer.Pinned k) run well starts asks lawful settled trees stands in
     (r.0, r.1.same, r.1.stands, stands-here (r.1.stands.stands row.node.0 (row-held s'.core k row live)) held)
 
 pub read_law : {N E : Type 0} (v : Values N) → ReadLaw E v
-read_law v s mid s' key t l x run well starts asks settled_value lawful readable settled trees stands =
-    let r = read-after v s mid s' key t l (LoadAnswer.Read x) run well starts asks lawful readable settled trees stands in (r.0, r.1.same, r.1.stands, r.2 x refl)
+read_law v s mid s' key t l x run well starts asks settled_value lawful settled trees stands =
+    let r = read-after v s mid s' key t l (LoadAnswer.Read x) run well starts asks lawful settled trees stands in (r.0, r.1.same, r.1.stands, r.2 x refl)
 
 -- the stage k is this one or comes after it, from p on
 abbrev from : ℕ → ℕ → Bool → ℕ

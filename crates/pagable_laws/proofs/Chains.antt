@@ -8,12 +8,12 @@ use Rattle.pagable_laws.proofs.{Coming.{goes-on, idle-stands, turns-keep, turns-
 use Rattle.pagable_laws.proofs.{Standing.{KeepsTask, ShelfGrows, grows, is-same, keeps-task, put-cases, puts-slot, true-false}, Taking.{none-comes, pin_stands, reading-fits, tree-stays, trees-go-on}}
 use Rattle.pagable_laws.proofs.Words.{Among, ArcRef, AreMoments, Beginning, Bool, Change, Claim, CloneCall, Core, Does, Event, EventReply, HandleNumber, HandleRow, HandlesAreWhole, Happens, Identity}
 use Rattle.pagable_laws.proofs.Words.{HoldsSettled, IsIdle, IsLawful, IsMachineWhole, IsPublished, IsWellAsked, List, MachineState, Moment, NodeNumber, None, Ok, Option, Owner, Reading, Seen, Shelf}
-use Rattle.pagable_laws.proofs.Words.{ReadsItsTypes, Site, Slot, Some, Todo, Took, Tree, Values, Walking, WorkFits, WorkerAnswer, WorkerNumber, WorkerReply, WorkerSteps, World, [], above, any_mode}
+use Rattle.pagable_laws.proofs.Words.{Site, Slot, Some, Todo, Took, Tree, Values, Walking, WorkFits, WorkerAnswer, WorkerNumber, WorkerReply, WorkerSteps, World, [], above, any_mode}
 use Rattle.pagable_laws.proofs.Words.{ap, append_assoc, arith, false, false_from_ne_true, find_row, give, identity_of, inl, inr, is_owner, is_some, le_trans, nat_tests, nothing_felt, one, refl, sym}
 use Rattle.pagable_laws.proofs.Words.{owner_worker, row_at, rules, state_after, step_of, subst, sum_by-cons, times, to_finish, to_item, to_load, to_pin, to_set, to_start, to_write, true, type_of, ℕ}
 use Rattle.pagable_laws.proofs.{ReadingSteps.ends-quiet, SparingSteps.{LoadsStand, Spares, event-on, reads-give, step-within, steps-left}, Words.{world_of, ◌&&◌, ◌++◌, ◌+◌, ◌∙◌, ◌∷◌, ◌≡◌, ◌≤◌, ◌⊎◌}}
 use Rattle.pagable_laws.proofs.{Answered.{at-once, keys-right}, Called.{begin-goes, pins}, Merkle.tree_readable, ReadingSteps.{event-goes, is-reading-of, readings-on, site_of, walk-goes, works-free}}
-use Rattle.pagable_laws.proofs.{Following.given-of, Goes.{Stands, among-found, fell, found-number, goes-quiet}, Stepping.{fits-on, keys-same}, Trees.{each-type, one-small, same_some, sum-zero}}
+use Rattle.pagable_laws.proofs.{Following.given-of, Goes.{Stands, among-found, fell, found-number, goes-quiet}, Stepping.{fits-on, keys-same}, Trees.{one-small, same_some, sum-zero}}
 use Rattle.pagable_laws.{proofs.Goes.{pins-hold, quiet-goes, stands-alike, stands-fell, stands-new, stands-whole, updated-at}, specs.TreeSteps.{AllHold, ChangeFits, CoreGoes, EventFeels, HasHandle}}
 use Rattle.pagable_laws.specs.TreeSteps.{HasPin, Holds, IsSteppedReading, KeyIsSet, KeysAreReady, KeysHeld, PinHolds, StandsAt, WaitsHeld, by-call, by-key, by-nothing, by-reading}
 
@@ -170,11 +170,12 @@ module _ {N B W : Type 0} (m : Seen N B W) (u u' : World) {c : Change} (goes : C
       (λ t shelf more same i key height p kind. key-on goes (held.slots t i key height (keys-same (λ j. sym (same j)) i key height p) kind))
       (λ n w none there. all-on goes n (λ q. λ h. let s = (spares n none).each h.h.0 h.row h.own (stands-whole whole h.h.0 h.row h.live) in
       record { h = h.h; row = h.row; live = s.live; own = h.own; at = h.at }) w.todo (held.walks n w there))
-      (λ n shelf t task. (let s = started u'.core n 0 in grind (arith, nat_tests, s))) (λ k r s one more. a-step work k r s) turns.own in
+      (λ n shelf t task. (let s = started u'.core n 0 in grind (arith, nat_tests, s))) (λ k r s at one more. a-step work k r s) turns.own in
       record { walks = h.walks; slots = h.slots }
 
-pub keys-ready : {N E : Type 0} (v : Values N) (s : MachineState N E) (trees : ℕ → Tree) → ReadsItsTypes v.types → WorkFits v s trees → KeysHeld (world_of s) → KeysAreReady v s trees
-keys-ready v s trees reads fit held k key row sets = let there = sets.there in let todo = sets.sets in let owns = sets.owns in grind (arith, nat_tests, same_some, tree_readable, each-type)
+pub keys-ready : {N E : Type 0} (v : Values N) (s : MachineState N E) (trees : ℕ → Tree) → WorkFits v s trees → KeysHeld (world_of s) → KeysAreReady v s trees
+keys-ready v s trees fit held k key row sets =
+    let there = sets.there in let todo = sets.sets in let owns = sets.owns in grind (arith, nat_tests, same_some, tree_readable)
 
 module _ {N E B W : Type 0} (m : Seen N B W) (s : MachineState N E) (trees : ℕ → Tree) where
   reading-takes : (event : Event N B W) (reply : EventReply N B W) (reading : Reading) → IsSteppedReading (world_of s) event reading → IsWellAsked m.values s trees event reply
@@ -182,22 +183,22 @@ module _ {N E B W : Type 0} (m : Seen N B W) (s : MachineState N E) (trees : ℕ
   reading-takes x0 reply reading x3 well = grind (arith, nat_tests)
 
   module _ (stands : StandsFor m.values s trees) (readings : (reading : Reading) → IsReadingOf s.work reading → Going m.values s.pager trees reading) where
-    pub event-fits : (lawful : IsLawful m.values) (readable : ReadsItsTypes m.values.types) (s' : MachineState N E) → HoldsSettled m.values s.pager → IsMachineWhole m.values s
+    pub event-fits : (lawful : IsLawful m.values) (s' : MachineState N E) → HoldsSettled m.values s.pager → IsMachineWhole m.values s
         → IsMachineWhole m.values s' → KeysAreReady m.values s trees
         → (event : Event N B W) (reply : EventReply N B W) {c : Change} → CoreGoes c s.pager.core s'.pager.core → IsWellAsked m.values s trees event reply
         → EventFeels m.values (world_of s) event reply (world_of s') c → (trees' : ℕ → Tree) × ChangeFits m.values c (EventBrings m.values (world_of s) event) s.pager s'.pager trees trees'
-    event-fits lawful readable s' settled whole whole' ready event reply goes well (by-call c call answer called replied feels keeps) =
+    event-fits lawful s' settled whole whole' ready event reply goes well (by-call c call answer called replied feels keeps) =
         let asked = rw (called, replied) at well in
         let f = call-fits lawful settled whole.pager whole'.pager stands.pager c call answer goes asked feels in (f.0, rw called f.1)
-    event-fits lawful readable s' settled whole whole' ready event reply goes well (by-reading c reading answer frames stepped opens feels steps) =
+    event-fits lawful s' settled whole whole' ready event reply goes well (by-reading c reading answer frames stepped opens feels steps) =
         let g = going-of s trees readings reading (is-reading-of (world_of s) event reading stepped) in
-        let f = reading-fits lawful settled whole.pager whole'.pager stands.pager readable reading g.fits (given-nodes reading.frames g.held) goes
-        (reading-takes event reply reading stepped well) opens feels in
+        let f = reading-fits lawful settled whole.pager whole'.pager stands.pager reading (reading-takes event reply reading stepped well) g.fits
+        (given-nodes reading.frames g.held) goes opens feels in
         (f.0, (grind (arith, nat_tests)))
-    event-fits lawful readable s' settled whole whole' ready event reply goes well (by-key k key row is sets keeps) =
+    event-fits lawful s' settled whole whole' ready event reply goes well (by-key k key row is sets keeps) =
         let reads = ready k key row sets in
         (trees, fits-key lawful settled whole.pager whole'.pager stands.pager _ row.node.0 key (λ n x brings. (grind (arith, nat_tests, same_some))) (tree-stays goes.stored reads))
-    event-fits lawful readable s' settled whole whole' ready event reply goes well (by-nothing stays keeps) =
+    event-fits lawful s' settled whole whole' ready event reply goes well (by-nothing stays keeps) =
         let none = none-comes lawful settled whole.pager whole'.pager stands.pager in
         (trees, fits-nothing lawful settled whole.pager whole'.pager stands.pager _ (λ n x brings unset is. absurd (none n x goes unset is (stays n x brings))))
 
@@ -219,7 +220,7 @@ pub record IsGoingOn {N E : Type 0} (v : Values N) (s : MachineState N E) (trees
   pub fits : WorkFits v s trees
   pub held : KeysHeld (world_of s)
 
-module _ {N E B W : Type 0} (m : Seen N B W) (lawful : IsLawful m.values) (readable : ReadsItsTypes m.values.types) where
+module _ {N E B W : Type 0} (m : Seen N B W) (lawful : IsLawful m.values) where
   pub idle-goes : (s : MachineState N E) (trees : ℕ → Tree) → IsMachineWhole m.values s → IsIdle s → HoldsSettled m.values s.pager → StandsFor m.values s trees → IsGoingOn m.values s trees
   idle-goes s trees whole idle settled stands = grind (arith, nat_tests, idle-stands)
 
@@ -228,8 +229,8 @@ module _ {N E B W : Type 0} (m : Seen N B W) (lawful : IsLawful m.values) (reada
   goes s trees x on does premised =
       let g = event-goes m (world_of s) (world_of x.after) x.event x.reply premised.stays_open does.step.happens in
       let felt = g.feels on.whole.pager.whole (λ n w is. (on.work.workers n w is).waits) in
-      let ready = keys-ready m.values s trees readable on.fits on.held in
-      let f = event-fits m s trees on.stands on.readings lawful readable x.after on.settled on.whole does.whole ready x.event x.reply g.goes premised.well felt in
+      let ready = keys-ready m.values s trees on.fits on.held in
+      let f = event-fits m s trees on.stands on.readings lawful x.after on.settled on.whole does.whole ready x.event x.reply g.goes premised.well felt in
       let pager = trees-go-on lawful on.settled on.whole.pager does.whole.pager on.stands.pager does.moves g.goes f.1 in
       let readings = readings-on (Going m.values x.after.pager f.0) (λ reading is. going-on on.whole.pager does.whole.pager on.stands.pager g.goes f.1 reading (on.readings reading is))
       (λ reading new. going-new x.after.pager f.0 reading new.0 new.2) (λ reading frames load is at read.
@@ -237,23 +238,25 @@ module _ {N E B W : Type 0} (m : Seen N B W) (lawful : IsLawful m.values) (reada
       let stands : StandsFor m.values x.after f.0 = record { pager = pager; readings = λ reading is. (readings reading is).fits } in
       let turns = event-turns m (world_of s) (world_of x.after) on.work (λ v w there. (on.whole.walkings v w there).table.1) x.event x.reply does.step.happens in
       let fits = fits-on m s x.after trees f.0 (record { kept = g.goes.stored; last = g.goes.nodes; trees = f.1.same }) on.fits on.whole on.stands.pager
-      on.settled readable lawful on.work x.event x.reply turns does.writes in
+      on.settled lawful on.work x.event x.reply turns does.writes premised.well in
       let work = turns-stand m turns on.work in
       let held = keys-hold m (world_of s) (world_of x.after) g.goes on.held on.whole.pager.whole.handles x.event x.reply turns work (λ n others. g.spares n on.whole.pager.whole.owners_there others) in
       let pins = pins-hold m (world_of s) (world_of x.after) x.event x.reply on.whole.pager.whole.handles does.step.happens in
       let keys = keys-right m s x.after trees f.0 on.fits fits on.whole does.whole stands on.held held x.event x.reply does.step.happens in
+      let asked = premised.well in
       let so : IsRight m.values s trees x.event x.reply x.after f.0 = search (rules, pin-gives, reads-give) in
       (f.0, record { keeps = f.1.same; stands = stands; so = so }, assumption (does.whole, work, premised.settled, stands, readings, fits, held))
 
   -- what follows of each moment, and of what stays true of the machine and of the moments that are left, holds along each chain
   pub along-with : (P : Fact N E B W) (I : MachineState N E → List (Moment N E B W) → Type 0)
       → ((s : MachineState N E) (trees trees' : ℕ → Tree) (x : Moment N E B W) (xs : List (Moment N E B W)) → IsGoingOn m.values s trees → I s (x ∷ xs) → IsMachineWhole m.values x.after
-      → Happens m (world_of s) x.event x.reply (world_of x.after) → IsRight m.values s trees x.event x.reply x.after trees' → P s trees x.event x.reply x.after trees' × I x.after xs)
+      → Happens m (world_of s) x.event x.reply (world_of x.after) → IsWellAsked m.values s trees x.event x.reply
+      → IsRight m.values s trees x.event x.reply x.after trees' → P s trees x.event x.reply x.after trees' × I x.after xs)
       → (s : MachineState N E) (trees : ℕ → Tree) (moments : List (Moment N E B W)) → IsGoingOn m.values s trees → I s moments → AreMoments m s moments → TreesAlong m P s trees moments
   along-with P I follows s trees [] on so does = tt
   along-with P I follows s trees (x ∷ xs) on so (does, more) = λ premised.
       let (trees', a, after) = goes s trees x on does premised in
-      let f = follows s trees trees' x xs on so does.whole does.step.happens a.so in
+      let f = follows s trees trees' x xs on so does.whole does.step.happens premised.well a.so in
       (trees', record { keeps = a.keeps; stands = a.stands; so = f.0 }, along-with P I follows x.after trees' xs after f.1 more)
 
 -- What each chain comes to: claims, workers and loads; and with trees, the headline.
@@ -359,6 +362,7 @@ headline_law E m start moments whole idle chain =
         loads = steps-left m.values end all.loads;
       };
       loads = within;
-      trees = λ trees stands lawful reads settled. along-with m lawful reads (IsRight m.values) (λ s xs. Unit {0}) (λ s trees trees' x xs on so whole' happens right. (right, tt))
-          start trees moments (idle-goes m lawful reads start trees whole idle settled stands) tt chain;
+      trees = λ trees stands lawful settled. along-with m lawful (IsRight m.values) (λ s xs. Unit {0})
+          (λ s trees trees' x xs on so whole' happens asked right. (right, tt))
+          start trees moments (idle-goes m lawful start trees whole idle settled stands) tt chain;
     }

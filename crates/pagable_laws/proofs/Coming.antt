@@ -164,7 +164,8 @@ module _ {N B W : Type 0} (m : Seen N B W) {u u' : World} {event : Event N B W} 
       (stay : (t : ℕ) (shelf : Shelf) → ShelfGrows (u.work.shelves t) shelf → SameAs (u.work.shelves t) shelf → Slots shelf)
       (rest : (n : ℕ) (w : Walking) → step_of n event reply ≡ [] → u.work.walkings n ≡ Some w → Walk n (u'.work.shelves w.table) w)
       (begin : (n : ℕ) (shelf : Shelf) (t : TableNumber) (task : Task) → Walk n shelf (new_walking t task))
-      (step : (k : WorkerNumber) (r : WorkerReply W) (s : WorkerSteps m u k r u') → step_of turns.who event reply ≡ r.took ∷ [] → ShelfGrows (u.work.shelves s.walking.table) s.after.shelf
+      (step : (k : WorkerNumber) (r : WorkerReply W) (s : WorkerSteps m u k r u') → k.0 ≡ turns.who → step_of turns.who event reply ≡ r.took ∷ []
+      → ShelfGrows (u.work.shelves s.walking.table) s.after.shelf
       → Slots s.after.shelf × Walk k.0 s.after.shelf (record s.walking { todo = s.after.todo; steps = r.steps; answer = r.answer })) where
     all-hold : ((t : ℕ) → Slots (u'.work.shelves t)) → ((w : Walking) → u'.work.walkings turns.who ≡ Some w → Walk turns.who (u'.work.shelves w.table) w) → HoldsOfAll u' Slots Walk
     all-hold slots own = search (rules, nat_eq, true, false)
@@ -179,7 +180,7 @@ module _ {N B W : Type 0} (m : Seen N B W) {u u' : World} {event : Event N B W} 
         let now : Walking = record w { todo = s.after.todo; steps = r.steps; answer = r.answer } in
         let at_now : u'.work.walkings turns.who ≡ Some now = sym (ap u'.work.walkings at) ∙ s.work.same_walkings k.0 ∙ updated-at k.0 (Some now) u.work.walkings in
         let table : SameAs s.after.shelf (u'.work.shelves w.table) = λ i. (s.work.same_shelves w.table).slots i ∙ ap (λ (z : Shelf). z.slots i) (updated-at w.table s.after.shelf u.work.shelves) in
-        let d = step k r s one (λ i slot there. let a = turns-grow w.table i slot there in (a.0, sym (table i) ∙ a.1, a.2)) in
+        let d = step k r s at one (λ i slot there. let a = turns-grow w.table i slot there in (a.0, sym (table i) ∙ a.1, a.2)) in
         all-hold
         (λ t. at-number (λ shelf. SameAs shelf (u'.work.shelves t) → Slots (u'.work.shelves t)) w.table s.after.shelf u.work.shelves t (λ same. alike s.after.shelf (u'.work.shelves t) same d.0)
         (stay t (u'.work.shelves t) (turns-grow t)) (s.work.same_shelves t).slots)

@@ -10,7 +10,7 @@ use Rattle.pagable_laws.proofs.Related.{Out, OutLook, any_cause, both-faulty, bo
 use Rattle.pagable_laws.proofs.{Again.{Looked, form-again, looks-itself, not-looked, one-looked, read_again}, Related.{read_par, renamed, typed_par}, Trees.{AllTwo, Along, at-most-sum, counted}}
 use Rattle.pagable_laws.proofs.Trees.{each-two, followed-along, integer-along, more-two, no-two, none-along, number-along, one-true, one_tree, pair-along, pattern-along, reference-along, refs-two}
 use Rattle.pagable_laws.proofs.{Trees.{same-number, self-number, swap-two, text-along, tree_is, variant-along}, Words.{Among, ArcRef, Blob, Bool, Core, Err, Error, Form, Frame, IsLawful, IsReadable}}
-use Rattle.pagable_laws.proofs.Words.{IsReference, Kind, List, Meaning, None, Ok, Option, Owner, PagerState, ReadsItsTypes, ReadsTree, Result, Shape, Some, Throughout, Tree, Types, ValueStands, []}
+use Rattle.pagable_laws.proofs.Words.{IsReference, Kind, List, Meaning, None, Ok, Option, Owner, PagerState, IsReadableType, ReadsTree, Result, Shape, Some, Throughout, Tree, Types, ValueStands, []}
 use Rattle.pagable_laws.proofs.Words.{Values, and_parts, ap, append-nil, append_assoc, arith, cases_Bool, cases_lt, false, followed, if◌then◌else◌, inl, inr, integer-leads, is_eager, is_in, length}
 use Rattle.pagable_laws.proofs.Words.{length-append, map, nat_tests, next_in, none, one, pair, read, reference, references_fault, references_in, refl, rest, slice_get, subst, suc, sum_by-cons, sym}
 use Rattle.{pagable_laws.proofs.Words.{times, tree, true, type_of, variant, zero, ℕ, ◌&&◌, ◌++◌, ◌+◌, ◌==◌, ◌∙◌, ◌∷◌, ◌≡◌, ◌≤◌, ◌⊎◌}, pagable_world.specs.Loads.{IsDecoded, answer_of, answers_from}}
@@ -300,14 +300,15 @@ meant-refs rs ss same r among =
     let found = counted (λ q. one (is_ref r q)) ss (omega (arith, one_here, same (is_ref r))) in
     subst (Among ss) (grind (arith, and_parts, same-number)) found.1
 
-module _ {N : Type 0} {v : Values N} (lawful : IsLawful v) (readable : ReadsItsTypes v.types) {stored : ℕ → Option Blob} {trees : ℕ → Tree} where
-  pub decodes : (frame : Frame) (x : N) → FrameFits v.types stored trees frame → IsDecoded v frame x → Decoded v stored trees frame x
-  decodes frame x fits decoded =
+module _ {N : Type 0} {v : Values N} (lawful : IsLawful v) {stored : ℕ → Option Blob} {trees : ℕ → Tree} where
+  pub decodes : (frame : Frame) (x : N) → IsReadableType v.types frame.node_type → FrameFits v.types stored trees frame → IsDecoded v frame x
+      → Decoded v stored trees frame x
+  decodes frame x readable fits decoded =
       let given = read-gives _ _ decoded.own decoded.read in
       let all = answers-two (AnswersFor v.types stored trees frame.got) frame.got 0 frame.blob.keys frame.blob.keys refl (λ i key is n at.
       answer-of (slice_get frame.got n) key (λ r there. ((n, there), let same : n ≡ i = omega (arith, at) in fits.got i key r (subst (λ k. slice_get frame.got k ≡ Some r) same there) is))) in
       let both = typed_par {E = any_cause} {F = ⊥} {T = AllTwo (AnswersFor v.types stored trees frame.got)} {R = Found v.types stored trees frame.got} {parts = v.types.parts} answer_at
-      (λ kind key. Ok (key_ref kind key)) (each _ _ (λ kind a key h. h kind)) 0 (v.types.nodes frame.node_type) (λ s is. inr (readable frame.node_type s is))
+      (λ kind key. Ok (key_ref kind key)) (each _ _ (λ kind a key h. h kind)) 0 (v.types.nodes frame.node_type) (λ s is. inr (readable s is))
       (rest frame.blob.bytes (answers_from frame.got 0 frame.blob.keys)) (rest_of frame.blob) (record { bytes = refl; refs = all }) in
       let two = given-too both given.1 in
       let led = leads-follows two.3 in
@@ -343,11 +344,12 @@ module _ {N E : Type 0} {v : Values N} {s : PagerState N E} {trees : ℕ → Tre
   leads-stands l h = search (number-stands, integer-stands, text-stands, pattern-stands, none-stands)
 
 -- a value that was read of a blob stands for each tree of its type that the key reads as, where the nodes of its references stand for theirs
-pub read_stands : {N E : Type 0} {v : Values N} → IsLawful v → ReadsItsTypes v.types → (s : PagerState N E) (trees : ℕ → Tree) (frame : Frame) (x : N) (t : Tree)
-    → FrameFits v.types s.core.stored trees frame → IsDecoded v frame x → ((r : ArcRef) → Among (v.references x) r → NodeStands v s r.node.0 (trees r.node.0)) → t.type ≡ frame.node_type
+pub read_stands : {N E : Type 0} {v : Values N} → IsLawful v → (s : PagerState N E) (trees : ℕ → Tree) (frame : Frame) (x : N) (t : Tree)
+    → IsReadableType v.types frame.node_type → FrameFits v.types s.core.stored trees frame → IsDecoded v frame x → ((r : ArcRef) → Among (v.references x) r
+    → NodeStands v s r.node.0 (trees r.node.0)) → t.type ≡ frame.node_type
     → ReadsTree s.core.stored v.types frame.key t → ValueStands v s x t
-read_stands {v = v} lawful readable s trees frame x t fits decoded nodes typed reads_tree =
-    let read = decodes lawful readable frame x fits decoded in let led = read.leads in
+read_stands {v = v} lawful s trees frame x t readable fits decoded nodes typed reads_tree =
+    let read = decodes lawful frame x readable fits decoded in let led = read.leads in
     let same : read.t ≡ t = one_tree s.core.stored v.types frame.key read.t t (read.typed ∙ sym typed) read.reads reads_tree in
     let meant = leads-stands led.leads (λ r among. nodes r (meant-refs _ _ (λ is. sym (lawful.refers x led.own led.means is)) r among)) in
     record { own = led.own; typed = led.typed ∙ ap (λ (z : Tree). z.type) same; means = led.means; stands = subst (λ (z : Tree). MeaningStands v s led.own z.meaning) same meant }

@@ -2,7 +2,7 @@
 use Rattle.pagable_laws.proofs.{Answered.answered, Chains.{IsGoingOn, along-with, headline_law, idle-goes}, Coming.StandsIn, Following.{known-of, tree-form}, Goes.updated-at, ReadingSteps.site_of}
 use Rattle.pagable_laws.proofs.{Standing.{AllStand, Covers, is-same, is_open_in}, Stepping.next-among, Trees.{Along, each-two, form-along, integer-along, none-along, number-along, pair-along}}
 use Rattle.pagable_laws.proofs.{Trees.{pattern-along, reference-along, same_some, text-along, tree_is, variant-along}, Words.{Among, ArcRef, AreMoments, Bool, Core, Does, Err, Error, Event, Happens}}
-use Rattle.pagable_laws.proofs.Words.{EventReply, FollowsTo, HoldsSettled, Identity, IsIdle, IsLawful, IsMachineWhole, IsPublished, List, MachineState, Meaning, Moment, Ok, ReadsItsTypes, Seen, Site}
+use Rattle.pagable_laws.proofs.Words.{EventReply, FollowsTo, HoldsSettled, Identity, IsIdle, IsLawful, IsMachineWhole, IsPublished, List, MachineState, Meaning, Moment, Ok, Seen, Site}
 use Rattle.pagable_laws.proofs.Words.{Shelf, Some, Task, Todo, Took, Tree, Types, Values, Walking, WorkFits, WorkerAnswer, Written, above, ap, arith, followed, identity_of, if◌then◌else◌, inl, inr}
 use Rattle.pagable_laws.proofs.Words.{is_eager, max, nat_tests, of_entry, of_item, pair, refl, subst, suc, sym, to_finish, to_item, to_start, tree, true, type_of, variant, world_of, zero, ℕ, ◌+◌}
 use Rattle.pagable_laws.{proofs.Words.{◌<◌, ◌∙◌, ◌∷◌, ◌≡◌, ◌≤◌, ◌⊎◌}, specs.{DeepLaws.{ClaimIsDeep, DepthIsTold, MetDepthAlone, WaitsForAsker}, TreeSteps.{AllLow, BlobStands, Expects, Ground}}}
@@ -230,11 +230,12 @@ module _ {N B W E : Type 0} (m : Seen N B W) (s s' : MachineState N E) (trees tr
   pub claim-is-deep : (event : Event N B W) (reply : EventReply N B W) → Happens m (world_of s) event reply (world_of s') → ClaimIsDeep s trees event reply s' trees'
   claim-is-deep x0 x1 is = grind (arith, nat_tests, same_some, of-claim)
 
-module _ {N B W E : Type 0} (m : Seen N B W) (lawful : IsLawful m.values) (readable : ReadsItsTypes m.values.types) (P : Fact N E B W) where
+module _ {N B W E : Type 0} (m : Seen N B W) (lawful : IsLawful m.values) (P : Fact N E B W) where
   pub along-first : ((s s' : MachineState N E) (trees trees' : ℕ → Tree) (event : Event N B W) (reply : EventReply N B W) → IsGoingOn m.values s trees
       → Happens m (world_of s) event reply (world_of s') → P s trees event reply s' trees')
       → (s : MachineState N E) (moments : List (Moment N E B W)) (trees : ℕ → Tree) → IsMachineWhole m.values s → IsIdle s → AreMoments m s moments
       → StandsFor m.values s trees → HoldsSettled m.values s.pager → TreesAlong m P s trees moments
   along-first follows s moments trees whole idle chain stands settled =
-      along-with m lawful readable P (λ s xs. Unit {0}) (λ s trees trees' x xs on so whole happens right. (follows s x.after trees trees' x.event x.reply on happens, tt))
-      s trees moments (idle-goes m lawful readable s trees whole idle settled stands) tt chain
+      along-with m lawful P (λ s xs. Unit {0}) (λ s trees trees' x xs on so whole happens asked right.
+      (follows s x.after trees trees' x.event x.reply on happens, tt))
+      s trees moments (idle-goes m lawful s trees whole idle settled stands) tt chain

@@ -1,12 +1,12 @@
 -- A form of a node's value is one of its tree: over its references it is followed to their nodes' trees, and with their keys it stands under the tree's own.
 use Rattle.pagable_laws.proofs.{Related.{both-looked-up, each, keeps_forms, one_cause, read_par}, Trees.{AllTwo, Along, followed-along, more-two, no-two, one_tree, pair-along, reference-along}}
 use Rattle.pagable_laws.proofs.{Trees.{same-number, same_some, sum-le, sum-zero, variant-along}, Words.{Among, ArcRef, Bool, Core, FollowsTo, Form, HandleRow, HandlesAreWhole, HoldsSettled, List, ℕ}}
-use Rattle.pagable_laws.proofs.Words.{Identity, IsLawful, IsPublished, IsReadable, Meaning, Ok, Option, Owner, PagerState, ReadsItsTypes, Represents, Shape, Shelf, Slot, Some, Throughout, Tree, []}
+use Rattle.pagable_laws.proofs.Words.{Identity, IsLawful, IsPublished, IsReadable, Meaning, Ok, Option, Owner, PagerState, IsReadableType, Represents, Shape, Shelf, Slot, Some, Throughout, Tree, []}
 use Rattle.pagable_laws.proofs.Words.{Types, Values, WellFormed, Written, ap, append-nil, arith, blob_of, held, identity_of, if_there, inr, integer-leads, is_handle, is_owned_by, is_some, le_trans}
 use Rattle.pagable_laws.proofs.Words.{map, nat_tests, one, owner_value, reference, references_in, refl, rename, rest, slice_get, slice_get_within, subst, suc, sum_by-cons, sym, times, tree, true}
 use Rattle.pagable_laws.proofs.{Again.{looks-itself, read_again}, Decoding.{among-left, among-right, given-too}, Words.{type_of, zero, ◌&&◌, ◌++◌, ◌<◌, ◌==◌, ◌∙◌, ◌∷◌, ◌≡◌, ◌≤◌}}
 use Rattle.pagable_laws.specs.TreeSteps.{Ground, KeyStands, LeadsBy, WroteTree, followed-leads, none-leads, number-leads, pair-leads, pattern-leads, reference-leads, text-leads, variant-leads}
-use Rattle.pagable_model.specs.{Deep.{Kid, kid, kind_of_kid}, Reading.deepest, Trees.{IsFollowed, KeyRef, integer-followed, key_ref, none-followed, number-followed, pair-followed, pattern-followed}}
+use Rattle.pagable_model.specs.{Canonical.{EachType, IsReadableTree}, Deep.{Kid, kid, kind_of_kid}, Reading.deepest, Trees.{IsFollowed, KeyRef, integer-followed, key_ref, none-followed, number-followed, pair-followed, pattern-followed}}
 use Rattle.pagable_model.specs.{Merkle.{KeyOf, KeysOf, StoredAs, TreeForm, key-of, key_of_ref, kind_of_ref, more-keys, no-keys, unfolded}, Trees.{reference-followed, text-followed, variant-followed}}
 use Rattle.{pagable_model.specs.Writing.kind_of_arc, pagable_world.specs.World.{Outcome, digest, published, type_at}, std.{proofs.lemmas.Option.get_or_from_slice_get, specs.Prelude.nat_lt}}
 use Rattle.pagable_world.specs.{Headline.AreKeysOf, Pager.{IsWrittenOf, MeaningStands, NodeStands, away, followed-stands, here, kids_of, number-stands, pair-stands, reference-stands, variant-stands}}
@@ -102,7 +102,7 @@ stands-leads (reference-stands r a node) (reference-along r2 c same) h = let is 
 stands-leads f k h = search (number-leads, integer-leads, text-leads, pattern-leads, none-leads)
 
 module _ {N E : Type 0} {v : Values N} {s : PagerState N E} {trees : ℕ → Tree} (represents : Represents v s trees) (whole : WellFormed v s) (settled : HoldsSettled v s)
-    (reads : ReadsItsTypes v.types) (lawful : IsLawful v) where
+    (lawful : IsLawful v) where
   refers : (n : ℕ) (x : N) (r : ArcRef) → s.values n ≡ Some x → Among (v.references x) r
       → (r.node.0 ≤ s.core.last.node) × ((b : Meaning ⊥) → NodeStands v s r.node.0 (tree (type_of r.kind.0) b) → (trees r.node.0).meaning ≡ b)
   refers n x r there among =
@@ -110,25 +110,26 @@ module _ {N E : Type 0} {v : Values N} {s : PagerState N E} {trees : ℕ → Tre
       let given = given-of whole.whole.handles r.node.0 is.typed in
       (given.1, λ b stands. one-node settled (represents.stands r.node.0 given.0) stands (same_some _ _ (sym (represents.typed r.node.0 given.0) ∙ is.typed)))
 
-  wrote-of : (n : ℕ) (written : Written) (t : Tree) → t ≡ trees n → NodeStands v s n t → IsWrittenOf v s n written
+  wrote-of : (n : ℕ) (written : Written) (t : Tree) → IsReadableType v.types (trees n).type → t ≡ trees n → NodeStands v s n t → IsWrittenOf v s n written
       → WroteTree v.types (record { stored = s.core.stored; last = s.core.last.node; trees = trees }) n written
-  wrote-of n written t is (here n2 x own t2 there typed means stands fits) w =
+  wrote-of n written t readable is (here n2 x own t2 there typed means stands fits) w =
       let same : w.x ≡ x = same_some _ _ (sym w.held ∙ there) in
       let own_is : own ≡ w.form.own = settled n w.x w.held w.form.own own w.form.means (subst (λ z. v.means z own) (sym same) means) in
       let meant : MeaningStands v s w.form.own (trees n).meaning = subst (λ (z : Tree). MeaningStands v s w.form.own z.meaning) is (subst (λ m. MeaningStands v s m t.meaning) own_is stands) in
       let shape_is : v.types.nodes (trees n).type ≡ Some w.form.shape = rw (← is, ← typed, ← same) w.form.is in
       let of-value : (r : ArcRef) → Among written.references r → Among (v.references w.x) r = λ r among. subst (λ (rs : List ArcRef). Among rs r) w.listed among in
-      let alone = references-among (reads (trees n).type w.form.shape shape_is) w.form.form in
+      let alone = references-among (readable w.form.shape shape_is) w.form.form in
       let follows : FollowsTo trees written.references w.form.own (trees n).meaning =
       stands-leads meant alone.1 (λ r own c among b stands. (among, (refers n w.x r w.held (of-value r among)).1 b stands)) in
       let given : (r : ArcRef) → Among written.references r → r.node.0 ≤ s.core.last.node = λ r among. (refers n w.x r w.held (of-value r among)).0 in
       let once : (q : ℕ) → times (λ (r : ArcRef). r.handle.0 == q) (references_in w.form.own) ≤ 1 =
       λ q. omega (arith, lawful.refers w.x w.form.own w.form.means (λ r. r.handle.0 == q), whole.inside n w.x q w.held, owned-once whole.whole.handles (owner_value n) q) in
-      search (shape_is, w.form.form, follows, given, once)
-  wrote-of n written t is (away n2 key t2 none_there keyed fits) w = let f = w.held in absurd (cc)
+      search (shape_is, readable, w.form.form, follows, given, once)
+  wrote-of n written t readable is (away n2 key t2 none_there keyed fits) w = let f = w.held in absurd (cc)
 
-  pub wrote : (n : ℕ) (written : Written) → IsWrittenOf v s n written → WroteTree v.types (record { stored = s.core.stored; last = s.core.last.node; trees = trees }) n written
-  wrote n written w = grind (arith, held-of, wrote-of)
+  pub wrote : (n : ℕ) (written : Written) → IsReadableType v.types (trees n).type → IsWrittenOf v s n written
+      → WroteTree v.types (record { stored = s.core.stored; last = s.core.last.node; trees = trees }) n written
+  wrote n written readable w = grind (arith, held-of, wrote-of)
 
 -- the key that is known of an identity, and the reference by its key
 abbrev key_of_outcome : Outcome → ℕ
@@ -190,6 +191,17 @@ tree-form {types} {g} {n} {written} w =
     let f = keeps_forms (λ (r : ArcRef). kid r.kind.0 (g.trees r.node.0).meaning) kind_of_arc kind_of_kid types.parts deepest w.shape w.own written.bytes written.references (λ r. refl) w.form in
     subst (λ m. Form Kid kind_of_kid types.parts deepest w.shape m written.bytes (kids_of g.trees written.references)) (renamed-kids g.trees written.references w.follows) f
 
+-- the types of all that it leads to are read back, where those of its references' trees are
+followed-read : (types : Types) {trees : ℕ → Tree} (rs : List ArcRef) {x : Meaning ArcRef} {a : Meaning ⊥} → FollowsTo trees rs x a
+    → ((r : ArcRef) → Among rs r → ((trees r.node.0).type ≡ type_of r.kind.0) × IsReadableTree types (trees r.node.0)) → EachType (IsReadableType types) a
+unfolding EachType
+followed-read types rs (pair-leads x y a b f g) h = (followed-read types rs f h, followed-read types rs g h)
+followed-read types rs (variant-leads i x a f) h = followed-read types rs f h
+followed-read types rs (reference-leads r a among is) h =
+    let (typed, can) = h r among in (subst (IsReadableType types) typed can.0, subst (EachType (IsReadableType types)) is can.1)
+followed-read types rs (followed-leads kind x a none f) h = absurd none
+followed-read types rs _ h = tt
+
 -- its blob is of the tree's key, under which the tree is stored
 pub key-stands : {N : Type 0} {v : Values N} {g : Ground} {shelf : Shelf} {n key : ℕ} {written : Written} (keys : List ℕ)
     → ((i : Identity) (k h : ℕ) → IsPublished shelf i k h → IdentityStands v g i k)
@@ -199,6 +211,19 @@ key-stands {v = v} {g} {shelf} {n} {key} {written} keys right w known is_stored 
     let form = keeps_forms (keyed_by shelf) kind_of_arc kind_of_ref v.types.parts deepest w.shape w.own written.bytes written.references (λ r. refl) w.form in
     let is_key : KeyOf v.hash v.types (g.trees n) key =
     rw is (key-of (g.trees n) w.shape written.bytes (kids_of g.trees written.references) keys w.is (tree-form w) (keys-of right written.references keys known)) in
+    let all : EachType (IsReadableType v.types) (g.trees n).meaning =
+    followed-read v.types written.references w.follows (λ r among. let p = (known-of shelf written.references keys known r among).1 in let i = right
+    (identity_of r) _ p.0 p.1 in
+    (i.typed, i.right.can)) in
     let spells : StoredAs g.stored v.types (g.trees n).type key (rename (keyed_by shelf) w.own) =
     search (w.is, form, is_stored ∙ ap (λ ks. Some (blob_of written.bytes ks)) (keys-are shelf written.references keys known)) in
-    record { is_key = is_key; stands = record { own = rename (keyed_by shelf) w.own; stands = spells; follows = follows-keys right written.references keys known w.follows } }
+    record {
+      is_key = is_key;
+      stands = record {
+        own = rename
+            (keyed_by shelf) w.own;
+        stands = spells;
+        follows = follows-keys right written.references keys known w.follows;
+      };
+      can = (w.can, all);
+    }

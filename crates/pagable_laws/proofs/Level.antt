@@ -1,7 +1,7 @@
 -- A pager with few of each is whole, by facts about its first numbers that compute. So the chain of two levels is one of the machine, and meets the headline with all that it asks.
 use Rattle.pagable_laws.proofs.{Chains.headline_law, Existing.{and-false, within-self}, Goes.good, New.new_whole, Trees.{same_some, sum-zero}, Words.{Alike, Among, ArcRef, AreMoments, Beginning, Blob}}
-use Rattle.pagable_laws.proofs.Words.{Bool, CloneCall, Core, Event, EventReply, HandleRow, Happens, IsLawful, IsMachineWhole, IsReadable, IsWellAsked, KeepsOpen, LiesIn, List, LoadAnswer, Mode, None}
-use Rattle.pagable_laws.proofs.Words.{MachineState, Ok, OpenLoad, Option, Owner, PagerState, Reading, ReadsItsTypes, ReadsRoot, Shelf, Some, Todo, Tree, WalkDoes, Walking, WellFormed, WorkerAnswer}
+use Rattle.pagable_laws.proofs.Words.{IsReadableType, Kind, type_of, Bool, CloneCall, Core, Event, EventReply, HandleRow, Happens, IsLawful, IsMachineWhole, IsReadable, IsWellAsked, KeepsOpen, LiesIn, List, LoadAnswer, Mode, None}
+use Rattle.pagable_laws.proofs.Words.{MachineState, Ok, OpenLoad, Option, Owner, PagerState, Reading, ReadsRoot, Shelf, Some, Todo, Tree, WalkDoes, Walking, WellFormed, WorkerAnswer}
 use Rattle.pagable_laws.proofs.Words.{Written, [], and_parts, ap, arith, blob_of, cases_lt, false, find_row, held, identity_of, if_there, inl, inr, is_handle, is_in, is_named_by, is_owned_by, length}
 use Rattle.pagable_laws.proofs.Words.{is_owner, is_some, nat_eq, nat_tests, not, of_cell, one, owner_value, owner_worker, pins, reference-form, references_fault, references_in, refl, row_at, rules}
 use Rattle.pagable_laws.proofs.Words.{state_after, subst, suc, sym, times, to_finish, to_item, to_pin, to_release, to_set, to_start, to_write, tree, true, updated, world_of, zero, ℕ, ◌&&◌, ◌++◌, ◌+◌}
@@ -10,13 +10,14 @@ use Rattle.{pagable_model.specs.{Blob.preimage, Form.nothing-form, Keyed.through
 use Rattle.pagable_world.specs.{Calls.with_mode, Cascade.{Falls, IsLeast, MustList, fallen, is_keyed, loses_value, nobody, owned_outside}, Events.{Ends, ReadingsAre, WorkStays, no_shelf, reading_at}}
 use Rattle.pagable_world.specs.{Events.steps_after, Kinds.{is_at, is_loose, is_pin, is_share, is_shared, sharing}, LoadCalls.{BeginCall, EndCall, Installs, LazyCall}, Loads.ReadingDoes}
 use Rattle.pagable_world.specs.{Loads.answers_from, Pager.{EventBrings, IsCellOf, IsHandleBefore, IsIdle, IsReadingWhole, MayOwnLoad, ReadingBrings, ReplyWrites, StandsFor, TookWrites}}
-use Rattle.pagable_world.specs.{Refusals.named_fault, Runs.{Does, HoldsSettled, IsPremised, ReadsAsType, TodoTakesWell}, Workers.{claim_fault, fresh, is_counted, is_workers, is_workers_at}}
+use Rattle.pagable_world.specs.{Refusals.named_fault, Runs.{Does, HoldsSettled, IsPremised, ReadsAsType, TakesWell, TodoAsksWell}, Workers.{claim_fault, fresh, is_counted, is_workers, is_workers_at}}
 use Rattle.{pagable_world.specs.{Plain.is_loose_kind, Workers.without_worker, World.{HasForm, Root, SameShelf, digest, is_here, of_key, to_publish, type_at}}, std.proofs.{Common.All, lemmas.Bool.agree_below}}
 use Rattle.std.{proofs.lemmas.{Bool.agree_below_at, List.Kept.AllPairs-cons}, specs.{List.{AllByRecursion as Each, AllPairs}, Prelude.{IfSome, is_none, nat_le, nat_lt}}}
 use Rattle.pagable_laws.specs.TwoLevels as two
 use Rattle.pagable_model.specs.Meaning as meanings
 use Rattle.pagable_model.specs.Reading as grammar
 use Rattle.pagable_model.specs.Shape as shapes
+use Rattle.pagable_world.specs.Loads.{need_of, needs_lazy}
 
 -- what holds of what there is
 of-some : {X : Type 0} (P : X → Type 0) {x : Option X} {y : X} → IfSome x P → x ≡ Some y → P y
@@ -315,6 +316,11 @@ asked : (s : MachineState two.Sample (Unit {0})) (x : two.Happening) → KeepsOp
     → IsPremised two.sample s trees x.event x.reply x.after
 asked s x open_still well trees = record { settled = λ n x is a b own other. other ∙ sym own; reads_settled = λ x is a b own other. other ∙ sym own; stays_open = open_still; well = well trees }
 
+-- each type of the sample is read back
+reads-types : (n : ℕ) → IsReadableType two.sample_types n
+unfolding IsReadable LiesIn
+reads-types n s is = grind (arith, nat_tests, throughout-alone)
+
 infixr 3 ◌⨾◌
 -- one moment, and those after it
 ◌⨾◌ : {A B : Type 0} → A → B → A × B
@@ -330,7 +336,8 @@ pages (suc n) x xs few (works, asks, counts, ends, passes, at_work, ok) rest =
       does _ _ _ y.core two.two_values y.shelf (Some (two.walking y)) None
           (let d = does-so x.core x.shelf x.todo asks in let e = ends-so _ _ ends in search (arith, d, e, works, counts, none-there, again, same-shelf)) (λ n x is. inl is)
           (writes-so x.core x.shelf (two.work_of x.shelf (Some (two.walking x)) None) x.todo asks) (few_then, passes) (refl, at_work) tt ⨾ moments,
-      asked _ _ tt (λ trees w is. subst (λ (w : Walking). TodoTakesWell two.sample (two.at_work x).pager w.todo) (same_some _ _ is) (grind (arith, nat_tests))) ⨾ premised,
+      asked _ _ tt (λ trees w is. subst (λ (w : Walking). TodoAsksWell two.sample (two.at_work x).pager w.todo) (same_some _ _ is)
+          (grind (arith, nat_tests, reads-types))) ⨾ premised,
     )
 
 pub begun-asks : AllAsk 15 two.begun
@@ -449,10 +456,6 @@ pub lawful : IsLawful two.sample
 unfolding references_in
 lawful = grind (arith, nat_tests, shaped)
 
-pub reads-types : ReadsItsTypes two.sample_types
-unfolding IsReadable LiesIn
-reads-types n s is = grind (arith, nat_tests, throughout-alone)
-
 child-reads : (s : PagerState two.Sample (Unit {0})) → s.core.stored 8 ≡ Some (blob_of [] []) → ReadsAsType two.sample s 1 8
 unfolding grammar.read grammar.read_with
 child-reads s stored = record {
@@ -461,9 +464,22 @@ child-reads s stored = record {
   reads = record { own = meanings.none; reads = record { blob = (blob_of [] []); stored = stored; rest = rest_of (blob_of [] []); reads = refl }; follows = none-followed };
 }
 
+takes-well : (s : PagerState two.Sample (Unit {0})) (reading : Reading)
+    → ((kind : Kind) (key : ℕ) → need_of two.sample_types reading.frames ≡ needs_lazy kind key → ReadsAsType two.sample s (type_of kind.0) key)
+    → TakesWell two.sample s reading
+takes-well s reading keys = record { types = λ frame among. reads-types frame.node_type; keys = keys }
+
 loads-asked : ArePremised (two.at_work two.answered) (two.loads ++ two.counts 2)
 unfolding two.walked preimage find_row is_named_by grammar.read grammar.read_with answers_from
-loads-asked = grind (arith, nat_tests, asked, child-reads)
+loads-asked =
+    asked _ _ tt (λ trees. tt) ⨾ asked _ _ tt (λ trees. tt)
+    ⨾ asked _ _ tt (λ trees reading is. takes-well _ reading (grind (arith, nat_tests, child-reads)))
+    ⨾ asked _ _ tt (λ trees reading is. takes-well _ reading (grind (arith, nat_tests, child-reads)))
+    ⨾ asked _ _ tt (λ trees reading is. takes-well _ reading (grind (arith, nat_tests, child-reads)))
+    ⨾ asked _ _ tt (λ trees. tt)
+    ⨾ asked _ _ tt (λ trees reading is. takes-well _ reading (grind (arith, nat_tests, child-reads)))
+    ⨾ asked _ _ tt (λ trees reading is. takes-well _ reading (grind (arith, nat_tests, child-reads)))
+    ⨾ asked _ _ tt (λ trees. tt) ⨾ tt
 
 later : (s : MachineState two.Sample (Unit {0})) (xs ys : List two.Happening) → AreMoments two.sample_seen s (xs ++ ys) → AreMoments two.sample_seen (state_after s xs) ys
 unfolding state_after
@@ -484,4 +500,13 @@ headline_met =
     let whole = start.whole in let idle = start.idle in let stands = start.stands in let settled = start.settled in
     let premised : ArePremised two.new_one (two.moments 2) =
     asked _ _ tt (λ trees. tt) ⨾ asked _ _ tt (λ trees. tt) ⨾ asked _ _ tt (λ trees. tt) ⨾ asked _ _ tt (λ trees. tt) ⨾ worked.1 in
-    assumption (lawful, reads-types, whole, idle, stands, settled, premised, headline_law (Unit {0}) two.sample_seen two.new_one (two.moments 2) whole idle (births-do _ worked.0), no-other)
+    assumption (
+      lawful,
+      whole,
+      idle,
+      stands,
+      settled,
+      premised,
+      headline_law (Unit {0}) two.sample_seen two.new_one (two.moments 2) whole idle (births-do _ worked.0),
+      no-other,
+    )

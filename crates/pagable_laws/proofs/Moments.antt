@@ -1,11 +1,11 @@
 -- The steps of whole operations over a pager are moments of a machine, where nobody else works: so what holds of chains holds of them.
 use Rattle.pagable_laws.proofs.{Answered.{After, after-then}, Chains.{IsGoingOn, goes, idle-goes}, Goes.updated-at, Called.calls-go, ReadingSteps.{caller-free, event-goes, walk-goes}, Trees.{same-number, same_some}}
 use Rattle.pagable_laws.proofs.Words.{Alike, Bool, Call, Core, Event, EventReply, HandleNumber, HandleRow, Happens, HoldsSettled, IsLawful, IsMachineWhole, IsWellAsked, KeepsOpen, List, MachineState, Moment, None, Ok, OpenLoad, Option, Owner}
-use Rattle.pagable_laws.proofs.Words.{PagerState, Reading, ReadsItsTypes, Reply, Represents, Result, Seen, Shelf, Site, Some, Task, Todo, Took, Tree, Values, WalkDoes, Walking, WellFormed, WorkerAnswer, WorkerReply}
+use Rattle.pagable_laws.proofs.Words.{PagerState, Reading, Reply, Represents, Result, Seen, Shelf, Site, Some, Task, Todo, Took, Tree, Values, WalkDoes, Walking, WellFormed, WorkerAnswer, WorkerReply}
 use Rattle.pagable_laws.proofs.Words.{answer_after, ap, arith, cases_Bool, false, if_there, inl, inr, length, nat_tests, of_item, refl, rules, subst, sym, true, updated, world_of}
 use Rattle.pagable_laws.{proofs.Words.{ℕ, ◌+◌, ◌<◌, ◌==◌, ◌∙◌, ◌≡◌, ◌≤◌}, specs.{CallerLaws.{CallIsRight, IsCall}, FallLaws.no_work, PageOutLaws.{EachIsPagedOut, EntryAsksWell, EntryIsPagedOut, ItemAsksWell, ItemLaw, LeavesPagedOut, ListAsksWell, ListLaw, NobodyWorks, WorkerAsksWell}}}
 use Rattle.pagable_world.specs.{Access.{AccessState, Called, EntryRun, ItemRun, ListRun, WalkStep, WorkerRun, WorkerStarts, entry-is-refused, entry-is-walked, fails, item-is-walked, no-entry-worker, no-more, no-worker, pages, skips, worker-ends, worker-goes-on}, Events.{CallStep, Ends, IsEntry, Starts, entry_task, no_shelf, steps_after, with_entry_taken, with_worker}}
-use Rattle.pagable_world.specs.{Headline.{IsRight, LeavesAll, PinGives}, Kinds.HasKinds, Pager.{CallBrings, Moves, ReplyWrites}, Runs.{AsksWell, Does as DoesMoment, IsPremised, TodoTakesWell}, Workers.{first_todo, is_counted}, World.{SameShelf, Work}}
+use Rattle.pagable_world.specs.{Headline.{IsRight, LeavesAll, PinGives}, Kinds.HasKinds, Pager.{CallBrings, Moves, ReplyWrites}, Runs.{AsksWell, Does as DoesMoment, IsPremised, TodoAsksWell}, Workers.{first_todo, is_counted}, World.{SameShelf, Work}}
 use Rattle.std.specs.Prelude.{is_none}
 
 -- this worker alone is at work, or nobody
@@ -231,7 +231,7 @@ from-after : {N E : Type 0} {v : Values N} {s mid : PagerState N E} {trees trees
     → After v s trees mid trees' → Ended v mid trees' answer task s' → Ended v s trees answer task s'
 from-after a r = record { trees' = r.trees'; after = after-then a r.after; well = r.well; settled = r.settled; nobody = r.nobody; out = r.out }
 
-module _ {N E B W : Type 0} (m : Seen N B W) (lawful : IsLawful m.values) (readable : ReadsItsTypes m.values.types) where
+module _ {N E B W : Type 0} (m : Seen N B W) (lawful : IsLawful m.values) where
   -- after a moment
   record Came (a : MachineState N E) (trees : ℕ → Tree) (x : Moment N E B W) : Type 0 where
     pub trees' : ℕ → Tree
@@ -242,7 +242,7 @@ module _ {N E B W : Type 0} (m : Seen N B W) (lawful : IsLawful m.values) (reada
   comes : (a : MachineState N E) (trees : ℕ → Tree) (x : Moment N E B W) → IsGoingOn m.values a trees → DoesMoment m a x.event x.reply x.after
       → IsPremised m.values a trees x.event x.reply x.after → Came a trees x
   comes a trees x on does premised =
-      let g = goes m lawful readable a trees x on does premised in
+      let g = goes m lawful a trees x on does premised in
       let e = event-goes m (world_of a) (world_of x.after) x.event x.reply premised.stays_open does.step.happens in
       record { trees' = g.0; after = record { same = g.1.keeps; nodes = e.goes.nodes; stands = g.1.stands.pager }; right = g.1.so; going = g.2 }
 
@@ -252,7 +252,7 @@ module _ {N E B W : Type 0} (m : Seen N B W) (lawful : IsLawful m.values) (reada
 
     step-comes : (s s' : AccessState N E) (todo next : List Todo) (count : ℕ) (step : Took W) (trees : ℕ → Tree) → WalkStep m n todo s step next s'
         → WorksAlone s.pager.core n true
-        → IsGoingOn m.values (at s todo count None) trees → HoldsSettled m.values s'.pager → TodoTakesWell m.values s.pager todo
+        → IsGoingOn m.values (at s todo count None) trees → HoldsSettled m.values s'.pager → TodoAsksWell m.values s.pager todo
         → Came (at s todo count None) trees (record {
           event = Event.WorkerStep (record { 0 = n });
           reply = EventReply.WorkerMoved (Ok (reply-of todo count step));
@@ -263,7 +263,8 @@ module _ {N E B W : Type 0} (m : Seen N B W) (lawful : IsLawful m.values) (reada
           settled = settled;
           reads_settled = λ x is. absurd (cc);
           stays_open = tt;
-          well = λ walking is. subst (λ (x : Walking). TodoTakesWell m.values s.pager x.todo) (same_some _ _ (sym (updated-at n (Some (walking-on t task todo count None)) base.walkings) ∙ is)) takes;
+          well = λ walking is. subst (λ (x : Walking). TodoAsksWell m.values s.pager x.todo) (same_some _ _ (sym (updated-at n (Some
+              (walking-on t task todo count None)) base.walkings) ∙ is)) takes;
         })
 
     pub ends : {todo : List Todo} {s s' : AccessState N E} {steps : List (Took W)} {answer : WorkerAnswer} (run : WorkerRun m n todo s steps answer s')
@@ -304,14 +305,15 @@ module _ {N E B W : Type 0} (m : Seen N B W) (lawful : IsLawful m.values) (reada
 nobody-yet : IsAtRest no_work
 nobody-yet = record { unread = λ l. refl; answered = λ q w is. absurd (cc) }
 
-module _ {N E B W : Type 0} (m : Seen N B W) (lawful : IsLawful m.values) (readable : ReadsItsTypes m.values.types) (s : PagerState N E) (well : WellFormed m.values s) (nobody : NobodyWorks s.core)
+module _ {N E B W : Type 0} (m : Seen N B W) (lawful : IsLawful m.values) (s : PagerState N E) (well : WellFormed m.values s) (nobody : NobodyWorks s.core)
     (settled : HoldsSettled m.values s) (trees : ℕ → Tree) (stands : Represents m.values s trees) where
   starting : IsGoingOn m.values (at-rest m s no_work) trees
-  starting = idle-goes m lawful readable (at-rest m s no_work) trees (rest-whole m s no_work nobody-yet well nobody)
+  starting = idle-goes m lawful (at-rest m s no_work) trees (rest-whole m s no_work nobody-yet well nobody)
       (record { no_table = refl; shelves = λ t i. refl; waits = λ t v. refl; readings = λ l. refl; walkings = λ v. refl; nobody = nobody }) settled
       (record { pager = stands; readings = λ reading is. absurd (grind (arith, nat_tests)) })
 
-module _ {N E B W : Type 0} (m : Seen N B W) (lawful : IsLawful m.values) (readable : ReadsItsTypes m.values.types) (s : AccessState N E) (well : WellFormed m.values s.pager) (nobody : NobodyWorks s.pager.core)
+module _ {N E B W : Type 0} (m : Seen N B W) (lawful : IsLawful m.values) (s : AccessState N E) (well : WellFormed m.values s.pager)
+    (nobody : NobodyWorks s.pager.core)
     (new : SameShelf no_shelf s.shelf) (settled : HoldsSettled m.values s.pager) (trees : ℕ → Tree) (stands : Represents m.values s.pager trees) where
   abbrev tabled : Work
   tabled = with-table no_work s.shelf
@@ -319,8 +321,14 @@ module _ {N E B W : Type 0} (m : Seen N B W) (lawful : IsLawful m.values) (reada
   tabled-rests : IsAtRest tabled
   tabled-rests = with-table-rests no_work s.shelf nobody-yet
 
-  with-a-table : Came m lawful readable (at-rest m s.pager no_work) trees (record { event = Event.TableNew; reply = EventReply.TableMade (Ok (record { 0 = 1 })); after = at-rest m s.pager tabled })
-  with-a-table = comes m lawful readable _ trees _ (starting m lawful readable s.pager well nobody settled trees stands) (table-made m s.pager no_work s.shelf nobody-yet well nobody new)
+  with-a-table : Came m lawful (at-rest m s.pager no_work) trees (record {
+    event = Event.TableNew;
+    reply = EventReply.TableMade (Ok
+        (record { 0 = 1 }));
+    after = at-rest m s.pager tabled;
+  })
+  with-a-table = comes m lawful _ trees _ (starting m lawful s.pager well nobody settled trees stands)
+      (table-made m s.pager no_work s.shelf nobody-yet well nobody new)
       (record { settled = settled; reads_settled = λ x is. absurd (cc); stays_open = tt; well = tt })
 
   -- what the worker's run on it leaves
@@ -332,13 +340,13 @@ module _ {N E B W : Type 0} (m : Seen N B W) (lawful : IsLawful m.values) (reada
       → (run : WorkerRun m n (first_todo task) (record { pager = mid; shelf = s.shelf }) steps answer s') → WorkerAsksWell run
       → Ended m.values s.pager trees answer task s'
   on-new n task core mid s' steps answer event does stays well starts nobody last run asks =
-      let c = comes m lawful readable _ with-a-table.trees' _ with-a-table.going does (record {
+      let c = comes m lawful _ with-a-table.trees' _ with-a-table.going does (record {
         settled = λ q x has. elim (starts.begins.moves.each q x has) [ inl was ↦ settled q x was | inr came ↦ absurd came.1 ];
         reads_settled = λ x is. absurd (cc);
         stays_open = stays;
         well = well;
       }) in
-      from-after with-a-table.after (from-after c.after (ends m lawful readable tabled tabled-rests n 1 (omega arith, omega arith) task run asks 0 c.trees'
+      from-after with-a-table.after (from-after c.after (ends m lawful tabled tabled-rests n 1 (omega arith, omega arith) task run asks 0 c.trees'
       (works-alone n core mid starts.begins.step (starts.next ∙ ap (λ k. k + 1) (sym last)) nobody) c.going))
 
   item-walks : (item : W) {n : ℕ} {mid : PagerState N E} {s' : AccessState N E} {steps : List (Took W)} {answer : WorkerAnswer}
@@ -401,13 +409,13 @@ call-right : (W : Type 0) {N E B : Type 0} (v : Values N) (s s' : MachineState N
     → PinGives {W = W} v s trees (Event.Call call) (EventReply.CallReply reply) s' trees' → CallIsRight v s'.pager trees' call reply
 call-right W v s s' trees trees' x6 x7 gives = grind (arith, nat_tests)
 
-module _ {N E B W : Type 0} (m : Seen N B W) (lawful : IsLawful m.values) (readable : ReadsItsTypes m.values.types) where
+module _ {N E B W : Type 0} (m : Seen N B W) (lawful : IsLawful m.values) where
   pub call-stays : {s s' : PagerState N E} {trees : ℕ → Tree} (call : Call N B) (reply : Reply N B) → Stands m.values s trees → IsCall m s call reply s'
       → KeepsOpen {N = N} {B = B} {W = W} (Event.Call call)
       → AsksWell m.values s trees call reply → HoldsSettled m.values s' → (a : Stays m.values s trees s') × CallIsRight m.values s' a.trees' call reply
   call-stays {s} {s'} {trees} call reply at c stays asks settled =
       let nobody = call-nobody m c stays at.nobody in
-      let g = comes m lawful readable _ trees _ (starting m lawful readable s at.well at.nobody at.settled trees at.stands) (called m s s' no_work call reply nobody-yet c nobody)
+      let g = comes m lawful _ trees _ (starting m lawful s at.well at.nobody at.settled trees at.stands) (called m s s' no_work call reply nobody-yet c nobody)
       (record { settled = settled; reads_settled = λ x is. absurd (cc); stays_open = stays; well = asks }) in (
         record { trees' = g.trees'; after = g.after; now = record { well = c.whole; nobody = nobody; settled = settled; stands = g.after.stands } },
         call-right W m.values (at-rest m s no_work) (at-rest m s' no_work) trees g.trees' call reply g.right.pins_give,
@@ -432,7 +440,8 @@ module _ {N E B W : Type 0} (m : Seen N B W) (lawful : IsLawful m.values) (reada
   entry-stays at (entry-is-refused h row t s' is none c) asks = (unchanged at c, λ key same. absurd (cc))
   entry-stays at (no-entry-worker s' c) asks = (unchanged at c, λ key same. absurd (cc))
   entry-stays {s} {place = place} {trees = trees} at (entry-is-walked h row t n steps answer mid s' is kinds starts run) asks =
-      let r = entry-walks m lawful readable (record { pager = s; shelf = no_shelf }) at.well at.nobody (same-shelf refl) at.settled trees at.stands place h row t n mid is kinds starts run asks in (
+      let r = entry-walks m lawful (record { pager = s; shelf = no_shelf }) at.well at.nobody
+      (same-shelf refl) at.settled trees at.stands place h row t n mid is kinds starts run asks in (
         record { trees' = r.trees'; after = r.after; now = record { well = r.well; nobody = r.nobody; settled = r.settled; stands = r.after.stands } },
         λ key same. record { h = h; row = row; t = t; shelf = s'.shelf; entry = is; out = r.out key same },
       )
@@ -442,7 +451,7 @@ module _ {N E B W : Type 0} (m : Seen N B W) (lawful : IsLawful m.values) (reada
       → (a : Stays m.values s.pager trees s'.pager) × ((key : ℕ) → answer ≡ WorkerAnswer.Key key → LeavesPagedOut m.values s'.pager s'.shelf a.trees' (of_item (m.written_of item)) key)
   item-stays item at new (no-worker s' c same_shelf) asks = (unchanged at c, λ key same. absurd (cc))
   item-stays {s} {trees = trees} item at new (item-is-walked n steps answer mid s' starts run) asks =
-      let r = item-walks m lawful readable s at.well at.nobody new at.settled trees at.stands item starts run asks in
+      let r = item-walks m lawful s at.well at.nobody new at.settled trees at.stands item starts run asks in
       (record { trees' = r.trees'; after = r.after; now = record { well = r.well; nobody = r.nobody; settled = r.settled; stands = r.after.stands } }, r.out)
 
   pub list-stays : {i : ℕ} {s s' : PagerState N E} {answer : Result (Unit {0}) WorkerAnswer} {trees : ℕ → Tree} (run : ListRun m i s answer s')
@@ -464,9 +473,11 @@ module _ {N E B W : Type 0} (m : Seen N B W) (lawful : IsLawful m.values) (reada
   list-stays (fails i place h e s s' is has entry) at asks = let (a, out) = entry-stays at entry asks in (a, tt)
 
 pub list_law : {N B W : Type 0} (E : Type 0) (m : Seen N B W) → ListLaw E m
-list_law E m i s s' answer run well nobody asks lawful readable settled trees stands =
-    let r = list-stays m lawful readable run (record { well = well; nobody = nobody; settled = settled; stands = stands }) asks in (r.0.trees', r.0.after.same, r.0.after.stands, r.1)
+list_law E m i s s' answer run well nobody asks lawful settled trees stands =
+    let r = list-stays m lawful run (record { well = well; nobody = nobody; settled = settled; stands = stands }) asks in
+    (r.0.trees', r.0.after.same, r.0.after.stands, r.1)
 
 pub item_law : {N B W : Type 0} (E : Type 0) (m : Seen N B W) → ItemLaw E m
-item_law E m s s' item key run well nobody new asks lawful readable settled trees stands =
-    let (a, out) = item-stays m lawful readable item (record { well = well; nobody = nobody; settled = settled; stands = stands }) new run asks in (a.trees', a.after.same, a.after.stands, out key refl)
+item_law E m s s' item key run well nobody new asks lawful settled trees stands =
+    let (a, out) = item-stays m lawful item (record { well = well; nobody = nobody; settled = settled; stands = stands }) new run asks in
+    (a.trees', a.after.same, a.after.stands, out key refl)

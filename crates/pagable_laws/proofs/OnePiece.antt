@@ -4,13 +4,14 @@ use Rattle.pagable_laws.proofs.{Chains.{IsGoingOn, along-with, idle-goes}, Decod
 use Rattle.pagable_laws.proofs.{Goes.{found-number, good, has-alike, low-changed, low-whole, new-handle, stands-alike, stands-fell, stands-whole, updated-at}, ReadingSteps.cached-rows}
 use Rattle.pagable_laws.proofs.{ReadingSteps.{reading-number, reading-open, reading-stands}, Sound.{IsForm, by-chance, by-handle, by-references, load-cause}, SparingSteps.got-typed, Taking.AllGot}
 use Rattle.pagable_laws.proofs.{Taking.{all-more, all-new, asked, first-fits, going-of, pushed, row-held}, Trees.same_some, Words.{Alike, Among, ArcRef, Beginning, Bool, Call, Core, Err, Error, Ok}}
-use Rattle.pagable_laws.proofs.Words.{Event, EventReply, Frame, FramesFit, GetsKnown, HandleNumber, HandleRow, HandlesAreWhole, Happens, IsLawful, IsMachineWhole, IsReference, Kind, List, LoadAnswer}
-use Rattle.pagable_laws.proofs.Words.{LoadNumber, MachineState, Mode, Moment, NodeNumber, None, OpenLoad, Option, OptionalDataKey, Owner, Reading, ReadsItsTypes, Reply, Seen, Some, Tree, Values, []}
+use Rattle.pagable_laws.proofs.Words.{IsReadableType, IsWellAsked, Event, EventReply, Frame, FramesFit, GetsKnown, HandleNumber, HandleRow, HandlesAreWhole, Happens, IsLawful, IsMachineWhole, IsReference, Kind, List, LoadAnswer}
+use Rattle.pagable_laws.proofs.Words.{LoadNumber, MachineState, Mode, Moment, NodeNumber, None, OpenLoad, Option, OptionalDataKey, Owner, Reading, Reply, Seen, Some, Tree, Values, []}
 use Rattle.pagable_laws.proofs.Words.{above, adopted, ap, arith, false, false_from_ne_true, find_row, held, if_there, inl, inr, is_in, is_named_by, is_some, mode_of, nat_tests, next_node, of_cell, ℕ}
 use Rattle.pagable_laws.proofs.Words.{owner_value, references_fault, refl, root_frame, row_at, rules, slice_get, subst, suc, sym, type_of, with_handle, world_of, zero, ◌+◌, ◌<◌, ◌==◌, ◌∙◌, ◌∷◌, ◌≡◌}
 use Rattle.{pagable_laws.{proofs.Words.◌⊎◌, specs.{DeepLaws.{HasBegun, IsBeginOf, SoundLaw}, TreeSteps.FramesHeld}}, pagable_world.specs.{Calls.{Asked, row_of, with_node}, Events.LoadSteps}}
 use Rattle.pagable_world.specs.{Events.{ReadingsAre, reading_at}, LoadCalls.BeginCall, Loads.{Does, GoesOn, IsDecoded, MakesNode, gone_on, with_got}, OneWorker.{IsLoadOfPagedOut, of_load}}
 use Rattle.pagable_world.specs.{OneWorker.{IsOfChance, LoadIsSound, StandTogether, of_nobody, turn_of}, Refusals.Refused, declared.events.LoadReply.LoadReply}
+use Rattle.pagable_world.specs.Runs.{TakesWell}
 
 -- each handle was got in one place
 abbrev GotOnce : List Frame → Type 0
@@ -60,9 +61,14 @@ pub record LoadReady (w : Core) (l : LoadNumber) (load : OpenLoad) (frames : Lis
   pub live : AllGot (λ r. Has w (Owner.Load l) r.handle) frames
   pub once : GotOnce frames
 
+-- each of its blobs is of a type that is read back
+abbrev TypesAreRead : {N : Type 0} → Values N → Reading → Type 0
+TypesAreRead v reading = (frame : Frame) → Among reading.frames frame → IsReadableType v.types frame.node_type
+
 -- A load's own step leaves it ready: what it has got is its own, and the caller has the handle that began it.
 
-module _ {N : Type 0} (v : Values N) (lawful : IsLawful v) (readable : ReadsItsTypes v.types) (w w' : Core) (reading : Reading) (load : OpenLoad) (trees : ℕ → Tree) (root_key root_type : ℕ)
+module _ {N : Type 0} (v : Values N) (lawful : IsLawful v) (w w' : Core) (reading : Reading) (takes : TypesAreRead v reading) (load : OpenLoad)
+    (trees : ℕ → Tree) (root_key root_type : ℕ)
     (whole : HandlesAreWhole w)
     (ready : LoadReady w reading.load load reading.frames) (held : FramesHeld w reading.load reading.frames) (fit : FramesFit v.types w.stored trees root_key root_type reading.frames) where
   abbrev l : LoadNumber
@@ -115,7 +121,8 @@ module _ {N : Type 0} (v : Values N) (lawful : IsLawful v) (readable : ReadsItsT
       let top = g.reads_node.top in let below = g.reads_node.below in let is = g.reads_node.frames in
       let c = g.adopted.adopts in let refs = v.references g.x in
       let here = rw is at fit in let now = rw is at ready in let small_all = rw is at small in
-      let was_got = (decodes lawful readable top g.x (first-fits v.types root_key root_type w.stored trees top below here) g.reads_node.decoded).got in
+      let was_got = (decodes lawful top g.x (takes top (subst (λ fs. Among fs top) (sym is) (zero, refl)))
+      (first-fits v.types root_key root_type w.stored trees top below here) g.reads_node.decoded).got in
       let caller-free : (h : HandleNumber) → Has w Owner.Caller h → is_named_by refs h.0 ≡ false = λ h has. not-named refs h.0 (λ x named same.
       let a = good w (Owner.Load l) [] refs c.good x named in let e : Owner.Load l ≡ Owner.Caller = cc (same, a.live, a.owned, has.live, has.own) in cc) in
       -- no reference names the handle that comes
@@ -183,33 +190,40 @@ module _ {N B W E : Type 0} (m : Seen N B W) (s s' : MachineState N E) (whole : 
   begin-ready l event reply is x = grind (arith, nat_tests)
 
 -- a load's own step, where the chain goes on
-module _ {N B W E : Type 0} (m : Seen N B W) (lawful : IsLawful m.values) (readable : ReadsItsTypes m.values.types) (s s' : MachineState N E) (trees : ℕ → Tree)
+module _ {N B W E : Type 0} (m : Seen N B W) (lawful : IsLawful m.values) (s s' : MachineState N E) (trees : ℕ → Tree)
     (on : IsGoingOn m.values s trees) (whole' : IsMachineWhole m.values s') where
   abbrev core : Core
   core = s.pager.core
 
-  step-ready : (l : LoadNumber) (reply : LoadReply N) (answer : Option (LoadAnswer N)) → reply.ended ≡ answer → LoadSteps m.values (world_of s) l reply (world_of s') → Ready s l → Ready s' l
-  step-ready l reply (Some end) e x ready reading load at open_load = grind (arith, nat_tests, updated-at, reading-number s on.whole l x.reading x.at)
-  step-ready l reply None e x ready reading load at open_load =
+  -- what is asked of the load's step
+  abbrev LoadAsked : LoadNumber → Type 0
+  LoadAsked l = (reading : Reading) → reading_at (world_of s) l ≡ Some reading → TakesWell m.values s.pager reading
+
+  step-ready : (l : LoadNumber) (reply : LoadReply N) (answer : Option (LoadAnswer N)) → reply.ended ≡ answer
+      → LoadSteps m.values (world_of s) l reply (world_of s') → LoadAsked l → Ready s l → Ready s' l
+  step-ready l reply (Some end) e x asks ready reading load at open_load = grind (arith, nat_tests, updated-at, reading-number s on.whole l x.reading x.at)
+  step-ready l reply None e x asks ready reading load at open_load =
       let number = reading-number s on.whole l x.reading x.at in
       let was : core.loads l.0 ≡ Some load = grind (arith, nat_tests) in let a = going-of s trees on.readings x.reading (reading-stands (world_of s) on.whole.pager.whole l x.reading x.at) in
       let before = subst (λ k. LoadReady core k load x.reading.frames) (sym number) (ready x.reading load x.at was) in
       let go = subst (λ o. Does m.values core Owner.Caller x.reading o x.frames s'.pager.core) e x.does.does in
       let fits = a.fits load (reading-open s on.whole l x.reading x.at was) in
-      let after = goes-ready m.values lawful readable core s'.pager.core x.reading load trees load.key x.reading.node_type on.whole.pager.whole.handles before a.held fits x.frames go in
+      let after = goes-ready m.values lawful core s'.pager.core x.reading
+      (asks x.reading x.at).types load trees load.key x.reading.node_type on.whole.pager.whole.handles before a.held fits x.frames go in
       let now = (rw (open_load, e) at (x.readings l.0)) ∙ updated-at l.0 (Some (gone_on x.reading x.frames)) s.work.readings in
       let same = same_some _ _ (rw now at at) in rw (← same, ← number) after
 
-  references-fine : (l : LoadNumber) (reading : Reading) (load : OpenLoad) → reading_at (world_of s) l ≡ Some reading → core.loads l.0 ≡ Some load → LoadReady core l load reading.frames
+  references-fine : (l : LoadNumber) (reading : Reading) (load : OpenLoad) → LoadAsked l → reading_at (world_of s) l ≡ Some reading
+      → core.loads l.0 ≡ Some load → LoadReady core l load reading.frames
       → (frame : Frame) (below : List Frame) (x : N) → reading.frames ≡ frame ∷ below
       → (decoded : IsDecoded m.values frame x) → IsForm m.values frame → references_fault core (Owner.Load reading.load) [] (m.values.references x) ≡ None
   unfolding is_in
-  references-fine l reading load at open_load ready frame below x is decoded form =
+  references-fine l reading load asks at open_load ready frame below x is decoded form =
       let a = going-of s trees on.readings reading (reading-stands (world_of s) on.whole.pager.whole l reading at) in
       let fits = first-fits m.values.types load.key reading.node_type core.stored trees frame below (rw is at (a.fits load (reading-open s on.whole l reading at open_load))) in
       let front : Among reading.frames frame = subst (λ fs. Among fs frame) (sym is) (zero, refl) in
       let good-one : (r : ArcRef) → Among (m.values.references x) r → IsReference core (Owner.Load reading.load) r = λ r among.
-      let got = (decodes lawful readable frame x fits decoded).got r among in let b = ready.live frame r front got in
+      let got = (decodes lawful frame x ((asks reading at).types frame front) fits decoded).got r among in let b = ready.live frame r front got in
       let own : b.row.owner ≡ Owner.Load reading.load = b.own ∙ ap (λ (k : LoadNumber). Owner.Load k) (sym (reading-number s on.whole l reading at)) in
       let stood = (a.held frame r front got).is b.row b.live own in
       let live = subst (λ (n : NodeNumber). 0 < held n.0 core.rows) stood.0 (row-held core r.handle b.row b.live) in
@@ -218,33 +232,41 @@ module _ {N B W E : Type 0} (m : Seen N B W) (lawful : IsLawful m.values) (reada
       let few = reads-once m.values.types frame.node_type frame.blob form.refs frame.got form.form form.kinds (subst GotOnce is ready.once).0 decoded.own decoded.read q in
       omega (arith, lawful.refers x decoded.own decoded.means (λ r. r.handle.0 == q), few))
 
-  sound : (l : LoadNumber) (reply : LoadReply N) → LoadSteps m.values (world_of s) l reply (world_of s') → Ready s l → (load : OpenLoad) (e : Error)
+  sound : (l : LoadNumber) (reply : LoadReply N) → LoadSteps m.values (world_of s) l reply (world_of s') → LoadAsked l → Ready s l
+      → (load : OpenLoad) (e : Error)
       → core.loads l.0 ≡ Some load → IsLoadOfPagedOut s load → reply.ended ≡ Some (LoadAnswer.Refused e) → IsOfChance e
-  sound l reply x ready load e open_load paged ended =
+  sound l reply x asks ready load e open_load paged ended =
       let r = ready x.reading load x.at open_load in
-      elim (load-cause m lawful readable s s' trees trees on l reply x load e open_load paged ended) [
+      elim (load-cause m lawful s s' trees trees on l reply x load e open_load paged ended) [
         | by-chance chance ↦ chance
-        | by-references frame below y frames decoded form fault ↦ absurd (let f = references-fine l x.reading load x.at open_load r frame below y frames decoded form in cc)
+        | by-references frame below y frames decoded form fault ↦ absurd
+            (let f = references-fine l x.reading load asks x.at open_load r frame below y frames decoded form in cc)
         | by-handle node t h root fault ↦ absurd (let b = r.begun node t h root in grind (arith, nat_tests))
       ]
 
-  load-step-ready : (l : LoadNumber) (reply : EventReply N B W) → Happens m (world_of s) (Event.LoadStep l) reply (world_of s') → Ready s l → Ready s' l
-  load-step-ready l (EventReply.LoadMoved (Ok reply)) is ready reading load at open_load = step-ready l reply _ refl is.moves ready reading load at open_load
-  load-step-ready l (EventReply.LoadMoved (Err e)) is ready reading load at open_load =
+  load-step-ready : (l : LoadNumber) (reply : EventReply N B W) → Happens m (world_of s) (Event.LoadStep l) reply (world_of s') → LoadAsked l → Ready s l
+      → Ready s' l
+  load-step-ready l (EventReply.LoadMoved (Ok reply)) is asks ready reading load at open_load =
+      step-ready l reply _ refl is.moves asks ready reading load at open_load
+  load-step-ready l (EventReply.LoadMoved (Err e)) is asks ready reading load at open_load =
       let st = is.refused.1 in
       let was : core.loads l.0 ≡ Some load = sym (st.core.loads l.0) ∙ open_load in
       let same : s'.work.readings l.0 ≡ s.work.readings l.0 = st.readings l.0 ∙ ap (λ (o : Option OpenLoad). if_there (λ (z : OpenLoad). s.work.readings l.0) None o) open_load in
       let here : reading_at (world_of s) l ≡ Some reading = rw (same, st.core.loads l.0) at at in
       let b = ready reading load here was in search (rules, has-alike, st.core, b.begun, b.live, b.once)
-  load-step-ready l reply is ready reading load at open_load = absurd is
+  load-step-ready l reply is asks ready reading load at open_load = absurd is
 
-  turn-ready : (l : LoadNumber) (event : Event N B W) (reply : EventReply N B W) → Happens m (world_of s) event reply (world_of s') → turn_of event reply ≡ of_load l.0 → Ready s l → Ready s' l
-  turn-ready l event reply is turn ready = let cases : IsBeginOf l.0 event reply ⊎ ((k : LoadNumber) × (k.0 ≡ l.0) × (event ≡ Event.LoadStep k)) = grind (arith, nat_tests) in elim cases [
-    | inl begins ↦ begin-ready m s s' on.whole whole' l event reply begins is
-    | inr (k, same, e) ↦
-        let own : event ≡ Event.LoadStep l = e ∙ ap (λ (q : LoadNumber). Event.LoadStep q) (ap (λ n. let q : LoadNumber = record { 0 = n } in q) same) in
-        load-step-ready l reply (subst (λ (x : Event N B W). Happens m (world_of s) x reply (world_of s')) own is) ready
-  ]
+  turn-ready : (l : LoadNumber) (event : Event N B W) (reply : EventReply N B W) → Happens m (world_of s) event reply (world_of s')
+      → IsWellAsked m.values s trees event reply → turn_of event reply ≡ of_load l.0 → Ready s l → Ready s' l
+  turn-ready l event reply is asks turn ready =
+      let cases : IsBeginOf l.0 event reply ⊎ ((k : LoadNumber) × (k.0 ≡ l.0) × (event ≡ Event.LoadStep k)) = grind (arith, nat_tests) in
+      elim cases [
+        | inl begins ↦ begin-ready m s s' on.whole whole' l event reply begins is
+        | inr (k, same, e) ↦
+            let own : event ≡ Event.LoadStep l = e ∙ ap (λ (q : LoadNumber). Event.LoadStep q) (ap (λ n. let q : LoadNumber = record { 0 = n } in q) same) in
+            load-step-ready l reply (subst (λ (x : Event N B W). Happens m (world_of s) x reply (world_of s')) own is)
+            (subst (λ (x : Event N B W). IsWellAsked m.values s trees x reply) own asks) ready
+      ]
 
 module _ {N B W E : Type 0} (m : Seen N B W) where
   -- whenever the load makes a step, it has begun by then in what is left, or it is ready, and all up to that step is its own
@@ -254,12 +276,17 @@ module _ {N B W E : Type 0} (m : Seen N B W) where
   abbrev Stages : MachineState N E → List (Moment N E B W) → Type 0
   Stages s xs = (k : ℕ) (c : Moment N E B W) (l : LoadNumber) → slice_get xs k ≡ Some c → c.event ≡ Event.LoadStep l → Stage s l xs k
 
-  module _ (lawful : IsLawful m.values) (readable : ReadsItsTypes m.values.types) (s : MachineState N E) (trees : ℕ → Tree) (on : IsGoingOn m.values s trees) (x : Moment N E B W)
-      (xs : List (Moment N E B W)) (whole' : IsMachineWhole m.values x.after) (is : Happens m (world_of s) x.event x.reply (world_of x.after)) (together : StandTogether (x ∷ xs)) where
+  module _ (lawful : IsLawful m.values) (s : MachineState N E) (trees : ℕ → Tree) (on : IsGoingOn m.values s trees) (x : Moment N E B W)
+      (xs : List (Moment N E B W)) (whole' : IsMachineWhole m.values x.after) (is : Happens m (world_of s) x.event x.reply (world_of x.after))
+      (asks : IsWellAsked m.values s trees x.event x.reply)
+      (together : StandTogether (x ∷ xs)) where
     next-stage : Stages s (x ∷ xs) → Stages x.after xs
     next-stage stages k c l at step = elim (stages (suc k) c l at step) [
       | inl h ↦ by h.i h.a h.before h.at h.begins
-      | inr (r, own) ↦ inr (turn-ready m lawful readable s x.after trees on whole' l x.event x.reply is (own 0 x (omega arith) refl) r, λ i a lt at. own (suc i) a (omega (arith, lt)) at)
+      | inr (r, own) ↦ inr (
+        turn-ready m lawful s x.after trees on whole' l x.event x.reply is asks (own 0 x (omega arith) refl) r,
+        λ i a lt at. own (suc i) a (omega (arith, lt)) at,
+      )
     ]
       where
         by : (i : ℕ) (a : Moment N E B W) → i < suc k → slice_get (x ∷ xs) i ≡ Some a → IsBeginOf l.0 a.event a.reply → Stage x.after l xs k
@@ -275,17 +302,20 @@ module _ {N B W E : Type 0} (m : Seen N B W) where
             )
 
     load-sound : Stages s (x ∷ xs) → (trees' : ℕ → Tree) (event : Event N B W) (reply : EventReply N B W) → x.event ≡ event
-        → Happens m (world_of s) event reply (world_of x.after) → LoadIsSound s trees event reply x.after trees'
-    load-sound stages trees' (Event.LoadStep l) (EventReply.LoadMoved (Ok reply)) same h = λ load e open_load paged ended. elim (stages 0 x l refl same) [
+        → Happens m (world_of s) event reply (world_of x.after) → IsWellAsked m.values s trees event reply → LoadIsSound s trees event reply x.after trees'
+    load-sound stages trees' (Event.LoadStep l) (EventReply.LoadMoved (Ok reply)) same h asked = λ load e open_load paged ended. elim (stages 0 x l refl same) [
       | inl begun ↦ absurd (let lt = begun.before in omega (arith, lt))
-      | inr (ready, own) ↦ sound m lawful readable s x.after trees on whole' l reply h.moves ready load e open_load paged ended
+      | inr (ready, own) ↦ sound m lawful s x.after trees on whole' l reply h.moves asked ready load e open_load paged ended
     ]
-    load-sound stages trees' event reply same h = tt
+    load-sound stages trees' event reply same h asked = tt
 
 pub sound_law : {N B W : Type 0} (E : Type 0) (m : Seen N B W) → SoundLaw E m
-sound_law E m start moments together begun trees whole idle chain stands lawful readable settled =
-    along-with m lawful readable LoadIsSound (λ s xs. StandTogether xs × Stages m s xs) (λ s trees trees' x xs on so whole' is right. (
-      load-sound m lawful readable s trees on x xs whole' is so.0 so.1 trees' x.event x.reply refl is,
-      (λ i j k p q r lt lt2 at a b. so.0 (suc i) (suc j) (suc k) p q r (omega (arith, lt)) (omega (arith, lt2)) at a b, next-stage m lawful readable s trees on x xs whole' is so.0 so.1),
+sound_law E m start moments together begun trees whole idle chain stands lawful settled =
+    along-with m lawful LoadIsSound (λ s xs. StandTogether xs × Stages m s xs) (λ s trees trees' x xs on so whole' is asks right. (
+      load-sound m lawful s trees on x xs whole' is asks so.0 so.1 trees' x.event x.reply refl is asks,
+      (
+        λ i j k p q r lt lt2 at a b. so.0 (suc i) (suc j) (suc k) p q r (omega (arith, lt)) (omega (arith, lt2)) at a b,
+        next-stage m lawful s trees on x xs whole' is asks so.0 so.1,
+      ),
     ))
-    start trees moments (idle-goes m lawful readable start trees whole idle settled stands) (together, λ k c l at step. inl (begun k c l at step)) chain
+    start trees moments (idle-goes m lawful start trees whole idle settled stands) (together, λ k c l at step. inl (begun k c l at step)) chain

@@ -3,7 +3,7 @@
 use Rattle.pagable_laws.proofs.{Chains.IsGoingOn, Decoding.{Ahead, FramesAsked, GotAsked, IsFormOf, all-done, asks-by-kinds, at-place, comes-to, faulty-by-kinds, kinds_of, one-left}}
 use Rattle.pagable_laws.proofs.{Following.known-of, ReadingSteps.{reading-number, reading-open, reading-stands}, Taking.{Going, adopted-over, asked, eager-nested, going-of}}
 use Rattle.pagable_laws.proofs.{Trees.{same_some, self-number}, Words.{ArcRef, Blob, Bool, Core, Err, Error, Event, EventReply, Frame, FramesFit, HandleNumber, HandleRow, Happens, Identity, Kind, ℕ}}
-use Rattle.pagable_laws.proofs.Words.{IsLawful, IsPublished, List, LoadAnswer, LoadNumber, MachineState, Meaning, Mode, NodeNumber, None, Ok, OpenLoad, Option, Owner, Reading, ReadsItsTypes, Seen}
+use Rattle.pagable_laws.proofs.Words.{IsReadableType, IsLawful, IsPublished, List, LoadAnswer, LoadNumber, MachineState, Meaning, Mode, NodeNumber, None, Ok, OpenLoad, Option, Owner, Reading, Seen}
 use Rattle.pagable_laws.proofs.Words.{Shelf, Some, Tree, Types, Values, WorkFits, Written, [], above, adopted, any_mode, ap, arith, blob_of, false, identity_of, inl, inr, is_eager, length, nat_tests}
 use Rattle.pagable_laws.proofs.Words.{next_in, not, of_cell, owner_worker, references_fault, refl, rules, slice_get, subst, sym, true, type_of, world_of, ◌+◌, ◌<◌, ◌==◌, ◌∙◌, ◌∷◌, ◌≡◌, ◌≤◌, ◌⊎◌}
 use Rattle.{pagable_laws.specs.{DeepLaws.{IsOfHandles, LoadIsDeep, LoadIsFaultless}, TreeSteps.{AllLow, IsFresh, Needs}}, pagable_world.specs.Events.{LoadSteps, reading_at}}
@@ -27,7 +27,7 @@ as-many-keys shelf x1 x2 all = grind (arith, nat_tests)
 above-eager : (kind h limit : ℕ) → is_eager kind ≡ true → above kind h ≤ limit → h + 1 ≤ limit
 above-eager kind h limit is le = grind (arith, nat_tests)
 
-module _ {N E : Type 0} (v : Values N) (s : MachineState N E) (trees : ℕ → Tree) (fit : WorkFits v s trees) (readable : ReadsItsTypes v.types) (table : ℕ) where
+module _ {N E : Type 0} (v : Values N) (s : MachineState N E) (trees : ℕ → Tree) (fit : WorkFits v s trees) (table : ℕ) where
   abbrev shelf : Shelf
   shelf = s.work.shelves table
 
@@ -48,7 +48,14 @@ module _ {N E : Type 0} (v : Values N) (s : MachineState N E) (trees : ℕ → T
       let there : v.types.nodes frame.node_type ≡ Some w.shape = ap v.types.nodes typed ∙ w.is in
       let same : blob_of written.bytes b.2.keys ≡ frame.blob = same_some _ _ (sym b.2.is_stored ∙ is) in
       let form : IsFormOf v.types frame.node_type (blob_of written.bytes b.2.keys) written.references =
-      search (there, readable frame.node_type w.shape there, w.form, as-many-keys shelf written.references b.2.keys b.2.known, w.once) in
+      search (
+        there,
+        subst (IsReadableType v.types)
+            (sym typed) w.can w.shape there,
+        w.form,
+        as-many-keys shelf written.references b.2.keys b.2.known,
+        w.once,
+      ) in
       search (subst (λ (x : Blob). IsFormOf v.types frame.node_type x written.references) same form, subst (λ (x : Blob). AreKeysOf shelf written.references x.keys) same b.2.known, b.2.low)
 
   -- what is asked for has a key that is known
@@ -148,7 +155,7 @@ pub data Cause {N : Type 0} (v : Values N) (w : Core) (load : OpenLoad) (reading
       → references_fault w (Owner.Load reading.load) [] (v.references x) ≡ Some e → Cause v w load reading e
   by-handle : (node : NodeNumber) (t : ℕ) (h : HandleNumber) → load.root ≡ of_cell node t h → handle_fault w Owner.Caller h any_mode ≡ Some e → Cause v w load reading e
 
-module _ {N E : Type 0} (v : Values N) (s : MachineState N E) (trees : ℕ → Tree) (on : IsGoingOn v s trees) (lawful : IsLawful v) (readable : ReadsItsTypes v.types) where
+module _ {N E : Type 0} (v : Values N) (s : MachineState N E) (trees : ℕ → Tree) (on : IsGoingOn v s trees) (lawful : IsLawful v) where
   abbrev w : Core
   w = s.pager.core
 
@@ -187,14 +194,14 @@ module _ {N E : Type 0} (v : Values N) (s : MachineState N E) (trees : ℕ → T
     no-load-fault P e is = absurd (let f = ap (load_fault w Owner.Caller) number ∙ may in cc)
 
     need-there : (kind : Kind) (key : ℕ) → Needs v.types reading.frames kind key → (blob : Blob) × (w.stored key ≡ Some blob) × (is_eager kind.0 ≡ true → length reading.frames ≤ longest_path)
-    need-there = needed v s trees on.fits readable out.t load.key reading.node_type out.i out.height out.known typed reading.frames fits going.asked
+    need-there = needed v s trees on.fits out.t load.key reading.node_type out.i out.height out.known typed reading.frames fits going.asked
 
     -- the front of what is needed
     front : (frames : List Frame) (kind : Kind) (key : ℕ) → need_of v.types frames ≡ needs_nested kind key → is_eager kind.0 ≡ true
     front x0 kind key is = grind (arith, nat_tests, eager-nested)
 
     form-of : (frame : Frame) (below : List Frame) → reading.frames ≡ frame ∷ below → (x : N) → IsDecoded v frame x → IsForm v frame
-    form-of frame below is x decoded = formed v s trees on.fits readable out.t load.key reading.node_type out.i out.height out.known typed frame below
+    form-of frame below is x decoded = formed v s trees on.fits out.t load.key reading.node_type out.i out.height out.known typed frame below
         (subst (λ fs. FramesFit v.types w.stored trees load.key reading.node_type fs) is fits) (subst (λ fs. FramesAsked v.types fs) is going.asked) decoded.own decoded.read
 
     ask-chance : (want : Want) (mid : Core) (e : Error)
@@ -239,7 +246,8 @@ module _ {N E : Type 0} (v : Values N) (s : MachineState N E) (trees : ℕ → T
         let same : c.may.load ≡ load = same_some _ _ (sym c.may.owned.stands_open ∙ (ap (λ (x : LoadNumber). w.loads x.0) number ∙ open_load)) in
         by-handle c.node (v.node_type r.x) c.h (ap (λ (x : OpenLoad). x.root) (sym same) ∙ c.may.of_node) c.why
     cause w' e (inl gives) = elim gives.meets [
-      | inl (refuses, a) ↦ by-chance (grind (arith, nat_tests, not-broken v s trees on.fits readable out.t load.key reading.node_type out.i out.height out.known typed reading.frames fits going.asked))
+      | inl (refuses, a) ↦
+          by-chance (grind (arith, nat_tests, not-broken v s trees on.fits out.t load.key reading.node_type out.i out.height out.known typed reading.frames fits going.asked))
       | inr (inl (first, asked)) ↦ by-chance (grind (arith, nat_tests, ask-chance, same_some, number, found))
       | inr (inr (inl (kind, key, needs, inl asked))) ↦ let n = need-there kind key (inl needs) in by-chance (nested-asked kind key n.0 gives.mid e n.1 asked)
       | inr (inr (inl (kind, key, needs, inr (blob, is, deep, asked)))) ↦ absurd (let n = (need-there kind key (inl needs)).2 (front reading.frames kind key needs) in omega arith)
@@ -339,13 +347,13 @@ module _ {N B W : Type 0} (m : Seen N B W) (lawful : IsLawful m.values) (w : Cor
     ])
   ]
 
-module _ {N B W E : Type 0} (m : Seen N B W) (lawful : IsLawful m.values) (readable : ReadsItsTypes m.values.types) (s s' : MachineState N E) (trees trees' : ℕ → Tree)
+module _ {N B W E : Type 0} (m : Seen N B W) (lawful : IsLawful m.values) (s s' : MachineState N E) (trees trees' : ℕ → Tree)
     (on : IsGoingOn m.values s trees) where
   pub load-cause : (l : LoadNumber) (reply : LoadReply N) (x : LoadSteps m.values (world_of s) l reply (world_of s')) (load : OpenLoad) (e : Error) → s.pager.core.loads l.0 ≡ Some load
       → IsLoadOfPagedOut s load → reply.ended ≡ Some (LoadAnswer.Refused e) → Cause m.values s.pager.core load x.reading e
   load-cause l reply x load e open_load paged is =
       let fails = subst (λ a. Does m.values s.pager.core Owner.Caller x.reading a x.frames s'.pager.core) is x.does.does in
-      cause m.values s trees on lawful readable l x.reading load x.at x.may open_load paged s'.pager.core e fails.0
+      cause m.values s trees on lawful l x.reading load x.at x.may open_load paged s'.pager.core e fails.0
 
   pub load-faultless : (event : Event N B W) (reply : EventReply N B W) → Happens m (world_of s) event reply (world_of s') → LoadIsFaultless s trees event reply s' trees'
   load-faultless (Event.LoadStep l) (EventReply.LoadMoved (Ok reply)) is = λ load e open_load paged ended.

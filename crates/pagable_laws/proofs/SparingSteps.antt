@@ -6,7 +6,7 @@ use Rattle.pagable_laws.specs.TreeSteps.{EventFeels, GetsRow, HandsOver, IsFresh
 use Rattle.pagable_laws.proofs.ReadingSteps.{AllWaitWell, cached-rows, caller-free, ends-spare, event-goes, got-born, got-fallen, got-known, is-cached, reading-feels, reading-open, reading-stands}
 use Rattle.pagable_laws.proofs.{ReadingSteps.{readings-on, walk-goes}, Words.{Alike, Among, ArcRef, AreMoments, Blob, Bool, Call, Change, Core, Error, Event, EventReply, Frame, FramesFit, GetsKnown}}
 use Rattle.pagable_laws.proofs.Words.{HandleNumber, HandleRow, HandlesAreWhole, Happens, IsLawful, IsMachineWhole, IsReference, KeepsOpen, Kind, Last, List, LoadAnswer, LoadNumber, MachineState, None}
-use Rattle.pagable_laws.proofs.Words.{Moment, NodeNumber, Ok, OpenLoad, Option, OptionalDataKey, Owner, PagerState, Reading, ReadingFeels, ReadsItsTypes, ReadsRoot, ReadsTree, Represents, Result, []}
+use Rattle.pagable_laws.proofs.Words.{Moment, NodeNumber, Ok, OpenLoad, Option, OptionalDataKey, Owner, PagerState, Reading, ReadingFeels, IsReadableType, IsWellAsked, ReadsRoot, ReadsTree, Represents, Result, []}
 use Rattle.pagable_laws.proofs.Words.{Seen, Site, Some, Took, Tree, Types, Values, WellFormed, WorkerAnswer, World, adopted, and_parts, ap, arith, false, find_row, first_key, held, inl, inr, is_eager}
 use Rattle.pagable_laws.proofs.Words.{is_handle, is_in, is_owned_by, length, mode_of, moved, nat_tests, next_in, next_node, not, nothing_felt, one, owner_worker, refl, root_frame, rules, state_after}
 use Rattle.pagable_laws.proofs.Words.{slice_get_within, step_of, subst, suc, sum_by-cons, sym, times, true, type_of, with_handle, world_of, zero, ℕ, ◌&&◌, ◌*◌, ◌++◌, ◌+◌, ◌<◌, ◌==◌, ◌∙◌, ◌∷◌, ◌≡◌}
@@ -49,19 +49,20 @@ got-typed frame fits r (place, is) =
     let few = slice_get_within frame.got place r is in let most = fits.few in
     (fits.got place _ r is (slice_get-get_or frame.blob.keys place 0 (omega (arith, few, most)))).typed
 
-module _ {N E : Type 0} {v : Values N} (lawful : IsLawful v) (readable : ReadsItsTypes v.types) (s s' : PagerState N E) (trees trees' : ℕ → Tree) (same : SameTrees s.core.last.node trees trees')
+module _ {N E : Type 0} {v : Values N} (lawful : IsLawful v) (s s' : PagerState N E) (trees trees' : ℕ → Tree) (same : SameTrees s.core.last.node trees trees')
     (stored : KeepsStored s.core.stored s'.core.stored) (whole' : WellFormed v s') (stands' : Represents v s' trees') where
   -- what a load of a key answers is right, and the caller has its references
-  pub read-right : (reading : Reading) → Going v s trees reading → (load : OpenLoad) → s.core.loads reading.load.0 ≡ Some load → (x : N) → ReadsRoot v reading x
+  pub read-right : (reading : Reading) → ((frame : Frame) → Among reading.frames frame → IsReadableType v.types frame.node_type) → Going v s trees reading
+      → (load : OpenLoad) → s.core.loads reading.load.0 ≡ Some load → (x : N) → ReadsRoot v reading x
       → HandsOver s.core reading.load (v.references x) s'.core → ReadIsRight v s' load.key x
-  read-right reading g load open_load x root hands =
+  read-right reading types g load open_load x root hands =
+      let front : Among reading.frames root.root = subst (λ fs. Among fs root.root) (sym root.frames) (zero, refl) in let readable = types root.root front in
       let after = frames-stay v.types load.key reading.node_type s.core.stored s'.core.stored trees trees' s.core.last.node reading.frames stored same
       (given-nodes reading.frames g.held) (g.fits load open_load) in
       let here = subst (λ fs. FramesFit v.types s'.core.stored trees' load.key reading.node_type fs) root.frames after in
       let fits = first-fits v.types load.key reading.node_type s'.core.stored trees' root.root [] here in
       let owned : (r : ArcRef) → Among (v.references x) r → IsReference s'.core Owner.Caller r = λ r among.
-      let got = (decodes lawful readable root.root x fits root.decoded).got r among in
-      let front : Among reading.frames root.root = subst (λ fs. Among fs root.root) (sym root.frames) (zero, refl) in
+      let got = (decodes lawful root.root x readable fits root.decoded).got r among in
       let moved = hands r among in let row : HandleRow = moved.0 in let there = g.held root.root r front got in
       let stood = there.is row moved.1 moved.2 in
       let live = row-held s'.core r.handle (record row { owner = Owner.Caller }) moved.3 in
@@ -71,23 +72,25 @@ module _ {N E : Type 0} {v : Values N} (lawful : IsLawful v) (readable : ReadsIt
       let nodes_stand : (r : ArcRef) → Among (v.references x) r → NodeStands v s' r.node.0 (trees' r.node.0) =
       λ r among. stands'.stands r.node.0 (given-of whole'.whole.handles r.node.0 (owned r among).typed).0 in
       let under = sym (root-key v.types s'.core.stored trees' load.key reading.node_type root.root here) in record {
-        stands = λ t typed reads_tree. read_stands lawful readable s' trees' root.root x t fits root.decoded nodes_stand (typed ∙ root.decoded.typed)
+        stands = λ t typed reads_tree. read_stands lawful s' trees' root.root x t readable fits root.decoded nodes_stand (typed ∙ root.decoded.typed)
             (subst (λ n. ReadsTree s'.core.stored v.types n t) under reads_tree);
         own = owned;
       }
 
-module _ {N E B W : Type 0} (m : Seen N B W) (lawful : IsLawful m.values) (readable : ReadsItsTypes m.values.types) (s s' : MachineState N E) (trees trees' : ℕ → Tree)
+module _ {N E B W : Type 0} (m : Seen N B W) (lawful : IsLawful m.values) (s s' : MachineState N E) (trees trees' : ℕ → Tree)
     (whole : IsMachineWhole m.values s) (whole' : IsMachineWhole m.values s') (readings : (reading : Reading) → IsReadingOf s.work reading → Going m.values s.pager trees reading)
     (same : SameTrees s.pager.core.last.node trees trees') (stands' : StandsFor m.values s' trees') where
-  pub reads-give : (event : Event N B W) (reply : EventReply N B W) → Does m s event reply s' → ReadGives m.values s trees event reply s' trees'
-  reads-give (Event.LoadStep l) (EventReply.LoadMoved (Ok reply)) does = λ load x open_load ended.
+  pub reads-give : (event : Event N B W) (reply : EventReply N B W) → Does m s event reply s' → IsWellAsked m.values s trees event reply
+      → ReadGives m.values s trees event reply s' trees'
+  reads-give (Event.LoadStep l) (EventReply.LoadMoved (Ok reply)) does asked = λ load x open_load ended.
       let h = does.step.happens.moves in
       let read = (subst (λ (a : Option (LoadAnswer N)). LoadDoes m.values s.pager.core Owner.Caller h.reading a h.frames s'.pager.core) ended h.does.does).0 in
       let stored = (reading-feels m s.pager.core Owner.Caller caller-free s'.pager.core h.reading reply.ended h.frames h.does).does.goes.stored in
       let going = going-of s trees readings h.reading (reading-stands (world_of s) whole.pager.whole l h.reading h.at) in
-      read-right lawful readable s.pager s'.pager trees trees' same stored whole'.pager stands'.pager h.reading going load (reading-open s whole l h.reading h.at open_load) x read.reads_root
+      read-right lawful s.pager s'.pager trees trees' same stored whole'.pager stands'.pager h.reading (asked h.reading h.at).types going load
+      (reading-open s whole l h.reading h.at open_load) x read.reads_root
       (hands h.reading.load (m.values.references x) whole.pager.whole.handles read.handed)
-  reads-give event reply does = tt
+  reads-give event reply does asked = tt
 
 -- How many steps an open load still needs: at most two for each reference that its blobs still take, with all that it leads to, and one for each of its blobs.
 

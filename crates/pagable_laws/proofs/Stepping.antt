@@ -1,13 +1,15 @@
 -- What tables and to-do lists hold of trees goes on as long as what is stored and each node's tree stay; and what a change of a table comes to.
 use Rattle.pagable_laws.proofs.{Coming.{EventTurns, StandsIn, same-grow, turns-grow, turns-keep}, Following.{IdentityStands, key-stands, leads-on, wrote}, ReadingSteps.site_of, Standing.AllStand}
 use Rattle.pagable_laws.proofs.{Standing.{HasClaim, KeepsKeys, PutsSlot, ShelfGrows, among-drop, changes-slot, keys-grow, put-cases, puts-slot, some-same}, Trees.followed-all, Words.{Among, ArcRef}}
-use Rattle.pagable_laws.proofs.Words.{Blob, Bool, Claim, Does, Event, EventReply, FollowsTo, HandleNumber, HoldsSettled, Identity, IsLawful, IsMachineWhole, IsPublished, List, MachineState, None, Ok}
-use Rattle.pagable_laws.proofs.Words.{Option, ReadsItsTypes, Represents, Seen, Shelf, Site, Slot, Some, Task, Todo, Took, Tree, Values, WorkFits, Written, [], above, answer_after, ap, arith, blob_of}
+use Rattle.pagable_laws.proofs.Words.{Walking, WorkerReply, cases_Bool, step_of, Blob, Bool, Claim, Does, Event, EventReply, FollowsTo, HandleNumber, HoldsSettled, Identity, IsLawful, IsMachineWhole, IsPublished, List, MachineState, None, Ok}
+use Rattle.pagable_laws.proofs.Words.{IsReadableType, IsWellAsked, Option, Represents, Seen, Shelf, Site, Slot, Some, Task, Todo, Took, Tree, Values, WorkFits, Written, [], above, answer_after, ap, arith, blob_of}
 use Rattle.pagable_laws.proofs.Words.{drop, give, identity_of, if◌then◌else◌, inl, inr, is_eager, length, max, nat_eq, nat_tests, no_result, of_entry, of_item, refl, rules, subst, suc, sym, to_fail}
 use Rattle.pagable_laws.{proofs.Words.{to_finish, to_item, to_release, to_set, to_start, to_write, true, type_of, world_of, zero, ℕ, ◌++◌, ◌+◌, ◌==◌, ◌∙◌, ◌∷◌, ◌≡◌, ◌≤◌}, specs.TreeSteps.Above}
 use Rattle.pagable_laws.specs.TreeSteps.{AllLow, BlobStands, Expects, Ground, HasBlob, HasRoom, IsAttained, IsDone, IsLow, KeyStands, KeysSoFar, Placed, SlotFits, SlotsFit, Waits, Walks, WroteTree}
 use Rattle.{pagable_laws.specs.TreeSteps.ground_of, pagable_world.specs.{Calls.Stores, Events.Ends, Headline.AreKeysOf, Pager.{ReplyWrites, TookWrites}, Plain.longest_path, Workers.claim_fault}}
 use Rattle.pagable_world.specs.{Workers.{first_todo, give_known, next_start, open_node, with_failed, with_outcome, with_wait}, World.{Fault, Open, digest, failed, published, to_publish}}
+use Rattle.pagable_world.specs.Runs.{TodoAsksWell}
+use Rattle.pagable_laws.proofs.Trees.{same-number}
 
 -- ---- what is stored stays, and each node keeps its tree
 
@@ -46,7 +48,8 @@ module _ {N : Type 0} (v : Values N) {g g' : Ground} (goes : GroundGoes g g') wh
       let inside : (r : ArcRef) → Among written.references r → r.node.0 ≤ g'.last = λ r among. let le = w.given r among in let more = goes.last in omega arith in
       let follows : FollowsTo g'.trees written.references w.own (g'.trees n).meaning =
       leads-on (subst (λ (t : Tree). FollowsTo g.trees written.references w.own t.meaning) (sym same) w.follows) (λ r own among. (among, goes.trees r.node.0 (w.given r among))) in
-      search (ap (λ (t : Tree). v.types.nodes t.type) same ∙ w.is, w.form, inside, follows, w.once)
+      let can = subst (λ (t : Tree). IsReadableType v.types t.type) (sym same) w.can in
+      search (ap (λ (t : Tree). v.types.nodes t.type) same ∙ w.is, can, w.form, inside, follows, w.once)
 
   module _ {shelf shelf' : Shelf} (keys : KeepsKeys shelf shelf') where
     pub blob-on : {n key height : ℕ} {written : Written} → n ≤ g.last → BlobStands v g shelf n written key height → BlobStands v g' shelf' n written key height
@@ -214,7 +217,10 @@ module _ {N B W : Type 0} (m : Seen N B W) (n : ℕ) {g g' : Ground} (task : Tas
   stored-so : (key : ℕ) (b : Blob) → Stores s.core key b s'.core → s'.core.stored key ≡ Some b
   stored-so key b h = let e : (key == key) ≡ true = grind (arith, nat_tests) in h.adds.each key ∙ ap (λ t. if t then Some b else s.core.stored key) e
 
-  module _ (step : Took W) (wrote : (i : Identity) (out : W) → step ≡ Took.Write i (Ok out) → WroteTree m.values.types g i.node.0 (m.written_of out))
+  module _ (step : Took W) (wrote : (i : Identity) (out : W) → step ≡ Took.Write i (Ok out) → IsReadableType m.values.types (g.trees i.node.0).type
+      → WroteTree m.values.types g i.node.0 (m.written_of out))
+      (readable : (r : ArcRef) (place : ℕ) (through : HandleNumber) (below : List Todo) → s.todo ≡ to_write r place through ∷ below
+      → IsReadableType m.values.types (type_of r.kind.0))
       (ends : answer_after s.todo step ≡ None → (key : ℕ) (b : Blob) → s'.core.stored key ≡ Some b → g'.stored key ≡ Some b) where
     stepped : (todo : List Todo) → s.todo ≡ todo → (took : Took W) → step ≡ took → Does m n s todo took s' → AllStand s.shelf n task todo → Walks m.values g s.shelf task todo → Fits
     stepped (to_start r place ∷ below) e (Took.Claim i (Ok Claim.Claimed)) st (is, c) all (at, above) =
@@ -230,8 +236,10 @@ module _ {N B W : Type 0} (m : Seen N B W) (n : ℕ) {g g' : Ground} (task : Tas
         (given-known m.values g' s'.shelf task r key height (keys-grow more _ _ _ c.finds.1.1) below (subst (λ q. q + height ≤ longest_path) at c.finds.1.0) a.0 a.1)
     stepped (to_write r place through ∷ below) e (Took.Write i (Ok out)) st (is, p) (stands, apart, all) above =
         let t = p.writes in
-        let w = subst (λ (j : Identity). WroteTree m.values.types g j.node.0 (m.written_of out)) is (wrote i out st) in
         let claim = stands.1 in
+        let can = subst (IsReadableType m.values.types) (sym (fits (identity_of r) claim.slot claim.claimed).typed) (readable r place through below e) in
+        let w = subst (λ (j : Identity). IsReadableType m.values.types (g.trees j.node.0).type → WroteTree m.values.types g j.node.0 (m.written_of out)) is
+        (wrote i out st) can in
         writes r place through below (m.written_of out) claim w
         (changes-slot s.shelf s'.shelf (identity_of r) claim.slot (λ slot. record slot { written = Some (m.written_of out) }) claim.claimed t.table_is) above t.list_is
     stepped (to_set r through key height ∷ below) e (Took.SetKey i (Ok u)) st (is, p) all (blob, reach, above) =
@@ -255,7 +263,7 @@ module _ {N B W : Type 0} (m : Seen N B W) (n : ℕ) {g g' : Ground} (task : Tas
 -- Page-outs by trees: what tables and workers hold fits at first and after each event.
 
 module _ {N B W E : Type 0} (m : Seen N B W) (s s' : MachineState N E) (trees trees' : ℕ → Tree) (goes : GroundGoes (ground_of s trees) (ground_of s' trees')) (fit : WorkFits m.values s trees)
-    (whole : IsMachineWhole m.values s) (represents : Represents m.values s.pager trees) (settled : HoldsSettled m.values s.pager) (reads : ReadsItsTypes m.values.types)
+    (whole : IsMachineWhole m.values s) (represents : Represents m.values s.pager trees) (settled : HoldsSettled m.values s.pager)
     (lawful : IsLawful m.values) where
   abbrev g' : Ground
   g' = ground_of s' trees'
@@ -265,18 +273,30 @@ module _ {N B W E : Type 0} (m : Seen N B W) (s s' : MachineState N E) (trees tr
   starts-well shelf (of_item written) = started-item m.values g' shelf (of_item written) written [] [] _ refl (refl, tt)
   starts-well shelf (of_entry h i) = (refl, (refl, tt))
 
+  -- what the event asks of the worker that makes its step
+  walker-asked : (v : ℕ) (event : Event N B W) (reply : EventReply N B W) (r : WorkerReply W) → step_of v event reply ≡ r.took ∷ []
+      → IsWellAsked m.values s trees event reply
+      → (walking : Walking) → s.work.walkings v ≡ Some walking → TodoAsksWell m.values s.pager walking.todo
+  walker-asked v (Event.WorkerStep n) (EventReply.WorkerMoved (Ok reply)) r one asked walking there = elim (cases_Bool (n.0 == v)) [
+    | inl e ↦ asked walking (ap s.work.walkings (same-number n.0 v e) ∙ there)
+    | inr e ↦ absurd (grind (arith, nat_tests))
+  ]
+  walker-asked v x0 x1 r one asked walking there = absurd (grind (arith, nat_tests))
+
   pub fits-on : StandsIn (world_of s) → (event : Event N B W) (reply : EventReply N B W) → EventTurns m (world_of s) event reply (world_of s') → ReplyWrites m s.pager reply
-      → WorkFits m.values s' trees'
-  fits-on work event reply turns writes =
+      → IsWellAsked m.values s trees event reply → WorkFits m.values s' trees'
+  fits-on work event reply turns writes asked =
       let stay : GroundGoes g' g' = record { kept = λ key b e. e; last = omega arith; trees = λ n le. refl } in
       let h = turns-keep m turns (SlotsFit m.values g') (λ n shelf w. Walks m.values g' shelf w.task w.todo) (λ a b same fits. slots-on stay (same-grow a b same) fits same)
       (λ a b more fits n w. walks-on b stay more fits w.task w.todo) (λ t shelf more same. slots-on goes more (fit.slots t) same)
       (λ n w none there. walks-on (s'.work.shelves w.table) goes (turns-grow m turns w.table) (fit.slots w.table) w.task w.todo (fit.walks n w there))
-      (λ n shelf t task. starts-well shelf task) (λ k r w one more.
+      (λ n shelf t task. starts-well shelf task) (λ k r w at one more.
       let ends : answer_after w.walking.todo r.took ≡ None → (key : ℕ) (b : Blob) → w.after.core.stored key ≡ Some b → s'.pager.core.stored key ≡ Some b =
       λ none key b is. (let e = subst (λ a. Ends a k.0 w.after.core s'.pager.core) (w.answers ∙ none) w.ends in e.stored key ∙ is) in
       stepped m k.0 w.walking.task (site_of (world_of s) w.walking) w.after goes more (fit.slots w.walking.table) (λ r may. grind (arith, nat_tests))
-      r.took (λ i out is. wrote represents whole.pager settled reads lawful i.node.0 (m.written_of out)
+      r.took (λ i out is can. wrote represents whole.pager settled lawful i.node.0 (m.written_of out) can
       (subst (λ (t : Took W). TookWrites m.values m.written_of s.pager t) is (grind (arith, nat_tests))))
+      (λ q place through below front. subst (TodoAsksWell m.values s.pager) front (walker-asked turns.who event reply r one asked w.walking (sym
+      (ap s.work.walkings at) ∙ w.at)))
       ends w.walking.todo refl r.took refl w.does.does (work.workers k.0 w.walking w.at).all (fit.walks k.0 w.walking w.at)) turns.own in
       record { slots = h.slots; walks = h.walks }

@@ -6,7 +6,7 @@ use Rattle.pagable_world.specs.Pager.{CallBrings, FrameFits, IsCellOf, IsNewNode
 use Rattle.pagable_world.specs.{Pager.{followed-stands, integer-stands, none-stands, number-stands, pair-stands, pattern-stands, reference-stands, text-stands, variant-stands}, Plain.is_pinned_kind}
 use Rattle.{pagable_laws.proofs.Words.{Among, ArcRef, Blob, Bool, Call, Change, Core, Frame, FramesFit, HandleNumber, HandleRow, HandlesAreWhole, IsLawful}, pagable_world.specs.Kinds.{is_at, is_pin}}
 use Rattle.pagable_laws.proofs.Words.{HoldsSettled, IsReference, Kind, List, LoadAnswer, LoadNumber, MachineState, Meaning, None, OpenLoad, Option, OptionalDataKey, Owner, PagerState, Reading, Reply}
-use Rattle.pagable_laws.proofs.Words.{ReadingFeels, ReadingFits, ReadsItsTypes, ReadsRoot, ReadsTree, Represents, Some, Tree, Types, ValueStands, Values, WellFormed, [], ap, arith, bears_known, held}
+use Rattle.pagable_laws.proofs.Words.{ReadingFeels, ReadingFits, IsReadableType, ReadsRoot, ReadsTree, Represents, Some, Tree, Types, ValueStands, Values, WellFormed, [], ap, arith, bears_known, held}
 use Rattle.pagable_laws.proofs.Words.{cases_lt, false, first_key, followed, if◌then◌else◌, inl, inr, integer-leads, is_eager, is_pinning, is_some, key_at, length, length-append, nat_tests, next_in}
 use Rattle.pagable_laws.proofs.Words.{none, nothing_felt, one, pair, pins, reference, references_in, refl, root_frame, row_at, rules, slice_get, slice_get_within, subst, suc, sym, tree, true, zero}
 use Rattle.pagable_laws.proofs.{Following.{cell-of, given-of, halves, held-of, leads-on, one-node, stands-leads}, Words.{type_of, updated, variant, ℕ, ◌++◌, ◌+◌, ◌<◌, ◌==◌, ◌∙◌, ◌∷◌, ◌≡◌, ◌≤◌, ◌⊎◌}}
@@ -246,12 +246,13 @@ pub root-key : (types : Types) (stored : ℕ → Option Blob) (trees : ℕ → T
 unfolding FramesFit
 root-key types stored trees k t frame h = h.1
 
-module _ {N : Type 0} {v : Values N} (lawful : IsLawful v) (readable : ReadsItsTypes v.types) where
+module _ {N : Type 0} {v : Values N} (lawful : IsLawful v) where
   -- what becomes a node leads to a tree of its kind's type, as which its key reads
-  pub node-decoded : (stored : ℕ → Option Blob) (trees : ℕ → Tree) (k t : ℕ) (reading : Reading) (x : N) (r : ReadsNode v reading x) → FramesFit v.types stored trees k t reading.frames
+  pub node-decoded : (stored : ℕ → Option Blob) (trees : ℕ → Tree) (k t : ℕ) (reading : Reading) (x : N) (r : ReadsNode v reading x)
+      → IsReadableType v.types r.top.node_type → FramesFit v.types stored trees k t reading.frames
       → Decoded v stored trees r.top x × (r.top.node_type ≡ type_of r.top.kind.0)
   unfolding FramesFit
-  node-decoded stored trees k t reading x r fit = grind (arith, nat_tests, adopted-over, decodes, first-fits)
+  node-decoded stored trees k t reading x r readable fit = grind (arith, nat_tests, adopted-over, decodes, first-fits)
 
 -- a meaning whose references' nodes have trees of their kinds' types leads to one
 pub led : {trees : ℕ → Tree} (x : Meaning ArcRef) → ((r : ArcRef) → Among (references_in x) r → (trees r.node.0).type ≡ type_of r.kind.0) → (a : Meaning ⊥) × LeadsTo trees x a
@@ -446,14 +447,19 @@ module _ {N E : Type 0} {v : Values N} {s s' : PagerState N E} {trees : ℕ → 
       let leads = value-leads lawful settled well stands x in
       (_, fits-nothing _ (λ n y brings unset is. let meant = asked n brings.1 in rw brings.0 (leads meant.own (trees n) (Owner.Load l) meant.typed meant.means meant.stands good)))
 
-  module _ (readable : ReadsItsTypes v.types) (reading : Reading) (fits : ReadingFits v s trees reading) (given : AllGot (λ r. r.node.0 ≤ last) reading.frames) where
+  module _ (reading : Reading) (takes : TakesWell v s reading) (fits : ReadingFits v s trees reading) (given : AllGot
+      (λ r. r.node.0 ≤ last) reading.frames) where
+    top-read : (x : N) (r : ReadsNode v reading x) → IsReadableType v.types r.top.node_type
+    top-read x r = takes.types r.top (subst (λ fs. Among fs r.top) (sym r.frames) (zero, refl))
+
     module _ {c : Change} (goes : CoreGoes c s.core s'.core) where
       -- the value of a root that was read leads to its cell's tree
       root-leads : (n : ℕ) (x : N) → s'.values n ≡ Some x → ReadsRoot v reading x → IsCellOf s.core reading.load n
           → (n ≤ last) × ValueLeads v trees x (trees n) × ((r : ArcRef) → Among (v.references x) r → r.node.0 ≤ last)
       root-leads n x is root cell =
           let here = rw root.frames at (fits cell.load cell.open_load) in
-          let d = decodes lawful readable root.root x (first-fits v.types cell.load.key reading.node_type s.core.stored trees root.root [] here) root.decoded in
+          let d = decodes lawful root.root x (takes.types root.root (rw root.frames (zero, refl)))
+          (first-fits v.types cell.load.key reading.node_type s.core.stored trees root.root [] here) root.decoded in
           let under = subst (λ q. ReadsTree s.core.stored v.types q d.t) (root-key v.types s.core.stored trees cell.load.key reading.node_type root.root here) d.reads in
           let within : n ≤ last = subst (λ m. m ≤ last) cell.is (well.whole.loads.roots reading.load.0 cell.load cell.node cell.t cell.h cell.open_load cell.root).given.1 in
           let old = old-node goes n within (live-after n x is) in
@@ -471,24 +477,24 @@ module _ {N E : Type 0} {v : Values N} {s s' : PagerState N E} {trees : ℕ → 
           let r = root-leads n x is root cell in let same = with-below last t0 trees in
           subst (λ z. ValueLeads v (more t0) x z) (sym (same n r.0)) (value-on lawful last same r.2 r.1)
 
-    pub reading-fits : {c : Change} {answer : Option (LoadAnswer N)} {frames : List Frame} → CoreGoes c s.core s'.core → TakesWell v s reading
+    pub reading-fits : {c : Change} {answer : Option (LoadAnswer N)} {frames : List Frame} → CoreGoes c s.core s'.core
         → (answer ≡ None → (load : OpenLoad) × (s.core.loads reading.load.0 ≡ Some load))
         → ReadingFeels v s.core reading answer frames s'.core c → (after : ℕ → Tree) × ChangeFits v c (ReadingBrings v s.core reading) s s' trees after
-    reading-fits goes takes opens (gets-lazy kind key row needs got answer is) =
-        let asked = takes kind key needs in
+    reading-fits goes opens (gets-lazy kind key row needs got answer is) =
+        let asked = takes.keys kind key needs in
         let fit = fits-born-known asked.read (ReadingBrings v s.core reading) kind.0 key (OptionalDataKey.Some key) asked.typed (λ q e. cc) (tree-stays goes.stored asked.reads) in
         (_, fit (λ n x brings unset at. elim brings [ inl (reads, new) ↦ absurd (cc) | inr (root, cell) ↦ root-on goes asked.read n x at root cell ]))
-    reading-fits goes takes opens (makes-node x reads row got answer is) =
+    reading-fits goes opens (makes-node x reads row got answer is) =
         let load = opens answer in
         let fit = fits load.0 load.1 in
-        let made = node-decoded lawful readable s.core.stored trees load.0.key reading.node_type reading x reads fit in
+        let made = node-decoded lawful s.core.stored trees load.0.key reading.node_type reading x reads (top-read x reads) fit in
         let t0 = made.0.t in
         let fit_new = fits-born-known t0 (ReadingBrings v s.core reading) reads.top.kind.0 reads.top.key (first_key reads.top.kind.0 reads.top.key)
         (made.0.typed ∙ made.1) (first-of (is_pinned_kind reads.top.kind.0) reads.top.key) (tree-stays goes.stored made.0.reads) in (
           _,
           fit_new (λ n y brings unset at. elim brings [
             | inl (reads2, new) ↦
-                let other = (node-decoded lawful readable s.core.stored trees load.0.key reading.node_type reading y reads2 fit).0 in
+                let other = (node-decoded lawful s.core.stored trees load.0.key reading.node_type reading y reads2 (top-read y reads2) fit).0 in
                 let top : reads2.top ≡ reads.top = (cc) in
                 let moved : ReadsTree s.core.stored v.types reads.top.key other.t = subst (λ (f : Frame). ReadsTree s.core.stored v.types f.key other.t) top other.reads in
                 let same : other.t ≡ t0 = one_tree s.core.stored v.types reads.top.key other.t t0 (other.typed ∙ ap (λ (f : Frame). f.node_type) top ∙ sym made.0.typed) moved made.0.reads in
@@ -497,4 +503,4 @@ module _ {N E : Type 0} {v : Values N} {s s' : PagerState N E} {trees : ℕ → 
             | inr (root, cell) ↦ root-on goes t0 n y at root cell
           ]),
         )
-    reading-fits goes takes opens _ = (trees, fits-nothing _ (λ n x brings unset is. quiet goes n x refl brings is))
+    reading-fits goes opens _ = (trees, fits-nothing _ (λ n x brings unset is. quiet goes n x refl brings is))

@@ -6,12 +6,12 @@ pub use Rattle.pagable_world.specs.declared.{answers.Beginning.Beginning, calls.
 pub use Rattle.pagable_world.specs.{Calls.{CloneCall, PinCall, moved, next_node, with_handle}, Events.{Happens, WorkerSteps}, Kinds.{any_mode, held, identity_of, is_handle, is_owned_by, is_owner}}
 pub use Rattle.pagable_world.specs.{Kinds.{is_pinning, mode_of, owner_value, owner_worker, pins}, LoadCalls.{GetsKnown, adopted, first_key}, Loads.{ReadsRoot, next_in, root_frame}, Order.step_of}
 pub use Rattle.pagable_world.specs.{Pager.{HandlesAreWhole, IsIdle, IsMachineWhole, MachineState, PagerState, ReadingFits, Represents, ValueStands, WellFormed, world_of}, Plain.{Among, ArcRef, Blob}}
-pub use Rattle.pagable_world.specs.{Plain.{tree, type_of, updated}, Refusals.IsReference, Runs.{AreMoments, HoldsSettled, IsWellAsked, KeepsOpen, Moment, ReadsItsTypes}, Workers.{Does, IsPublished}}
+pub use Rattle.pagable_world.specs.{Plain.{tree, type_of, updated}, Refusals.IsReference, Runs.{AreMoments, HoldsSettled, IsWellAsked, KeepsOpen, Moment}, Workers.{Does, IsPublished}}
 pub use Rattle.pagable_world.specs.{Workers.{Site, WalkDoes, answer_after, give}, World.{Alike, Core, Frame, IsLawful, Last, OpenLoad, Reading, Seen, Shelf, Slot, Task, Todo, Values, Walking, World}}
 pub use Rattle.std.proofs.Common.{List, None, Ok, Option, Result, Some, [], ap, append_assoc, arith, cond, false, if◌then◌else◌, inl, inr, le_trans, length, map, not, refl, rules, subst, suc, sym}
 pub use Rattle.std.proofs.{Common.{true, zero, ℕ, ℤ, ◌&&◌, ◌*◌, ◌++◌, ◌+◌, ◌<◌, ◌==◌, ◌||◌, ◌∙◌, ◌∷◌, ◌≡◌, ◌≤◌, ◌⊎◌}, lemmas.Bool.{Decides.nat_tests, and_parts, cases_Bool, cases_lt}}
 pub use Rattle.std.{proofs.lemmas.{Bool.false_from_ne_true, List.{Sums.sum_by-cons, append-nil, length-append}, Option.slice_get_within}, specs.Prelude.{drop, filter, is_some, max, nat_eq, slice_get}}
-pub use Rattle.{pagable_laws.specs.{FormLaws.rest, TreeSteps.{Change, FollowsTo, ReadingFeels, WorkFits, bears_known, integer-leads, nothing_felt}}, pagable_model.specs.Canonical.Throughout}
+pub use Rattle.{pagable_laws.specs.{FormLaws.rest, TreeSteps.{Change, FollowsTo, ReadingFeels, WorkFits, bears_known, integer-leads, nothing_felt}}, pagable_model.specs.Canonical.{IsReadableType, Throughout}}
 pub use Rattle.{pagable_world.specs.declared.{events.{WorkerAnswer.WorkerAnswer, WorkerReply.WorkerReply}, handles.{HandleRow.HandleRow, Owner.Owner}, rows.Mode.Mode}, std.proofs.Common.{Bool, Err}}
 unfoldable pub use Rattle.pagable_world.specs.{Kinds.find_row, Pager.FramesFit, Plain.is_in, Refusals.references_fault, Runs.state_after}
 unfoldable pub use Rattle.{pagable_model.specs.{Canonical.{IsReadable, LiesIn}, Keys.{code, put_all}, Meaning.rename, Reading.read, References.references_in}, pagable_world.specs.Calls.is_named_by}

@@ -2,7 +2,7 @@
 use Rattle.std.specs.Prelude.{Err, List, Ok, Result, ℕ, ◌≡◌}
 use Rattle.pagable_laws.specs.PageOutLaws.{EachIsPagedOut, ItemAsksWell, LeavesPagedOut, ListAsksWell, NobodyWorks}
 use Rattle.pagable_world.specs.{Access.{AccessState, ItemRun, ListRun, LoadAsksWell, PinRun, ReadRun, load-pins, load-fails, load-reads, reading-fails}, Events.{CallStep, no_shelf}, Headline.{GivesTree, ReadIsRight}}
-use Rattle.pagable_world.specs.{Pager.{CallBrings, Moves, PagerState, Represents, SameTrees, WellFormed}, Plain.{Error, HandleNumber, Tree}, Runs.{AsksWell, HoldsSettled, KeepsOpen, ReadsItsTypes}}
+use Rattle.pagable_world.specs.{Pager.{CallBrings, Moves, PagerState, Represents, SameTrees, WellFormed}, Plain.{Error, HandleNumber, Tree}, Runs.{AsksWell, HoldsSettled, KeepsOpen}}
 use Rattle.pagable_world.specs.{World.{IsLawful, SameShelf, Seen, Values, of_item}, declared.{answers.Pinning.Pinning, calls.{Call.Call, Reply.Reply}, events.{Event.Event, WorkerAnswer.WorkerAnswer}}}
 use Rattle.pagable_world.specs.declared.handles.Owner.{Owner}
 
@@ -76,5 +76,6 @@ AreRight {m = m} trees (goes-on s mid s' one more) =
 
 -- The law, of any operations from a pager for which nobody works.
 abbrev pub CallerLaw : {N B W : Type 0} → (E : Type 0) → Seen N B W → Type 0
-CallerLaw {N} {B} {W} E m = (s s' : PagerState N E) (trees : ℕ → Tree) (operations : Operations m s s') → WellFormed m.values s → NobodyWorks s.core → IsLawful m.values → ReadsItsTypes m.values.types
+CallerLaw {N} {B} {W} E m = (s s' : PagerState N E) (trees : ℕ → Tree) (operations : Operations m s s') → WellFormed m.values s → NobodyWorks s.core
+    → IsLawful m.values
     → HoldsSettled m.values s → Represents m.values s trees → AreRight trees operations

@@ -3,13 +3,13 @@ use Rattle.std.specs.Prelude.{Err, List, Ok, Some, slice_get, ℕ, ◌<◌, ◌�
 use Rattle.pagable_world.specs.declared.events.{EventReply.EventReply, LoadAnswer.LoadAnswer, Took.Took, WorkerAnswer.WorkerAnswer}
 use Rattle.pagable_world.specs.{Events.reading_at, OneWorker.{IsFormlessTask, IsLoadOfPagedOut, IsOfChance, IsTooDeepTask, LoadIsSound, StandTogether}, Order.{MetError, ReadsTooDeep, steps_of}}
 use Rattle.pagable_world.specs.{Pager.{IsIdle, IsMachineWhole, MachineState, StandsFor, world_of}, Plain.{Among, ArcRef, Error, HandleNumber, Identity, LoadNumber, Tree}, Runs.{AreMoments, Fact}}
-use Rattle.pagable_world.specs.{Runs.{HoldsSettled, Moment, ReadsItsTypes, TreesAlong, events_of, replies_of, state_after}, Workers.{ComesBack, IsOpenSlot}, World.{IsLawful, OpenLoad, Reading, Seen}}
+use Rattle.pagable_world.specs.{Runs.{HoldsSettled, Moment, TreesAlong, events_of, replies_of, state_after}, Workers.{ComesBack, IsOpenSlot}, World.{IsLawful, OpenLoad, Reading, Seen}}
 use Rattle.pagable_world.specs.{World.{Shelf, Slot, Todo, Values, Walking, to_load}, declared.{answers.Beginning.Beginning, calls.{Call.Call, Reply.Reply}, events.{Claim.Claim, Event.Event}}}
 
 -- The fact holds of each event along the chain, where it begins at a whole machine for which nobody works yet.
 abbrev pub HoldsOf : {N E B W : Type 0} → (m : Seen N B W) → Fact N E B W → MachineState N E → List (Moment N E B W) → Type 0
 HoldsOf m P start moments =
-    (trees : ℕ → Tree) → IsMachineWhole m.values start → IsIdle start → AreMoments m start moments → StandsFor m.values start trees → IsLawful m.values → ReadsItsTypes m.values.types
+    (trees : ℕ → Tree) → IsMachineWhole m.values start → IsIdle start → AreMoments m start moments → StandsFor m.values start trees → IsLawful m.values
     → HoldsSettled m.values start.pager → TreesAlong m P start trees moments
 
 -- So it does along every chain.

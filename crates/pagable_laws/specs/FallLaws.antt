@@ -94,7 +94,7 @@ pub record ChainsJoin {N B W : Type 0} (E : Type 0) (m : Seen N B W) : Type 0 wh
   pub joins : (s : MachineState N E) (xs ys : List (Moment N E B W)) → AreMoments m s xs → AreMoments m (state_after s xs) ys → AreMoments m s (xs ++ ys)
   pub ends : (s : MachineState N E) (xs ys : List (Moment N E B W)) → state_after s (xs ++ ys) ≡ state_after (state_after s xs) ys
 
--- all that the headline asks of the machine at which a chain begins, but that its types are read back
+-- all that the headline asks of the machine at which a chain begins
 pub record StartsWell {N E : Type 0} (v : Values N) (s : MachineState N E) : Type 0 where
   pub whole : IsMachineWhole v s
   pub idle : IsIdle s

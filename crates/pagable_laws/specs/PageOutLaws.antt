@@ -2,18 +2,20 @@
 use Rattle.std.specs.Prelude.{List, Result, false, ℕ, ◌≡◌}
 use Rattle.pagable_world.specs.{Access.{AccessState, EntryRun, ItemRun, LeadsToTrees, ListRun, WorkerRun, entry-is-walked, fails, item-is-walked, no-more, pages, skips, worker-ends, worker-goes-on}}
 use Rattle.pagable_world.specs.{Events.{IsEntry, entry_task, no_shelf}, declared.handles.HandleRow.HandleRow}
-use Rattle.pagable_world.specs.{Headline.{IsKeyOfTask, LeavesAll}, Pager.{PagerState, Represents, SameTrees, WellFormed}, Plain.{HandleNumber, Tree}, declared.events.{Took.Took, WorkerAnswer.WorkerAnswer}, Runs.{HoldsSettled, TodoTakesWell}}
+use Rattle.pagable_world.specs.{Headline.{IsKeyOfTask, LeavesAll}, Pager.{PagerState, Represents, SameTrees, WellFormed}, Plain.{HandleNumber, Tree}, declared.events.{Took.Took, WorkerAnswer.WorkerAnswer}, Runs.{HoldsSettled, TodoAsksWell}}
 use Rattle.pagable_world.specs.World.{Core, SameShelf, Seen, Shelf, Task, Todo, Values, Written, of_item}
 
 -- no worker is at work in this pager
 abbrev pub NobodyWorks : Core → Type 0
 NobodyWorks w = (v : ℕ) → w.workers v ≡ false
 
--- what is asked of each step of a worker, as of a load's: no value in memory is written later, and keys that are taken without being read read as some value
+-- what is asked of each step of a worker, as of a load's: no value in memory is written later, what is read or written is of a type that is read back, and
+-- keys that are taken without being read read as some value
 unfoldable pub WorkerAsksWell : {N E B W : Type 0} {m : Seen N B W} {n : ℕ} {todo : List Todo} {s s' : AccessState N E} {steps : List (Took W)} {answer : WorkerAnswer}
     → WorkerRun m n todo s steps answer s' → Type 0
-WorkerAsksWell {m = m} (worker-ends todo next step answer s s' does is) = HoldsSettled m.values s'.pager × TodoTakesWell m.values s.pager todo
-WorkerAsksWell {m = m} (worker-goes-on todo next step steps answer s mid s' does is more) = HoldsSettled m.values mid.pager × TodoTakesWell m.values s.pager todo × WorkerAsksWell more
+WorkerAsksWell {m = m} (worker-ends todo next step answer s s' does is) = HoldsSettled m.values s'.pager × TodoAsksWell m.values s.pager todo
+WorkerAsksWell {m = m} (worker-goes-on todo next step steps answer s mid s' does is more) =
+    HoldsSettled m.values mid.pager × TodoAsksWell m.values s.pager todo × WorkerAsksWell more
 
 abbrev pub ItemAsksWell : {N E B W : Type 0} {m : Seen N B W} {s s' : AccessState N E} {item : Written} {answer : WorkerAnswer} → ItemRun m s item answer s'
     → Type 0

@@ -1,7 +1,7 @@
 -- What a value leads to by its references, what loads need and have got, what trees feel of a step and what of it fits them afterwards. And invariants of runs: what workers hold of the
 -- references that they have claimed, and which cells have a key, where the storage isn't closed; and what tables and workers hold of a page-out, by trees.
 use Rattle.std.specs.Prelude.{List, None, Ok, Option, Some, [], drop, false, is_some, length, true, ℕ, ℤ, ◌+◌, ◌<◌, ◌==◌, ◌∷◌, ◌≡◌, ◌≤◌, ◌⊎◌}
-use Rattle.pagable_model.specs.{Form.Form, Meaning.{followed, integer, none, number, pair, pattern, reference, text, variant}, Merkle.{KeyOf, StoredTree, blob_of}, Reading.deepest}
+use Rattle.pagable_model.specs.{Canonical.{IsReadableTree, IsReadableType}, Form.Form, Meaning.{followed, integer, none, number, pair, pattern, reference, text, variant}, Merkle.{KeyOf, StoredTree, blob_of}, Reading.deepest}
 use Rattle.pagable_world.specs.World.{OpenLoad, Reading, Shelf, Slot, Task, Todo, Values, Walking, World, Written, digest, is_here, key_at, of_cell, of_entry, of_item, published, row_at, to_fail}
 use Rattle.pagable_world.specs.declared.{calls.Reply.Reply, events.{Event.Event, EventReply.EventReply, LoadAnswer.LoadAnswer, PinStep.PinStep, Took.Took}, handles.{HandleRow.HandleRow, Owner.Owner}}
 use Rattle.pagable_world.specs.{Kinds.{any_mode, find_row, fits_mode, has_key, identity_of, is_loose, is_pinning, owner_worker}, LoadCalls.first_key, Loads.{ReadsNode, gone_on, need_of, needs_lazy}}
@@ -321,16 +321,19 @@ pub record Ground : Type 0 where
 abbrev pub ground_of : {N E : Type 0} → MachineState N E → (ℕ → Tree) → Ground
 ground_of s trees = record { stored = s.pager.core.stored; last = s.pager.core.last.node; trees = trees }
 
--- the key is the tree's, and the tree is stored under it, each value as a form under its key
+-- the key is the tree's, and the tree is stored under it, each value as a form under its key, and of a type that is read back
 pub record KeyStands {N : Type 0} (v : Values N) (stored : ℕ → Option Blob) (t : Tree) (key : ℕ) : Type 0 where
   pub is_key : KeyOf v.hash v.types t key
   pub stands : StoredTree stored v.types key t
+  pub can : IsReadableTree v.types t
 
--- What was written is a form of the node's tree over its references, whose nodes were all given. The value that it is a form of names no handle twice.
+-- What was written is a form of the node's tree, which is read back, over its references, whose nodes were all given. The value that it is a form of names
+-- no handle twice.
 pub record WroteTree (types : Types) (g : Ground) (n : ℕ) (written : Written) : Type 0 where
   pub shape : Shape
   pub own : Meaning ArcRef
   pub is : types.nodes (g.trees n).type ≡ Some shape
+  pub can : IsReadableType types (g.trees n).type
   pub form : Form ArcRef kind_of_arc types.parts deepest shape own written.bytes written.references
   pub follows : FollowsTo g.trees written.references own (g.trees n).meaning
   pub given : (r : ArcRef) → Among written.references r → r.node.0 ≤ g.last

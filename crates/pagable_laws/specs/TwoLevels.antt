@@ -6,7 +6,7 @@ use Rattle.pagable_world.specs.declared.{events.WorkerAnswer.WorkerAnswer, handl
 use Rattle.pagable_world.specs.{Calls.{with_handle, with_key, with_mode, with_node}, Cascade.{fallen, nobody}, Events.{no_shelf, with_worker}, Headline.Headline, Kinds.{identity_of, owner_value}}
 use Rattle.pagable_world.specs.{Kinds.{owner_worker, pins}, LoadCalls.{adopted, is_owned_in, with_load, with_pin, without_load}, Loads.{gone_on, root_frame}, Pager.{IsIdle, IsMachineWhole}}
 use Rattle.pagable_world.specs.{Pager.{MachineState, StandsFor}, Plain.{ArcRef, Blob, HandleNumber, LoadNumber, NodeNumber, OptionalDataKey, Tree, Types, if_there, is_in, updated}, Runs.AreMoments}
-use Rattle.pagable_world.specs.{Runs.{HoldsSettled, IsPremised, Moment, ReadsItsTypes}, Workers.{answer_after, first_todo, fresh, give, is_workers, is_workers_at, open_node, with_changed_slot}}
+use Rattle.pagable_world.specs.{Runs.{HoldsSettled, IsPremised, Moment}, Workers.{answer_after, first_todo, fresh, give, is_workers, is_workers_at, open_node, with_changed_slot}}
 use Rattle.pagable_world.specs.{Workers.{with_outcome, with_slot, with_wait, without_worker}, World.{Core, IsLawful, Reading, Seen, Shelf, Todo, Values, Walking, Work, Written, digest, no_result}}
 use Rattle.pagable_world.specs.{World.{of_cell, of_item, of_key, published, to_finish, to_item, to_pin, to_publish, to_release, to_set, to_start, to_write}, declared.answers.Beginning.Beginning}
 use Rattle.{pagable_laws.specs.FallLaws.{empty, no_work, outer}, pagable_model.specs.{Meaning.{none, reference}, Merkle.blob_of}, pagable_world.specs.Calls.{is_named_by, moved, next_node}}
@@ -259,7 +259,6 @@ ArePremised s (x ∷ xs) = ((trees : ℕ → Tree) → IsPremised sample s trees
 -- moments is so. Where another count is answered at its end, it is no chain.
 pub record TwoLevelsMeetTheHeadline : Type 0 where
   pub lawful : IsLawful sample
-  pub types : ReadsItsTypes sample_types
   pub whole : IsMachineWhole sample new_one
   pub idle : IsIdle new_one
   pub stands : (trees : ℕ → Tree) → StandsFor sample new_one trees

@@ -4,7 +4,7 @@ use Rattle.std.specs.Prelude.{[], Err, false, IfErr, IfOk, List, None, Ok, Optio
 use Rattle.pagable_world.specs.{Calls.{PinCall, ReleaseCall, TakeCall, UnpinCall}, Events.{Ends, entry_task, IsEntry, no_shelf, reading_of_load, with_entry_taken, with_worker}, Headline.ReadIsRight}
 use Rattle.pagable_world.specs.{Kinds.{HasKinds, HasNoKinds}, LoadCalls.{BeginCall, BeginKeyCall}, Loads.{gone_on, ReadingDoes}, Pager.{Moves, PagerState, ReadingBrings, Represents, SameTrees}}
 use Rattle.pagable_world.specs.{Pager.{TodoBrings, TookWrites, ValueStands, WellFormed}, Plain.{Beginning, Error, HandleNumber, HandleRow, Identity, LoadAnswer, LoadNumber, Mode, OptionalDataKey}}
-use Rattle.pagable_world.specs.{Plain.{Owner, Pinning, Took, Tree, WorkerAnswer}, Runs.{HoldsSettled, ReadsItsTypes, TakesWell}, Workers.{answer_after, first_todo, fresh, is_open_slot, Site}}
+use Rattle.pagable_world.specs.{Plain.{Owner, Pinning, Took, Tree, WorkerAnswer}, Runs.{HoldsSettled, TakesWell}, Workers.{answer_after, first_todo, fresh, is_open_slot, Site}}
 use Rattle.pagable_world.specs.{Workers.WalkDoes, World.{Alike, Core, Frame, IsLawful, IsSettled, key_at, of_item, Reading, row_at, SameShelf, Seen, Shelf, Slot, Todo, Values, Written}}
 
 pub record AccessState (N E : Type 0) : Type 0 where
@@ -53,7 +53,8 @@ pub data WorkerRun {N E B W : Type 0} (m : Seen N B W) (n : ℕ) : List Todo →
   worker-goes-on : (todo next : List Todo) (step : Took W) (steps : List (Took W)) (answer : WorkerAnswer) (s mid s' : AccessState N E) → WalkStep m n todo s step next mid → answer_after todo step ≡ None → WorkerRun m n next mid steps answer s'
       → WorkerRun m n todo s (step ∷ steps) answer s'
 
--- what is asked of each step of a run: no value in memory is written later, and keys that are taken without being read read as some value
+-- what is asked of each step of a run: no value in memory is written later, the types of its blobs are read back, and keys that are taken without being read
+-- read as some value
 unfoldable pub LoadAsksWell : {N E : Type 0} {v : Values N} {me : Owner} {reading : Reading} {s s' : PagerState N E} {answer : LoadAnswer N} → LoadRun v me reading s answer s' → Type 0
 LoadAsksWell {v = v} (load-ends reading answer s s' step) = HoldsSettled v s' × TakesWell v s reading
 LoadAsksWell {v = v} (load-goes-on reading frames answer s mid s' step more) = HoldsSettled v mid × TakesWell v s reading × LoadAsksWell more
@@ -155,7 +156,8 @@ pub data ListRun {N E B W : Type 0} (m : Seen N B W) : ℕ → PagerState N E �
 
 -- for each choice of trees that the pager stood for there is one, the same for the nodes that were there, that it stands for now, and P holds
 abbrev pub LeadsToTrees : {N E : Type 0} → Values N → PagerState N E → PagerState N E → ((ℕ → Tree) → (ℕ → Tree) → Type 0) → Type 0
-LeadsToTrees v s s' P = IsLawful v → ReadsItsTypes v.types → HoldsSettled v s → (trees : ℕ → Tree) → Represents v s trees → (trees' : ℕ → Tree) × SameTrees s.core.last.node trees trees' × Represents v s' trees' × P trees trees'
+LeadsToTrees v s s' P = IsLawful v → HoldsSettled v s → (trees : ℕ → Tree) → Represents v s trees → (trees' : ℕ
+    → Tree) × SameTrees s.core.last.node trees trees' × Represents v s' trees' × P trees trees'
 
 -- The law of loads that end with a pin: the value of its handle's node stands for the node's tree.
 abbrev pub PinLaw : {N : Type 0} → (E : Type 0) → Values N → Type 0

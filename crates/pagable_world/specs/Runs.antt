@@ -2,12 +2,8 @@
 -- nothing and keeps no two blobs under one key is asked nowhere here: these are laws of every storage, so they stand in the steps.
 use Rattle.std.specs.Prelude.{[], List, map, None, Ok, Option, Some, ℕ, ◌∷◌, ◌≡◌}
 use Rattle.{pagable_model.specs.Canonical.IsReadableType, pagable_world.specs.{Events.{reading_at, Step}, Kinds.{any_mode, is_loose}, Loads.{need_of, needs_lazy}, Pager.{EventBrings, IsCellOf}}}
-use Rattle.pagable_world.specs.{Pager.{IsMachineWhole, MachineState, Moves, PagerState, ReplyWrites, SameTrees, StandsFor, ValueStands, world_of}, Plain.{Call, Event, EventReply, HandleRow, Kind}}
-use Rattle.pagable_world.specs.{Plain.{LoadAnswer, Owner, ReadsTree, Reply, Tree, type_of, Types}, Refusals.Owns, World.{IsSettled, Reading, Seen, to_load, Todo, Values, Walking}}
-
--- Each type of the environment is read back from its forms. Where types have tags, this is the registry of distinct tags: each tag that a value writes has a reader of that tag's body.
-abbrev pub ReadsItsTypes : Types → Type 0
-ReadsItsTypes types = (n : ℕ) → IsReadableType types n
+use Rattle.pagable_world.specs.{Pager.{IsMachineWhole, MachineState, Moves, PagerState, ReplyWrites, SameTrees, StandsFor, ValueStands, world_of}, Plain.{Among, Call, Event, EventReply, HandleRow}}
+use Rattle.pagable_world.specs.{Plain.{Kind, LoadAnswer, Owner, ReadsTree, Reply, Tree, type_of}, Refusals.Owns, World.{Frame, IsSettled, Reading, Seen, to_load, to_write, Todo, Values, Walking}}
 
 -- no value in memory holds anything that is written after the value was made
 abbrev pub HoldsSettled : {N E : Type 0} → Values N → PagerState N E → Type 0
@@ -50,18 +46,23 @@ AsksWell v s trees (Call.LoadLazy l kind key) (Reply.Handle (Ok k)) = ReadsAsTyp
 AsksWell v s trees (Call.LoadEnd l x) (Reply.LoadEnded (Ok k)) = (n : ℕ) → IsCellOf s.core l n → ValueStands v s x (trees n)
 AsksWell v s trees call reply = Unit {0}
 
--- a key that a load takes through a loose reference, of which nothing is read, reads as some value of the kind's type
-abbrev pub TakesWell : {N E : Type 0} → Values N → PagerState N E → Reading → Type 0
-TakesWell v s reading = (kind : Kind) (key : ℕ) → need_of v.types reading.frames ≡ needs_lazy kind key → ReadsAsType v s (type_of kind.0) key
+-- What is asked of a load's step. The type of each blob that it reads is read back from its forms: where types have tags, these are distinct, and each that
+-- a value of the type is written under has a reader of its body. And a key that it takes through a loose reference, of which nothing is read, reads as some
+-- value of the kind's type.
+pub record TakesWell {N E : Type 0} (v : Values N) (s : PagerState N E) (reading : Reading) : Type 0 where
+  pub types : (frame : Frame) → Among reading.frames frame → IsReadableType v.types frame.node_type
+  pub keys : (kind : Kind) (key : ℕ) → need_of v.types reading.frames ≡ needs_lazy kind key → ReadsAsType v s (type_of kind.0) key
 
-abbrev pub TodoTakesWell : {N E : Type 0} → Values N → PagerState N E → List Todo → Type 0
-TodoTakesWell v s (to_load r place through reading ∷ below) = TakesWell v s reading
-TodoTakesWell v s todo = Unit {0}
+-- of a worker's step: the same of its load's; and what it writes is of a type that is read back
+abbrev pub TodoAsksWell : {N E : Type 0} → Values N → PagerState N E → List Todo → Type 0
+TodoAsksWell v s (to_load r place through reading ∷ below) = TakesWell v s reading
+TodoAsksWell v s (to_write r place through ∷ below) = IsReadableType v.types (type_of r.kind.0)
+TodoAsksWell v s todo = Unit {0}
 
 abbrev pub IsWellAsked : {N E B W : Type 0} → Values N → MachineState N E → (ℕ → Tree) → Event N B W → EventReply N B W → Type 0
 IsWellAsked v s trees (Event.Call call) (EventReply.CallReply reply) = AsksWell v s.pager trees call reply
 IsWellAsked v s trees (Event.LoadStep l) reply = (reading : Reading) → reading_at (world_of s) l ≡ Some reading → TakesWell v s.pager reading
-IsWellAsked v s trees (Event.WorkerStep n) reply = (walking : Walking) → s.work.walkings n.0 ≡ Some walking → TodoTakesWell v s.pager walking.todo
+IsWellAsked v s trees (Event.WorkerStep n) reply = (walking : Walking) → s.work.walkings n.0 ≡ Some walking → TodoAsksWell v s.pager walking.todo
 IsWellAsked v s trees event reply = Unit {0}
 
 -- all that is asked of an event at the state that it finds, and of what it leaves
