@@ -24,4 +24,5 @@ pub mod Moments
 mod Callers
 mod Sound
 mod OnePiece
+mod Heights
 mod Laws

@@ -118,7 +118,7 @@ one_preimage a b h g e =
 
 -- ---- the height of a tree is the length of its longest path
 
-longest_path : (m : Meaning ⊥) (n : ℕ) → HasPath n m ↔ (n ≤ height m)
+pub longest_path : (m : Meaning ⊥) (n : ℕ) → HasPath n m ↔ (n ≤ height m)
 unfolding HasPath height
 longest_path (pair a b) n = let p = longest_path a n in let q = longest_path b n in (λ h. grind (arith, nat_tests, p.0, q.0), λ h. grind (arith, nat_tests, p.1, q.1))
 longest_path (variant x a) n = longest_path a n

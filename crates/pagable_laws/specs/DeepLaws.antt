@@ -1,8 +1,9 @@
 -- The laws of paths that are too long, of values that have no form, and of loads that are each done in one piece.
-use Rattle.std.specs.Prelude.{Err, List, Ok, Some, slice_get, ℕ, ◌<◌, ◌∷◌, ◌≡◌, ◌≢◌, ◌⊎◌}
+use Rattle.std.specs.Prelude.{Err, List, Ok, Option, Some, slice_get, ℕ, ◌<◌, ◌∷◌, ◌≡◌, ◌≢◌, ◌↔◌, ◌⊎◌}
+use Rattle.pagable_model.specs.{Canonical.IsReadableTree, Merkle.StoredTree}
 use Rattle.pagable_world.specs.declared.events.{EventReply.EventReply, LoadAnswer.LoadAnswer, Took.Took, WorkerAnswer.WorkerAnswer}
 use Rattle.pagable_world.specs.{Events.reading_at, OneWorker.{IsFormlessTask, IsLoadOfPagedOut, IsOfChance, IsTooDeepTask, LoadIsSound, StandTogether}, Order.{MetError, ReadsTooDeep, steps_of}}
-use Rattle.pagable_world.specs.{Pager.{IsIdle, IsMachineWhole, MachineState, StandsFor, world_of}, Plain.{Among, ArcRef, Error, HandleNumber, Identity, LoadNumber, Tree}, Runs.{AreMoments, Fact}}
+use Rattle.pagable_world.specs.{Pager.{IsIdle, IsMachineWhole, MachineState, StandsFor, world_of}, Plain.{Among, ArcRef, Blob, Error, HandleNumber, Identity, LoadNumber, Tree, Types, height, longest_path}, Runs.{AreMoments, Fact}}
 use Rattle.pagable_world.specs.{Runs.{HoldsSettled, Moment, TreesAlong, events_of, replies_of, state_after}, Workers.{ComesBack, IsOpenSlot}, World.{IsLawful, OpenLoad, Reading, Seen}}
 use Rattle.pagable_world.specs.{World.{Shelf, Slot, Todo, Values, Walking, to_load}, declared.{answers.Beginning.Beginning, calls.{Call.Call, Reply.Reply}, events.{Claim.Claim, Event.Event}}}
 
@@ -54,6 +55,12 @@ LoadIsDeep v s trees (Event.WorkerStep n) (EventReply.WorkerMoved (Ok reply)) s'
     → walking.todo ≡ to_load r place through reading ∷ below → s.pager.core.loads reading.load.0 ≡ Some load → reply.took ≡ Took.Pin i (Err Error.TooDeep)
     → ReadsTooDeep v.types s.pager.core.stored reading.node_type load.key
 LoadIsDeep v s trees event reply s' trees' = Unit {0}
+
+-- The reading of a key under which a tree is stored, each value as a form, comes too deep exactly where a path of too many references leads down from the
+-- tree's root.
+abbrev pub DepthIsHeight : Type 0
+DepthIsHeight = (types : Types) (store : ℕ → Option Blob) (t : Tree) (key : ℕ) → IsReadableTree types t → StoredTree store types key t
+    → ReadsTooDeep types store t.type key ↔ (longest_path < height t.meaning)
 
 -- the worker was refused nothing but for depth, and nobody had failed where it came
 abbrev pub MetDepthAlone : {W : Type 0} → List (Took W) → Type 0

@@ -2,7 +2,7 @@
 #![tactic(auto, using(crate::proofs::Laws::world_laws))]
 
 ghost use Rattle.pagable_world.specs.{Access.{PinLaw, ReadLaw}, Headline.HeadlineLaw, OneWorker.{KeyIsShallow, OneIdentityLaw}, Plain.Types, World.{Frame, Seen}};
-ghost use Rattle.pagable_laws.specs.DeepLaws.{ClaimIsDeep, DepthIsTold, HoldsAlong, LoadIsDeep, LoadIsFaultless, SoundLaw};
+ghost use Rattle.pagable_laws.specs.DeepLaws.{ClaimIsDeep, DepthIsHeight, DepthIsTold, HoldsAlong, LoadIsDeep, LoadIsFaultless, SoundLaw};
 ghost use Rattle.pagable_laws.specs.{FallLaws.{FallLaws, ChainsJoin, NewIsWhole, NextIsOne, ReadingFills}, CallerLaws.CallerLaw, PageOutLaws.{ItemLaw, ListLaw}, TwoLevels.TwoLevelsMeetTheHeadline};
 
 /// How values of this type are seen, with blobs B and what is written W: any values, so that a law is one of all.
@@ -40,11 +40,13 @@ pub fn headline<N: SeenAs<B, W>, B, W, E>()
 /// - A worker answers TooDeep of what leads down a path that is too long, or to a value that has no form, where it meets no other refusal on its way.
 /// - A claim is refused as too deep only where its task leads down a path that is too long, or another worker is at it and waits for this one.
 /// - A load is refused as too deep only where the reading of its key comes to a blob that lies too deep, or to one that enters a level too many.
+/// - Of a key that a tree is stored under the reading does so exactly where the tree's longest path is too long.
 pub fn depth<N: SeenAs<B, W>, B, W, E>()
     ensures keys_are_shallow { HoldsAlong E N.seen (KeyIsShallow N.seen.values) }
     ensures depth_is_told { HoldsAlong E N.seen (DepthIsTold N.seen) }
     ensures deep_claims_have_a_cause { HoldsAlong E N.seen ClaimIsDeep }
     ensures deep_loads_have_a_cause { HoldsAlong E N.seen (LoadIsDeep N.seen.values) }
+    ensures depth_is_height { DepthIsHeight }
 {}
 
 /// Of loads, and of what they get:
