@@ -7,12 +7,12 @@ use Rattle.pagable_laws.proofs.{Decoding.{among-left, among-right}, Following.{c
 use Rattle.pagable_laws.proofs.{ReadingSteps.{caller-free, reading-feels}, SparingSteps.{hands, read-right}, Standing.{AllStand, AllWait, Covers, Goes as ShelfGoes, HasNoFailed, first-stands, grows}}
 use Rattle.pagable_laws.proofs.{Standing.{some-none, some-same}, Stepping.{all-known, all-low, done-on, keys-same, stands-for}, Taking.{Going, fits-nothing, given-nodes, going-new, going-step}}
 use Rattle.pagable_laws.proofs.{Taking.{reading-fits, row-held, stands-here, trees-go-on, was-open}, Trees.{same-number, same_some, steps_follow}, Words.{Alike, ArcRef, Blob, Bool, Claim, Core, Ok}}
-use Rattle.pagable_laws.proofs.Words.{Does, Event, EventReply, Frame, FramesFit, HandleNumber, Happens, HoldsSettled, Identity, IsLawful, IsMachineWhole, IsPublished, Last, List, LoadAnswer, Mode, ℕ}
+use Rattle.pagable_laws.proofs.Words.{Does, HandleRow, Event, EventReply, Frame, FramesFit, HandleNumber, Happens, HoldsSettled, Identity, IsLawful, IsMachineWhole, IsPublished, Last, List, LoadAnswer, Mode, ℕ}
 use Rattle.pagable_laws.proofs.Words.{LoadNumber, MachineState, None, OpenLoad, Option, OptionalDataKey, Owner, PagerState, Reading, ReadingFeels, Represents, Seen, Shelf, Site, Slot}
 use Rattle.pagable_laws.proofs.Words.{Some, Task, Todo, Took, Tree, Values, Walking, WellFormed, WorkFits, WorkerAnswer, WorkerNumber, WorkerReply, WorkerSteps, Written, [], answer_after, ap, arith}
 use Rattle.pagable_laws.proofs.Words.{append_assoc, cases_Bool, false, give, held, identity_of, if_there, inl, inr, is_some, key_at, nat_eq, nat_tests, no_result, nothing_felt, of_cell, of_entry}
 use Rattle.pagable_laws.proofs.Words.{of_item, one, refl, subst, sum_by-cons, sym, times, to_fail, to_finish, to_item, to_load, to_pin, to_release, to_set, to_start, to_write, true, with_handle, ◌+◌}
-use Rattle.pagable_laws.{proofs.Words.{world_of, ◌&&◌, ◌++◌, ◌==◌, ◌∙◌, ◌∷◌, ◌≡◌, ◌≤◌}, specs.TreeSteps.{AllHold, Ground, HasHandle, IsDone, KeyIsSet, KeysHeld, Waits, Walks, ground_of}}
+use Rattle.pagable_laws.{proofs.Words.{world_of, ◌&&◌, ◌++◌, ◌==◌, ◌∙◌, ◌∷◌, ◌≡◌, ◌≤◌}, specs.TreeSteps.{AllHold, Ground, RowsGo, HasHandle, IsDone, KeyIsSet, KeysHeld, Waits, Walks, ground_of}}
 use Rattle.{pagable_model.specs.Merkle.KeyOfItem, pagable_world.specs.Access.{AccessState, AllHaveResults, KeyStarts, LoadAsksWell, LoadRun, LoadStarts, PinLaw, ReadLaw, ReadingStep, WalkStep, WorkerRun, load-ends}}
 use Rattle.pagable_world.specs.{Access.{load-goes-on, worker-ends, worker-goes-on}, Headline.{AnswerIsKey, AnswerLeavesAll, AreKeysOf, FailedElsewhere, IsKeyOfTask, IsMetFailure}}
 use Rattle.pagable_world.specs.{Headline.{LeavesAll, Meets, PublishIsKey, ReadIsRight, meets-below, meets-entry, meets-of-item}, Kinds.has_key, LoadCalls.with_load, Loads.{Does as LoadDoes, gone_on}}
@@ -27,14 +27,33 @@ record Under {N E : Type 0} (v : Values N) (s : PagerState N E) (trees : ℕ →
   pub going : Going v s trees reading
   pub keyed : (load : OpenLoad) → s.core.loads reading.load.0 ≡ Some load → load.key ≡ key
 
--- each node keeps its tree
+-- each node keeps its tree, and each handle its node
 pub record After {N E : Type 0} (v : Values N) (s : PagerState N E) (trees : ℕ → Tree) (s' : PagerState N E) (trees' : ℕ → Tree) : Type 0 where
   pub same : SameTrees s.core.last.node trees trees'
   pub nodes : s.core.last.node ≤ s'.core.last.node
   pub stands : Represents v s' trees'
+  pub handles : s.core.last.handle ≤ s'.core.last.handle
+  pub rows : RowsGo s.core.last.handle s.core.rows s'.core.rows
+
+rows-then : (last more : ℕ) (first mid rows : List HandleRow) → last ≤ more → RowsGo last first mid → RowsGo more mid rows → RowsGo last first rows
+rows-then last more first mid rows le f g q row is small =
+    let b = g q row is (omega (arith, le, small)) in
+    let a = f q b.was b.live small in
+    let mine : (l : LoadNumber) → row.owner ≡ Owner.Load l → a.was ≡ row =
+    λ l own. let same = b.mine l own in a.mine l (ap (λ (h : HandleRow). h.owner) same ∙ own) ∙ same in
+    record { was = a.was; live = a.live; at = a.at ∙ b.at; mine = mine; loose = λ is. b.loose (a.loose is) }
+
+pub rows-stay : (last : ℕ) (rows : List HandleRow) → RowsGo last rows rows
+rows-stay last rows q row is small = record { was = row; live = is; at = refl; mine = λ l own. refl; loose = λ is. is }
 
 pub after-then : {N E : Type 0} {v : Values N} {s m t : PagerState N E} {trees mid after : ℕ → Tree} → After v s trees m mid → After v m mid t after → After v s trees t after
-after-then a b = record { same = λ n within. b.same n (let c = a.nodes in omega (arith, within, c)) ∙ a.same n within; nodes = let c = a.nodes in let d = b.nodes in omega (arith, c, d); stands = b.stands }
+after-then a b = record {
+  same = λ n within. b.same n (let c = a.nodes in omega (arith, within, c)) ∙ a.same n within;
+  nodes = let c = a.nodes in let d = b.nodes in omega (arith, c, d);
+  stands = b.stands;
+  handles = let c = a.handles in let d = b.handles in omega (arith, c, d);
+  rows = rows-then _ _ _ _ _ a.handles a.rows b.rows;
+}
 
 module _ {N E : Type 0} {v : Values N} (lawful : IsLawful v) where
   -- what a step comes to: a load that goes on is so again, and the value that it answers is that of its key
@@ -55,7 +74,7 @@ module _ {N E : Type 0} {v : Values N} (lawful : IsLawful v) where
       let stands = trees-go-on lawful u.settled u.well step.whole u.stands step.moves felt.does.goes fit.1 in
       record {
         trees' = fit.0;
-        after = record { same = fit.1.same; nodes = felt.does.goes.nodes; stands = stands };
+        after = record { same = fit.1.same; nodes = felt.does.goes.nodes; stands = stands; handles = felt.does.goes.handles; rows = felt.does.goes.rows };
         still = λ none.
             let load = felt.opens none in
             let going = going-step u.well step.whole u.stands felt.does.goes fit.1 reading frames load.0 load.1 u.going
@@ -64,7 +83,8 @@ module _ {N E : Type 0} {v : Values N} (lawful : IsLawful v) where
         right = λ x is.
             let read = (subst (λ (o : Option (LoadAnswer N)). LoadDoes v s.core Owner.Caller reading o frames s'.core) is step.does.does).0 in
             let load = read.of_key_load in subst (λ q. ReadIsRight v s' q x) (u.keyed load.load load.open_load)
-            (read-right lawful s s' trees fit.0 fit.1.same felt.does.goes.stored step.whole stands reading takes.types u.going load.load load.open_load x read.reads_root
+            (read-right lawful s s' trees fit.0 fit.1.same felt.does.goes.stored step.whole stands reading takes.types u.going load.load load.open_load x
+            read.reads_root
             (hands reading.load (v.references x) u.well.whole.handles read.handed));
       }
 
@@ -78,7 +98,13 @@ module _ {N E : Type 0} {v : Values N} (lawful : IsLawful v) where
 
   module _ (s mid : PagerState N E) (trees : ℕ → Tree) (well : WellFormed v s) (settled : HoldsSettled v s) (stands : Represents v s trees) (does : Goes nothing_felt s.core mid.core) (moves : Moves (λ n x. ⊥) s mid) (whole : WellFormed v mid) where
     begun : After v s trees mid trees
-    begun = search (does.nodes, trees-go-on lawful settled well whole stands moves does (fits-nothing lawful settled well whole stands (λ n x. ⊥) (λ n x comes none is. absurd comes)))
+    begun = search (
+      does.nodes,
+      does.handles,
+      does.rows,
+      trees-go-on lawful settled well whole stands moves does
+          (fits-nothing lawful settled well whole stands (λ n x. ⊥) (λ n x comes none is. absurd comes)),
+    )
 
     under : (w : Core) (l : LoadNumber) (t key : ℕ) (root : Root) → l.0 ≡ w.last.load + 1 → Alike (with_load w key root Owner.Caller) mid.core → Under v mid trees key (fresh l t)
     unfolding FramesFit

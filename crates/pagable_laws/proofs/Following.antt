@@ -212,8 +212,7 @@ key-stands {v = v} {g} {shelf} {n} {key} {written} keys right w known is_stored 
     let is_key : KeyOf v.hash v.types (g.trees n) key =
     rw is (key-of (g.trees n) w.shape written.bytes (kids_of g.trees written.references) keys w.is (tree-form w) (keys-of right written.references keys known)) in
     let all : EachType (IsReadableType v.types) (g.trees n).meaning =
-    followed-read v.types written.references w.follows (λ r among. let p = (known-of shelf written.references keys known r among).1 in let i = right
-    (identity_of r) _ p.0 p.1 in
+    followed-read v.types written.references w.follows (λ r among. let p = (known-of shelf written.references keys known r among).1 in let i = right (identity_of r) _ p.0 p.1 in
     (i.typed, i.right.can)) in
     let spells : StoredAs g.stored v.types (g.trees n).type key (rename (keyed_by shelf) w.own) =
     search (w.is, form, is_stored ∙ ap (λ ks. Some (blob_of written.bytes ks)) (keys-are shelf written.references keys known)) in

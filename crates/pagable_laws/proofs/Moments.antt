@@ -1,5 +1,5 @@
 -- The steps of whole operations over a pager are moments of a machine, where nobody else works: so what holds of chains holds of them.
-use Rattle.pagable_laws.proofs.{Answered.{After, after-then}, Chains.{IsGoingOn, goes, idle-goes}, Goes.updated-at, Called.calls-go, ReadingSteps.{caller-free, event-goes, walk-goes}, Trees.{same-number, same_some}}
+use Rattle.pagable_laws.proofs.{Answered.{After, after-then, rows-stay}, Chains.{IsGoingOn, goes, idle-goes}, Goes.updated-at, Called.calls-go, ReadingSteps.{caller-free, event-goes, walk-goes}, Trees.{same-number, same_some}}
 use Rattle.pagable_laws.proofs.Words.{Alike, Bool, Call, Core, Event, EventReply, HandleNumber, HandleRow, Happens, HoldsSettled, IsLawful, IsMachineWhole, IsWellAsked, KeepsOpen, List, MachineState, Moment, None, Ok, OpenLoad, Option, Owner}
 use Rattle.pagable_laws.proofs.Words.{PagerState, Reading, Reply, Represents, Result, Seen, Shelf, Site, Some, Task, Todo, Took, Tree, Values, WalkDoes, Walking, WellFormed, WorkerAnswer, WorkerReply}
 use Rattle.pagable_laws.proofs.Words.{answer_after, ap, arith, cases_Bool, false, if_there, inl, inr, length, nat_tests, of_item, refl, rules, subst, sym, true, updated, world_of}
@@ -244,7 +244,19 @@ module _ {N E B W : Type 0} (m : Seen N B W) (lawful : IsLawful m.values) where
   comes a trees x on does premised =
       let g = goes m lawful a trees x on does premised in
       let e = event-goes m (world_of a) (world_of x.after) x.event x.reply premised.stays_open does.step.happens in
-      record { trees' = g.0; after = record { same = g.1.keeps; nodes = e.goes.nodes; stands = g.1.stands.pager }; right = g.1.so; going = g.2 }
+      record {
+        trees' = g.0;
+        after = record {
+          same = g.1.keeps;
+          nodes = e.goes.nodes;
+          stands = g.1.stands.pager;
+          handles = e.goes.handles;
+          rows =
+              e.goes.rows;
+        };
+        right = g.1.so;
+        going = g.2;
+      }
 
   module _ (base : Work) (rests : IsAtRest base) (n t : ℕ) (there : (0 < t) × (t ≤ base.last_table)) (task : Task) where
     abbrev at : AccessState N E → List Todo → ℕ → Option WorkerAnswer → MachineState N E
@@ -428,6 +440,13 @@ module _ {N E B W : Type 0} (m : Seen N B W) (lawful : IsLawful m.values) where
   pub no-value : {s s' : PagerState N E} (call : Call N B) → Moves (λ n x. ⊥) s s' → Moves (CallBrings s.core call) s s'
   no-value call moves = record { each = λ q x is. elim (moves.each q x is) [ inl was ↦ inl was | inr came ↦ absurd came.1 ]; environment = moves.environment }
 
+  pub stays-same : {s : PagerState N E} {trees : ℕ → Tree} → Stands m.values s trees → Stays m.values s trees s
+  stays-same {s} {trees} at = record {
+    trees' = trees;
+    after = record { same = λ n within. refl; nodes = omega arith; stands = at.stands; handles = omega arith; rows = rows-stay s.core.last.handle s.core.rows };
+    now = at;
+  }
+
   -- nothing that can be told of changes
   pub unchanged : {s s' : PagerState N E} {trees : ℕ → Tree} → Stands m.values s trees → Called m.values (λ w'. Alike s.core w') s s'
       → Stays m.values s trees s'
@@ -458,7 +477,7 @@ module _ {N E B W : Type 0} (m : Seen N B W) (lawful : IsLawful m.values) where
       → Stands m.values s trees → ListAsksWell run
       → Stays m.values s trees s' × EachIsPagedOut run trees
   unfolding ListAsksWell EachIsPagedOut
-  list-stays {trees = trees} (no-more s) at asks = (record { trees' = trees; after = record { same = λ n within. refl; nodes = omega arith; stands = at.stands }; now = at }, tt)
+  list-stays {trees = trees} (no-more s) at asks = (stays-same at, tt)
   list-stays (skips i place key h told answer s mid low s' is has takes releases more) at asks =
       let a = (call-stays (Call.TakePending place) (Reply.Taken (Some h)) at (record { step = record { does = takes.step }; moves = no-value (Call.TakePending place) takes.moves; whole = takes.whole }) tt tt (still-settled at takes)).0 in
       let b = (call-stays (Call.Release h) (Reply.Done told) a.now

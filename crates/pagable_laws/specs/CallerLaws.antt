@@ -1,8 +1,8 @@
 -- The law of callers: whoever makes calls of a pager, and whole operations over it, has trees that each node keeps, and each pin, reading and page-out gives what the headline says.
 use Rattle.std.specs.Prelude.{Err, List, Ok, Result, ℕ, ◌≡◌}
 use Rattle.pagable_laws.specs.PageOutLaws.{EachIsPagedOut, ItemAsksWell, LeavesPagedOut, ListAsksWell, NobodyWorks}
-use Rattle.pagable_world.specs.{Access.{AccessState, ItemRun, ListRun, LoadAsksWell, PinRun, ReadRun, load-pins, load-fails, load-reads, reading-fails}, Events.{CallStep, no_shelf}, Headline.{GivesTree, ReadIsRight}}
-use Rattle.pagable_world.specs.{Pager.{CallBrings, Moves, PagerState, Represents, SameTrees, WellFormed}, Plain.{Error, HandleNumber, Tree}, Runs.{AsksWell, HoldsSettled, KeepsOpen}}
+use Rattle.pagable_world.specs.{Access.{AccessState, IsValueOf, ItemRun, ListRun, LoadAsksWell, PinRun, ReadRun, load-pins, load-fails, load-reads, reading-fails}, Events.{CallStep, no_shelf}, Headline.{GivesTree, ReadIsRight}}
+use Rattle.pagable_world.specs.{Pager.{CallBrings, Moves, PagerState, Represents, SameTrees, ValueStands, WellFormed}, Plain.{Error, HandleNumber, Tree}, Runs.{AsksWell, HoldsSettled, KeepsOpen}}
 use Rattle.pagable_world.specs.{World.{IsLawful, SameShelf, Seen, Values, of_item}, declared.{answers.Pinning.Pinning, calls.{Call.Call, Reply.Reply}, events.{Event.Event, WorkerAnswer.WorkerAnswer}}}
 use Rattle.pagable_world.specs.declared.handles.Owner.{Owner}
 
@@ -73,6 +73,19 @@ AreRight trees (is-done s) = Unit {0}
 AreRight {m = m} trees (goes-on s mid s' one more) =
     OperationAsksWell trees one
     → (trees' : ℕ → Tree) × SameTrees s.core.last.node trees trees' × Represents m.values mid trees' × OperationIsRight trees trees' one × AreRight trees' more
+
+-- what the headline asks of each, whatever trees there are by then
+unfoldable pub AskWell : {N E B W : Type 0} {m : Seen N B W} {s s' : PagerState N E} → Operations m s s' → Type 0
+AskWell (is-done s) = Unit {0}
+AskWell {m = m} (goes-on s mid s' one more) = ((trees : ℕ → Tree) → Represents m.values s trees → OperationAsksWell trees one) × AskWell more
+
+-- The law of what is pinned again: what a pin gives through a handle, and another through the same handle after any operations, stand for one tree.
+abbrev pub PinnedAgainLaw : {N B W : Type 0} → (E : Type 0) → Seen N B W → Type 0
+PinnedAgainLaw {N} {B} {W} E m = (s mid later s' : PagerState N E) (trees : ℕ → Tree) (h k l : HandleNumber) (x y : N)
+    (first : PinRun m.values s h (Ok k) mid) (between : Operations m mid later) (again : PinRun m.values later h (Ok l) s')
+    → WellFormed m.values s → NobodyWorks s.core → IsLawful m.values → HoldsSettled m.values s → Represents m.values s trees
+    → PinAsksWell first → AskWell between → PinAsksWell again → IsValueOf mid k x → IsValueOf s' l y
+    → (t : Tree) × ValueStands m.values mid x t × ValueStands m.values s' y t
 
 -- The law, of any operations from a pager for which nobody works.
 abbrev pub CallerLaw : {N B W : Type 0} → (E : Type 0) → Seen N B W → Type 0

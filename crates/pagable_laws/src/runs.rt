@@ -3,7 +3,7 @@
 
 ghost use Rattle.pagable_world.specs.{Access.{PinLaw, ReadLaw}, Headline.HeadlineLaw, OneWorker.{KeyIsShallow, OneIdentityLaw}, Plain.Types, World.{Frame, Seen}};
 ghost use Rattle.pagable_laws.specs.DeepLaws.{ClaimIsDeep, DepthIsHeight, DepthIsTold, HoldsAlong, LoadIsDeep, LoadIsFaultless, SoundLaw};
-ghost use Rattle.pagable_laws.specs.{FallLaws.{FallLaws, ChainsJoin, NewIsWhole, NextIsOne, ReadingFills}, CallerLaws.CallerLaw, PageOutLaws.{ItemLaw, ListLaw}, TwoLevels.TwoLevelsMeetTheHeadline};
+ghost use Rattle.pagable_laws.specs.{FallLaws.{FallLaws, ChainsJoin, NewIsWhole, NextIsOne, ReadingFills}, CallerLaws.{CallerLaw, PinnedAgainLaw}, PageOutLaws.{ItemLaw, ListLaw}, TwoLevels.TwoLevelsMeetTheHeadline};
 
 /// How values of this type are seen, with blobs B and what is written W: any values, so that a law is one of all.
 pub trait SeenAs<B, W>: Sized {
@@ -75,6 +75,8 @@ pub fn page_outs<N: SeenAs<B, W>, B, W, E>()
 
 /// Whoever makes calls of a pager, and pins, readings and page-outs by one call, in any order, has what the headline says of trees: each node keeps its tree along them, each
 /// pin gives it, what a key is read as stands for the key's tree, and what a page-out that answers a key met is left stored under it. A table is new for each item.
+/// So what is pinned again through a handle, after any of these, stands for the same tree.
 pub fn callers<N: SeenAs<B, W>, B, W, E>()
-    ensures { CallerLaw E N.seen }
+    ensures trees_stay { CallerLaw E N.seen }
+    ensures pinned_again { PinnedAgainLaw E N.seen }
 {}
