@@ -1,17 +1,19 @@
 #!/usr/bin/env python3
-"""Times `vectors time` beside the original crate, and writes the table of docs/PROOFS.md.
+"""Builds the rows of tools/speed and the same rows on the original crate, times them in turn, and writes the table of docs/PROOFS.md.
 
-    tools/compare_speed.py ORIGINAL WORK
+    tools/compare_speed.py ORIGINAL WORK [--rounds N] [--square N] [--rows ROW,..] [--print]
 
-ORIGINAL is the folder of the Rust crate `pagable` 0.4.2, or of a cargo workspace that has it as a member. It is copied into the folder
-WORK, together with tools/original_speed.rs as one of its examples, and built by cargo twice: as `cargo build --release` does, and with
-LTO, one codegen unit and the processor level for which `vectors` is built (x86-64-v2). Nothing of it comes into the repository. `vectors`
-has to be built before: (cd crates/vectors && rt run -- time).
+ORIGINAL is a cargo workspace that has the Rust crate `pagable` 0.4.2 as a member, with a module `oracle_access` whose `set_mode` puts SHA-256 in BLAKE3's
+place. It is copied into the folder WORK, with tools/original_speed.rs as one of its examples, and built by cargo twice, each time with LTO, one codegen
+unit and the processor level of the programs here (x86-64-v2): with the processor's SHA instructions, where it has them, and without
+(`sha2`'s feature `force-soft`). Nothing of it comes into the repository. tools/speed/build.py builds the rows here, unproved.
 
-The values of the first five rows come from tools/speed_sums.py, which `vectors` is held against too; both programs fail where they write another form
-than they read. Each row is timed five times, by all three in turn, each time in a process of its own; a row's time is the least of all. The peak of
-memory is that of a process that reads the row's value and writes it once, by GNU time.
+The values of the first five rows come from tools/speed_sums.py; both sides fail where they write another form than they read. Each row runs 9 times, or as
+often as `--rounds` tells, by all three programs in turn, each time in a process of its own; its time is the least of all. The peak of memory is that of such
+a process, by GNU time. A row whose time grows with the square of its count has at most 4,000 or as many as `--square` tells. `--rows` runs these
+alone, and `--print` prints the table in place of writing it.
 """
+import argparse
 import datetime
 import os
 import pathlib
@@ -20,56 +22,103 @@ import shutil
 import subprocess
 import sys
 
+sys.dont_write_bytecode = True
 TOP = pathlib.Path(__file__).resolve().parent.parent
-VECTORS = TOP / "crates" / "vectors" / "out" / "vectors"
+sys.path.insert(0, str(TOP / "tools" / "speed"))
+from build import built as built_here
+
 PAGE = TOP / "docs" / "PROOFS.md"
 BEGIN, END = "<!-- table -->", "<!-- end of the table -->"
-ROWS = ["numbers", "bytes", "texts", "maps", "ordered", "cells", "items", "trees", "cell_trees"]
 TUNED = {"CARGO_PROFILE_RELEASE_LTO": "fat", "CARGO_PROFILE_RELEASE_CODEGEN_UNITS": "1", "RUSTFLAGS": "-C target-cpu=x86-64-v2"}
+VALUES = {"numbers": 1_000_000, "bytes": 1_000_000, "texts": 200_000, "maps": 400, "ordered": 100_000}
+SIZES = [1_000, 10_000, 100_000, 1_000_000]
+# Each row with its counts; a tree's count is that of its levels.
+ROWS = [
+    *((row, count) for row, count in VALUES.items()),
+    *(("cells", count) for count in SIZES),
+    ("items", 20_000),
+    ("trees", 30),
+    ("cell_trees", 30),
+    ("tree", 19),
+    ("chain", 100_000),
+    ("wide_shared", 20_000),
+    ("wide_loose", 20_000),
+    ("wide_item", 20_000),
+    *(("calls", count) for count in SIZES),
+    *(("falls", count) for count in SIZES),
+    ("loads", 16_000),
+    ("fronts", 100_000),
+    ("backwards", 20_000),
+]
+SQUARES = {"chain", "wide_shared", "wide_item", "loads", "fronts"}
+# What the original has no call for.
+OURS = {"loads", "fronts", "backwards"}
+CALLS = {"calls", "falls", "loads", "fronts"}
 
 
 def ran(*words):
     return subprocess.run(words, check=True, text=True, capture_output=True)
 
 
-def laid_out(original, work):
-    """The folder of the package `pagable` in a copy of the original, with this repository's example."""
-    shutil.rmtree(work / "original", ignore_errors=True)
-    shutil.copytree(original, work / "original", ignore=shutil.ignore_patterns("target"))
-    for manifest in sorted((work / "original").rglob("Cargo.toml")):
-        if re.search(r'^name\s*=\s*"pagable"', manifest.read_text(), re.MULTILINE):
-            (manifest.parent / "examples").mkdir(exist_ok=True)
-            shutil.copy(TOP / "tools" / "original_speed.rs", manifest.parent / "examples" / "speed.rs")
-            return manifest.parent
-    sys.exit("no package `pagable` is there")
+def built_original(original, work, is_soft):
+    """The example in a copy of the original, by cargo."""
+    copy = work / ("soft" if is_soft else "hard")
+    shutil.rmtree(copy / "source", ignore_errors=True)
+    shutil.copytree(original, copy / "source", ignore=shutil.ignore_patterns("target"))
+    for manifest in sorted((copy / "source").rglob("Cargo.toml")):
+        text = manifest.read_text()
+        if re.search(r'^name\s*=\s*"pagable"', text, re.MULTILINE):
+            break
+    else:
+        sys.exit("no package `pagable` is there")
+    if is_soft:
+        manifest.write_text(text.replace("[dependencies]\n", '[dependencies]\nsha2 = { version = "0.10", features = ["force-soft"] }\n', 1))
+    (manifest.parent / "examples").mkdir(exist_ok=True)
+    shutil.copy(TOP / "tools" / "original_speed.rs", manifest.parent / "examples" / "speed.rs")
+    build = ["cargo", "build", "--release", "-p", "pagable", "--example", "speed", "--target-dir", copy / "target"]
+    subprocess.run(build, check=True, cwd=manifest.parent, env={**os.environ, **TUNED})
+    return copy / "target" / "release" / "examples" / "speed"
 
 
-def built(folder, target, settings):
-    build = ["cargo", "build", "--release", "-p", "pagable", "--example", "speed", "--target-dir", target]
-    subprocess.run(build, check=True, cwd=folder, env={**os.environ, **settings})
-    return target / "release" / "examples" / "speed"
+def once(call):
+    """The seconds of each part of one run and its peak in KiB; None where it fails, as where the stack isn't deep enough. GNU time stands between, since a
+    child's peak counts the memory of whoever forked it."""
+    run = subprocess.run(["env", "time", "-f", "%M", *map(str, call)], text=True, capture_output=True)
+    if run.returncode:
+        return None
+    _, _, *parts = run.stdout.split()
+    return dict(zip(parts[::2], map(float, parts[1::2]))), int(run.stderr.split()[-1])
 
 
-def measured(programs, forms, row):
-    """The least times of each program's writing and reading, and the peaks in KiB here and of the original. GNU time stands between, since a child's peak
-    counts the memory of whoever forked it."""
-    # `vectors` draws a row's value itself; the original reads it from a file.
-    calls = [[program, "time", row] if program == VECTORS else [program, row, forms / row] for program in programs]
-    times = [[] for _ in programs]
-    for _ in range(5):
-        for call, mine in zip(calls, times):
-            _, _, write, _, _, read, _ = ran(*call, "5").stdout.split()
-            mine.append((float(write), float(read)))
-    best = [[min(those) for those in zip(*mine)] for mine in times]
-    return best, [int(ran("env", "time", "-f", "%M", *call, "1").stderr.split()[-1]) for call in calls[:2]]
+def measured(programs, forms, row, count, rounds):
+    """For each program the least seconds of each part and its peak, or None."""
+    calls = [[program, row, count, 1] for program in programs]
+    if row in OURS:
+        calls = calls[:1]
+    if row in VALUES:
+        calls = [calls[0], *([*call, forms / row] for call in calls[1:])]
+    runs = [[] for _ in calls]
+    for _ in range(rounds):
+        for call, mine in zip(calls, runs):
+            if None not in mine:
+                mine.append(once(call))
+    least = lambda those: ({part: min(one[0][part] for one in those) for part in those[0][0]}, min(one[1] for one in those))
+    best = [None if None in mine else least(mine) for mine in runs]
+    return best + [None] * (len(programs) - len(best))
 
 
-def lines(rows):
-    yield "| Row | Write, here | Original | With LTO | Read, here | Original | With LTO | Peak of memory, here | Original |"
-    yield "|---|---|---|---|---|---|---|---|---|"
-    for row, (best, peaks) in rows.items():
-        cells = [f"{one[what] * 1000:.2f} ms" for what in (0, 1) for one in best] + [f"{one / 1024:.1f} MiB" for one in peaks]
-        yield f"| `{row}` | {' | '.join(cells)} |"
+def time_text(seconds, row, count):
+    return f"{seconds * 1e9 / count:,.0f} ns each" if row in CALLS else f"{seconds * 1000:,.2f} ms"
+
+
+def lines(results):
+    yield "| Row | Count | Part | Here | Original | Without SHA instructions | Peak of memory, here | Original |"
+    yield "|---|---|---|---|---|---|---|---|"
+    for (row, count), best in results.items():
+        for part in best[0][0]:
+            times = [time_text(one[0][part], row, count) if one else "no call" if row in OURS else "stack overflow" for one in best]
+            peaks = [f"{one[1] / 1024:,.1f} MiB" if one else "" for one in best[:2]]
+            yield f"| `{row}` | {count:,} | {part.replace('_', ' ')} | {' | '.join(times + peaks)} |"
 
 
 def machine():
@@ -78,19 +127,35 @@ def machine():
     return f"{datetime.date.today()}, {model}, {os.cpu_count()} processors; `{toolchain}`, {compiler}."
 
 
+def asked():
+    parser = argparse.ArgumentParser(usage="compare_speed.py ORIGINAL WORK [--rounds N] [--square N] [--rows ROW,..] [--print]")
+    parser.add_argument("original")
+    parser.add_argument("work")
+    parser.add_argument("--rounds", type=int, default=9)
+    parser.add_argument("--square", type=int, default=4_000)
+    parser.add_argument("--rows")
+    parser.add_argument("--print", action="store_true")
+    return parser.parse_args()
+
+
 def main():
-    if len(sys.argv) != 3:
-        sys.exit("usage: compare_speed.py ORIGINAL WORK")
-    work = pathlib.Path(sys.argv[2]).resolve()
-    if not VECTORS.exists():
-        sys.exit("vectors isn't built: (cd crates/vectors && rt run -- time)")
-    folder = laid_out(sys.argv[1], work)
-    programs = [VECTORS, built(folder, work / "target", {}), built(folder, work / "tuned", TUNED)]
+    words = asked()
+    work = pathlib.Path(words.work).resolve()
+    original = pathlib.Path(words.original).resolve()
+    programs = [built_here(work / "here"), *(built_original(original, work, is_soft) for is_soft in (False, True))]
     forms = work / "forms"
     forms.mkdir(exist_ok=True)
     ran(sys.executable, TOP / "tools" / "speed_sums.py", forms)
-    rows = {row: measured(programs, forms, row) for row in ROWS}
-    table = "\n".join([machine(), "", *lines(rows)])
+    wanted = words.rows.split(",") if words.rows else [row for row, _ in ROWS]
+    results = {}
+    for row, full in ROWS:
+        if row in wanted:
+            count = min(full, words.square) if row in SQUARES else full
+            results[row, count] = measured(programs, forms, row, count, words.rounds)
+    table = "\n".join([machine(), "", *lines(results)])
+    if words.print:
+        print(table)
+        return
     before, rest = PAGE.read_text().split(BEGIN)
     PAGE.write_text(f"{before}{BEGIN}\n{table}\n{END}{rest.split(END)[1]}")
 

@@ -1,7 +1,7 @@
 -- Truth values, and what they count.
 use Rattle.pagable_tables.proofs.Words.{All-push, All-set, AllPairs, AreNewEntries, ArePlaced, AreSound, Bool, GivesUp, HandleNumber, HandleRow, Handles, Holdings, IsBefore, IsFalling, IsNext, Leaves}
 use Rattle.pagable_tables.proofs.Words.{List, Mode, NodeNumber, None, Option, Owner, Place, Some, Tables, [], alive, all_pairs_push, ap, append-nil, arith, cases_eq, changed, entries_of, entry, false}
-use Rattle.pagable_tables.proofs.Words.{filter, find_row, get_or, get_or-set_at, get_or-set_other, get_or_from_slice_get, if_there, if◌then◌else◌, is_handle, is_live_place, is_owned_by, is_owner}
+use Rattle.pagable_tables.proofs.Words.{filter, find_row, get_or, get_or-set_at, get_or_default, get_or-set_other, get_or_from_slice_get, if_there, if◌then◌else◌, is_handle, is_live_place, is_owned_by, is_owner}
 use Rattle.pagable_tables.proofs.Words.{left_rows, length, length-append, length-set, live, nat_tests, not, one, only_handle, or_else, owns_nothing, plain_of, refl, set, slice_get, slice_get-get_or}
 use Rattle.pagable_tables.proofs.Words.{slice_get_within, subst, suc, sum_by, sum_by-append, sum_by-cons, sum_by-le-sum_by, sum_by-set, sum_by_push, sym, take, times, true, unpinned, zero, ℕ, ◌&&◌}
 use Rattle.std.proofs.lemmas.List.{length-take-le}
@@ -175,6 +175,13 @@ row-le-live f ss i row at = omega (arith, sum-live-set f ss i row (record { row 
 
 pub length-live-set : (ss : List Place) (i : ℕ) (row : HandleRow) (new : Place) → slice_get ss i ≡ Some (alive row) → length (live (set ss i new)) + 1 ≡ length (live ss) + one new.is_live
 length-live-set ss i row new at = omega (arith, sum-live-set (λ _. 1) ss i row new at, ones (live ss), ones (live (set ss i new)))
+
+-- from a place on all numbers are greater, where that at the place is
+pub above-from : (ss : List Place) (i number k : ℕ) (d e : Place) → AllPairs IsBefore ss → number < (get_or ss i e).row.number.0 → i ≤ k → k < length ss → number < (get_or ss k d).row.number.0
+above-from ss i number k d e ordered at low within =
+    let same = ap (λ (x : Place). x.row.number.0) (get_or_default ss i e d (omega arith)) in
+    let next = ordered i k d in
+    grind (arith, nat_tests, cases_eq i k)
 
 pub row-got : (ss : List Place) (i : ℕ) (p : Place) (q : ℕ) → AllPairs IsBefore ss → slice_get ss i ≡ Some p → p.is_live ≡ true → p.row.number.0 ≡ q → find_row q (live ss) ≡ Some p.row
 row-got ss i p q ordered at is number = subst (λ n. find_row n (live ss) ≡ Some p.row) number (at-place ss i p.row ordered (at ∙ ap (λ b. Some (record { row = p.row; is_live = b })) is)).2

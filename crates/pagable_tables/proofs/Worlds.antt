@@ -1,9 +1,9 @@
 -- Two worlds that are told alike.
 use Rattle.pagable_tables.proofs.Words.{Adopts, Alike, ArcRef, AreHandlesFull, Bool, Core, Err, Error, FallsAnyhow, HandleNumber, HandleRow, HasRoom, Kind, LazyCall, List, LoadNumber, Makes, Mode}
 use Rattle.pagable_tables.proofs.Words.{NodeNumber, None, Ok, OnlyRoom, OpenLoad, Option, OptionalDataKey, Owner, OwnsLoad, RecallCall, Refused, Result, SameAt, SameCache, Some, [], add-one}
-use Rattle.pagable_tables.proofs.Words.{adopt_fault, adopted, ap, arith, at_drop_all, at_drop_more, birth_fault, closed_fault, drop, drop-cons, drop_all, earlier, early_fault, false, find_row}
+use Rattle.pagable_tables.proofs.Words.{adopt_fault, adopted, ap, arith, at_drop_more, birth_fault, closed_fault, drop, drop-cons, drop_all, earlier, early_fault, false, find_row}
 use Rattle.pagable_tables.proofs.Words.{first_key, get_or, greatest, handle_fault, if_there, if◌then◌else◌, inl, inr, is_in, is_loose_kind, is_named_by, is_owner, length, load_fault, map, mode_of}
-use Rattle.pagable_tables.proofs.Words.{moved, named_at, named_fault, nat_tests, next_node, node_fault, not, numbers_of, only_handle, option_map, or_else, rank, reference_fault, references_fault}
+use Rattle.pagable_tables.proofs.Words.{moved, named_at, named_fault, nat_lt, nat_tests, next_node, node_fault, not, numbers_of, only_handle, option_map, or_else, rank, reference_fault, references_fault}
 use Rattle.pagable_tables.proofs.Words.{refl, refused_if, seen, spent, subst, suc, sym, take, take-suc, take_all, true, type_of, usable, where_so, with_cached, with_handle, with_node, zero, ℕ, ◌&&◌}
 use Rattle.pagable_tables.proofs.Words.{◌++◌, ◌+◌, ◌<◌, ◌==◌, ◌||◌, ◌∙◌, ◌∷◌}
 use Rattle.{pagable_tables.proofs.Words.{◌≡◌, ◌≢◌, ◌≤◌, ◌⊎◌}, pagable_world.specs.Calls.IsNext, std.{proofs.lemmas.List.map-id, specs.Result.IsErrAnd}}
@@ -37,6 +37,29 @@ fault-by w u me seen (r ∷ rs) = ap (or_else (reference_fault w me seen r)) (fa
 
 pub earlier-first : (a x : Option Error) (e : Error) → a ≡ Some e → ((f : Error) → x ≡ Some f → rank e ≤ rank f) → earlier a x ≡ Some e
 earlier-first a x e is late = grind (arith, nat_tests)
+
+-- of two causes the one of the lower number
+abbrev least : (Error → ℕ) → Option Error → Option Error → Option Error
+least r None b = b
+least r (Some e) None = Some e
+least r (Some e) (Some f) = if nat_lt (r f) (r e) then Some f else Some e
+
+least-each : (r : Error → ℕ) (a b c : Option Error) → least r (least r a b) c ≡ least r a (least r b c)
+least-each r None b c = refl
+least-each r (Some e) None c = refl
+least-each r (Some e) (Some f) None = grind (arith, nat_tests)
+least-each r (Some e) (Some f) (Some g) = grind (arith, nat_tests)
+
+is-least : (a b : Option Error) → earlier a b ≡ least rank a b
+is-least None b = refl
+is-least (Some e) None = refl
+is-least (Some e) (Some f) = refl
+
+pub earlier-each : (a b c : Option Error) → earlier (earlier a b) c ≡ earlier a (earlier b c)
+earlier-each a b c = is-least (earlier a b) c ∙ ap (λ x. least rank x c) (is-least a b) ∙ least-each rank a b c ∙ sym (is-least a (earlier b c) ∙ ap (least rank a) (is-least b c))
+
+pub earlier-none : (a : Option Error) → earlier a None ≡ a
+earlier-none a = grind (arith, nat_tests)
 
 pub both-none : (a b : Option Error) → earlier a b ≡ None → (a ≡ None) × (b ≡ None)
 both-none a b e = grind (arith, nat_tests)
@@ -132,6 +155,9 @@ pub in-more : (hs : List HandleNumber) (n q : ℕ) → is_in (seen hs (n + 1)) q
 unfolding is_in seen
 in-more hs n q = let e : n + 1 ≡ suc n = omega arith in ap (λ m. is_in (seen hs m) q) e
 
+pub in-other : (hs : List HandleNumber) (n q : ℕ) → named_at hs n ≢ q → is_in (seen hs n) q ≡ false → is_in (seen hs (n + 1)) q ≡ false
+in-other hs n q other before = let a : (named_at hs n == q) ≡ false = grind (arith, nat_tests) in in-more hs n q ∙ ap (λ b. b || is_in (seen hs n) q) a ∙ before
+
 pub in-there : (hs : List HandleNumber) (m n q : ℕ) → n < m → named_at hs n ≡ q → is_in (seen hs m) q ≡ true
 in-there hs zero n q lt is = absurd (omega arith)
 in-there hs (suc m) n q lt is = let a = in-more hs m q in let e : suc m ≡ m + 1 = omega arith in ap (λ k. is_in (seen hs k) q) e ∙ a ∙ grind (arith, nat_tests, in-there hs m n q)
@@ -139,19 +165,19 @@ in-there hs (suc m) n q lt is = let a = in-more hs m q in let e : suc m ≡ m + 
 abbrev pub one-fault : Core → Owner → List ℕ → HandleNumber → Option Error
 one-fault w o before h = if_there (λ (row : HandleRow). refused_if (not (is_owner o row.owner) || is_in before h.0) Error.NotYours) (Some Error.NoSuchHandle) (find_row h.0 w.rows)
 
-pub last-named : (w : Core) (o : Owner) (hs : List HandleNumber) → None ≡ named_fault w o (seen hs (length hs)) (drop (length hs) hs)
-unfolding named_fault
-last-named w o hs = sym (at_drop_all (named_fault w o (seen hs (length hs))) hs (length hs) (omega arith))
-
 pub one-named : (w : Core) (o : Owner) (hs : List HandleNumber) (p : ℕ) (x rest : Option Error) → p < length hs → x ≡ one-fault w o (seen hs p) (get_or hs p (record { 0 = 0 })) → rest ≡ named_fault w o (seen hs (p + 1)) (drop (p + 1) hs) → earlier x rest ≡ named_fault w o (seen hs p) (drop p hs)
 unfolding named_fault seen
 one-named w o hs p x rest lt is follows = ap (λ x. earlier x rest) is
     ∙ ap (earlier (one-fault w o (seen hs p) (get_or hs p (record { 0 = 0 })))) (follows ∙ ap (λ n. named_fault w o (seen hs n) (drop (p + 1) hs)) (let e : p + 1 ≡ suc p = omega arith in e))
     ∙ sym (at_drop_more (named_fault w o (seen hs p)) hs p (record { 0 = 0 }) lt)
 
-pub all-named : (w : Core) (o : Owner) (hs : List HandleNumber) (p : ℕ) (x : Option Error) → p ≡ 0 → x ≡ named_fault w o (seen hs p) (drop p hs) → x ≡ named_fault w o [] hs
+pub none-named : (w : Core) (o : Owner) (hs : List HandleNumber) → earlier None (named_fault w o (seen hs 0) (drop 0 hs)) ≡ named_fault w o [] hs
 unfolding seen
-all-named w o hs p x zero' is = is ∙ ap (λ p. named_fault w o (seen hs p) (drop p hs)) zero'
+none-named w o hs = refl
+
+pub all-named : (w : Core) (o : Owner) (hs : List HandleNumber) (p : ℕ) (x : Option Error) → length hs ≤ p → earlier x (named_fault w o (seen hs p) (drop p hs)) ≡ named_fault w o [] hs → x ≡ named_fault w o [] hs
+unfolding named_fault
+all-named w o hs p x past is = sym (earlier-none x) ∙ sym (ap (λ rest. earlier x (named_fault w o (seen hs p) rest)) (drop_all p hs past)) ∙ is
 
 pub none-moved : (o : Owner) (rows : List HandleRow) → moved (is_in []) o rows ≡ rows
 unfolding is_in
@@ -174,7 +200,7 @@ unfolding find_row
 found-map f same q [] = refl
 found-map f same q (x ∷ xs) = let a = same x in grind (arith, nat_tests, found-map f same q xs)
 
-pub ruleset handing = (nat_tests, in-none, in-more, in-there, last-named, all-named, none-moved)
+pub ruleset handing = (nat_tests, in-none, in-more, in-there, in-other, none-named, all-named, none-moved)
 
 -- ---- handles that references name come to another owner
 

@@ -53,14 +53,22 @@ fn gives(loads: &Loads, giving: Giving, row: HandleRow) -> bool
     }
 }
 
-/// The last handle that is given up, of a number above `since` and not above `left`.
+/// The last handle that is given up, of a number above `since` and not above `left`. It is looked for from the place
+/// `guess` down, where numbers above `left` begin there.
 #[tactic(auto, using(crate::proofs::Newer::places))]
-fn last(handles: &Handles, loads: &Loads, giving: Giving, since: u64, left: u64) -> Option<HandleAt>
+fn last(
+    handles: &Handles,
+    loads: &Loads,
+    giving: Giving,
+    since: u64,
+    left: u64,
+    guess: usize,
+) -> Option<HandleAt>
     requires { AreSound handles.now }
     ensures last { IfSome result (IsLast handles.now.places.items loads.now giving (λ q. since < q) left) }
     ensures none { IfNone result ((w : Core) (q : ℕ) → LoadsAre loads.now w → since < q → q ≤ left → passes_in (gives_row w giving) (live handles.now.places.items) q ≡ false) }
 {
-    let mut place = handles::up_to(&handles.places, left);
+    let mut place = handles::up_to_from(&handles.places, left, guess);
     while place > 0 {
         place -= 1;
         let found = handles.places[place];
@@ -82,12 +90,13 @@ fn last_given(
     giving: Giving,
     reach: Reach,
     left: u64,
+    guess: usize,
 ) -> Option<HandleAt>
     requires { AreSound handles.now }
     ensures last { IfSome result (IsLast handles.now.places.items loads.now giving (InReach reach) left) }
     ensures none { IfNone result ((w : Core) (q : ℕ) → LoadsAre loads.now w → InReach reach q → q ≤ left → passes_in (gives_row w giving) (live handles.now.places.items) q ≡ false) }
 {
-    if let Some(at) = last(handles, loads, giving, reach.since, left) {
+    if let Some(at) = last(handles, loads, giving, reach.since, left, guess) {
         return Some(at);
     }
     if reach.beside == 0 || left < reach.beside {
@@ -118,8 +127,10 @@ pub fn give_all<N: Drop>(
 {
     t.unlisted = None;
     let mut left = t.last_handle;
-    while let Some(at) = last_given(&t.handles, loads, giving, reach, left) {
+    let mut guess = t.handles.places.len();
+    while let Some(at) = last_given(&t.handles, loads, giving, reach, left, guess) {
         left = at.row.number.0 - 1;
+        guess = at.place;
         shed(t, values, at, lists);
     }
     fall(t, values, lists)

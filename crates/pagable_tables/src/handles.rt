@@ -1,6 +1,6 @@
 //! Live handles in the order of their numbers, found by halving. A dead row stays in its place until none behind it lives, or more than half are dead.
 
-ghost use Rattle.std.specs.{List.{AllPairs, Sorted.IsPartitionPoint}, Prelude.{IfNone, IfSome, None, OnErr, OnOk, Some, [], false, length, slice_get, sum_by, ◌++◌, ◌+◌, ◌<◌, ◌∷◌, ◌≡◌, ◌≤◌}};
+ghost use Rattle.std.specs.{List.{AllPairs, Sorted.IsPartitionPoint}, Prelude.{IfNone, IfSome, None, OnErr, OnOk, Some, [], false, get_or, length, slice_get, sum_by, ◌++◌, ◌+◌, ◌<◌, ◌∷◌, ◌≡◌, ◌≤◌}};
 ghost use Rattle.pagable_tables.specs.{Falling.{AreSound, Becomes, IsBefore, IsFalling, IsNext, Widens, alive, is_valued, live, owns_nothing, room}, declared.holdings.Holdings.Holdings};
 ghost use Rattle.{pagable_tables.specs.declared.tables.Place.Place, pagable_world.specs.{Calls.{is_named_by, moved}, Cascade.{left_rows, only_handle}, Kinds.{find_row, is_handle}}};
 ghost use Rattle.{pagable_world.specs.{LoadCalls.numbers_of, Plain.{changed, is_in}, declared.handles.HandleRow.HandleRow}, std.specs.Prelude.{vec_capacity, vec_len, ℕ}};
@@ -24,6 +24,22 @@ pub fn up_to(places: &[Place], number: u64) -> usize
     ensures point { IsPartitionPoint (λ (p : Place). p.row.number.0 ≤ number) (λ (p : Place). number < p.row.number.0) places.now result }
 {
     places.partition_point(|place| place.row.number.0 <= number)
+}
+
+/// From which place on all numbers are greater than this one: the guess, where they are from there on, and else found by
+/// halving.
+pub fn up_to_from(places: &[Place], number: u64, guess: usize) -> usize
+    requires { AllPairs IsBefore places.now }
+    ensures within { result ≤ length places.now }
+    ensures above { (k : ℕ) (d : Place) → result ≤ k → k < length places.now → number < (get_or places.now k d).row.number.0 }
+{
+    if guess >= places.len() {
+        return places.len();
+    }
+    if places[guess].row.number.0 <= number {
+        return up_to(places, number);
+    }
+    guess
 }
 
 /// The live handle of this number, with its place, if it stands at this one.

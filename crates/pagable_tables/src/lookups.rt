@@ -1,7 +1,7 @@
 //! What is asked of modes, kinds, handles and nodes, and why calls are refused: the references of a value that is handed in, and which of several causes is told. Nothing changes by that.
 //! And the cache, which owns nothing: which node is known under a kind and a key, what it gives, and handles that are offered to it.
 
-ghost use Rattle.pagable_tables.specs.{Core.{AreLater, Does, IsWhole, MayHold, core_of, load_in, named_at, plain_of}, Falling.{Sheds, cell_in, counts_at, has_value, key_in, known_at, live, pins_in}};
+ghost use Rattle.pagable_tables.specs.{Core.{AreLater, Does, IsWhole, MayHold, core_of, load_in, plain_of}, Falling.{Sheds, cell_in, counts_at, has_value, key_in, known_at, live, pins_in}};
 ghost use Rattle.pagable_world.specs.{Calls.{AwayCall, CountCall, KeyCall, Looks, NodeCall, OfferCall, RecallCall, TypeCall, is_named_by, offer_fault}, LoadCalls.cell_fault, Workers.claim_fault};
 ghost use Rattle.pagable_world.specs.{Kinds.{find_row, fits_mode, is_in_memory, is_loose, is_owner, is_pinning, is_unpinned, mode_of}, World.{Cell, Core, OpenLoad, key_at, type_at, usable}};
 ghost use Rattle.std.specs.Prelude.{IfErr, IfNone, IfOk, IfSome, IsOk, List, None, OnErr, OnOk, Option, Some, [], false, if◌then◌else◌, length, nat_eq, not, true, ℕ, ◌<◌, ◌||◌, ◌≡◌, ◌≢◌, ◌≤◌, ◌⊎◌};
@@ -77,13 +77,15 @@ pub fn is_of(counts: Option<Counts>, kind: Kind) -> bool
     counts.map_or(false, |c| c.node_type == kind.0 / 3)
 }
 
-/// Whether one of these references names the handle, where none has a greater number than the highest. So references in the order of their handles cost a look each.
+/// Whether one of these references names the handle, where those that they name are numbers from the lowest to the
+/// highest. So references in the order of their handles, from either end, cost a look each.
 #[tactic(auto, using(crate::proofs::Worlds::naming))]
-fn is_named(references: &[ArcRef], highest: u64, handle: HandleNumber) -> bool
-    requires { (q : ℕ) → highest < q → is_named_by references.now q ≡ false }
+fn is_named(references: &[ArcRef], lowest: u64, highest: u64, handle: HandleNumber) -> bool
+    requires below { (q : ℕ) → q < lowest → is_named_by references.now q ≡ false }
+    requires above { (q : ℕ) → highest < q → is_named_by references.now q ≡ false }
     ensures { result ≡ is_named_by references.now handle.0 }
 {
-    if handle.0 > highest {
+    if handle.0 < lowest || handle.0 > highest {
         return false;
     }
     for reference in references {
@@ -139,13 +141,15 @@ pub fn references_fault(t: &Tables, me: Owner, references: &[ArcRef]) -> Option<
     requires { IsWhole t.now }
     ensures { (stored : ℕ → Option Blob) (closed : Bool) (failures : ℕ) → result ≡ references_fault (core_of t.now stored closed failures) me [] references.now }
 {
+    let mut lowest = u64::MAX;
     let mut highest = 0;
     for i in 0..references.len() {
         let reference = references[i];
-        let is_seen = is_named(&references[..i], highest, reference.handle);
+        let is_seen = is_named(&references[..i], lowest, highest, reference.handle);
         if let Some(e) = fault_of(t, me, reference, is_seen) {
             return Some(e);
         }
+        lowest = lowest.min(reference.handle.0);
         highest = highest.max(reference.handle.0);
     }
     None
@@ -193,12 +197,17 @@ pub fn cell_fault(row: Option<LoadRow>) -> Option<Error>
     matches!(row?.root, LoadRoot::Cell(_, _, _)).then_some(Error::WrongMode)
 }
 
-/// Whether the number stands before this place.
+/// Whether the number stands before this place, where those that stand there are numbers from the lowest to the highest.
 #[tactic(auto, using(crate::proofs::Worlds::handing))]
-fn is_before(named: &[HandleNumber], place: usize, number: u64) -> bool
-    requires { place ≤ length named.now }
+fn is_before(named: &[HandleNumber], place: usize, lowest: u64, highest: u64, number: u64) -> bool
+    requires within { place ≤ length named.now }
+    requires below { (q : ℕ) → q < lowest → is_in (seen named.now place) q ≡ false }
+    requires above { (q : ℕ) → highest < q → is_in (seen named.now place) q ≡ false }
     ensures { result ≡ is_in (seen named.now place) number }
 {
+    if number < lowest || number > highest {
+        return false;
+    }
     for at in 0..place {
         if named[at].0 == number {
             return true;
@@ -207,17 +216,14 @@ fn is_before(named: &[HandleNumber], place: usize, number: u64) -> bool
     false
 }
 
-/// Why the handle that is named at this place can't be handed over by this owner, if it can't.
-fn fault_at(handles: &Handles, owner: Owner, named: &[HandleNumber], place: usize) -> Option<Error>
-    requires sound { AreSound handles.now }
-    requires within { place < length named.now }
-    ensures { result ≡ if_there (λ (row : HandleRow). refused_if (not (is_owner owner row.owner) || is_in (seen named.now place) (named_at named.now place)) errors.NotYours) (Some errors.NoSuchHandle) (find_row (named_at named.now place) (live handles.now.places.items)) }
+/// Why a handle that was named before or wasn't can't be handed over by this owner, if it can't.
+fn hand_fault(handles: &Handles, owner: Owner, handle: HandleNumber, is_seen: bool) -> Option<Error>
+    requires { AreSound handles.now }
+    ensures { result ≡ if_there (λ (row : HandleRow). refused_if (not (is_owner owner row.owner) || is_seen) errors.NotYours) (Some errors.NoSuchHandle) (find_row handle.0 (live handles.now.places.items)) }
 {
-    let handle = named[place];
     let Some(at) = handles::look(handles, handle) else {
         return Some(Error::NoSuchHandle);
     };
-    let is_seen = is_before(named, place, handle.0);
     (!is_owner(owner, at.row.owner) | is_seen).then_some(Error::NotYours)
 }
 
@@ -228,10 +234,14 @@ pub fn named_fault(handles: &Handles, owner: Owner, named: &[HandleNumber]) -> O
     ensures { (w : Core) → w.rows ≡ live handles.now.places.items → result ≡ named_fault w owner [] named.now }
 {
     let mut fault = None;
-    let mut place = named.len();
-    while place > 0 {
-        place -= 1;
-        fault = earlier(fault_at(handles, owner, named, place), fault);
+    let mut lowest = u64::MAX;
+    let mut highest = 0;
+    for i in 0..named.len() {
+        let handle = named[i];
+        let is_seen = is_before(named, i, lowest, highest, handle.0);
+        fault = earlier(fault, hand_fault(handles, owner, handle, is_seen));
+        lowest = lowest.min(handle.0);
+        highest = highest.max(handle.0);
     }
     fault
 }

@@ -1,13 +1,11 @@
 //! `vectors FILE..` answers each line of each file with one line, but for comments and lines that only make a pager; of the file `worked.txt` it
 //! runs the rows, and prints a line for each. Before, it says whether sessions and bundles hold. What it has to answer stands in `stdout`, and comes from outside the program.
-//! `vectors time [ROW [RUNS]]` prints how long it takes to write and to read values.
 #![tactic(auto)]
 
 mod bundles;
 mod calls;
 mod lines;
 mod quick_start;
-mod times;
 mod worked;
 
 use crate::calls::{Calls, let_go};
@@ -43,19 +41,14 @@ fn answer_each(rt: &HostRuntime, calls: &mut Calls, words: &[String]) -> anyhow:
     Ok(())
 }
 
-/// Does what the words after the program's name ask for: it answers the files of these names, from a new machine on, or times rows.
+/// Says whether sessions and bundles hold, and answers the files of these names, from a new machine on.
 fn run(rt: &HostRuntime, words: &[String], sessions_hold: bool) -> anyhow::Result<()> {
-    match words {
-        [first, rest @ ..] if first.as_str() == "time" => times::run(rt, rest),
-        _ => {
-            println!(rt; "sessions hold: {sessions_hold}")?;
-            println!(rt; "bundles hold: {}", bundles::hold(rt.alloc()))?;
-            let mut calls = Calls::new(rt.alloc(), "");
-            let done = answer_each(rt, &mut calls, words);
-            let_go(calls);
-            done
-        }
-    }
+    println!(rt; "sessions hold: {sessions_hold}")?;
+    println!(rt; "bundles hold: {}", bundles::hold(rt.alloc()))?;
+    let mut calls = Calls::new(rt.alloc(), "");
+    let done = answer_each(rt, &mut calls, words);
+    let_go(calls);
+    done
 }
 
 fn main(rt: HostRuntime) -> anyhow::Result<()> {

@@ -1,11 +1,13 @@
-use Rattle.pagable_tables.proofs.{Words.{arith, drop, named_fault, seen, subst, ◌+◌, ◌-◌, ◌∙◌, ◌≡◌}, Worlds.one-named}
+use Rattle.pagable_tables.proofs.{Words.{ap, arith, drop, earlier, named_fault, refl, seen, sym, ◌+◌, ◌∙◌}, Worlds.{earlier-each, in-other, one-named}}
 
-pub loop-place-preserved : Rattle.pagable_tables.proofs.lookups.named_fault.Goals.loop-place-preserved
-loop-place-preserved c =
+pub loop-i-preserved : Rattle.pagable_tables.proofs.lookups.named_fault.Goals.loop-i-preserved
+loop-i-preserved c =
+    let l = c.loop-i in
     let hs = c.args.named.now in
-    let p = c.loop-place.place - 1 in
-    let up : c.loop-place.place ≡ p + 1 = omega arith in (
-      omega arith,
-      λ w is. c.earlier-fault.ensures ∙ one-named w c.args.owner hs p c.fault_at.result c.loop-place.fault (omega arith) (rw is c.fault_at.ensures)
-          (subst (λ q. c.loop-place.fault ≡ named_fault w c.args.owner (seen hs q) (drop q hs)) up (c.loop-place.invariant.1 w is)),
-    )
+    record {
+      lowest = λ q below. in-other hs l.i q (omega (arith, c.min-lowest.ensures)) (l.invariant.lowest q (omega (arith, c.min-lowest.ensures)));
+      highest = λ q above. in-other hs l.i q (omega (arith, c.max-highest.ensures)) (l.invariant.highest q (omega (arith, c.max-highest.ensures)));
+      rest = λ w is. ap (λ x. earlier x (named_fault w c.args.owner (seen hs (l.i + 1)) (drop (l.i + 1) hs))) c.earlier-fault.ensures
+          ∙ earlier-each l.fault c.hand_fault.result _
+          ∙ ap (earlier l.fault) (one-named w c.args.owner hs l.i c.hand_fault.result _ (omega arith) (rw (is, sym c.is_before-is_seen.ensures) c.hand_fault.ensures) refl) ∙ l.invariant.rest w is;
+    }

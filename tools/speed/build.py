@@ -1,0 +1,108 @@
+#!/usr/bin/env python3
+"""Builds the program of this folder unproved, as fast as a proved one: by `rt try`, through a toolchain folder of its own.
+
+    tools/speed/build.py WORK [REPOSITORY]        # writes WORK/speed, over the crates of this repository or of another copy
+
+A proved program is compiled by `rt run`, which proves it first. `rt try` compiles without a proof, and puts checks of its own into the code, fills each
+new variable, and links a sanitizer. Here the compiler that `rt try` calls is this script: it takes all that out of the code, and compiles as `rt run`
+does, at -O3 for x86-64-v2. What comes of it is as fast as the proved program, within what one can measure.
+
+The files are named X.rattle, since the gate stops at a file X.rt that it doesn't check.
+"""
+import os
+import pathlib
+import re
+import shutil
+import subprocess
+import sys
+
+HERE = pathlib.Path(__file__).resolve().parent
+TOP = HERE.parent.parent
+USES = "speed: pagable pagable_rows pagable_examples anyhow indexmap\n"
+# What `rt try` adds: bytes put into new variables, and calls of its checks.
+ADDED = re.compile(r"^ *call void @(?:llvm\.memset\.p0\.i64\(ptr %\S+, i8 -86,|\"rattle-llvm-checks::).*\n", re.MULTILINE)
+FAST = ["-O3", "-Xclang", "-fmerge-functions", "-mllvm", "-mergefunc-use-aliases", "-fno-vectorize", "-fno-slp-vectorize"]
+
+
+def compiled(kit, words):
+    """Compiles for `rt try`, in the folder in which it calls the compiler."""
+    clang = ["clang", *[word for word in words if word != "-fsanitize=address"]]
+    real = kit / "toolchain" / "bin" / "clang"
+    module = clang[clang.index("ir") + 1]
+    text = [*clang[: clang.index("-c")], "-x", "ir", module, "-S", "-emit-llvm", "-Xclang", "-disable-llvm-passes", "-O0", "-o", "module.ll"]
+    subprocess.run(text, executable=real, check=True)
+    code = ADDED.sub("", pathlib.Path("module.ll").read_text())
+    code = code.replace("sanitize_address", "").replace('"frame-pointer"="all"', '"frame-pointer"="none"')
+    code = code.replace('"target-cpu"="x86-64"', '"target-cpu"="x86-64-v2"')
+    pathlib.Path("module.ll").write_text(code)
+    clang[clang.index(module)] = "module.ll"
+    fast = [new for word in clang for new in (FAST if word == "-O0" else [word.replace("-march=x86-64", "-march=x86-64-v2")])]
+    return subprocess.run(fast, executable=real).returncode
+
+
+def linked(kit, work, words):
+    """Links for `rt try`, without the sanitizer, and keeps the program."""
+    first, last = words.index("--whole-archive"), words.index("--no-whole-archive")
+    words = words[:first] + words[last + 1 :]
+    status = subprocess.run(["ld.lld", *words], executable=kit / "toolchain" / "bin" / "clang").returncode
+    if not status:
+        shutil.copy(words[words.index("-o") + 1], work / "speed")
+    return status
+
+
+def kit_in(work):
+    """A folder like the kit's, whose compiler and linker are this script."""
+    kit = pathlib.Path(shutil.which("rt")).resolve().parent.parent
+    folder = work / "kit"
+    shutil.rmtree(folder, ignore_errors=True)
+    for inner in ("bin", "toolchain/bin"):
+        (folder / inner).mkdir(parents=True)
+        for file in (kit / inner).iterdir():
+            (folder / inner / file.name).symlink_to(file)
+    for file in [*kit.iterdir(), kit / "toolchain" / "lib"]:
+        if file.name not in ("bin", "toolchain"):
+            (folder / file.relative_to(kit)).symlink_to(file)
+    for name in ("rt", "rtlib.py"):
+        (folder / "bin" / name).unlink()
+        shutil.copy(kit / "bin" / name, folder / "bin" / name)
+    for name in ("clang", "ld.lld"):
+        tool = folder / "toolchain" / "bin" / name
+        tool.unlink()
+        tool.write_text(f'#!/bin/sh\nexec "{sys.executable}" "{HERE / "build.py"}" --{name} "{kit}" "{work}" "$@"\n')
+        tool.chmod(0o755)
+    return folder
+
+
+def built(work, repository=TOP):
+    """Builds the program, and gives its path."""
+    work.mkdir(parents=True, exist_ok=True)
+    copy = work / "repository"
+    shutil.rmtree(copy, ignore_errors=True)
+    shutil.copytree(repository / "crates", copy / "crates", ignore=shutil.ignore_patterns("out"))
+    shutil.copy(repository / "HANDLES", copy / "HANDLES")
+    (copy / "crates.txt").write_text((repository / "crates.txt").read_text() + USES)
+    subprocess.run(["git", "init", "-q"], cwd=copy, check=True)
+    source = copy / "crates" / "speed" / "src"
+    source.mkdir(parents=True)
+    for file in HERE.glob("*.rattle"):
+        shutil.copy(file, source / f"{file.stem}.rt")
+    program = work / "speed"
+    program.unlink(missing_ok=True)
+    # (without words the program only says how it is called)
+    tried = [kit_in(work) / "bin" / "rt", "try", "--steps", "1", "--seconds", "5"]
+    said = subprocess.run(tried, cwd=source.parent, stdin=subprocess.DEVNULL, text=True, capture_output=True)
+    if not program.exists():
+        sys.exit(f"{said.stdout}{said.stderr}")
+    return program
+
+
+def main():
+    if sys.argv[1] == "--clang":
+        sys.exit(compiled(pathlib.Path(sys.argv[2]), sys.argv[4:]))
+    if sys.argv[1] == "--ld.lld":
+        sys.exit(linked(pathlib.Path(sys.argv[2]), pathlib.Path(sys.argv[3]), sys.argv[4:]))
+    print(built(*[pathlib.Path(word).resolve() for word in sys.argv[1:]]))
+
+
+if __name__ == "__main__":
+    main()
