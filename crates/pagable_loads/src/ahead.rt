@@ -18,7 +18,7 @@ use std::mem::replace;
 pub struct Ahead {
     /// Of the innermost blob.
     pub top: Vec<ArcRef>,
-    /// Of those below it, the last of them first.
+    /// Of those that wait for it, the root's first.
     pub below: Vec<Vec<ArcRef>>,
 }
 
@@ -197,7 +197,8 @@ impl Reading {
         Need::Lazy(kind, key)
     }
 
-    /// What is ahead of its blobs, once it has got what it needed; and whether that was a node of its innermost blob.
+    /// What is known ahead follows a step that got what was needed: the row of a blob that was read goes, a blob that came has none yet, and one that got a reference of another kind
+    /// than its row says loses its row.
     pub(crate) fn follow(&self, alloc: Global, ahead: &mut Ahead, was_read: bool)
         ensures { Follows was_read (frames_of self.now.top self.now.below.items) (rows_of ahead.old) (rows_of ahead.new) }
     {
