@@ -1,12 +1,14 @@
 -- What a blob asks for is told by kinds alone: with references of the same kinds it is read side by side, up to where one of the two readings asks for a reference that wasn't got.
 use Rattle.pagable_laws.proofs.{Related.{Out, SameRest, Sober, both-faulty, both-given, both-refused, first-refused, typed_par}, Trees.{Along, reference-along}}
-use Rattle.pagable_loads.specs.{Decoding.{AsksNext, Foresees, GotMore, IsAhead, Kept, RowTells, kinds_of}, Ending.{LeadsOn, left_behind, left_in, many, to_do, weight, weight_on}}
-use Rattle.pagable_model.specs.{Blob.Blob, Deep.is_eager, Meaning.Meaning, Reading.{Rest, reference_at}, Standing.{Answer, answer_at}, Steps.◌>>=◌, declared.{error.Error.Error, numbers.ArcRef.ArcRef}}
+use Rattle.pagable_loads.specs.{Decoding.{AllAhead, AreAhead, AsksNext, Follows, Foresees, FramesGo, GoesFor, GotMore, IsAhead, IsAheadOf, KeptAt, LeftIf, NeedsNext, is_adoption, kinds_of, stacked}, Ending.{LeadsOn, left_behind, left_in, many, to_do, weight, weight_on}}
+use Rattle.pagable_model.specs.{Blob.Blob, Meaning.Meaning, Reading.{Rest, reference_at}, Standing.{Answer, answer_at}, Steps.◌>>=◌, declared.{error.Error.Error, numbers.ArcRef.ArcRef}}
 use Rattle.std.proofs.lemmas.{Bool.{cases_Bool, eqb-true}, Grind.common_steps, Option.slice_get_within}
 use Rattle.std.proofs.lemmas.{Bool.Decides.nat_tests, List.{append_assoc, at_drop_all, at_drop_more, length-append, length-map, map-append}, Option.{slice_get-get_or, slice_get_cases}}
 use Rattle.std.proofs.{Common.{inl, inr, length, refl, slice_get, subst, suc, sym, zero, ℕ, ◌*◌, ◌++◌, ◌+◌, ◌-◌, ◌<◌, ◌==◌, ◌^◌, ◌∙◌, ◌∷◌, ◌≡◌, ◌≤◌, ◌⊎◌}, Math.Nat.mul-le-mul_right}
-use Rattle.{pagable_model.specs.declared.numbers.Kind.Kind, pagable_world.specs.Loads.{Need, answer_of, answers_from, asks, need_of, needs_lazy, needs_nested, next_by, next_of}}
+use Rattle.{pagable_model.specs.declared.numbers.Kind.Kind, pagable_world.specs.Loads.{Need, answer_of, answers_from, asks, need_at, need_of, needs_lazy, needs_nested, next_by, next_of}}
 use Rattle.{pagable_world.specs.{Loads.read_with as read_blob, Plain.Types, World.Frame}, std.proofs.Common.{Bool, Err, List, None, Ok, Option, Result, Some, [], ap, arith, drop, false}}
+use Rattle.{pagable_loads.specs.declared.reading.Need.Need as Needed, pagable_world.specs.declared.events.LoadAnswer.LoadAnswer}
+use Rattle.std.{proofs.Common.true, specs.{Prelude.IfNone, declared.{alloc.Global.Global, vec.Vec.Vec}}}
 use Rattle.pagable_model.specs.Meaning as meanings
 
 -- ---- kinds that are asked for
@@ -98,9 +100,14 @@ module _ (types : Types) (t : ℕ) (blob : Blob) where
       record { key = _; there = there; next = ap (next_by (slice_get blob.keys (length got))) err ∙ ap (λ o. next_by o (Err (Error.Storage k))) there }
 
 -- a row that was found by stand-ins, the last of which is asked for after all others
+foreseen : (types : Types) (f : Frame) (row xs noted : List ArcRef) (last : ArcRef) (kind : Kind) (key : ℕ) → row ≡ xs ++ last ∷ []
+    → xs ≡ f.got ++ noted → kind.0 ≡ last.kind.0 → next_of types f.node_type f.blob xs ≡ asks kind key → Foresees types f (kinds_of row)
+foreseen types f row xs noted last kind key is split same next = grind (arith, nat_tests, append_assoc, kinds_joined, row_asked)
+
 pub row_found : (types : Types) (f : Frame) (fs frames : List Frame) (row xs noted : List ArcRef) (last : ArcRef) (kind : Kind) (key : ℕ) → frames ≡ f ∷ fs → row ≡ xs ++ last ∷ []
     → xs ≡ f.got ++ noted → kind.0 ≡ last.kind.0 → next_of types f.node_type f.blob xs ≡ asks kind key → IsAhead types frames row
-row_found types f fs frames row xs noted last kind key there is split same next = grind (arith, nat_tests, append_assoc, kinds_joined, row_asked)
+row_found types f fs frames row xs noted last kind key there is split same next =
+    record { is = λ g gs at. let e : f ∷ fs ≡ g ∷ gs = sym there ∙ at in let one : f ≡ g = cc in inr (subst (λ x. Foresees types x (kinds_of row)) one (foreseen types f row xs noted last kind key is split same next)) }
 
 -- what stands in the row behind what was got
 next_in_row : (row got : List ArcRef) (r : ArcRef) (ahead : List ℕ) → kinds_of row ≡ kinds_of got ++ ahead → slice_get row (length got) ≡ Some r → (more : List ℕ) × (ahead ≡ r.kind.0 ∷ more)
@@ -114,13 +121,130 @@ pub still_ahead : (types : Types) (f : Frame) (row : List ArcRef) (r s : ArcRef)
 still_ahead types f row r s h at same = grind (arith, nat_tests, append_assoc, kinds_joined, next_in_row)
 
 -- what a row tells of the innermost blob
-pub row_tells : (types : Types) (top : Frame) (fs frames : List Frame) (row : List ArcRef) (r : ArcRef) (key place : ℕ) → frames ≡ top ∷ fs → place ≡ length top.got → slice_get row place ≡ Some r
-    → slice_get top.blob.keys place ≡ Some key → is_eager r.kind.0 ≡ false → IsAhead types frames row → RowTells types frames row r.kind key
-row_tells types top fs frames row r key place is count at_row at_k later h = grind (arith, nat_tests, common_steps, next_in_row)
+told_by : (types : Types) (top : Frame) (fs : List Frame) (row : List ArcRef) (r : ArcRef) (key : ℕ) → slice_get row (length top.got) ≡ Some r
+    → slice_get top.blob.keys (length top.got) ≡ Some key → IsAheadOf types top row → NeedsNext types (top ∷ fs) r.kind key
+told_by types top fs row r key at_row at_key (inl none) = absurd (let e : slice_get [] (length top.got) ≡ Some r = subst (λ xs. slice_get xs (length top.got) ≡ Some r) none at_row in cc)
+told_by types top fs row r key at_row at_key (inr h) =
+    let more = next_in_row row top.got r h.ahead h.split at_row in
+    let a = h.each top.got r.kind.0 more.0 (h.split ∙ ap (λ xs. kinds_of top.got ++ xs) more.1) in
+    let same : a.key ≡ key = let e = sym a.there ∙ at_key in cc in
+    record { is = ap (need_at fs) (a.next ∙ ap (asks r.kind) same) }
 
--- and it does so of what is left, where the reference is of the kind
-pub row_goes_on : (types : Types) (old new : List Frame) (row after : List ArcRef) (kind : Kind) (key : ℕ) (s : ArcRef) → RowTells types old row kind key → GotMore old new s → Kept kind s row after → IsAhead types new after
-row_goes_on types old new row after kind key s t g kept = grind (arith, nat_tests, still_ahead)
+pub row_tells : (types : Types) (top : Frame) (fs frames : List Frame) (row : List ArcRef) (r : ArcRef) (key place : ℕ) → frames ≡ top ∷ fs → place ≡ length top.got → slice_get row place ≡ Some r
+    → slice_get top.blob.keys place ≡ Some key → IsAhead types frames row → NeedsNext types frames r.kind key
+row_tells types top fs frames row r key place is count at_row at_key h =
+    let P : ℕ → Type 0 = λ n. (slice_get row n ≡ Some r) × (slice_get top.blob.keys n ≡ Some key) in
+    let at : P (length top.got) = subst P count (at_row, at_key) in
+    subst (λ fr. NeedsNext types fr r.kind key) (sym is) (told_by types top fs row r key at.0 at.1 (h.is top fs is))
+
+-- ---- what is ahead of all blobs, and how it follows a step
+
+last_of : (xs : List ArcRef) (x : ArcRef) → slice_get (xs ++ x ∷ []) (length xs) ≡ Some x
+last_of [] x = refl
+last_of (y ∷ xs) x = last_of xs x
+
+none_known : (types : Types) (frames : List Frame) → AreAhead types frames []
+none_known types [] = tt
+none_known types (f ∷ fs) = tt
+
+pub none_ahead : (types : Types) (frames : List Frame) (rows : List (List ArcRef)) → rows ≡ [] ∷ [] → AllAhead types frames rows
+none_ahead types [] rows is = record { are = tt }
+none_ahead types (f ∷ fs) rows is = record { are = subst (AreAhead types (f ∷ fs)) (sym is) (inl refl, none_known types fs) }
+
+pub top_ahead : {types : Types} {frames : List Frame} {row : List ArcRef} {rows : List (List ArcRef)} → AllAhead types frames (row ∷ rows) → IsAhead types frames row
+top_ahead {types} {frames} {row} {rows} a = record { is = λ f fs there. (subst (λ fr. AreAhead types fr (row ∷ rows)) there a.are).0 }
+
+pub with_top : {types : Types} (frames : List Frame) {row row' : List ArcRef} {rows : List (List ArcRef)} → AllAhead types frames (row ∷ rows) → IsAhead types frames row' → AllAhead types frames (row' ∷ rows)
+with_top [] a h = record { are = tt }
+with_top (f ∷ fs) a h = record { are = (h.is f fs refl, a.are.1) }
+
+pub stacked_more : (rows : List (List ArcRef)) (xs : List (Vec ArcRef Global)) (x : Vec ArcRef Global) → stacked rows (xs ++ x ∷ []) ≡ x.items ∷ stacked rows xs
+unfolding stacked
+stacked_more rows [] x = refl
+stacked_more rows (y ∷ xs) x = stacked_more (y.items ∷ rows) xs x
+
+pub stacked_none : (xs : List (Vec ArcRef Global)) → xs ≡ [] → stacked [] xs ≡ []
+unfolding stacked
+stacked_none xs is = ap (stacked []) is
+
+pub ruleset leaving = (nat_tests, stacked_more, stacked_none)
+
+-- the innermost blob has got a reference, and its row stays where that is of its kind
+got_on : (types : Types) (f : Frame) (r : ArcRef) (row row' : List ArcRef) (place : ℕ) (kind : Kind) → place ≡ length f.got → kind.0 ≡ r.kind.0 → IsAheadOf types f row → KeptAt place kind row row'
+    → IsAheadOf types (record f { got = f.got ++ r ∷ [] }) row'
+got_on types f r row row' place kind at of_kind h (inl none) = inl none
+got_on types f r row row' place kind at of_kind (inl none) (inr (same, (s, there, is))) = inl (same ∙ none)
+got_on types f r row row' place kind at of_kind (inr h) (inr (same, (s, there, is))) =
+    let here = subst (λ n. slice_get row n ≡ Some s) at there in
+    inr (subst (λ xs. Foresees types (record f { got = f.got ++ r ∷ [] }) (kinds_of xs)) (sym same) (still_ahead types f row s r h here (sym of_kind ∙ is)))
+
+-- what is known of the blobs before the innermost was read, and then of those below it
+left_on : (types : Types) (top : Frame) (below : List Frame) (rows mid : List (List ArcRef)) → LeftIf true rows mid → AreAhead types (top ∷ below) rows → AreAhead types below mid
+left_on types top below rows mid (inl (row, is)) a = (subst (AreAhead types (top ∷ below)) is a).1
+left_on types top below rows mid (inr is) a = (none_ahead types below mid is).are
+
+-- a reference was got at the last place
+more_on : (new : List Frame) (types : Types) (old : List Frame) (r : ArcRef) (g : GotMore old new r) (row row' : List ArcRef) (rest : List (List ArcRef)) (f : Frame) (fs : List Frame) (place : ℕ) (kind : Kind) (last : ArcRef)
+    → new ≡ f ∷ fs → place + 1 ≡ length f.got → slice_get f.got place ≡ Some last → kind ≡ last.kind → AreAhead types old (row ∷ rest) → KeptAt place kind row row' → AreAhead types new (row' ∷ rest)
+more_on new types old r g row row' rest f fs place kind last is count at of a kept =
+    let same : f ≡ record g.f { got = g.f.got ++ r ∷ [] } = let e : f ∷ fs ≡ record g.f { got = g.f.got ++ r ∷ [] } ∷ g.fs = sym is ∙ g.is in cc in
+    let gots : f.got ≡ g.f.got ++ r ∷ [] = ap (λ (x : Frame). x.got) same in
+    let here : place ≡ length g.f.got = let n = length-append g.f.got (r ∷ []) in omega (arith, count, ap length gots, n) in
+    let one : last ≡ r = let e : Some last ≡ Some r = sym at ∙ ap (λ xs. slice_get xs place) gots ∙ ap (slice_get (g.f.got ++ r ∷ [])) here ∙ last_of g.f.got r in cc in
+    let was = subst (λ fr. AreAhead types fr (row ∷ rest)) g.was a in
+    subst (λ fr. AreAhead types fr (row' ∷ rest)) (sym g.is) (got_on types g.f r row row' place kind here (ap (λ (k : Kind). k.0) of ∙ ap (λ (x : ArcRef). x.kind.0) one) was.0 kept, was.1)
+
+-- what has got one reference more has got some
+some_got : (old new : List Frame) (r : ArcRef) (f : Frame) (fs : List Frame) → GotMore old new r → new ≡ f ∷ fs → 0 < length f.got
+some_got old new r f fs g is =
+    let same : f ≡ record g.f { got = g.f.got ++ r ∷ [] } = let e : f ∷ fs ≡ record g.f { got = g.f.got ++ r ∷ [] } ∷ g.fs = sym is ∙ g.is in cc in
+    let n = length-append g.f.got (r ∷ []) in
+    omega (arith, n, ap (λ (x : Frame). length x.got) same)
+
+module _ (types : Types) (new : List Frame) (rows mid rows' : List (List ArcRef)) (f : Frame) (fs : List Frame) (is : new ≡ f ∷ fs) where
+  -- a blob came, of which nothing was got
+  came : (b : Bool) (old : List Frame) → f.got ≡ [] → (rows' ≡ [] ∷ mid) ⊎ (rows' ≡ [] ∷ []) → LeftIf b rows mid → FramesGo b old new → AreAhead types old rows → AreAhead types new rows'
+  came true old none after left go a = absurd (let some = some_got go.below new go.r f fs go.more is in omega (arith, some, ap length none))
+  came false old none after left (inr (r, go)) a = absurd (let some = some_got old new r f fs go is in omega (arith, some, ap length none))
+  came false old none (inl after) left (inl go) a = subst (λ fr. AreAhead types fr rows') (sym go.is) (subst (AreAhead types (go.f ∷ old)) (sym after) (inl refl, subst (AreAhead types old) (sym left) a))
+  came false old none (inr after) left (inl go) a = (none_ahead types new rows' after).are
+
+  -- a reference was got
+  grew : (b : Bool) (old : List Frame) (row row' : List ArcRef) (rest : List (List ArcRef)) (place : ℕ) (kind : Kind) (last : ArcRef) → mid ≡ row ∷ rest → rows' ≡ row' ∷ rest
+      → place + 1 ≡ length f.got → slice_get f.got place ≡ Some last → kind ≡ last.kind → KeptAt place kind row row' → LeftIf b rows mid → FramesGo b old new → AreAhead types old rows → AreAhead types new rows'
+  grew true old row row' rest place kind last has after count at of kept left go a =
+      let was = left_on types go.top go.below rows mid left (subst (λ fr. AreAhead types fr rows) go.was a) in
+      subst (AreAhead types new) (sym after) (more_on new types go.below go.r go.more row row' rest f fs place kind last is count at of (subst (AreAhead types go.below) has was) kept)
+  grew false old row row' rest place kind last has after count at of kept left (inl go) a =
+      absurd (let e : f ∷ fs ≡ go.f ∷ old = sym is ∙ go.is in let same : f ≡ go.f = cc in omega (arith, count, ap length (ap (λ (x : Frame). x.got) same ∙ go.none)))
+  grew false old row row' rest place kind last has after count at of kept left (inr (r, go)) a =
+      let was = subst (AreAhead types old) (sym left ∙ has) a in
+      subst (AreAhead types new) (sym after) (more_on new types old r go row row' rest f fs place kind last is count at of was kept)
+
+pub follows_none : (b : Bool) (new : List Frame) (rows rows' : List (List ArcRef)) → new ≡ [] → Follows b new rows rows'
+follows_none b new rows rows' is = record { follows = λ types old go a. record { are = subst (λ fr. AreAhead types fr rows') (sym is) tt } }
+
+pub follows_new : (b : Bool) (new : List Frame) (rows mid : List (List ArcRef)) (f : Frame) (fs : List Frame) (top top' : Vec ArcRef Global) (below below' : Vec (Vec ArcRef Global) Global) → new ≡ f ∷ fs → f.got ≡ []
+    → mid ≡ top.items ∷ stacked [] below.items → LeftIf b rows mid → top'.items ≡ [] → (below'.items ≡ below.items ++ top ∷ []) ⊎ (below'.items ≡ [])
+    → Follows b new rows (top'.items ∷ stacked [] below'.items)
+follows_new b new rows mid f fs top top' below below' is none has left bare below_is =
+    let after : (top'.items ∷ stacked [] below'.items ≡ [] ∷ mid) ⊎ (top'.items ∷ stacked [] below'.items ≡ [] ∷ []) =
+    elim below_is [
+      | inl more ↦ inl (ap (λ x. x ∷ stacked [] below'.items) bare ∙ ap (λ xs. [] ∷ stacked [] xs) more ∙ ap (λ xs. [] ∷ xs) (stacked_more [] below.items top ∙ sym has))
+      | inr gone ↦ inr (ap (λ x. x ∷ stacked [] below'.items) bare ∙ ap (λ xs. [] ∷ xs) (stacked_none below'.items gone))
+    ] in
+    record { follows = λ types old go a. record { are = came types new rows mid (top'.items ∷ stacked [] below'.items) f fs is b old none after left go a.are } }
+
+pub follows_got : (b : Bool) (new : List Frame) (rows mid : List (List ArcRef)) (f : Frame) (fs : List Frame) (row row' : List ArcRef) (rest : List (List ArcRef)) (place : ℕ) (last : ArcRef) → new ≡ f ∷ fs
+    → mid ≡ row ∷ rest → LeftIf b rows mid → place + 1 ≡ length f.got → slice_get f.got place ≡ Some last → KeptAt place last.kind row row' → Follows b new rows (row' ∷ rest)
+follows_got b new rows mid f fs row row' rest place last is has left count at kept =
+    record { follows = λ types old go a. record { are = grew types new rows mid (row' ∷ rest) f fs is b old row row' rest place last.kind last has refl count at refl kept left go a.are } }
+
+-- what is ahead after a step that ends nothing
+pub ahead_then : {N : Type 0} (types : Types) (need : Needed N) (answer : Option (LoadAnswer N)) (old new : List Frame) (rows rows' : List (List ArcRef)) (b : Bool) → b ≡ is_adoption need → GoesFor need answer old new
+    → Follows b new rows rows' → AllAhead types old rows → IfNone answer (AllAhead types new rows')
+ahead_then types need None old new rows rows' b is goes follows a = follows.follows types old (subst (λ x. FramesGo x old new) (sym is) (goes.goes refl)) a
+ahead_then types need (Some answer) old new rows rows' b is goes follows a = tt
 
 -- ---- a step of a load leaves less to do
 

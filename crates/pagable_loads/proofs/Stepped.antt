@@ -1,6 +1,6 @@
 -- What a load needs next, what the calls of its steps did, and whole pins and readings.
 use Rattle.{either.specs.declared.Either.Either, pagable_core.specs.{Context.at_front, Data.blob_of}, pagable_loads.specs.{Decoding.{IsReadAs, Needs}, Frames.{IsLoadOf, frame_of}}}
-use Rattle.pagable_loads.specs.{Frames.{frames_of, onto, reading_of}, Got.{AreLater, Lends, LendsEach, answer_at, lent_at}, Starting.{PinsFirst, Shares, StartsPin, TakesBack, Unpins}}
+use Rattle.pagable_loads.specs.{Frames.{frames_of, onto, reading_of}, Got.{AreLater, AreStandIns, Lends, LendsEach, answer_at, lent_at, stand_in}, Starting.{PinsFirst, Shares, StartsPin, TakesBack, Unpins}}
 use Rattle.pagable_loads.specs.{Stepping.{Drops, HasGone, IsSameLoad, Met, Runs, Tries}, Telling.{Acting, Acts, ActsThen, AdoptsValue, AsksFor, Brings, IsMade, TakesLazily, Tells}}
 use Rattle.{pagable_loads.specs.declared.{reading.{Frame.Frame as Held, Need.Need, Reading.Reading as Own}, access.PinStart.PinStart}, pagable_model.specs.Blob.Blob}
 use Rattle.pagable_model.specs.{Deep.longest_path, Meaning.Meaning, Reading.{Rest, read_typed}, Shape.Shape, Standing.{Answer, GivesSome, Standing, handles_at, rest_at}}
@@ -9,11 +9,11 @@ use Rattle.pagable_world.specs.Access.{LoadRun, PinRun, PinsOver, ReadingStep, R
 use Rattle.pagable_world.specs.{Access.{pins-at-once, reading-fails, reading-is-refused}, Calls.{PinCall, ReleaseCall}, Kinds.{is_loose, is_unpinned}, LoadCalls.{AskCall, BeginCall, BeginKeyCall}}
 use Rattle.pagable_world.specs.{LoadCalls.{EndCall, HandOverCall, from_store, with_load}, Loads.{Does, GoesOn, IsDecoded, IsOfCell, IsOfKey, LoadIs, MakesNode, Meets, ReadsNode, ReadsRoot, answer_of}}
 use Rattle.pagable_world.specs.Loads.{answers_from, gone_on, handles_of, need_at, need_of, needs_lazy, needs_nested, nested_frame, read_with, reads, root_frame, to_adopt, with_got}
-use Rattle.pagable_world.specs.{Pager.{IsCellOf, IsNewNode, Moves, PagerState, ReadingBrings, WellFormed}, Plain.if_there, Refusals.OwnsLoad, Workers.fresh, World.{Alike, Core, Frame, Reading, Root}}
+use Rattle.pagable_world.specs.{Pager.{IsCellOf, IsNewNode, Moves, PagerState, ReadingBrings, ValueCall, WellFormed}, Plain.if_there, Refusals.{OwnsLoad, live_fault}, Workers.fresh, World.{Alike, Core, Frame, Reading, Root}}
 use Rattle.pagable_world.specs.{World.{Values, of_key, one_more, row_at}, declared.{answers.{Beginning.Beginning, Pinning.Pinning}, calls.Want.Want, events.LoadAnswer.LoadAnswer}}
 use Rattle.{pagable_world.specs.declared.handles.{HandleRow.HandleRow, Owner.Owner}, std.proofs.Common.{Bool, Err, List, None, Ok, Option, Result, Some, [], ap, arith, false, inl, inr, length, refl}}
 use Rattle.std.proofs.{Common.{rules, slice_get, subst, suc, sym, true, zero, ℕ, ◌++◌, ◌+◌, ◌-◌, ◌<◌, ◌∙◌, ◌∷◌, ◌≡◌, ◌≢◌, ◌≤◌, ◌⊎◌}, lemmas.{Bool.Decides.nat_tests, Grind.common_steps}}
-use Rattle.std.{proofs.lemmas.{List.{length-append, nil_from_length}, Option.{slice_get_past, slice_get_within}}, specs.{Arc.arc_value, Option.option_map}}
+use Rattle.std.{proofs.lemmas.{List.{length-append, nil_from_length}, Option.{slice_get_past, slice_get_within}}, specs.{Arc.arc_value, Option.option_map, Prelude.{IfOk, IsSome}}}
 use Rattle.pagable_core.specs.Context as context
 
 -- answers by place, key and kind are those of the references got
@@ -246,6 +246,12 @@ joined_at [] ys k x at = inr (let e : k - 0 ≡ k = omega arith in rw e at, omeg
 joined_at (y ∷ xs) ys zero x at = inl at
 joined_at (y ∷ xs) ys (suc k) x at = elim (joined_at xs ys k x at) [ inl here ↦ inl here | inr (there, past) ↦ inr (let e : suc k - suc (length xs) ≡ k - length xs = omega arith in rw e there, omega (arith, past)) ]
 
+-- of the handle of what stands for references nothing is lent
+unlent_like : {N E : Type 0} (s : PagerState N E) (r : ArcRef) → r.handle.0 ≡ 0 → Lends s (stand_in 0) None → Lends s r None
+unlent_like s r is nobody =
+    let same : r.handle ≡ (stand_in 0).handle = ap (λ n. let h : HandleNumber = record { 0 = n } in h) is in
+    record { value = tt; none = elim nobody.none [ inl eager ↦ absurd (cc) | inr other ↦ inr (subst (λ h. ValueCall s h (Ok None) ⊎ IsSome (live_fault (row_at s.core h))) (sym same) other) ] }
+
 module _ {A N E : Type 0} (see : A → N) (s : PagerState N E) (got : List ArcRef) where
   -- those before this place lend theirs
   abbrev pub LentTo : ℕ → List (Option A) → Type 0
@@ -262,18 +268,29 @@ module _ {A N E : Type 0} (see : A → N) (s : PagerState N E) (got : List ArcRe
   pub all_lent : (i : ℕ) (lent : List (Option A)) → length got ≤ i → length lent ≤ length got → LentTo i lent → LendsEach see s got lent
   all_lent i lent past few to = grind (arith, nat_tests, slice_get_within)
 
-  -- what follows and is read later lends nothing
-  pub more_later : (more : List ArcRef) (lent : List (Option A)) → LendsEach see s got lent → AreLater (length more) more → LendsEach see s (got ++ more) lent
-  more_later more lent lends later = record { each = each; few = omega (arith, lends.few, length-append got more) }
+  -- what stands for references that weren't got lends nothing
+  pub more_unlent : (more : List ArcRef) (lent : List (Option A)) → LendsEach see s got lent → Lends s (stand_in 0) None → AreStandIns (length more) more → LendsEach see s (got ++ more) lent
+  more_unlent more lent lends nobody stand = record { each = each; few = omega (arith, lends.few, length-append got more) }
     where
       each : (place : ℕ) (r : ArcRef) → slice_get (got ++ more) place ≡ Some r → Lends s r (lent_at see lent place)
       each place r at = elim (joined_at got more place r at) [
         | inl here ↦ lends.each place r here
         | inr (there, past) ↦ let none : slice_get lent place ≡ None = slice_get_past lent place (omega (arith, lends.few, past)) in
             let within = slice_get_within more (place - length got) r there in
-            let is = later (place - length got) r within there in
-            rw none (record { value = tt; none = inl is })
+            let unlent = unlent_like s r (stand (place - length got) r within there) nobody in
+            rw none unlent
       ]
+
+-- a row of what was got and of what stands for more
+pub lends_row : {A N E : Type 0} (see : A → N) (s : PagerState N E) (got noted row : List ArcRef) (lent lent' : List (Option A)) → row ≡ got ++ noted → lent' ≡ lent → LendsEach see s got lent
+    → (found : Option A) → found ≡ None → (r : ArcRef) → r ≡ stand_in 0 → Lends s r (option_map see found) → AreStandIns (length noted) noted → LendsEach see s row lent'
+lends_row see s got noted row lent lent' is same lends found none r at nobody stand =
+    let nothing = subst (λ x. Lends s x None) at (subst (λ f. Lends s r (option_map see f)) none nobody) in
+    rw (is, same) (more_unlent see s got noted lent lends nothing stand)
+
+-- what is said of an answer is so of what was answered
+pub lent_so : {S X : Type 0} (P : S → X → Type 0) {o : Option S} (r : Result X Error) (x : X) → r ≡ Ok x → Tells o (λ s. IfOk r (λ y. P s y)) → Tells o (λ s. P s x)
+lent_so P {o} r x is h = subst (λ q. Tells o (λ s. IfOk q (λ y. P s y))) is h
 
 pub ruleset sharing = (nat_tests, tells_map, not_shared)
 

@@ -1,7 +1,7 @@
 -- What decoding answers, in the words of loads; what a load needs next, in the words of the world; and what a blob asks for ahead.
 use Rattle.pagable_world.specs.{Loads.{is_faulty, need_of, needs_lazy, needs_nested, next_of, read_with, reads}, Plain.Types, World.{Frame, Reading, Values}, declared.events.LoadAnswer.LoadAnswer}
-use Rattle.std.specs.Prelude.{Err, IsSome, List, None, Ok, Option, Result, Some, [], length, map, slice_get, ℕ, ◌++◌, ◌<◌, ◌∷◌, ◌≡◌, ◌⊎◌}
-use Rattle.{pagable_loads.specs.{Frames.reading_of, declared.{decoding.Decoded.Decoded, reading.{Need.Need, Reading.Reading as Own}}}, pagable_model.specs.{Blob.Blob, Meaning.Meaning, Reading.Rest}}
+use Rattle.std.specs.{Prelude.{Bool, Err, IsSome, List, None, Ok, Option, Result, Some, [], false, if◌then◌else◌, length, map, slice_get, true, ℕ, ◌++◌, ◌<◌, ◌∷◌, ◌≡◌, ◌⊎◌}, declared.{alloc.Global.Global, vec.Vec.Vec}}
+use Rattle.{pagable_loads.specs.{Frames.reading_of, declared.{ahead.Ahead.Ahead, decoding.Decoded.Decoded, reading.{Need.Need, Reading.Reading as Own}}}, pagable_model.specs.{Blob.Blob, Deep.is_eager, Meaning.Meaning, Reading.Rest}}
 use Rattle.{pagable_model.specs.{Standing.{Answer, GivesSome}, declared.{error.Error.Error, numbers.{ArcRef.ArcRef, Kind.Kind}}}, pagable_world.specs.Loads.{ReadsNode, ReadsRoot, RefusesBlob, asks}}
 
 -- the value is of the type, and means what the blob reads as
@@ -61,20 +61,45 @@ pub record Foresees (types : Types) (f : Frame) (kinds : List ℕ) : Type 0 wher
   pub split : kinds ≡ kinds_of f.got ++ ahead
   pub each : (got : List ArcRef) (kind : ℕ) (more : List ℕ) → kinds ≡ kinds_of got ++ kind ∷ more → AsksNext types f.node_type f.blob got kind
 
--- a row stands for the kinds that the innermost blob asks for, if it stands for any
-pub record IsAhead (types : Types) (frames : List Frame) (row : List ArcRef) : Type 0 where
-  pub is : (row ≡ []) ⊎ ((f : Frame) × (fs : List Frame) × (frames ≡ f ∷ fs) × Foresees types f (kinds_of row))
+-- a row tells nothing, or stands for the kinds that the blob asks for
+abbrev pub IsAheadOf : Types → Frame → List ArcRef → Type 0
+IsAheadOf types f row = (row ≡ []) ⊎ Foresees types f (kinds_of row)
 
--- the row tells what the load needs: a reference of this kind, which is read later
-pub record RowTells (types : Types) (frames : List Frame) (row : List ArcRef) (kind : Kind) (key : ℕ) : Type 0 where
-  pub f : Frame
-  pub fs : List Frame
-  pub there : frames ≡ f ∷ fs
-  pub foresees : Foresees types f (kinds_of row)
-  pub r : ArcRef
-  pub at : slice_get row (length f.got) ≡ Some r
-  pub of_kind : kind ≡ r.kind
-  pub need : need_of types frames ≡ needs_lazy kind key
+-- so it is of the innermost blob, if there is one
+pub record IsAhead (types : Types) (frames : List Frame) (row : List ArcRef) : Type 0 where
+  pub is : (f : Frame) (fs : List Frame) → frames ≡ f ∷ fs → IsAheadOf types f row
+
+-- and so are these rows of the blobs, as far as there are some
+abbrev pub AreAhead : Types → List Frame → List (List ArcRef) → Type 0
+AreAhead types [] rows = Unit {0}
+AreAhead types (f ∷ fs) [] = Unit {0}
+AreAhead types (f ∷ fs) (row ∷ rows) = IsAheadOf types f row × AreAhead types fs rows
+
+pub record AllAhead (types : Types) (frames : List Frame) (rows : List (List ArcRef)) : Type 0 where
+  pub are : AreAhead types frames rows
+
+-- these rows, the last of them first, on those; and those of all blobs, the innermost first
+unfoldable pub stacked : List (List ArcRef) → List (Vec ArcRef Global) → List (List ArcRef)
+stacked rows [] = rows
+stacked rows (x ∷ xs) = stacked (x.items ∷ rows) xs
+
+abbrev pub rows_of : Ahead → List (List ArcRef)
+rows_of a = a.top.items ∷ stacked [] a.below.items
+
+-- the load needs a reference of this kind, at once or later
+pub record NeedsNext (types : Types) (frames : List Frame) (kind : Kind) (key : ℕ) : Type 0 where
+  pub is : need_of types frames ≡ (if is_eager kind.0 then needs_nested kind key else needs_lazy kind key)
+
+-- the row stays, and has one of this kind at this place; or nothing is known any more
+abbrev pub KeptAt : ℕ → Kind → List ArcRef → List ArcRef → Type 0
+KeptAt place kind old new = (new ≡ []) ⊎ ((new ≡ old) × ((r : ArcRef) × (slice_get old place ≡ Some r) × (kind.0 ≡ r.kind.0)))
+
+-- the innermost blob's row is gone if it was read; where it was the only one, nothing is known
+abbrev pub LeftIf : Bool → List (List ArcRef) → List (List ArcRef) → Type 0
+LeftIf false old new = new ≡ old
+LeftIf true old new = ((row : List ArcRef) × (old ≡ row ∷ new)) ⊎ (new ≡ [] ∷ [])
+
+-- ---- what a load's step does to its blobs, where it ends nothing
 
 -- the innermost blob has got this reference besides
 pub record GotMore (old new : List Frame) (r : ArcRef) : Type 0 where
@@ -83,9 +108,36 @@ pub record GotMore (old new : List Frame) (r : ArcRef) : Type 0 where
   pub was : old ≡ f ∷ fs
   pub is : new ≡ record f { got = f.got ++ r ∷ [] } ∷ fs
 
--- the row as it was, if the reference is of the kind, and else none
-abbrev pub Kept : Kind → ArcRef → List ArcRef → List ArcRef → Type 0
-Kept kind r old new = ((r.kind.0 ≡ kind.0) × (new ≡ old)) ⊎ (new ≡ [])
+-- a blob came, of which nothing was got
+pub record CameNew (old new : List Frame) : Type 0 where
+  pub f : Frame
+  pub is : new ≡ f ∷ old
+  pub none : f.got ≡ []
+
+-- the innermost blob was read, and the one below it has got a reference for it
+pub record CameBack (old new : List Frame) : Type 0 where
+  pub top : Frame
+  pub below : List Frame
+  pub r : ArcRef
+  pub was : old ≡ top ∷ below
+  pub more : GotMore below new r
+
+abbrev pub FramesGo : Bool → List Frame → List Frame → Type 0
+FramesGo true old new = CameBack old new
+FramesGo false old new = CameNew old new ⊎ ((r : ArcRef) × GotMore old new r)
+
+-- a need for a node of the innermost blob
+abbrev pub is_adoption : {N : Type 0} → Need N → Bool
+is_adoption (Need.Adopt x) = true
+is_adoption need = false
+
+-- the need was met, and the load goes on
+pub record GoesFor {N : Type 0} (need : Need N) (answer : Option (LoadAnswer N)) (old new : List Frame) : Type 0 where
+  pub goes : answer ≡ None → FramesGo (is_adoption need) old new
+
+-- what was ahead of the blobs is so of those that there are then
+pub record Follows (was_read : Bool) (new : List Frame) (rows rows' : List (List ArcRef)) : Type 0 where
+  pub follows : (types : Types) (old : List Frame) → FramesGo was_read old new → AllAhead types old rows → AllAhead types new rows'
 
 -- a step that gets a reference ends nothing
 abbrev pub goes_on_with : {N : Type 0} → Result ArcRef Error → Result (Option (LoadAnswer N)) Error

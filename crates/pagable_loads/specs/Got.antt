@@ -43,8 +43,12 @@ may_refuse (Some r) kind e is = choice (r.kind.0 == kind) r e is
 abbrev pub stand_in : ℕ → ArcRef
 stand_in kind = record { kind = record { 0 = kind }; node = record { 0 = 0 }; handle = record { 0 = 0 } }
 
--- what was found at a place; and where it is noted what is asked for, a stand-in for what is read later and wasn't got
+-- the first of these are stand-ins
+abbrev pub AreStandIns : ℕ → List ArcRef → Type 0
+AreStandIns count got = (place : ℕ) (r : ArcRef) → place < count → slice_get got place ≡ Some r → r.handle.0 ≡ 0
+
+-- what was found at a place; and where it is noted what is asked for, a stand-in for what wasn't got
 abbrev pub found_or : Bool → Option ArcRef → ℕ → Option ArcRef
 found_or false found kind = found
 found_or true (Some r) kind = Some r
-found_or true None kind = if is_eager kind then None else Some (stand_in kind)
+found_or true None kind = Some (stand_in kind)

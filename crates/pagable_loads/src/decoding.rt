@@ -1,21 +1,29 @@
-//! A blob is read from its front, with the references that were got so far. And a row of references that the innermost blob asks for, one after the other, is known before they are got: it is found by
-//! two readings with stand-ins for the references that are read later: one that notes what is asked for, and one that asks for the last of them with all that are before it.
+//! A blob is read from its front, with the references that were got so far.
 
-ghost use Rattle.std.specs.{Arc.arc_value, Prelude.{IfOk, IfSome, IsSome, None, ◌≡◌}};
-ghost use Rattle.{pagable_core.specs.Data.blob_of, pagable_loads.specs.{Decoding.{Decodes, IsAhead, Kept, ReadsWith, RowTells}, Frames.frames_of, Got.LendsEach, Telling.{Tells, values_at}}};
-ghost use Rattle.pagable_world.specs.Plain.{Types};
+ghost use Rattle.std.specs.{Arc.arc_value, Prelude.{IfOk, None, ◌≡◌}};
+ghost use Rattle.{pagable_core.specs.Data.blob_of, pagable_loads.specs.{Decoding.{Decodes, ReadsWith}, Got.{LendsEach, stand_in}, Telling.{Tells, values_at}}};
 
 use crate::access::Access;
-use crate::reading::{Reading, are_read_later, is_read_at_once, lend};
 use pagable_codec::{Env, NodeSet};
 use pagable_core::{PagableData, PagableDeserializerImpl, References, SessionOf};
 use pagable_model::{ArcRef, DataKey, Error, HandleNumber, Kind, NodeNumber};
 use std::alloc::Global;
 use std::sync::Arc;
 
+/// What stands for a reference of this kind that wasn't got.
+pub(crate) fn stand_in_for(kind: Kind) -> ArcRef
+    ensures { result ≡ stand_in kind.0 }
+{
+    ArcRef {
+        kind,
+        node: NodeNumber(0),
+        handle: HandleNumber(0),
+    }
+}
+
 /// Answers for a blob's references from a list of those that were got so far, the first of the blob's first. One that wasn't got is refused with Storage of its kind, and one that was got as another
 /// kind with WrongKind. It lends the value of the reference that it answered last, from a list of values by the references' places, which may be shorter: each place has what the access shares by the
-/// reference there. Where it notes what is asked for, it answers for a reference that is read later and wasn't got with a stand-in of its kind.
+/// reference there. Where it notes what is asked for, it answers for a reference that wasn't got with a stand-in of its kind, which lends nothing.
 #[derive(Drop)]
 pub struct GotReferences<'g, E: Env<Node: NodeSet<E>>, A: Access<E>> {
     access: &'g A,
@@ -60,17 +68,10 @@ impl<'g, E: Env<Node: NodeSet<E>>, A: Access<E>> References<E> for GotReferences
             self.last = place;
             return Ok(found);
         }
-        if is_read_at_once(kind) {
-            return Err(Error::Storage(kind.0));
-        }
         let Some(noted) = &mut self.noted else {
             return Err(Error::Storage(kind.0));
         };
-        let reference = ArcRef {
-            kind,
-            node: NodeNumber(0),
-            handle: HandleNumber(0),
-        };
+        let reference = stand_in_for(kind);
         let _told = noted.push(reference);
         self.last = place;
         Ok(reference)
@@ -104,8 +105,8 @@ pub enum Decoded<N: Drop> {
     Refused(Error),
 }
 
-// Reads the blob, and gives back what was noted besides.
-fn read_got<E: Env<Node: NodeSet<E>>, A: Access<E>>(
+/// Reads the blob, and gives back what was noted besides.
+pub(crate) fn read_got<E: Env<Node: NodeSet<E>>, A: Access<E>>(
     access: &A,
     alloc: Global,
     blob: &PagableData,
@@ -159,113 +160,5 @@ pub fn decode<E: Env<Node: NodeSet<E>>, A: Access<E>>(
             Decoded::Wants(Kind(kind), arcs[place])
         }
         Err(e) => Decoded::Refused(e),
-    }
-}
-
-// ---- what is asked for ahead
-
-/// The row is as it was if the reference is of this kind, and else empty.
-pub(crate) fn keep_if(row: &mut Vec<ArcRef>, kind: Kind, reference: ArcRef)
-    ensures { Kept kind reference row.old.items row.new.items }
-{
-    if reference.kind.0 != kind.0 {
-        row.clear();
-    }
-}
-
-impl Reading {
-    // Finds the row that is ahead of the innermost blob, with the values of what it has got.
-    fn foresee<E: Env<Node: NodeSet<E>>, A: Access<E>>(
-        &self,
-        access: &A,
-        alloc: Global,
-    ) -> Option<Vec<ArcRef>>
-        ensures { IfSome result (λ row. IsAhead (values_at E.Node.NodeSet E.Env E.Hash.KeyHash (A.acting access.now).environment).types (frames_of self.now.top self.now.below.items) row.items) }
-    {
-        let Some(top) = &self.top else {
-            return None;
-        };
-        let blob = top.blob.as_ref();
-        let got = top.got.as_slice();
-        let lent = lend::<E, A>(access, alloc, got).ok()?;
-        // The blob's reader may ask otherwise than the blob is spelled: none of what it notes is trusted.
-        let noting = Some(Vec::new(alloc));
-        let (_read, noted) = read_got(
-            access,
-            alloc,
-            blob,
-            top.node_type,
-            got,
-            lent.as_slice(),
-            noting,
-        );
-        let mut noted = noted?;
-        let last = noted.pop()?;
-        if !are_read_later(noted.as_slice()) {
-            return None;
-        }
-        let mut row = Vec::new(alloc);
-        if row.extend_from_slice(got).is_err() || row.extend_from_slice(noted.as_slice()).is_err() {
-            return None;
-        }
-        let next = decode(
-            access,
-            alloc,
-            blob,
-            top.node_type,
-            row.as_slice(),
-            lent.as_slice(),
-        );
-        let Decoded::Wants(kind, _) = next else {
-            return None;
-        };
-        if kind.0 == last.kind.0 && row.push(last).is_ok() {
-            return Some(row);
-        }
-        None
-    }
-
-    /// Finds the row that is ahead, if none is known and one is likely.
-    pub(crate) fn look_ahead<E: Env<Node: NodeSet<E>>, A: Access<E>>(
-        &self,
-        access: &A,
-        alloc: Global,
-        row: &mut Vec<ArcRef>,
-    )
-        requires { IsAhead (values_at E.Node.NodeSet E.Env E.Hash.KeyHash (A.acting access.now).environment).types (frames_of self.now.top self.now.below.items) row.old.items }
-        ensures { IsAhead (values_at E.Node.NodeSet E.Env E.Hash.KeyHash (A.acting access.now).environment).types (frames_of self.now.top self.now.below.items) row.new.items }
-    {
-        let Some(top) = &self.top else {
-            return;
-        };
-        let got = top.got.as_slice();
-        let left = top.blob.as_ref().arcs.len().saturating_sub(got.len());
-        // One is likely where the innermost blob begins, or has got a reference that is read later, and several are left.
-        if !row.is_empty() || left < 4 || got.last().map_or(false, |r| is_read_at_once(r.kind)) {
-            return;
-        }
-        if let Some(found) = self.foresee(access, alloc) {
-            *row = found;
-        }
-    }
-
-    /// What the row tells that the load needs next: a reference that is read later.
-    pub(crate) fn told(&self, row: &[ArcRef]) -> Option<(Kind, DataKey)>
-        ensures tells { IfSome result (λ k. (types : Types) → IsAhead types (frames_of self.now.top self.now.below.items) row.now → RowTells types (frames_of self.now.top self.now.below.items) row.now k.0 k.1) }
-        ensures top { IfSome result (λ k. IsSome self.now.top) }
-    {
-        let Some(top) = &self.top else {
-            return None;
-        };
-        let place = top.got.len();
-        let keys = top.blob.as_ref().arcs.as_slice();
-        if place >= keys.len() || place >= row.len() {
-            return None;
-        }
-        let reference = row[place];
-        if is_read_at_once(reference.kind) {
-            return None;
-        }
-        Some((reference.kind, keys[place]))
     }
 }

@@ -2,6 +2,7 @@
 #![tactic(auto)]
 
 pub mod access;
+pub mod ahead;
 pub mod decoding;
 pub mod reading;
 pub mod step;

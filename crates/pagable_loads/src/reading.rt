@@ -2,7 +2,7 @@
 
 ghost use Rattle.std.specs.{Arc.arc_value, Option.option_map, Prelude.{true, IfErr, IfOk, IsSome, OnOk, [], length, vec_capacity, vec_len, ◌++◌, ◌<◌, ◌^◌, ◌∷◌, ◌≡◌, ◌≤◌}};
 ghost use Rattle.{pagable_core.specs.Data.blob_of, pagable_loads.specs.{Frames.{frame_of, frames_of, onto, reading_of}, Got.{AreLater, Lends, LendsEach}, Stepping.{IsSameLoad, TakenOff, TakenTwo}}};
-ghost use Rattle.{pagable_loads.specs.{Decoding.Needs, Telling.{Tells, values_at}}, pagable_model.specs.Deep.{is_eager, longest_path}};
+ghost use Rattle.{pagable_loads.specs.{Decoding.{Needs, is_adoption}, Telling.{Tells, values_at}}, pagable_model.specs.Deep.{is_eager, longest_path}};
 ghost use Rattle.pagable_world.specs.Loads.{handles_of, nested_frame, root_frame};
 
 use crate::access::Access;
@@ -54,6 +54,15 @@ pub enum Need<N: Drop> {
     Refuse(Error),
 }
 
+impl<N: Drop> Need<N> {
+    /// Whether its innermost blob was read, and becomes a node.
+    pub(crate) fn is_adoption(&self) -> bool
+        ensures { result ≡ is_adoption self.now }
+    {
+        matches!(self, Need::Adopt(_))
+    }
+}
+
 /// Whether a reference of this kind is read together with the value that holds it.
 pub(crate) fn is_read_at_once(kind: Kind) -> bool
     ensures { result ≡ is_eager kind.0 }
@@ -86,9 +95,9 @@ impl Reading {
     }
 }
 
-// The value of a reference that is read together with it. What its handle doesn't share isn't lent, and its reader refuses it. Refused with OutOfMemory.
+/// The value of a reference that is read together with it. What its handle doesn't share isn't lent, and its reader refuses it. Refused with OutOfMemory.
 #[tactic(auto, using(crate::proofs::Stepped::sharing))]
-fn value_of<E: Env<Node: NodeSet<E>>, A: Access<E>>(
+pub(crate) fn value_of<E: Env<Node: NodeSet<E>>, A: Access<E>>(
     access: &A,
     reference: ArcRef,
 ) -> Result<Option<Arc<E::Node>>, Error>
@@ -108,7 +117,7 @@ fn value_of<E: Env<Node: NodeSet<E>>, A: Access<E>>(
 }
 
 // Whether none of these is read together with what holds it.
-pub(crate) fn are_read_later(got: &[ArcRef]) -> bool
+fn are_read_later(got: &[ArcRef]) -> bool
     ensures { result ≡ true → AreLater (length got.now) got.now }
 {
     for reference in got {

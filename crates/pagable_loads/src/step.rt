@@ -1,12 +1,12 @@
 //! A load's steps, over an access to a pager, and a load that is driven to its end. And whole operations over an access: a pin, with the load that it may need, and the reading of a key.
 
-ghost use Rattle.std.specs.{Arc.arc_value, Prelude.{[], IfOk, IsSome, length, Ok, ◌<◌, ◌≡◌}};
-ghost use Rattle.pagable_loads.specs.{Decoding.{goes_on_with, GotMore, IsAhead, Needs}, Ending.LeadsOn, Frames.{frames_of, reading_of}, Starting.{PinsFirst, Unpins}, Stepping.Drops};
+ghost use Rattle.std.specs.{Arc.arc_value, Prelude.{[], IfNone, IfOk, IsSome, length, Ok, true, ◌<◌, ◌≡◌}};
+ghost use Rattle.pagable_loads.specs.{Decoding.{AllAhead, FramesGo, goes_on_with, GoesFor, GotMore, Needs, rows_of}, Ending.LeadsOn, Frames.{frames_of, reading_of}, Starting.{PinsFirst, Unpins}, Stepping.Drops};
 ghost use Rattle.{pagable_loads.specs.{Stepping.{IsSameLoad, Runs, Tries}, Telling.{Acts, values_at}}, pagable_world.specs.{Access.{PinsOver, ReadsOver}, declared.handles.Owner.Owner}};
 ghost use Rattle.pagable_world.specs.{Loads.{need_of, needs_lazy, ReadsNode, ReadsRoot}, World.{one_more, seen_as}};
 
 use crate::access::{Access, PinStart};
-use crate::decoding::keep_if;
+use crate::ahead::Ahead;
 use crate::reading::{Need, Reading, all_handles};
 use either::Either;
 use pagable_codec::{Env, NodeSet};
@@ -51,6 +51,7 @@ impl Reading {
         requires node { ReadsNode (values_at E.Node.NodeSet E.Env E.Hash.KeyHash (A.acting access.old).environment) (reading_of self.old) value }
         ensures acts { Acts A.told A.acting access.old access.new (λ a s t. Tries (values_at E.Node.NodeSet E.Env E.Hash.KeyHash a.environment) a.me self.old s result (frames_of self.new.top self.new.below.items) t) }
         ensures leads { LeadsOn self.old.for_cell (frames_of self.old.top self.old.below.items) (frames_of self.new.top self.new.below.items) result }
+        ensures goes { IfOk result (λ answer. FramesGo true (frames_of self.old.top self.old.below.items) (frames_of self.new.top self.new.below.items)) }
         ensures same { IsSameLoad self.old self.new self.old.steps }
     {
         let load = self.load;
@@ -76,6 +77,7 @@ impl Reading {
         ensures acts { Acts A.told A.acting access.old access.new
             (λ a s t. Tries (values_at E.Node.NodeSet E.Env E.Hash.KeyHash a.environment) a.me self.old s result (frames_of self.new.top self.new.below.items) t) }
         ensures leads { LeadsOn self.old.for_cell (frames_of self.old.top self.old.below.items) (frames_of self.new.top self.new.below.items) result }
+        ensures ends { IfOk result (λ answer. IsSome answer) }
         ensures same { IsSameLoad self.old self.new self.old.steps }
     {
         if self.for_cell {
@@ -110,6 +112,7 @@ impl Reading {
         requires need { Needs (values_at E.Node.NodeSet E.Env E.Hash.KeyHash (A.acting access.old).environment) self.old need }
         ensures acts { Acts A.told A.acting access.old access.new (λ a s t. Tries (values_at E.Node.NodeSet E.Env E.Hash.KeyHash a.environment) a.me self.old s result (frames_of self.new.top self.new.below.items) t) }
         ensures leads { LeadsOn self.old.for_cell (frames_of self.old.top self.old.below.items) (frames_of self.new.top self.new.below.items) result }
+        ensures goes { IfOk result (λ answer. GoesFor need answer (frames_of self.old.top self.old.below.items) (frames_of self.new.top self.new.below.items)) }
         ensures same { IsSameLoad self.old self.new self.old.steps }
     {
         let load = self.load;
@@ -182,42 +185,39 @@ impl Reading {
         }
     }
 
-    // Makes the load's next step, as `step` does, and reads the innermost blob for it only where no row that is ahead tells what is needed.
+    // Makes the load's next step, as `step` does, and reads the innermost blob for it only where what is ahead doesn't tell what is needed.
     #[tactic(auto, using(crate::proofs::Stepped::giving_up))]
     fn step_on<E: Env<Node: NodeSet<E>>, A: Access<E>>(
         &mut self,
         access: &mut A,
         alloc: Global,
-        row: &mut Vec<ArcRef>,
+        ahead: &mut Ahead,
     ) -> Option<LoadAnswer<E::Node>>
-        requires ahead { IsAhead (values_at E.Node.NodeSet E.Env E.Hash.KeyHash (A.acting access.old).environment).types (frames_of self.old.top self.old.below.items) row.old.items }
+        requires ahead { AllAhead (values_at E.Node.NodeSet E.Env E.Hash.KeyHash (A.acting access.old).environment).types (frames_of self.old.top self.old.below.items) (rows_of ahead.old) }
         ensures acts { Acts A.told A.acting access.old access.new (λ a s t. Tries (values_at E.Node.NodeSet E.Env E.Hash.KeyHash a.environment) a.me self.old s (Ok result) (frames_of self.new.top self.new.below.items) t) }
         ensures leads { LeadsOn self.old.for_cell (frames_of self.old.top self.old.below.items) (frames_of self.new.top self.new.below.items) (Ok result) }
         ensures same { IsSameLoad self.old self.new (one_more self.old.steps) }
-        ensures ahead { IsAhead (values_at E.Node.NodeSet E.Env E.Hash.KeyHash (A.acting access.old).environment).types (frames_of self.new.top self.new.below.items) row.new.items }
+        ensures ahead { IfNone result (AllAhead (values_at E.Node.NodeSet E.Env E.Hash.KeyHash (A.acting access.old).environment).types (frames_of self.new.top self.new.below.items) (rows_of ahead.new)) }
     {
-        self.look_ahead(access, alloc, row);
-        let Some((kind, key)) = self.told(row.as_slice()) else {
-            row.clear();
-            return self.step(access, alloc);
-        };
-        match self.take_lazy(access, alloc, kind, key) {
-            Ok(reference) => {
+        self.look_ahead(access, alloc, &mut ahead.top);
+        let need = self.needed::<E, A>(access, alloc, ahead.top.as_slice());
+        let was_read = need.is_adoption();
+        match self.meet(access, alloc, need) {
+            Ok(answer) => {
                 self.steps = self.steps.saturating_add(1);
-                keep_if(row, kind, reference);
-                None
+                self.follow(alloc, ahead, was_read);
+                answer
             }
             Err(e) => {
                 self.give_up(access);
                 self.steps = self.steps.saturating_add(1);
-                row.clear();
                 Some(LoadAnswer::Refused(e))
             }
         }
     }
 
     /// Makes the load's steps up to its end, and answers what ended it. A load of a cell ends with a pin, one of a key with its value; either may be refused.
-    /// A row of references that are read later is taken without reading its blob in between.
+    /// What is ahead of a blob is got without reading it in between, where its reader doesn't need the values of its references to go on.
     #[tactic(auto, using(crate::proofs::Stepped::driving))]
     pub fn run<E: Env<Node: NodeSet<E>>, A: Access<E>>(
         &mut self,
@@ -227,9 +227,9 @@ impl Reading {
         ensures acts { Acts A.told A.acting access.old access.new (λ a s t. Runs (values_at E.Node.NodeSet E.Env E.Hash.KeyHash a.environment) a.me self.old s result t) }
         ensures ends { LeadsOn self.old.for_cell [] [] (Ok (Some result)) }
     {
-        let mut row = Vec::new(alloc);
+        let mut ahead = Ahead::new(alloc);
         loop {
-            if let Some(answer) = self.step_on(access, alloc, &mut row) {
+            if let Some(answer) = self.step_on(access, alloc, &mut ahead) {
                 return answer;
             }
         }

@@ -1,10 +1,10 @@
-use Rattle.{std.proofs.Common.◌≡◌, pagable_loads.specs.{Decoding.IsAhead, Ending.to_do, Frames.frames_of, Stepping.HasGone, Telling.{Acts, values_at}}}
+use Rattle.{std.proofs.Common.◌≡◌, pagable_loads.specs.{Decoding.{AllAhead, rows_of}, Ending.to_do, Frames.frames_of, Stepping.HasGone, Telling.{Acts, values_at}}}
 use Rattle.pagable_loads.proofs.reading.Reading.run.Given as goal
 
 abbrev pub invariant-loop-answer : goal.invariant-loop-answer
 invariant-loop-answer g l = record {
   so_far : Acts g.A.Access.told g.A.Access.acting l.initial.access l.access (λ a s t. HasGone (values_at g.E.Node.NodeSet g.E.Env g.E.Hash.KeyHash a.environment) a.me l.initial.self l.self s t);
-  ahead : IsAhead (values_at g.E.Node.NodeSet g.E.Env g.E.Hash.KeyHash (g.A.Access.acting l.access).environment).types (frames_of l.self.top l.self.below.items) l.row.items;
+  ahead : AllAhead (values_at g.E.Node.NodeSet g.E.Env g.E.Hash.KeyHash (g.A.Access.acting l.access).environment).types (frames_of l.self.top l.self.below.items) (rows_of l.ahead);
   sort : l.self.for_cell ≡ l.initial.self.for_cell;
 }
 

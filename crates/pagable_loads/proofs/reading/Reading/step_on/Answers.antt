@@ -1,7 +1,5 @@
-use Rattle.{pagable_loads.proofs.Foreseen.row_goes_on, std.proofs.Common.{ap, rules, ◌∙◌}, pagable_world.specs.Loads.needs_lazy}
-
-pub take_lazy-requires-clause-need : Rattle.pagable_loads.proofs.reading.Reading.step_on.Goals.take_lazy-requires-clause-need
-take_lazy-requires-clause-need g c = let tells = rw c.as_slice.ensures.value at c.in-Some.ensures.tells in (tells _ c.look_ahead.ensures).need ∙ ap (needs_lazy c.in-Some.kind) (search rules)
+use Rattle.pagable_loads.{proofs.Foreseen.{ahead_then, with_top}, specs.Frames.frames_of}
 
 pub returns-in-Ok-clause-ahead : Rattle.pagable_loads.proofs.reading.Reading.step_on.Goals.returns-in-Ok-clause-ahead
-returns-in-Ok-clause-ahead g c = let tells = rw c.as_slice.ensures.value at c.in-Some.ensures.tells in row_goes_on _ _ _ _ _ _ _ _ (tells _ c.look_ahead.ensures) c.in-Ok.ensures.got c.keep_if.ensures
+returns-in-Ok-clause-ahead g c = ahead_then _ c.needed-need.result c.in-Ok.answer _ _ _ _ c.is_adoption-was_read.result c.is_adoption-was_read.ensures c.in-Ok.ensures.goes c.follow.ensures
+    (with_top (frames_of c.args.self.now.top c.args.self.now.below.items) c.requires.ahead c.look_ahead.ensures)
