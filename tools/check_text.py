@@ -1,10 +1,14 @@
 #!/usr/bin/env python3
-"""Prints where the library's text invents a want of memory, as file:line, and nothing else; the status is 1 where it does.
+"""Prints where the library's text invents a want of memory, or does more under the pager's lock than one call of it, as file:line, and nothing else;
+the status is 1 where it does.
 
 In the src/ of every library crate `Error::OutOfMemory` is written as a value in one function alone, which makes it of a growth that the allocator refused
 (crates/pagable_model/src/error.rt). All others pass such a refusal on, so none says that memory is wanting where no growth was refused. It may stand in
 patterns, clauses and comments. `AllocError` and `AllocFailed`, the refused growth itself, are values nowhere; and only what `regex` refuses is named by
 `Error::of_library`, which takes its caller's word. LEFT names what docs/PROOFS.md tells as open.
+
+In `pagable_locked` a function that locks the pager calls nothing but functions of `pagable_pager`, so no value is decoded or written, nothing is waited for and
+no other lock is taken meanwhile.
 """
 import re
 import sys
@@ -27,6 +31,25 @@ PATTERN = re.compile(r"[\s)]*(?:\|[^=;]*)?(?:=>|=(?!=)|\bif\b.*=>)")
 MATCHES = re.compile(r"\bmatches!\([^;]*\)")
 # A type is written behind `<`, `:` or `,`, or before `>`; a value isn't.
 REFUSED_GROWTH = re.compile(r"(?:[({=]|=>|\breturn|^)\s*(?:AllocError\b(?!\s*[>:])|AllocFailed\s*\{[^{}]*\})")
+LOCKED, PAGER = CRATES / "pagable_locked/src", CRATES / "pagable_pager/src"
+FUNCTION = re.compile(r"(?m)^ *(?:pub(?:\(crate\))? )?(?:const )?fn (\w+)")
+CALLED = re.compile(r"(?<!fn )\b(\w+)\(")
+# What a function that locks the pager may name before a parenthesis, beside the pager's functions.
+PLAIN = {"lock", "Ok", "Err", "Some", "Left", "Right", "Worker"}
+
+
+def lengthy_locks():
+    """The places, as file and line, of functions that lock the pager and call something else."""
+    may = PLAIN | {name for file in PAGER.glob("**/*.rt") for name in FUNCTION.findall(file.read_text(encoding="utf-8"))}
+    found = []
+    for file in sorted(LOCKED.glob("**/*.rt")):
+        text = "\n".join(NOT_CODE.sub("", line) for line in file.read_text(encoding="utf-8").splitlines())
+        heads = list(FUNCTION.finditer(text))
+        for head, end in zip(heads, [at.start() for at in heads[1:]] + [len(text)]):
+            code = text[head.start() : end]
+            if "pager.lock(" in code and set(CALLED.findall(code)) - may:
+                found.append((file, text[: head.start()].count("\n") + 1))
+    return found
 
 
 def offences(text, file):
@@ -55,6 +78,7 @@ def main():
         found, allowed = offences(file.read_text(encoding="utf-8"), str(file.relative_to(CRATES)))
         is_home = file == CRATES / "pagable_model/src/error.rt"
         lines += [(file, number) for number in found + (allowed[1:] if is_home else allowed)]
+    lines += lengthy_locks()
     for file, number in lines:
         print(f"{file.relative_to(CRATES.parent)}:{number}")
     sys.exit(1 if lines else 0)

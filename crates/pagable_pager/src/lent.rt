@@ -1,7 +1,7 @@
 //! A pager that is lent, as an access, and as that of a page-out worker; and the cache of one.
 #![tactic(auto, using(crate::proofs::Keeping::lending))]
 
-ghost use Rattle.std.specs.Prelude.{IfOk, true, ◌≡◌};
+ghost use Rattle.std.specs.Prelude.{IfErr, IfOk, true, ◌≡◌};
 ghost use Rattle.{pagable_loads.specs.Telling.values_at, pagable_pager.specs.View.{Calls, OnlyLess, OnlyTables, core_in, is_at_work, state_in, telling}};
 ghost use Rattle.pagable_world.specs.{Calls.{ClearCall, OfferCall, RecallCall}, Pager.WellFormed, World.seen_as};
 
@@ -51,6 +51,29 @@ impl<'a, E: Env<Node: NodeSet<E>>, S: PagableStorage<E>> Lent<'a, E, S> {
         Lent {
             pager,
             me: Owner::Worker(worker),
+        }
+    }
+
+    /// Gives the access of an owner who is the caller or a worker, and asks the pager itself whether the worker is at work: behind a lock nothing
+    /// else tells.
+    ///
+    /// # Errors
+    /// - NotYours: the worker isn't at work, or the owner is neither the caller nor a worker. Nothing changes.
+    pub fn for_owner(pager: &'a mut Pager<E, S>, me: Owner) -> Result<Lent<'a, E, S>, Error>
+        ensures lent { IfOk result (λ l. l.pager.ghost_name ≡ pager.entry.ghost_name) }
+        ensures same { IfOk result (λ l. l.pager.now ≡ pager.old) }
+        ensures me { IfOk result (λ l. l.me ≡ me) }
+        ensures refused { IfErr result (λ e. e ≡ Error.NotYours) }
+    {
+        match me {
+            Owner::Caller => Ok(Lent::new(pager)),
+            Owner::Worker(worker) => {
+                if pager.has_worker(worker) {
+                    return Ok(Lent::for_worker(pager, worker));
+                }
+                Err(Error::NotYours)
+            }
+            _ => Err(Error::NotYours),
         }
     }
 }

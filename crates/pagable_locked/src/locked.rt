@@ -1,0 +1,222 @@
+//! A pager behind a lock, as an access, and as that of a page-out worker. Between two calls other threads may make
+//! theirs, so it tells nothing.
+
+use either::Either;
+use pagable_codec::{Env, NodeSet};
+use pagable_core::{PagableData, PagableStorage, SessionOf, Setting};
+use pagable_loads::{Access, PinStart, Taken, WorkerAccess};
+use pagable_model::{
+    ArcRef, DataKey, Error, HandleNumber, Kind, LoadNumber, NodeNumber, OptionalDataKey,
+    WorkerNumber,
+};
+use pagable_pager::{Lent, Pager};
+use pagable_world::handles::Owner;
+use std::alloc::Global;
+use std::sync::{Arc, Mutex, Wait};
+
+/// The access of one thread to a pager behind a lock, for the caller or for a worker of this thread. Each call takes
+/// the lock, makes one call of the pager for its owner, and lets the lock go; environment and session stand outside
+/// it. A call for a worker that isn't at work is refused with NotYours.
+#[derive(Drop)]
+pub struct Locked<'a, R: Wait, E: Env<Node: NodeSet<E>>, S: PagableStorage<E>> {
+    rt: &'a R,
+    pager: &'a Mutex<Pager<E, S>>,
+    setting: &'a Setting<E>,
+    me: Owner,
+}
+
+impl<'a, R: Wait, E: Env<Node: NodeSet<E>>, S: PagableStorage<E>> Locked<'a, R, E, S> {
+    ghost use Rattle.std.specs.Prelude.{◌≡◌};
+    ghost use Rattle.pagable_world.specs.declared.handles.Owner.{Owner};
+
+    /// Makes the caller's access to a pager whose setting is this one.
+    pub fn new(
+        rt: &'a R,
+        pager: &'a Mutex<Pager<E, S>>,
+        setting: &'a Setting<E>,
+    ) -> Locked<'a, R, E, S>
+        ensures { result.me ≡ Owner.Caller }
+    {
+        Locked {
+            rt,
+            pager,
+            setting,
+            me: Owner::Caller,
+        }
+    }
+}
+
+impl<'a, R: Wait, E: Env<Node: NodeSet<E>>, S: PagableStorage<E>> Access<E>
+    for Locked<'a, R, E, S> {
+    ghost use Rattle.std.specs.Prelude.{None};
+
+    ghost told = { λ l. None };
+
+    ghost acting = { λ l. record { me = l.me; environment = l.setting.now.env; lender = 0 } };
+
+    fn env(&self) -> &E {
+        &self.setting.env
+    }
+
+    fn session_context(&self) -> &SessionOf<E> {
+        &self.setting.session
+    }
+
+    fn begin_pin(&mut self, handle: HandleNumber) -> Result<PinStart, Error> {
+        let mut pager = self.pager.lock(self.rt);
+        Lent::for_owner(&mut *pager, self.me)?.begin_pin(handle)
+    }
+
+    fn share(&self, handle: HandleNumber) -> Result<Option<Arc<E::Node>>, Error> {
+        self.pager.lock(self.rt).share(handle)
+    }
+
+    fn store(&mut self, alloc: Global, blob: PagableData) -> Result<DataKey, Error> {
+        self.pager.lock(self.rt).store(alloc, blob)
+    }
+
+    fn set_data_key(&mut self, handle: HandleNumber, key: DataKey) -> Result<(), Error> {
+        let mut pager = self.pager.lock(self.rt);
+        Lent::for_owner(&mut *pager, self.me)?.set_data_key(handle, key)
+    }
+
+    fn unpin(&mut self, handle: HandleNumber) -> Result<(), Error> {
+        let mut pager = self.pager.lock(self.rt);
+        Lent::for_owner(&mut *pager, self.me)?.unpin(handle)
+    }
+
+    fn release(&mut self, handle: HandleNumber) -> Result<(), Error> {
+        let mut pager = self.pager.lock(self.rt);
+        Lent::for_owner(&mut *pager, self.me)?.release(handle)
+    }
+
+    fn load_key(&mut self, key: DataKey) -> Result<LoadNumber, Error> {
+        let mut pager = self.pager.lock(self.rt);
+        Lent::for_owner(&mut *pager, self.me)?.load_key(key)
+    }
+
+    fn load_root(&mut self, alloc: Global, load: LoadNumber) -> Result<Arc<PagableData>, Error> {
+        let mut pager = self.pager.lock(self.rt);
+        Lent::for_owner(&mut *pager, self.me)?.load_root(alloc, load)
+    }
+
+    fn load_nested(
+        &mut self,
+        alloc: Global,
+        load: LoadNumber,
+        kind: Kind,
+        key: DataKey,
+    ) -> Result<Either<ArcRef, Arc<PagableData>>, Error> {
+        let mut pager = self.pager.lock(self.rt);
+        Lent::for_owner(&mut *pager, self.me)?.load_nested(alloc, load, kind, key)
+    }
+
+    fn load_lazy(
+        &mut self,
+        alloc: Global,
+        load: LoadNumber,
+        kind: Kind,
+        key: DataKey,
+    ) -> Result<ArcRef, Error> {
+        let mut pager = self.pager.lock(self.rt);
+        Lent::for_owner(&mut *pager, self.me)?.load_lazy(alloc, load, kind, key)
+    }
+
+    fn load_adopt(
+        &mut self,
+        alloc: Global,
+        load: LoadNumber,
+        kind: Kind,
+        key: DataKey,
+        node: E::Node,
+    ) -> Result<ArcRef, (Error, E::Node)> {
+        let mut pager = self.pager.lock(self.rt);
+        match Lent::for_owner(&mut *pager, self.me) {
+            Ok(mut lent) => lent.load_adopt(alloc, load, kind, key, node),
+            Err(e) => Err((e, node)),
+        }
+    }
+
+    fn load_end(
+        &mut self,
+        alloc: Global,
+        load: LoadNumber,
+        value: E::Node,
+    ) -> Result<HandleNumber, (Error, Option<E::Node>)> {
+        let mut pager = self.pager.lock(self.rt);
+        match Lent::for_owner(&mut *pager, self.me) {
+            Ok(mut lent) => lent.load_end(alloc, load, value),
+            Err(e) => Err((e, Some(value))),
+        }
+    }
+
+    fn load_take(&mut self, load: LoadNumber, named: &[HandleNumber]) -> Result<(), Error> {
+        let mut pager = self.pager.lock(self.rt);
+        Lent::for_owner(&mut *pager, self.me)?.load_take(load, named)
+    }
+
+    fn load_drop(&mut self, load: LoadNumber) -> Result<(), Error> {
+        let mut pager = self.pager.lock(self.rt);
+        Lent::for_owner(&mut *pager, self.me)?.load_drop(load)
+    }
+}
+
+impl<'a, R: Wait, E: Env<Node: NodeSet<E>>, S: PagableStorage<E>> WorkerAccess<E>
+    for Locked<'a, R, E, S> {
+    fn check_reference(&self, reference: ArcRef) -> Result<(), Error> {
+        let mut pager = self.pager.lock(self.rt);
+        Lent::for_owner(&mut *pager, self.me)?.check_reference(reference)
+    }
+
+    fn take_reference(&mut self, reference: ArcRef) -> Result<Taken, Error> {
+        let mut pager = self.pager.lock(self.rt);
+        Lent::for_owner(&mut *pager, self.me)?.take_reference(reference)
+    }
+
+    fn give_up(&mut self, worker: WorkerNumber, node: NodeNumber) {
+        let mut pager = self.pager.lock(self.rt);
+        Lent::new(&mut *pager).give_up(worker, node);
+    }
+
+    fn schedule_for_paging(&mut self, handle: HandleNumber) -> Result<(), Error> {
+        let mut pager = self.pager.lock(self.rt);
+        Lent::for_owner(&mut *pager, self.me)?.schedule_for_paging(handle)
+    }
+
+    fn worker_begin(&mut self) -> Result<WorkerNumber, Error> {
+        let mut pager = self.pager.lock(self.rt);
+        let worker = Lent::new(&mut *pager).worker_begin()?;
+        self.me = Owner::Worker(worker);
+        Ok(worker)
+    }
+
+    fn worker_listed(&mut self, place: usize) -> Result<(WorkerNumber, ArcRef), Error> {
+        let mut pager = self.pager.lock(self.rt);
+        let (worker, reference) = Lent::new(&mut *pager).worker_listed(place)?;
+        self.me = Owner::Worker(worker);
+        Ok((worker, reference))
+    }
+
+    fn worker_end(&mut self, worker: WorkerNumber) {
+        let mut pager = self.pager.lock(self.rt);
+        Lent::new(&mut *pager).worker_end(worker);
+        self.me = Owner::Caller;
+    }
+
+    fn pending(&self) -> usize {
+        self.pager.lock(self.rt).pending()
+    }
+
+    fn entry_key(&self, place: usize) -> Option<OptionalDataKey> {
+        let mut pager = self.pager.lock(self.rt);
+        Lent::new(&mut *pager).entry_key(place)
+    }
+
+    fn take_pending(&mut self, place: usize) -> Option<HandleNumber> {
+        let mut pager = self.pager.lock(self.rt);
+        match Lent::for_owner(&mut *pager, self.me) {
+            Ok(mut lent) => lent.take_pending(place),
+            Err(_) => None,
+        }
+    }
+}
