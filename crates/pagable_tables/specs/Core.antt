@@ -3,7 +3,7 @@ use Rattle.std.specs.{Option.option_map, Prelude.{Bool, IfErr, IfOk, List, None,
 use Rattle.std.specs.Prelude.{vec_capacity, zero, ℕ, ◌&&◌, ◌+◌, ◌<◌, ◌==◌, ◌||◌, ◌∷◌, ◌≡◌, ◌≤◌, ◌⊎◌}
 use Rattle.{indexmap.specs.IndexMap.{IndexMap, get, spare}, pagable_model.specs.declared.{error.Error.Error, numbers.{ArcRef.ArcRef, HandleNumber.HandleNumber, NodeNumber.NodeNumber}}}
 use Rattle.{pagable_model.specs.declared.numbers.WorkerNumber.WorkerNumber, pagable_world.specs.{Calls.{IsNext, next_node, with_handle, with_mode, with_node}, Events.{with_entry_taken, with_worker}}}
-use Rattle.pagable_world.specs.{Kinds.{find_row, is_owner, is_shared, owner_worker}, LoadCalls.is_owned_in, Plain.{Among, Blob, if_there}, Refusals.{AreHandlesFull, Refused, spent}}
+use Rattle.pagable_world.specs.{Kinds.{find_row, is_owner, is_shared, owner_worker}, LoadCalls.is_owned_in, Plain.{Among, Blob, if_there}, Refusals.{AreHandlesFull, Refused, WorkerFault, spent}}
 use Rattle.pagable_world.specs.{Workers.is_load_of, World.{Alike, Core, HasRoom, OpenLoad, Root, greatest, of_cell, of_key}, declared.{handles.{HandleRow.HandleRow, Owner.Owner}, rows.Mode.Mode}}
 use Rattle.pagable_tables.specs.Falling.{IsFalling, Sheds, alive, cell_in, counts_at, is_valued, key_in, known_at, live, load_at, owns_nothing, reach_at, room, worker_at}
 use Rattle.pagable_tables.specs.declared.{giving.Giving.Giving, tables.{HandleAt.HandleAt, LoadRoot.LoadRoot, LoadRow.LoadRow, Place.Place, Reach.Reach, Tables.Tables}}
@@ -109,15 +109,15 @@ pub record IsNoLess {S : Type 0} (workers workers' : IndexMap ℕ Reach S) : Typ
   pub wider : (v q : ℕ) → InReach (reach_at workers v) q → InReach (reach_at workers' v) q
   pub before : (v : ℕ) → (reach_at workers' v).since ≤ (reach_at workers v).since
 
--- one worker more is at work; or memory is wanting
+-- one worker more is at work, or none begins
 pub record BeginsWorker (w : Core) (r : Result WorkerNumber Error) (w' : Core) : Type 0 where
   pub begun : IfOk r (λ v. (v.0 ≡ w.last.worker + 1) × Alike (with_worker w) w')
-  pub refused : IfErr r (λ e. (e ≡ Error.OutOfMemory) × Alike w w')
+  pub refused : IfErr r (λ e. WorkerFault w e × Alike w w')
 
 -- the same, for an entry of the list, which moves to the worker
 pub record TakesWorker (w : Core) (place : ℕ) (r : Result WorkerNumber Error) (w' : Core) : Type 0 where
   pub taken : IfOk r (λ v. (h : HandleNumber) × (slice_get w.list place ≡ Some h) × (v.0 ≡ w.last.worker + 1) × Alike (with_worker (with_entry_taken w place h v)) w')
-  pub refused : IfErr r (λ e. (e ≡ Error.OutOfMemory) × Alike w w')
+  pub refused : IfErr r (λ e. WorkerFault w e × Alike w w')
 
 -- ---- what loads and workers own has come since they began
 

@@ -26,9 +26,15 @@ abbrev pub IsNext : ℕ → List Place → Type 0
 IsNext q places = All (λ p. p.row.number.0 < q) places
 
 -- the places are in order, and the dead are counted
+pub record AreCounted (h : Handles) : Type 0 where
+  pub ordered : AllPairs IsBefore h.places.items
+  pub counted : length (live h.places.items) + h.dead ≡ length h.places.items
+
+-- So they are, and no more rows are dead than live: rows take at most twice the places of what lives.
 pub record AreSound (h : Handles) : Type 0 where
   pub ordered : AllPairs IsBefore h.places.items
   pub counted : length (live h.places.items) + h.dead ≡ length h.places.items
+  pub few : h.dead ≤ length (live h.places.items)
 
 -- how many rows can come without memory
 abbrev pub room : Handles → ℕ

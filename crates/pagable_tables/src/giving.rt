@@ -325,7 +325,7 @@ pub fn set_data_key<N: Drop>(
     fall(&mut t.holdings, values, lists)
 }
 
-/// One worker more is at work. OutOfMemory where it has no place, or no number is left for it.
+/// One worker more is at work. NumbersSpent where no number is left for it, OutOfMemory where it has no place.
 #[tactic(auto, using(crate::proofs::Newer::working))]
 pub fn worker_begin(t: &mut Tables) -> Result<WorkerNumber, Error>
     requires { IsWhole t.old }
@@ -335,7 +335,7 @@ pub fn worker_begin(t: &mut Tables) -> Result<WorkerNumber, Error>
     ensures same { t.new ≡ record t.old { workers = t.new.workers; last_worker = t.new.last_worker } }
 {
     if t.last_worker == u64::MAX {
-        return Err(Error::OutOfMemory);
+        return Err(Error::NumbersSpent);
     }
     let worker = t.last_worker + 1;
     let since = t.holdings.last_handle;

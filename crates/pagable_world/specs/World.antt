@@ -61,10 +61,10 @@ pub data Outcome : Type 0 where
   published : ℕ → ℕ → Outcome
   failed : Outcome
 
--- a claim: the worker that made it, what was written of its node, and its outcome
+-- a claim: the worker that made it, the references that were written of its node, and its outcome
 pub record Slot : Type 0 where
   pub worker : ℕ
-  pub written : Option Written
+  pub references : Option (List ArcRef)
   pub outcome : Outcome
 
 -- The claims of one table by their identities; and of each worker whose last answer was that it waits, for which identity.

@@ -157,14 +157,14 @@ impl<E: Env<Node: NodeSet<E>>, S: PagableStorage<E>> Pager<E, S> {
         Ok(loading::adopt(tables, load, kind, key, references, lists))
     }
 
-    /// Why a load's value neither becomes a node nor ends the load, where its references can't be listed: the load isn't open, or memory is wanting.
-    fn unlisted(&self, me: Owner, load: LoadNumber) -> Error
-        ensures { (later : Option Error) → Refused (earlier (load_fault (core_in (telling S.stored S.is_closed S.failed) self.now) me load) later)
+    /// Why a load's value neither becomes a node nor ends the load, where its references can't be listed for want of memory: the load isn't open, or else that.
+    fn unlisted(&self, me: Owner, load: LoadNumber, e: Error) -> Error
+        ensures { e ≡ Error.OutOfMemory → (later : Option Error) → Refused (earlier (load_fault (core_in (telling S.stored S.is_closed S.failed) self.now) me load) later)
             (closed_fault (core_in (telling S.stored S.is_closed S.failed) self.now) load) (Unit {0}) (core_in (telling S.stored S.is_closed S.failed) self.now) result
             (core_in (telling S.stored S.is_closed S.failed) self.now) }
     {
         match tables::load_of(&self.tables.loads, load.0) {
-            Some(_) => Error::OutOfMemory,
+            Some(_) => e,
             None => Error::NoSuchHandle,
         }
     }
@@ -200,8 +200,9 @@ impl<E: Env<Node: NodeSet<E>>, S: PagableStorage<E>> Pager<E, S> {
         ensures moves { Moves (λ n x. (x ≡ node) × IsNewNode (core_in (telling S.stored S.is_closed S.failed) self.old) n) (state_in (telling S.stored S.is_closed S.failed) self.old) (state_in (telling S.stored S.is_closed S.failed) self.new) }
         ensures storage { self.new.storage ≡ self.old.storage }
     {
-        let Ok(references) = node.refs(alloc) else {
-            return Err((self.unlisted(me, load), node));
+        let references = match node.refs(alloc) {
+            Ok(references) => references,
+            Err(e) => return Err((self.unlisted(me, load, e), node)),
         };
         let node_type = node.node_type();
         let lists = !self.storage.has_closed();
@@ -242,8 +243,9 @@ impl<E: Env<Node: NodeSet<E>>, S: PagableStorage<E>> Pager<E, S> {
         ensures moves { Moves (λ n x. (x ≡ value) × IsCellOf (core_in (telling S.stored S.is_closed S.failed) self.old) load n) (state_in (telling S.stored S.is_closed S.failed) self.old) (state_in (telling S.stored S.is_closed S.failed) self.new) }
         ensures storage { self.new.storage ≡ self.old.storage }
     {
-        let Ok(references) = value.refs(alloc) else {
-            return Err((self.unlisted(me, load), Some(value)));
+        let references = match value.refs(alloc) {
+            Ok(references) => references,
+            Err(e) => return Err((self.unlisted(me, load, e), Some(value))),
         };
         let node_type = value.node_type();
         let tables = &mut self.tables;
