@@ -37,8 +37,10 @@ module _ {N E : Type 0} (v : Values N) {s s' : PagerState N E} (whole : WellForm
   kept n x r is among eager h = record { y = h.y; there = stays r.node.0 h.y h.there (there v whole r (whole.references n x r is among) eager); beside = h.beside }
 
 pub held_law : {N : Type 0} (E : Type 0) (v : Values N) → HeldLaw E v
-held_law E v s s' whole moves held = record { each = λ n x is r among eager.
-    kept v whole moves n x r is among eager (elim (moves.each n x is) [ inl was ↦ held.each n x was r among eager | inr (none, came) ↦ came r among eager ]) }
+held_law E v s s' whole moves held = record {
+  each = λ n x is r among eager.
+      kept v whole moves n x r is among eager (elim (moves.each n x is) [ inl was ↦ held.each n x was r among eager | inr (none, came) ↦ came r among eager ]);
+}
 
 pub pinned_law : {N : Type 0} (E : Type 0) (v : Values N) → PinnedLaw E v
 pinned_law E v s owner x whole none pinned = λ r among eager.
