@@ -25,6 +25,7 @@ sample = record {
   node_type = if_there (λ r. 0) 1;
   references = if_there (λ r. r ∷ []) [];
   means = λ x own. own ≡ if_there reference none x;
+  beside = λ x r y. Unit {0};
   read_causes = λ t e. ⊥;
   write_causes = λ t e. ⊥;
   types = sample_types;

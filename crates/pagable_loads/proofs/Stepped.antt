@@ -24,11 +24,11 @@ same_answers got place [] = refl
 same_answers got place (key ∷ keys) = ap (λ (rest : List Answer). (λ kind. answer_of (slice_get got place) kind) ∷ rest) (same_answers got (place + 1) keys)
 
 -- reading at the front of the blob, with these answers, is reading with these references
-pub reads_with : {X E : Type 0} (own : Error → Type 0) (means : X → Meaning ArcRef → Type 0) (nodes : E → ℕ → Option Shape) (parts : E → ℕ → Shape) (t : ℕ) (env other : E) (levels : ℕ) (got : List ArcRef) (bytes keys : List ℕ) (blob : Blob) (st : Standing) (after : Rest Answer) (result : Result X Error)
-    → st ≡ at_front (answer_at got) bytes keys → levels ≡ 0 → other ≡ env → bytes ≡ blob.bytes → keys ≡ blob.keys
+pub reads_with : {X E N : Type 0} (own : Error → Type 0) (means : X → Meaning ArcRef → Type 0) (nodes : E → ℕ → Option Shape) (parts : E → ℕ → Shape) (t : ℕ) (env other : E) (levels : ℕ) (got : List ArcRef) (bytes keys : List ℕ) (blob : Blob) (lent : ℕ → Option (ArcRef × N)) (st : Standing N) (after : Rest Answer) (result : Result X Error)
+    → st ≡ at_front (answer_at got) lent bytes keys → levels ≡ 0 → other ≡ env → bytes ≡ blob.bytes → keys ≡ blob.keys
     → GivesSome own means after result (read_typed (handles_at levels (parts other)) (nodes other t) (rest_at st))
     → GivesSome own means after result (read_with (record { nodes = nodes env; parts = parts env }) t blob got)
-reads_with own means nodes parts t env other levels got bytes keys blob st after result s l e b k h =
+reads_with own means nodes parts t env other levels got bytes keys blob lent st after result s l e b k h =
     let P : List Answer → Type 0 = λ refs. GivesSome own means after result (read_typed (handles_at 0 (parts env)) (nodes env t) (let x : Rest Answer = record { bytes = blob.bytes; refs = refs } in x)) in
     let there : P (context.answers_from (answer_at got) 0 blob.keys) = rw (s, l, e, b, k) at h in
     subst P (same_answers got 0 blob.keys) there

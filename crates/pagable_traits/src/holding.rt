@@ -1,8 +1,8 @@
 //! References that hold their shared value.
 
-ghost use Rattle.std.specs.{Arc.arc_value, Prelude.{IfErr, IfOk, Some, nat_eq, option_and_then, ◌≡◌, ◌≢◌}};
-ghost use Rattle.pagable_model.specs.{Reading.read, Shape.reference as reference_shape, Standing.Is};
-ghost use Rattle.pagable_traits.specs.{Clauses.Reads, Meanings.exactly, References.{holding, holding_kind, holding_means, reads_unlent, reference_has_one_form, unlent}};
+ghost use Rattle.std.specs.{Arc.arc_value, Prelude.{IfErr, IfOk, nat_eq, ◌≡◌, ◌≢◌}};
+ghost use Rattle.pagable_model.specs.Shape.{reference as reference_shape};
+ghost use Rattle.pagable_traits.specs.{Beside.holding_beside, Meanings.exactly, References.{holding, holding_kind, holding_means, reads_unlent, reference_has_one_form, unlent}};
 
 use crate::plain::{read_reference, write_reference};
 use crate::{Canonical, Carried, OneMeaning, PagableDeserialize, PagableSerialize};
@@ -144,6 +144,8 @@ impl<E: Env, T: OfNode<E>, const PINS: bool> Carried<E> for HoldingArc<T, PINS> 
     ghost shape = { λ e. reference_shape (holding_kind T.TYPE PINS) };
 
     ghost means = { exactly (holding_means T.TYPE PINS) };
+
+    ghost beside = { holding_beside T.TYPE PINS T.held };
 }
 
 impl<E: Env, T: OfNode<E>, const PINS: bool> OneMeaning<E> for HoldingArc<T, PINS> {
@@ -172,14 +174,11 @@ impl<'de, E: Env, T: OfNode<E> + Drop, const PINS: bool> PagableDeserialize<'de,
 
     /// Reads the next reference, of this sort, and takes the value that it is lent. Beside what the reference itself is
     /// refused by, it is refused for want of memory, and with Custom where no value of the type is lent.
+    #[tactic(auto, using(crate::proofs::Lent::taken_holds))]
     fn pagable_deserialize<D: PagableDeserializer<E>>(
         alloc: Global,
         deserializer: &mut D,
-    ) -> Result<Self, Error>
-        ensures lent { IfOk result (λ a. option_and_then T.held (D.lends deserializer.new (holding T.TYPE PINS a)) ≡ Some (arc_value a.value)) }
-        ensures reads { Reads E.Env D.PagableDeserializer unlent (Is (holding_means T.TYPE PINS)) (λ c. read c (reference_shape (holding_kind T.TYPE PINS)))
-            deserializer.old deserializer.new result }
-    {
+    ) -> Result<Self, Error> {
         let reference = read_reference(holding_kind_of::<E, T>(PINS), deserializer)?;
         match deserializer.shared::<T>(alloc, reference)? {
             None => Err(unlent_refusal()),

@@ -212,6 +212,8 @@ pub record Values (N : Type 0) : Type 1 where
   pub node_type : N → ℕ
   pub references : N → List ArcRef
   pub means : N → Meaning ArcRef → Type 0
+  -- what a value holds beside the reference, wherever it refers by it, is the value of this node
+  pub beside : N → ArcRef → N → Type 0
   -- why a reader of values of the type may refuse one, beside the faults of the blob; and all refusals of a writer of them
   pub read_causes : ℕ → Error → Type 0
   pub write_causes : ℕ → Error → Type 0
