@@ -1,6 +1,6 @@
 -- Handles, nodes and list by their rows and numbers, in the midst of giving handles up, and what has gone and come since.
 use Rattle.{indexmap.specs.IndexMap.{IndexMap, get}, pagable_model.specs.declared.{data_key.OptionalDataKey.OptionalDataKey, error.Error.Error, numbers.{ArcRef.ArcRef, HandleNumber.HandleNumber}}}
-use Rattle.{pagable_model.specs.declared.numbers.NodeNumber.NodeNumber, pagable_tables.specs.declared.{handles.Handles.Handles, holdings.Holdings.Holdings, tables.{Counts.Counts, LoadRow.LoadRow}}}
+use Rattle.{pagable_model.specs.declared.numbers.NodeNumber.NodeNumber, pagable_tables.specs.{Rows.row_by, declared.{handles.Handles.Handles, holdings.Holdings.Holdings, number_table.NumberTable.NumberTable, tables.{Counts.Counts, LoadRow.LoadRow}}}}
 use Rattle.{pagable_tables.specs.declared.tables.{NodeRow.NodeRow, Place.Place, Reach.Reach}, pagable_world.specs.{Calls.row_of, Cascade.{AreNewEntries, IsClosed, IsWithin, MustList, TellsListing}}}
 use Rattle.pagable_world.specs.{Cascade.{is_keyed, left_rows, only_handle}, Kinds.{held, is_handle, is_owned_by, is_pin, is_shared, owner_value, pins, sharing}, Plain.{SameAt, changed, if_there, one}}
 use Rattle.pagable_world.specs.{Plain.{or_else, times, updated}, World.{Cell, Core, HasRoom, greatest}, declared.{handles.{HandleRow.HandleRow, Owner.Owner}, rows.Mode.Mode}}
@@ -46,13 +46,13 @@ room h = vec_capacity h.places - (vec_len h.places - h.dead)
 abbrev pub is_same : ℕ × ℕ → ℕ × ℕ → Bool
 is_same x y = nat_eq x.0 y.0 && nat_eq x.1 y.1
 
+abbrev pub counts_at : NumberTable NodeRow → ℕ → Option Counts
+counts_at nodes n = option_map (λ (r : NodeRow). r.counts) (row_by nodes n)
+
+abbrev pub refs_at : NumberTable NodeRow → ℕ → List ArcRef
+refs_at nodes n = option_map_or (λ (r : NodeRow). r.references.items) (row_by nodes n) []
+
 module _ {S : Type 0} where
-  abbrev pub counts_at : IndexMap ℕ NodeRow S → ℕ → Option Counts
-  counts_at nodes n = option_map (λ (r : NodeRow). r.counts) (get nat_eq nodes n)
-
-  abbrev pub refs_at : IndexMap ℕ NodeRow S → ℕ → List ArcRef
-  refs_at nodes n = option_map_or (λ (r : NodeRow). r.references.items) (get nat_eq nodes n) []
-
   abbrev pub load_at : IndexMap ℕ LoadRow S → ℕ → Option LoadRow
   load_at loads l = get nat_eq loads l
 

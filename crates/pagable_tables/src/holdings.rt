@@ -1,7 +1,7 @@
 //! Who holds what: handles, nodes with what their values refer to, and the list of cells that wait for page-out. Handles are given up here, with all that goes with them.
 
-ghost use Rattle.std.specs.Prelude.{Bool, IfErr, List, None, Some, [], false, if◌then◌else◌, length, nat_eq, not, slice_get, true, ◌&&◌, ◌+◌, ◌<◌, ◌==◌, ◌^◌, ◌||◌, ◌≡◌, ◌≢◌, ◌≤◌, ◌⊎◌};
-ghost use Rattle.{indexmap.specs.IndexMap.get, pagable_tables.specs.Falling.{AreSound, Comes, GivesUp, IsApart, IsFalling, IsNext, IsUnlisted, Leaves, MayList, Sheds, SoFar, Steps, after, alive}};
+ghost use Rattle.std.specs.Prelude.{Bool, IfErr, List, None, Some, [], false, if◌then◌else◌, length, not, slice_get, true, ◌&&◌, ◌+◌, ◌<◌, ◌==◌, ◌^◌, ◌||◌, ◌≡◌, ◌≢◌, ◌≤◌, ◌⊎◌};
+ghost use Rattle.pagable_tables.specs.{Rows.row_by, Falling.{AreSound, Comes, GivesUp, IsApart, IsFalling, IsNext, IsUnlisted, Leaves, MayList, Sheds, SoFar, Steps, after, alive}};
 ghost use Rattle.{pagable_tables.specs.Falling.{counts_at, is_listing, is_node, is_valued, landed, live, owns, owns_nothing, refs_at, told_by, with_tables}, pagable_world.specs.Cascade.Falls};
 ghost use Rattle.{pagable_world.specs.{Kinds.{is_owner, is_pinning}, Plain.one, World.Core, declared.handles.Owner.Owner}, std.specs.{Prelude.ℕ, Result.is_ok}};
 
@@ -149,7 +149,7 @@ fn land(nodes: &mut Nodes, node: u64, counts: Counts)
     ensures refs { (q : ℕ) → refs_at nodes.new q ≡ refs_at nodes.old q }
 {
     if counts.holds == 0 {
-        nodes.swap_remove(&node);
+        nodes.remove(node);
     } else {
         let mut left = counts;
         left.is_falling = false;
@@ -184,10 +184,10 @@ pub fn step(t: &mut Holdings, lists: bool) -> Option<NodeNumber>
 
 /// The value of a node that fell goes.
 fn let_go<N: Drop>(values: &mut Arcs<N>, done: Option<NodeNumber>)
-    ensures { (n : ℕ) → get nat_eq values.new n ≡ (if is_node done n then None else get nat_eq values.old n) }
+    ensures { (n : ℕ) → row_by values.new n ≡ (if is_node done n then None else row_by values.old n) }
 {
     if let Some(node) = done {
-        values.swap_remove(&node.0);
+        values.remove(node.0);
     }
 }
 
@@ -200,7 +200,7 @@ pub fn cascade<N: Drop>(t: &mut Holdings, values: &mut Arcs<N>, lists: bool)
     ensures unlisting { lists ≡ false → t.new.list.items ≡ t.old.list.items }
     ensures so_far { (before w : Core) (given : ℕ → Bool) → SoFar before w given lists t.old → SoFar before w given lists t.new }
     ensures falls { (before w : Core) (given : ℕ → Bool) → SoFar before w given lists t.old → Falls before w given (told_by t.new.unlisted) (with_tables w t.new) }
-    ensures sheds { Sheds (counts_at t.old.nodes) (get nat_eq values.old) (counts_at t.new.nodes) (get nat_eq values.new) }
+    ensures sheds { Sheds (counts_at t.old.nodes) (row_by values.old) (counts_at t.new.nodes) (row_by values.new) }
 {
     // twice the number of live handles, and one: so many steps are enough once a handle was given up
     let mut left = 2 * (t.handles.places.len() - t.handles.dead) + 1;
@@ -221,7 +221,7 @@ pub fn shed<N: Drop>(t: &mut Holdings, values: &mut Arcs<N>, at: HandleAt, lists
     ensures so_far { (before w : Core) (given : ℕ → Bool) (f : SoFar before w given lists t.old) → length (live t.old.handles.places.items) ≤ length w.rows
         → (is_owner Owner.List at.row.owner ≡ false) ⊎ IsApart before w given lists t.old f at.row.number.0 → SoFar before w (λ q. given q || q == at.row.number.0) lists t.new }
     ensures unlisting { lists ≡ false → t.new.list.items ≡ t.old.list.items }
-    ensures sheds { Sheds (counts_at t.old.nodes) (get nat_eq values.old) (counts_at t.new.nodes) (get nat_eq values.new) }
+    ensures sheds { Sheds (counts_at t.old.nodes) (row_by values.old) (counts_at t.new.nodes) (row_by values.new) }
 {
     give_up(t, at, false, lists);
     cascade(t, values, lists);
@@ -232,7 +232,7 @@ pub fn fall<N: Drop>(t: &mut Holdings, values: &mut Arcs<N>, lists: bool) -> Res
     requires falling { (stack : List ℕ) × IsFalling t.old stack owns_nothing × (length stack ≤ 1) }
     ensures steady { IsFalling t.new [] owns_nothing }
     ensures falls { (before w : Core) (given : ℕ → Bool) → SoFar before w given lists t.old → Falls before w given result (with_tables w t.new) }
-    ensures sheds { Sheds (counts_at t.old.nodes) (get nat_eq values.old) (counts_at t.new.nodes) (get nat_eq values.new) }
+    ensures sheds { Sheds (counts_at t.old.nodes) (row_by values.old) (counts_at t.new.nodes) (row_by values.new) }
 {
     cascade(t, values, lists);
     match t.unlisted.take() {

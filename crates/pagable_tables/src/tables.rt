@@ -7,6 +7,7 @@ ghost use Rattle.pagable_world.specs.Calls.{ClearCall, ReserveCall, room_of};
 
 use crate::handles::{self, Handles};
 use crate::holdings::Holdings;
+use crate::number_table::{NumberTable, chunk_of, place_of};
 use indexmap::IndexMap;
 use pagable_model::{ArcRef, DataKey, Error, HandleNumber, NodeNumber};
 use pagable_world::handles::{HandleRow, Owner};
@@ -14,7 +15,7 @@ use std::alloc::{AllocError, Global};
 use std::sync::Arc;
 
 /// Nodes, loads and workers by their numbers, and what the cache knows under a kind and a key.
-pub type Nodes = IndexMap<u64, NodeRow>;
+pub type Nodes = NumberTable<NodeRow>;
 
 pub type Loads = IndexMap<u64, LoadRow>;
 
@@ -23,7 +24,7 @@ pub type Workers = IndexMap<u64, Reach>;
 pub type Cache = IndexMap<(u32, DataKey), NodeNumber>;
 
 /// The values in memory, by the numbers of their nodes. They stand beside the tables.
-pub type Arcs<N> = IndexMap<u64, Arc<N>>;
+pub type Arcs<N> = NumberTable<Arc<N>>;
 
 /// A place in the vector of handles: a live row, or a dead one that waits to be cleared away.
 #[derive(Clone, Copy)]
@@ -146,7 +147,7 @@ pub fn new(alloc: Global) -> Tables
                 places: Vec::new(alloc),
                 dead: 0,
             },
-            nodes: IndexMap::new(alloc),
+            nodes: NumberTable::new(alloc),
             list: Vec::new(alloc),
             top: 0,
             unlisted: None,
@@ -193,39 +194,48 @@ pub fn cache_clear(t: &mut Tables) -> Result<(), Error>
 pub fn counts_of(nodes: &Nodes, node: u64) -> Option<Counts>
     ensures { result ≡ counts_at nodes.now node }
 {
-    Some(nodes.get(&node)?.counts)
+    Some(nodes.get(node)?.counts)
 }
 
 /// Other counts for a node.
+#[tactic(auto, unfolding(crate::specs::Rows::place_at, crate::specs::Rows::row_by))]
 pub fn set_counts(nodes: &mut Nodes, node: u64, counts: Counts)
     requires { IsSome (counts_at nodes.old node) }
     ensures here { counts_at nodes.new node ≡ Some counts }
     ensures others { (q : ℕ) → q ≢ node → counts_at nodes.new q ≡ counts_at nodes.old q }
     ensures refs { (q : ℕ) → refs_at nodes.new q ≡ refs_at nodes.old q }
 {
-    if let Some(row) = nodes.get_mut(&node) {
+    let rows = &mut nodes.chunks[chunk_of(node)];
+    if let Some(row) = &mut rows[place_of(node)] {
         row.counts = counts;
     }
 }
 
 /// Takes the last reference of a node.
+#[tactic(auto, unfolding(crate::specs::Rows::place_at, crate::specs::Rows::row_by))]
 pub fn pop_reference(nodes: &mut Nodes, node: u64) -> Option<ArcRef>
     ensures counts { (q : ℕ) → counts_at nodes.new q ≡ counts_at nodes.old q }
     ensures others { (q : ℕ) → q ≢ node → refs_at nodes.new q ≡ refs_at nodes.old q }
     ensures here { refs_at nodes.old node ≡ refs_at nodes.new node ++ option_to_list result }
     ensures none { IfNone result (refs_at nodes.new node ≡ []) }
 {
-    nodes.get_mut(&node)?.references.pop()
+    let rows = nodes.chunks.get_mut(chunk_of(node))?;
+    match rows.get_mut(place_of(node))? {
+        Some(row) => row.references.pop(),
+        None => None,
+    }
 }
 
 /// What the value of a node refers to from now on.
+#[tactic(auto, unfolding(crate::specs::Rows::place_at, crate::specs::Rows::row_by))]
 pub fn set_references(nodes: &mut Nodes, node: u64, references: Vec<ArcRef>)
     requires { IsSome (counts_at nodes.old node) }
     ensures counts { (q : ℕ) → counts_at nodes.new q ≡ counts_at nodes.old q }
     ensures here { refs_at nodes.new node ≡ references.items }
     ensures others { (q : ℕ) → q ≢ node → refs_at nodes.new q ≡ refs_at nodes.old q }
 {
-    if let Some(row) = nodes.get_mut(&node) {
+    let rows = &mut nodes.chunks[chunk_of(node)];
+    if let Some(row) = &mut rows[place_of(node)] {
         row.references = references;
     }
 }

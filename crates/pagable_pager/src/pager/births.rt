@@ -6,11 +6,11 @@ ghost use Rattle.pagable_world.specs.{Calls.{AwayBirthCall, BirthCall}, Kinds.is
 ghost use Rattle.pagable_world.specs.{Plain.{Blob, Error}, Refusals.{Refused, closed_fault, earlier, load_fault}, World.usable};
 
 use crate::pager::Pager;
-use indexmap::IndexMap;
 use pagable_codec::{Env, NodeSet};
 use pagable_core::PagableStorage;
 use pagable_model::{ArcRef, DataKey, Error, HandleNumber, Kind, LoadNumber};
 use pagable_tables::loading::Unended;
+use pagable_tables::number_table::NumberTable;
 use pagable_tables::{loading, making, tables};
 use pagable_world::Mode;
 use pagable_world::handles::Owner;
@@ -19,7 +19,7 @@ use std::sync::Arc;
 
 /// A value is in memory from now on, if it comes, and else it is dropped. Refused with OutOfMemory, and the value comes back.
 fn place<N: Drop>(
-    values: &mut IndexMap<u64, Arc<N>>,
+    values: &mut NumberTable<Arc<N>>,
     alloc: Global,
     node: u64,
     comes: bool,
@@ -33,16 +33,14 @@ fn place<N: Drop>(
     if !comes {
         return Ok(());
     }
-    if let Err(e) = values.reserve(1) {
+    if let Err(e) = values.reserve(node) {
         return Err((Error::from(e), value));
     }
     let shared = match Arc::new(alloc, value) {
         Ok(shared) => shared,
         Err(refused) => return Err(Error::parted(refused)),
     };
-    let Ok(_) = values.insert(node, shared) else {
-        unreachable!();
-    };
+    values.put(node, shared);
     Ok(())
 }
 
