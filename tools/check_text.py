@@ -20,7 +20,7 @@ OTHERS = ("pagectl", "vectors", "pagable_rows", "pagable_examples")
 CONVERSION = "fn out_of_memory() -> Error"
 OF_LIBRARY = "pagable_traits/src/saved_regex.rt"
 LEFT = {
-    ("pagable_loads/src/step.rt", "pin_over"),
+    ("pagable_loads/src/step.rt", "pin_with_state_over"),
     ("pagable_pager/src/pager/births.rt", "unlisted"),
     ("pagable_tables/src/giving.rt", "worker_begin"),
 }

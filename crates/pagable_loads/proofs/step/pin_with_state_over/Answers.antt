@@ -1,6 +1,6 @@
 use Rattle.{pagable_loads.{proofs.Stepped.{acts_then, taken_back, takes_back}, specs.{Starting.TakesBack, Telling.{Acts, values_at}}}, std.proofs.Common.{ap, ◌∙◌}}
 
-pub returns : Rattle.pagable_loads.proofs.step.pin_over.Goals.returns
+pub returns : Rattle.pagable_loads.proofs.step.pin_with_state_over.Goals.returns
 returns g c =
     let mine = ap (λ a. a.me) c.pin_first.ensures.acting ∙ c.requires.caller in
     let h = c.args.handle in
