@@ -242,11 +242,12 @@ impl<E: Env<Node: NodeSet<E>>, S: PagableStorage<E>> PagableStorageHandle<E, S> 
     }
 
     /// Pages out the entries that stand in the list at the call, with all that they refer to, from the last to the
-    /// first, up to the first failure, which it answers. What is listed meanwhile waits for the next call.
+    /// first, up to the first failure, which it answers. What is listed meanwhile waits for the next call; what another
+    /// thread takes meanwhile is passed over.
     ///
     /// # Errors
-    /// - Failed: a step was refused, with NoSuchHandle also where another thread has just taken the entry. The entry
-    ///   whose page-out failed is listed again, at the end, and those before it stay listed.
+    /// - Failed: a step was refused. The entry whose page-out failed is listed again, at the end, and those before it
+    ///   stay listed.
     pub fn page_out_pending<R: Wait>(&self, rt: &R, alloc: Global) -> Result<(), PageOutError> {
         let mut access = self.access(rt);
         page_out_pending_over(&mut access, alloc)
