@@ -9,6 +9,7 @@ pub mod shared_claims;
 pub mod slot;
 pub mod storage_handle;
 pub mod table;
+pub mod typed;
 
 pub use in_memory::InMemoryPagableStorage;
 pub use locked::Locked;
