@@ -289,6 +289,29 @@ fn share_pinned<E: Env<Node: NodeSet<E>>, A: Access<E>>(
     }
 }
 
+/// Pins as `pin_over` does, and tells too whether the loose handle pinned nothing before: who takes the pin back unpins that one then.
+///
+/// # Errors
+/// - as `pin_over`.
+pub fn pin_with_state_over<E: Env<Node: NodeSet<E>>, A: Access<E>>(
+    access: &mut A,
+    alloc: Global,
+    handle: HandleNumber,
+) -> Result<(HandleNumber, Arc<E::Node>, bool), Error>
+    requires caller { (A.acting access.old).me ≡ Owner.Caller }
+    ensures { Acts A.told A.acting access.old access.new (λ a s t. PinsOver (values_at E.Node.NodeSet E.Env E.Hash.KeyHash a.environment) s handle (seen_as (λ a. (a.0, arc_value a.1)) result) t) }
+{
+    let (pinned, was_unpinned) = pin_first(access, alloc, handle)?;
+    match share_pinned(access, pinned) {
+        Ok(value) => Ok((pinned, value, was_unpinned)),
+        Err(e) => {
+            unpin_again(access, handle, was_unpinned);
+            let _told = access.release(pinned);
+            Err(e)
+        }
+    }
+}
+
 /// Pins a loose handle's cell, reading its value from the storage where it isn't in memory, and answers the new Pinned handle and the value, shared. The access
 /// is the caller's. Refused as `begin_pin` and as a load's steps refuse it, and handles and counts are as before; and with OutOfMemory where the value can't be shared.
 pub fn pin_over<E: Env<Node: NodeSet<E>>, A: Access<E>>(
@@ -299,15 +322,8 @@ pub fn pin_over<E: Env<Node: NodeSet<E>>, A: Access<E>>(
     requires caller { (A.acting access.old).me ≡ Owner.Caller }
     ensures { Acts A.told A.acting access.old access.new (λ a s t. PinsOver (values_at E.Node.NodeSet E.Env E.Hash.KeyHash a.environment) s handle (seen_as (λ a. (a.0, arc_value a.1)) result) t) }
 {
-    let (pinned, was_unpinned) = pin_first(access, alloc, handle)?;
-    match share_pinned(access, pinned) {
-        Ok(value) => Ok((pinned, value)),
-        Err(e) => {
-            unpin_again(access, handle, was_unpinned);
-            let _told = access.release(pinned);
-            Err(e)
-        }
-    }
+    let (pinned, value, _) = pin_with_state_over(access, alloc, handle)?;
+    Ok((pinned, value))
 }
 
 /// Reads a key as a value of this type, with all that it refers to and that is read together with it; the handles of its references are the caller's, as the

@@ -1,6 +1,6 @@
 use Rattle.{pagable_loads.{proofs.Stepped.{acts_from, acts_then, taken_back, takes_back}, specs.{Starting.{SharesPinned, TakesBack}, Telling.{Acts, values_at}}}, std.{proofs.Common.{Err, ap, ◌∙◌}, specs.{Arc.arc_value, declared.alloc.Global.Global}}}
 
-pub returns-in-Err : Rattle.pagable_loads.proofs.step.pin_over.Goals.returns-in-Err
+pub returns-in-Err : Rattle.pagable_loads.proofs.step.pin_with_state_over.Goals.returns-in-Err
 returns-in-Err g c =
     let mine = ap (λ a. a.me) c.pin_first.ensures.acting ∙ c.requires.caller in
     let h = c.args.handle in
