@@ -50,7 +50,7 @@ ROWS = [
     ("fronts", 100_000),
     ("backwards", 20_000),
 ]
-SQUARES = {"chain", "wide_shared", "wide_item", "loads", "fronts"}
+SQUARES = {"chain", "wide_shared", "wide_item", "loads"}
 # What the original has no call for.
 OURS = {"loads", "fronts", "backwards"}
 CALLS = {"calls", "falls", "loads", "fronts"}

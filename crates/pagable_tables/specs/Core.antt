@@ -1,4 +1,5 @@
 -- The plain world that the tables tell, when they are whole, what a call of them does and keeps, and the steps that are asked of them.
+use Rattle.std.specs.VecDeque.{deque_capacity}
 use Rattle.std.specs.{Option.option_map, Prelude.{Bool, IfErr, IfOk, IsSome, List, None, Option, Result, Some, [], false, get_or, if◌then◌else◌, is_some, length, not, slice_get, suc, true}}
 use Rattle.std.specs.Prelude.{vec_capacity, zero, ℕ, ◌&&◌, ◌+◌, ◌<◌, ◌==◌, ◌||◌, ◌∷◌, ◌≡◌, ◌≤◌, ◌⊎◌}
 use Rattle.{indexmap.specs.IndexMap.IndexMap, pagable_model.specs.declared.{error.Error.Error, numbers.{ArcRef.ArcRef, HandleNumber.HandleNumber, NodeNumber.NodeNumber}}}
@@ -30,7 +31,7 @@ core_of t stored closed failures = record {
   loads = λ l. option_map load_in (load_at t.loads l);
   workers = λ v. is_some (worker_at t.workers v);
   last = record { node = t.last_node; handle = t.holdings.last_handle; load = t.last_load; worker = t.last_worker };
-  places = record { handles = vec_capacity t.holdings.handles.places; entries = vec_capacity t.holdings.list };
+  places = record { handles = vec_capacity t.holdings.handles.places; entries = deque_capacity t.holdings.list };
 }
 
 -- the same, while nothing is stored

@@ -5,6 +5,7 @@ use Rattle.{pagable_tables.specs.declared.tables.{NodeRow.NodeRow, Place.Place, 
 use Rattle.pagable_world.specs.{Cascade.{is_keyed, left_rows, only_handle}, Kinds.{held, is_handle, is_owned_by, is_pin, is_shared, owner_value, pins, sharing}, Plain.{SameAt, changed, if_there, one}}
 use Rattle.pagable_world.specs.{Plain.{or_else, times, updated}, World.{Cell, Core, HasRoom, greatest}, declared.{handles.{HandleRow.HandleRow, Owner.Owner}, rows.Mode.Mode}}
 use Rattle.std.specs.{List.AllPairs, Option.{option_map, option_map_or}, Prelude.{All, Bool, Err, IfSome, List, None, Ok, Option, Result, Some, [], false, filter, if◌then◌else◌, is_some, length, map}}
+use Rattle.std.specs.VecDeque.{deque_capacity}
 use Rattle.std.specs.Prelude.{nat_eq, nat_lt, not, suc, sum_by, true, vec_capacity, vec_len, zero, ℕ, ◌&&◌, ◌*◌, ◌++◌, ◌+◌, ◌-◌, ◌<◌, ◌==◌, ◌||◌, ◌∷◌, ◌≡◌, ◌≢◌, ◌≤◌, ◌⊎◌}
 
 -- the rows that are live, in their order
@@ -179,13 +180,13 @@ pub record IsFalling (t : Holdings) (stack : List ℕ) (extra : ℕ → ℕ → 
 -- why no entry can come: no number is left, or no place
 abbrev pub IsUnlisted : Holdings → Error → Type 0
 IsUnlisted t Error.NumbersSpent = greatest ≤ t.last_handle
-IsUnlisted t Error.OutOfMemory = (t.last_handle < greatest) × ((vec_capacity t.handles.places ≤ length (live t.handles.places.items)) ⊎ (vec_capacity t.list ≤ length t.list.items))
+IsUnlisted t Error.OutOfMemory = (t.last_handle < greatest) × ((vec_capacity t.handles.places ≤ length (live t.handles.places.items)) ⊎ (deque_capacity t.list ≤ length t.list.items))
 IsUnlisted t e = ⊥
 
 -- places are never fewer
 pub record HasPlaces (old new : Holdings) : Type 0 where
   pub handles : vec_capacity old.handles.places ≤ vec_capacity new.handles.places
-  pub entries : vec_capacity old.list ≤ vec_capacity new.list
+  pub entries : deque_capacity old.list ≤ deque_capacity new.list
 
 -- an entry for the node came to the end of handles and list, or it couldn't
 pub record Comes (old : Holdings) (node : NodeNumber) (listed : Bool) (new : Holdings) : Type 0 where
@@ -329,7 +330,7 @@ with_tables w t = record w {
   cells = λ n. cell_in (counts_at t.nodes n);
   list = t.list.items;
   last = record w.last { handle = t.last_handle };
-  places = record { handles = vec_capacity t.handles.places; entries = vec_capacity t.list };
+  places = record { handles = vec_capacity t.handles.places; entries = deque_capacity t.list };
 }
 
 -- the answer, by the cause that was kept

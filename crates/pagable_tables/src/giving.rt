@@ -429,7 +429,7 @@ pub fn schedule_for_paging<N: Drop>(
         return Ok(());
     }
     t.holdings.list.reserve(1)?;
-    t.holdings.list.push(handle).unwrap();
+    t.holdings.list.push_back(handle).unwrap();
     handles::hand_over(&mut t.holdings.handles, at, Owner::List);
     Ok(())
 }
@@ -451,7 +451,8 @@ fn reach_to(workers: &mut Workers, me: Owner, handle: HandleNumber)
     }
 }
 
-/// The entry at this place of the list moves to the one who asks. None past the end.
+/// The entry at this place of the list moves to the one who asks. None past the end. It costs as many moves as entries
+/// stand before it or behind it, whichever are fewer.
 pub fn take_pending(t: &mut Tables, me: Owner, place: usize) -> Option<HandleNumber>
     requires whole { IsWhole t.old }
     requires holder { MayHold (plain_of t.old) me }
@@ -462,7 +463,9 @@ pub fn take_pending(t: &mut Tables, me: Owner, place: usize) -> Option<HandleNum
     if place >= t.holdings.list.len() {
         return None;
     }
-    let handle = t.holdings.list.remove(place);
+    let Some(handle) = t.holdings.list.remove(place) else {
+        unreachable!();
+    };
     let Some(at) = handles::look(&t.holdings.handles, handle) else {
         unreachable!();
     };

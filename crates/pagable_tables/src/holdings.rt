@@ -10,6 +10,7 @@ use crate::tables::{self, Arcs, Counts, HandleAt, Nodes};
 use pagable_model::{Error, HandleNumber, NodeNumber};
 use pagable_world::Mode;
 use pagable_world::handles::{HandleRow, Owner};
+use std::collections::VecDeque;
 
 /// Handles, nodes and list, with no fact that is true of them all.
 #[derive(Drop)]
@@ -17,7 +18,7 @@ pub struct Holdings {
     pub handles: Handles,
     pub nodes: Nodes,
     /// The cells that wait for page-out, by the handles that the list owns.
-    pub list: Vec<HandleNumber>,
+    pub list: VecDeque<HandleNumber>,
     /// The first node that falls, 0 where none does.
     pub top: u64,
     /// Why a cell couldn't be listed since handles began to be given up, the first cause.
@@ -52,7 +53,7 @@ fn enlist(t: &mut Holdings, node: NodeNumber) -> Result<(), Error>
         owner: Owner::List,
     };
     handles::push(&mut t.handles, row)?;
-    t.list.push(number).unwrap();
+    t.list.push_back(number).unwrap();
     t.last_handle = number.0;
     Ok(())
 }

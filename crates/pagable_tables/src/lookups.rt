@@ -341,11 +341,11 @@ pub fn entry(t: &Tables, place: usize) -> Option<(HandleRow, u32, OptionalDataKe
     Some((at.row, counts.unwrap().node_type, key_in(counts)))
 }
 
-/// The cells that wait for page-out, by the handles that the list owns.
-pub fn pending(t: &Tables) -> &[HandleNumber]
-    ensures { result.now ≡ t.now.holdings.list.items }
+/// How many cells wait for page-out.
+pub fn pending(t: &Tables) -> usize
+    ensures { result ≡ length t.now.holdings.list.items }
 {
-    &t.holdings.list
+    t.holdings.list.len()
 }
 
 /// A node is known under a kind and a key from now on. With room to spare it succeeds.

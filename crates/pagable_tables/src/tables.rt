@@ -12,6 +12,7 @@ use indexmap::IndexMap;
 use pagable_model::{ArcRef, DataKey, Error, HandleNumber, NodeNumber};
 use pagable_world::handles::{HandleRow, Owner};
 use std::alloc::{AllocError, Global};
+use std::collections::VecDeque;
 use std::sync::Arc;
 
 /// Nodes, loads and workers by their numbers, and what the cache knows under a kind and a key.
@@ -148,7 +149,7 @@ pub fn new(alloc: Global) -> Tables
                 dead: 0,
             },
             nodes: NumberTable::new(alloc),
-            list: Vec::new(alloc),
+            list: VecDeque::new(alloc),
             top: 0,
             unlisted: None,
             last_handle: 0,

@@ -230,7 +230,7 @@ impl<E: Env<Node: NodeSet<E>>, S: PagableStorage<E>> Pager<E, S> {
     pub fn pending(&self) -> usize
         ensures { result ≡ length (core_in (telling S.stored S.is_closed S.failed) self.now).list }
     {
-        lookups::pending(&self.tables).len()
+        lookups::pending(&self.tables)
     }
 
     /// How many handles and entries of the list can still come without a request for memory.
