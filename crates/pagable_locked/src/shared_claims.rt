@@ -7,13 +7,12 @@ use crate::share::{ClaimShare, WalkShare};
 use crate::slot::ArcSerSlot;
 use crate::table::{Probe, SlotTable};
 use pagable_codec::{Env, NodeSet};
-use pagable_core::SerializedData;
-use pagable_model::{Error, Identity, WorkerNumber};
+use pagable_model::{ArcRef, Error, Identity, WorkerNumber};
 use pagable_walk::{Claims, Found, SlotResult};
 use std::alloc::Global;
 use std::mem::replace;
+use std::sync::Wait;
 use std::sync::ledger::Ledger;
-use std::sync::{Arc, Wait};
 
 /// A worker's claims on a table that threads share: its part of the total, and the slots that it has claimed and not
 /// yet published, the last one last. A claim that another worker has waits for that one's outcome.
@@ -105,7 +104,7 @@ impl<'a, R: Wait, E: Env<Node: NodeSet<E>>, L: Ledger> Claims<E> for SharedClaim
     fn forget_wait(&mut self, _worker: WorkerNumber) {}
 
     // Others ask for the outcome alone.
-    fn note_written(&mut self, _identity: Identity, _written: Arc<SerializedData>) {}
+    fn note_written(&mut self, _identity: Identity, _references: Vec<ArcRef>) {}
 
     // A walk publishes first what it claimed last.
     fn publish(&mut self, found: &SlotResult<E>) {
