@@ -234,9 +234,9 @@ sound-push old new row sound next is dead =
     }
 
 -- what is so where a call succeeds, where it did
-pub ok-then : {T E X : Type 0} {x y z : X} (r : Result T E) → IsOk r → z ≡ (if is_ok r then x else y) → z ≡ x
-ok-then (Ok t) is e = e
-ok-then (Err f) is e = absurd is
+pub ok-then : {T E X : Type 0} {x z : X} (y : X) (r : Result T E) → IsOk r → z ≡ (if is_ok r then x else y) → z ≡ x
+ok-then y (Ok t) is e = e
+ok-then y (Err f) is e = absurd cc
 
 pub ruleset ends = (nat_tests, length-live-le, length-take-le, pairs-take)
 

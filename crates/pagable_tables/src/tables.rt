@@ -1,9 +1,10 @@
 //! What the tables keep of handles and nodes, rows of nodes, loads and workers by their numbers, and the tables together, with room for handles and for entries of the list. Nodes are seen as two
 //! functions of a number: what is counted of each, and what its value refers to.
 
-ghost use Rattle.std.specs.{Option.option_to_list, Prelude.{IfNone, IsSome, None, OnErr, OnOk, Option, Some, [], nat_eq, ℕ, ◌++◌, ◌<◌, ◌≡◌, ◌≢◌}};
+ghost use Rattle.std.specs.{Option.option_to_list, Prelude.{IfNone, IsSome, None, OnErr, OnOk, Option, Some, [], length, nat_eq, ℕ, ◌++◌, ◌+◌, ◌<◌, ◌≡◌, ◌≢◌, ◌≤◌}};
 ghost use Rattle.{indexmap.specs.IndexMap.get, pagable_tables.specs.{Core.{AreLater, Does, IsWhole, plain_of}, Falling.{counts_at, known_at, load_at, refs_at, worker_at}}};
 ghost use Rattle.pagable_world.specs.Calls.{ClearCall, ReserveCall, room_of};
+ghost use Rattle.std.specs.VecDeque.{deque_capacity};
 
 use crate::handles::{self, Handles};
 use crate::holdings::Holdings;
@@ -172,13 +173,27 @@ pub fn room(t: &Tables) -> usize
     handles::room_of(&t.holdings.handles).min(entries)
 }
 
+// Makes places ready for so many more entries. A refused growth is passed on where they are still too few.
+fn reserve_entries(list: &mut VecDeque<HandleNumber>, more: usize) -> Result<(), AllocError>
+    ensures items { list.new.items ≡ list.old.items }
+    ensures capacity { deque_capacity list.old ≤ deque_capacity list.new }
+    ensures ok { OnOk result (length list.new.items + more ≤ deque_capacity list.new) }
+    ensures err { OnErr result (deque_capacity list.new < length list.new.items + more) }
+{
+    let reserved = list.reserve(more);
+    if list.capacity() - list.len() >= more {
+        return Ok(());
+    }
+    reserved
+}
+
 /// Makes places ready for so many more handles and entries. Refused with OutOfMemory where either can't grow.
 pub fn reserve(t: &mut Tables, more: usize) -> Result<(), Error>
     requires { IsWhole t.old }
     ensures { Does t.old (λ w w'. ReserveCall w more result w') t.new }
 {
     handles::reserve(&mut t.holdings.handles, more)?;
-    t.holdings.list.reserve(more)?;
+    reserve_entries(&mut t.holdings.list, more)?;
     Ok(())
 }
 
