@@ -1,5 +1,5 @@
 -- What contracts see of a pager and its open loads, and the plain state that it tells.
-use Rattle.std.specs.declared.sync.Arc.Arc
+use Rattle.std.specs.declared.sync.Arc.{Arc}
 use Rattle.std.specs.{Arc.arc_value, Global.Global, Option.option_map, Prelude.{Bool, IsTrue, None, Option, Some, false, true, ℕ, ◌+◌, ◌≡◌}}
 use Rattle.{either.specs.declared.Either.Either, pagable_model.specs.declared.numbers.{ArcRef.ArcRef, HandleNumber.HandleNumber, LoadNumber.LoadNumber, WorkerNumber.WorkerNumber}}
 use Rattle.{pagable_tables.specs.{Core.{AreLater, core_of}, Falling.{counts_at, pins_in}, Rows.row_by, declared.{number_table.NumberTable.NumberTable, tables.Tables.Tables}}, pagable_world.specs.Kinds.{HasKinds, loose_kind}}
