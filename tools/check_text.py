@@ -5,7 +5,7 @@ the status is 1 where it does.
 In the src/ of every library crate `Error::OutOfMemory` is written as a value in one function alone, which makes it of a growth that the allocator refused
 (crates/pagable_model/src/error.rt). All others pass such a refusal on, so none says that memory is wanting where no growth was refused. It may stand in
 patterns, clauses and comments. `AllocError` and `AllocFailed`, the refused growth itself, are values nowhere; and only what `regex` refuses is named by
-`Error::of_library`, which takes its caller's word. LEFT names what docs/PROOFS.md tells as open.
+`Error::of_library`, which takes its caller's word.
 
 In `pagable_locked` a function that locks the pager calls nothing but functions of `pagable_pager`, so no value is decoded or written, nothing is waited for and
 no other lock is taken meanwhile.
@@ -19,11 +19,6 @@ CRATES = Path(__file__).resolve().parent.parent / "crates"
 OTHERS = ("pagectl", "vectors", "pagable_rows", "pagable_examples")
 CONVERSION = "fn out_of_memory() -> Error"
 OF_LIBRARY = "pagable_traits/src/saved_regex.rt"
-LEFT = {
-    ("pagable_loads/src/step.rt", "pin_over"),
-    ("pagable_pager/src/pager/births.rt", "unlisted"),
-    ("pagable_tables/src/giving.rt", "worker_begin"),
-}
 NOT_CODE = re.compile(r"//.*|\"(?:\\.|[^\"\\])*\"|^\s*(?:pub )?(?:use|ghost|ensures|requires|invariant|decreases)\b.*")
 WANT = re.compile(r"\b(?:Error|Self)::OutOfMemory\b")
 # What stands behind a pattern: its end, other patterns beside it, and the arrow, or the `=` of a `let`.
@@ -57,11 +52,10 @@ def offences(text, file):
     function, found, allowed = "", [], []
     for number, line in enumerate(text.splitlines(), 1):
         code = MATCHES.sub("", NOT_CODE.sub("", line))
-        named = re.search(r"\bfn (\w+)", code)
-        if named:
-            function, name = code.strip(), named[1]
+        if re.search(r"\bfn \w+", code):
+            function = code.strip()
         for at in WANT.finditer(code):
-            if not PATTERN.match(code, at.end()) and (file, name) not in LEFT:
+            if not PATTERN.match(code, at.end()):
                 (allowed if function.startswith(CONVERSION) else found).append(number)
         growths = REFUSED_GROWTH.finditer(re.sub(r"\b(?:fn|impl) .*", "", code))
         found += [number for at in growths if not PATTERN.match(code, at.end())]

@@ -307,7 +307,7 @@ module _ {X XN XH XK XV : Type 0} {g : Environments X XN XH XK XV} {gh : Hashes 
         (λ stays. record {
           starts = tt;
           refused = (
-            elim r.why [ inl (is, past) ↦ inl (is, inr past) | inr (inl (is, entry)) ↦ inr (inl (is, there, entry)) | inr (inr is) ↦ inr (inr (is, there, within)) ],
+            elim r.why [ inl (is, past) ↦ inl (is, inr past) | inr (inl (is, entry)) ↦ inr (inl (is, there, entry)) | inr (inr is) ↦ inr (inr (inl is, there, within)) ],
             stays,
           );
         }) tt)

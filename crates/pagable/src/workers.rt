@@ -128,7 +128,7 @@ fn entry_walk<E: Env<Node: NodeSet<E>>>(
     }
 }
 
-/// A worker on a table begins, for an item. Refused with NoSuchHandle where there is no such table, and with OutOfMemory; then nothing changes.
+/// A worker on a table begins, for an item. Refused with NoSuchHandle where there is no such table, with NumbersSpent and OutOfMemory; then nothing changes.
 pub fn worker_item<E: Env<Node: NodeSet<E>>, S: PagableStorage<E>>(
     pager: &mut Pager<E, S>,
     held: &mut Held<E>,
@@ -150,7 +150,7 @@ pub fn worker_item<E: Env<Node: NodeSet<E>>, S: PagableStorage<E>>(
 }
 
 /// A worker on a table begins, for the entry at this place of the list, counted from 0. Refused with NoSuchHandle where there is no such table or no such place, with
-/// WrongKind where the cell's type is too great a number for its kinds, and with OutOfMemory; then nothing changes.
+/// WrongKind where the cell's type is too great a number for its kinds, and with NumbersSpent and OutOfMemory; then nothing changes.
 pub fn worker_listed<E: Env<Node: NodeSet<E>>, S: PagableStorage<E>>(
     pager: &mut Pager<E, S>,
     held: &mut Held<E>,

@@ -1,7 +1,7 @@
 //! What values are read from.
 
-ghost use Rattle.std.specs.{Arc.arc_value, Borrow.{Lends, sem}, Prelude.{◌≡◌, ◌≤◌, ◌<◌, ◌+◌, ◌-◌, ℕ, Option, drop, option_and_then, option_map, OnOk, IfOk, IfErr}};
-ghost use Rattle.pagable_model.specs.{Gives.{Gives, memory, never}, Meaning.reference as meaning_of, Reading.{Rest, reference_at, deepest}, Standing.{Answer, Standing, rest_at, answer_at, IsWithin}};
+ghost use Rattle.std.specs.{Arc.arc_value, Borrow.{Lends, sem}, Prelude.{◌≡◌, ◌≤◌, ◌<◌, ◌+◌, ◌-◌, ℕ, Option, Some, drop, option_and_then, option_map, OnOk, IfOk, IfErr}};
+ghost use Rattle.pagable_model.specs.{Gives.{Gives, memory, never}, Meaning.reference as meaning_of, Reading.{Rest, reference_at, deepest}, Standing.{Answer, Standing, rest_at, answer_at, IsLent, IsWithin}};
 ghost use Rattle.pagable_model.specs.{Standing.MovesOn, Track.{left, GoesOn}, declared.numbers.ArcRef.ArcRef as Reference};
 
 use crate::env::Env;
@@ -16,8 +16,8 @@ use std::sync::Arc;
 pub trait PagableDeserializer<E: Env> {
     type Reader: Reader;
 
-    // All that was given, and how much of it was read.
-    ghost standing: { Self → Standing };
+    // All that was given, with the nodes that are lent by references, and how much of it was read.
+    ghost standing: { Self → Standing E.Node };
 
     // What is left to be read.
     ghost rest: { Self → Rest Answer };
@@ -44,6 +44,7 @@ pub trait PagableDeserializer<E: Env> {
     fn deserialize_arc(&mut self, kind: Kind) -> Result<ArcRef, Error>
         ensures of_kind { IfOk result (λ r. r.kind ≡ kind) }
         ensures gives { Gives never (λ r. (meaning_of r, rest self.new)) result (reference_at answer_at kind.0 (rest self.old).refs (rest self.old)) }
+        ensures lent { IfOk result (λ r. (y : E.Node) → lends self.new r ≡ Some y → IsLent (standing self.old) r y) }
         ensures used { rest self.new ≡ record (rest self.old) { refs = drop 1 (rest self.old).refs } }
         ensures moves { MovesOn (standing self.old) (standing self.new) }
         ensures same_env { environment self.new ≡ environment self.old }

@@ -1,7 +1,7 @@
 //! The values of nodes: one case for each value type of an environment.
 
 ghost use Rattle.pagable_model.specs.{Meaning.Meaning, Reading.read_typed, References.{SameReferences, references_in}, Refusals.{is_own_reading, may_refuse_writing}, Shape.Shape, Standing.GivesSome};
-ghost use Rattle.pagable_model.specs.{Standing.{MovesOn, SomeMeaning, handles_at}, Writing.{Grows, Refused, WritesSome, nesting}, declared.error.Error.Error as Refusal};
+ghost use Rattle.pagable_model.specs.{Standing.{HoldsLent, MovesOn, SomeMeaning, handles_at}, Writing.{Grows, Refused, WritesSome, nesting}, declared.error.Error.Error as Refusal};
 ghost use Rattle.pagable_model.specs.declared.numbers.ArcRef.{ArcRef as Reference};
 ghost use Rattle.std.specs.Prelude.{IfErr, IfOk, List, OnOk, Option, Some, true, ℕ, ◌++◌, ◌<◌, ◌^◌, ◌≡◌};
 
@@ -28,6 +28,9 @@ pub trait NodeSet<E: Env>: Sized {
 
     // The references in the value, in the order in which they are written.
     ghost refs_of: { Self → List Reference };
+
+    // What the value holds beside the reference, wherever it refers by it, is the value of this node. A value that holds nothing beside a reference says nothing.
+    ghost beside: { Self → Reference → E.Node → Type 0 } = { λ n r y. Unit {0} };
 
     // All refusals of a value type's writing, and those of its reading beside the faults of the input and of references.
     ghost write_causes: { ℕ → Refusal → Type 0 };
@@ -64,6 +67,7 @@ pub trait NodeSet<E: Env>: Sized {
         ensures gives { GivesSome (read_causes node_type) means (D.rest deserializer.new) result
             (read_typed (handles_at (D.levels deserializer.old) (E.parts (D.environment deserializer.old))) (shape_of (D.environment deserializer.old) node_type) (D.rest deserializer.old)) }
         ensures asked { IfOk result (λ x. type_of x ≡ node_type) }
+        ensures holds { IfOk result (HoldsLent (D.standing deserializer.old) beside) }
         ensures moves { MovesOn (D.standing deserializer.old) (D.standing deserializer.new) }
         ensures same_env { D.environment deserializer.new ≡ D.environment deserializer.old }
         ensures same_levels { D.levels deserializer.new ≡ D.levels deserializer.old };

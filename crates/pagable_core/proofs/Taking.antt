@@ -1,5 +1,5 @@
 -- Taking the next answer of a list of references.
-use Rattle.std.{proofs.{Common.{◌≡◌, ℕ, zero, suc, ◌+◌, ◌<◌, ◌≤◌, List, [], ◌∷◌, length, drop, Result, Ok, Err, Some, arith, refl, ap, inl}, lemmas.List.drop_all}, specs.Prelude.slice_get}
+use Rattle.std.{proofs.{Common.{◌≡◌, ℕ, zero, suc, ◌+◌, ◌<◌, ◌≤◌, List, [], ◌∷◌, length, drop, Option, Result, Ok, Err, Some, arith, refl, ap, inl}, lemmas.List.drop_all}, specs.Prelude.slice_get}
 use Rattle.{pagable_core.specs.Context.{answers_from, standing_of}, pagable_model.specs.{Gives.{Gives, never}, Meaning.Meaning, Reading.{Rest, reference_at}, Standing.{Answer, answer_at, rest_at}}}
 use Rattle.pagable_model.specs.{Standing.MovesOn, Steps.◌>>=◌, Track.Track, declared.{error.Error.Error, numbers.ArcRef.ArcRef}}
 use Rattle.pagable_model.specs.declared.error.Error.TheVariants as errors
@@ -24,9 +24,9 @@ module _ (answer : ℕ → ℕ → ℕ → Result ArcRef Error) where
   none_left kind at keys rest h = rw (none_from 0 at keys h) refl
 
 -- of no key, none is used; of a key that was taken, that one, whatever was answered
-pub used_of_none : (answer : ℕ → ℕ → ℕ → Result ArcRef Error) (old new reader : Track) → new ≡ old → length old.all ≤ old.position
-    → rest_at (standing_of answer new reader) ≡ record (rest_at (standing_of answer old reader)) { refs = drop 1 (rest_at (standing_of answer old reader)).refs }
-used_of_none answer old new reader same h = rw (same, none_from answer 0 old.position old.all h) refl
+pub used_of_none : {N : Type 0} (answer : ℕ → ℕ → ℕ → Result ArcRef Error) (lent : ℕ → Option (ArcRef × N)) (old new reader : Track) → new ≡ old → length old.all ≤ old.position
+    → rest_at (standing_of answer lent new reader) ≡ record (rest_at (standing_of answer lent old reader)) { refs = drop 1 (rest_at (standing_of answer lent old reader)).refs }
+used_of_none answer lent old new reader same h = rw (same, none_from answer 0 old.position old.all h) refl
 
 -- what was answered is what reading gives
 pub gives_answer : (r : Result ArcRef Error) (read : Result (Meaning ArcRef × Rest Answer) Error) (after : Rest Answer) → read ≡ (r >>= λ b. Ok (meanings.reference b, after)) → Gives never (λ b. (meanings.reference b, after)) r read
@@ -34,16 +34,16 @@ gives_answer (Ok x) read after e = e
 gives_answer (Err x) read after e = inl e
 
 -- what taking a key answers, and where that leads
-module _ (before after : ℕ → ℕ → ℕ → Result ArcRef Error) (old new reader : Track) (key : ℕ) (same : after ≡ before) (found : slice_get old.all old.position ≡ Some key) (moved : new ≡ record old { position = old.position + 1 }) where
+module _ {N : Type 0} (before after : ℕ → ℕ → ℕ → Result ArcRef Error) (lent lent_after : ℕ → Option (ArcRef × N)) (old new reader : Track) (key : ℕ) (same : after ≡ before) (kept : lent_after ≡ lent) (found : slice_get old.all old.position ≡ Some key) (moved : new ≡ record old { position = old.position + 1 }) where
   from : drop old.position (answers_from before 0 old.all) ≡ (λ kind. before old.position key kind) ∷ drop (old.position + 1) (answers_from before 0 old.all)
   from = let none : 0 + old.position ≡ old.position = omega arith in rw none at (some_from before 0 old.position key old.all found)
 
   pub took : (kind place : ℕ) (r : Result ArcRef Error) → place ≡ old.position → r ≡ before place key kind
-      → Gives never (λ x. (meanings.reference x, rest_at (standing_of after new reader))) r (reference_at answer_at kind (rest_at (standing_of before old reader)).refs (rest_at (standing_of before old reader)))
+      → Gives never (λ x. (meanings.reference x, rest_at (standing_of after lent_after new reader))) r (reference_at answer_at kind (rest_at (standing_of before lent old reader)).refs (rest_at (standing_of before lent old reader)))
   took kind place r at is = let answered : r ≡ before old.position key kind = rw (← at) is in rw (same, moved) (gives_answer r _ _ (rw (from, answered) refl))
 
-  pub took_one : rest_at (standing_of after new reader) ≡ record (rest_at (standing_of before old reader)) { refs = drop 1 (rest_at (standing_of before old reader)).refs }
+  pub took_one : rest_at (standing_of after lent_after new reader) ≡ record (rest_at (standing_of before lent old reader)) { refs = drop 1 (rest_at (standing_of before lent old reader)).refs }
   took_one = rw (same, moved, from) refl
 
-  pub took_moves : old.position < length old.all → MovesOn (standing_of before old reader) (standing_of after new reader)
+  pub took_moves : old.position < length old.all → MovesOn (standing_of before lent old reader) (standing_of after lent_after new reader)
   took_moves h = grind (arith, length_of_answers)

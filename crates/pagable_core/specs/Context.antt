@@ -1,5 +1,5 @@
 -- What a serializer and a deserializer over memory stand for.
-use Rattle.std.{proofs.Common.{arith, ap}, specs.{Global.Global, Prelude.{ℕ, ◌+◌, List, [], ◌∷◌, Result, Vec}}}
+use Rattle.std.{proofs.Common.{arith, ap}, specs.{Global.Global, Prelude.{ℕ, ◌+◌, List, [], ◌∷◌, Option, Result, Vec, refl}}}
 use Rattle.{pagable_core.specs.declared.context.writing.{SerializedData.SerializedData, SerializerOver.SerializerOver}, pagable_model.specs.Reading.Rest}
 use Rattle.pagable_model.specs.{Standing.{Answer, Standing, MovesOn}, Track.{Track, GoesOn}, Writing.Out, declared.{error.Error.Error, numbers.ArcRef.ArcRef}}
 
@@ -16,21 +16,23 @@ abbrev pub answers_from : (ℕ → ℕ → ℕ → Result ArcRef Error) → ℕ 
 answers_from answer place [] = []
 answers_from answer place (key ∷ keys) = (λ kind. answer place key kind) ∷ answers_from answer (place + 1) keys
 
--- where a deserializer stands whose keys and reader stand there
-abbrev pub standing_of : (ℕ → ℕ → ℕ → Result ArcRef Error) → Track → Track → Standing
-standing_of answer keys reader = record {
+-- where a deserializer stands whose keys and reader stand there, and which is lent this at each place
+abbrev pub standing_of : {N : Type 0} → (ℕ → ℕ → ℕ → Result ArcRef Error) → (ℕ → Option (ArcRef × N)) → Track → Track → Standing N
+standing_of answer lent keys reader = record {
   whole = record { bytes = reader.all; refs = answers_from answer 0 keys.all };
+  lent = lent;
   cursor = record { byte_pos = reader.position; arc_index = keys.position };
 }
 
 -- at the front of these bytes and keys
-abbrev pub at_front : (ℕ → ℕ → ℕ → Result ArcRef Error) → List ℕ → List ℕ → Standing
-at_front answer bytes keys = standing_of answer (record { all = keys; position = 0 }) (record { all = bytes; position = 0 })
+abbrev pub at_front : {N : Type 0} → (ℕ → ℕ → ℕ → Result ArcRef Error) → (ℕ → Option (ArcRef × N)) → List ℕ → List ℕ → Standing N
+at_front answer lent bytes keys = standing_of answer lent (record { all = keys; position = 0 }) (record { all = bytes; position = 0 })
 
 -- a reader that goes on moves the deserializer on
-pub moves_of : (answer : ℕ → ℕ → ℕ → Result ArcRef Error) (keys old new : Track) → GoesOn old new → MovesOn (standing_of answer keys old) (standing_of answer keys new)
-moves_of answer keys old new g = record {
+pub moves_of : {N : Type 0} (answer : ℕ → ℕ → ℕ → Result ArcRef Error) (lent : ℕ → Option (ArcRef × N)) (keys old new : Track) → GoesOn old new → MovesOn (standing_of answer lent keys old) (standing_of answer lent keys new)
+moves_of answer lent keys old new g = record {
   whole = ap (λ (bytes : List ℕ). let x : Rest Answer = record { bytes = bytes; refs = answers_from answer 0 keys.all } in x) g.all;
+  lent = refl;
   bytes = g.forward;
   refs = omega arith;
   within = λ w. record { bytes = g.within; refs = w.refs };

@@ -266,12 +266,12 @@ module _ {N E : Type 0} (v : Values N) (s : MachineState N E) (trees : ℕ → T
   met : (task : Task) (key : ℕ) → IsDone v shelf task key → (i : Identity) → Meets shelf task i → (k : ℕ) × ((h : ℕ) × IsPublished shelf i k h)
   met task key done i (meets-of-item written r is among) = let d = subst (λ x. IsDone v shelf x key) is done in let p = known-of shelf written.references d.0 d.1 r among in (p.0, p.1)
   met task key done i (meets-entry h j is) = let d = subst (λ x. IsDone v shelf x key) is done in (key, d)
-  met task key done i (meets-below j slot written r above there wrote among) =
+  met task key done i (meets-below j slot references r above there wrote among) =
       let p = met task key done j above in let q = p.1.1 in
       let same : q.slot ≡ slot = same_some _ _ (sym q.claimed ∙ there) in
       let b = (fit.slots t j q.slot q.claimed).publishes p.0 p.1.0 q.known in
-      let w : b.0 ≡ written = same_some _ _ (sym b.1 ∙ ap (λ (z : Slot). z.written) same ∙ wrote) in
-      let p = known-of shelf written.references b.2.keys (subst (λ (z : Written). AreKeysOf shelf z.references b.2.keys) w b.2.known) r among in (p.0, p.1)
+      let w : b.0.references ≡ references = same_some _ _ (sym b.1 ∙ ap (λ (z : Slot). z.references) same ∙ wrote) in
+      let p = known-of shelf references b.2.keys (subst (λ (z : List ArcRef). AreKeysOf shelf z b.2.keys) w b.2.known) r among in (p.0, p.1)
 
 -- a live cell whose key was set has one
 key-known : (w : Core) (n : ℕ) → KeyIsSet w n → is_some (w.cells n) ≡ true → (key : ℕ) × (key_at w n ≡ OptionalDataKey.Some key)
@@ -303,7 +303,7 @@ module _ {N B W E : Type 0} (m : Seen N B W) (s s' : MachineState N E) (trees tr
   left-all t task key done = record {
     blobs = λ i meets.
         let (k, rest) = met m.values s' trees' after t task key done i meets in let (height, p) = rest in
-        let f = after.slots t i p.slot p.claimed in let b = f.publishes k height p.known in let w = f.writes b.0 b.1 in
+        let f = after.slots t i p.slot p.claimed in let b = f.publishes k height p.known in let w = b.2.wrote in
         search (p.claimed, b.1, p, b.2.is_stored, b.2.known, w.is, tree-form w);
     cells = λ i meets kind live.
         let p = met m.values s' trees' after t task key done i meets in let k = key-known s'.pager.core i.node.0 (held.slots t i p.0 p.1.0 p.1.1 kind) live in

@@ -129,7 +129,7 @@ module _ {N B W : Type 0} (m : Seen N B W) (v : ℕ) (s s' : Site) (whole : Hand
       let t = p.writes in
       leaves t.list_is
       (started s'.core v place (m.written_of out).references _ below (stands-on f h) (waits-on f below waits) (stands-on f h, waits-on f below waits))
-      (changed-reveals s.shelf s'.shelf KeyThere (identity_of r) (λ slot. record slot { written = Some (m.written_of out) }) t.table_is (λ old key height is. inl is))
+      (changed-reveals s.shelf s'.shelf KeyThere (identity_of r) (λ slot. record slot { references = Some (m.written_of out).references }) t.table_is (λ old key height is. inl is))
   stepped (to_finish o ∷ below) (Took.Store i (Ok key)) e (is, p) f (h, waits) = let t = p.goes in stays t.table_stays.slots t.list_is (stands-on f h, waits-on f below waits)
   stepped (to_set r through key height ∷ below) (Took.SetKey i (Ok u)) e (is, p) f (h, waits) = let t = p.goes in
       stays t.table_stays.slots t.list_is (

@@ -27,7 +27,7 @@ module _ {N B W : Type 0} (m : Seen N B W) (v : ℕ) (task : Task) (s s' : Site)
   pub stands-on : (todo : List Todo) → s.todo ≡ todo → AllStand s.shelf v task todo → Covers s.shelf v todo → (step : Took W) → Does m v s todo step s'
       → Goes v task s.shelf (answer_after todo step) s'.shelf s'.todo
   stands-on (to_start r place ∷ below) e (meets, apart, rest) covers (Took.Claim i (Ok Claim.Claimed)) (is, c) =
-      let new : Slot = record { worker = v; written = None; outcome = no_result } in
+      let new : Slot = record { worker = v; references = None; outcome = no_result } in
       let free : is_open_in (identity_of r) below ≡ false = false_from_ne_true (is_open_in (identity_of r) below)
       (λ is. let a = open-slot v task s.shelf (identity_of r) below rest is in some-none a.1 c.finds.1.1) in
       to-list c.finds.1.2.list_is (own-goes v task s.shelf s'.shelf (identity_of r) new (to_pin r place ∷ below)
@@ -43,8 +43,8 @@ module _ {N B W : Type 0} (m : Seen N B W) (v : ℕ) (task : Task) (s s' : Site)
   stands-on (to_start r place ∷ below) e all covers (Took.Claim i (Ok Claim.Waiting)) (is, c) = to-list (c.finds.1.2.list_is ∙ e)
       (plain v task s.shelf s'.shelf c.finds.1.2.table_is.slots None (to_start r place ∷ below) (λ a is. absurd (cc)) all covers)
   stands-on (to_write r place through ∷ below) e ((meets, c), apart, rest) covers (Took.Write i (Ok out)) (is, p) =
-      let new : Slot = record c.slot { written = Some (m.written_of out) } in
-      let puts = changes-slot s.shelf s'.shelf (identity_of r) c.slot (λ slot. record slot { written = Some (m.written_of out) }) c.claimed p.writes.table_is in
+      let new : Slot = record c.slot { references = Some (m.written_of out).references } in
+      let puts = changes-slot s.shelf s'.shelf (identity_of r) c.slot (λ slot. record slot { references = Some (m.written_of out).references }) c.claimed p.writes.table_is in
       let o : Open = record { reference = r; place = place; through = through; written = m.written_of out; keys = []; height = 0 } in
       to-list p.writes.list_is (own-goes v task s.shelf s'.shelf (identity_of r) new (settle (to_finish o ∷ below)) puts
       (is-changed c.slot new c.claimed c.own refl (grind (arith, nat_tests, some-none))) meets (ap is_failed c.no_result_yet)

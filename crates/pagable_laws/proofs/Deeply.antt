@@ -58,12 +58,11 @@ module _ {N E : Type 0} (v : Values N) (s : MachineState N E) (trees : ℕ → T
   -- what was written of an identity whose key is known, under which it stands
   pub record Known (i : Identity) (key height : ℕ) : Type 0 where
     pub written : Written
-    pub wrote : WroteTree v.types (ground_of s trees) i.node.0 written
     pub typed : (trees i.node.0).type ≡ type_of i.kind.0
     pub stands : BlobStands v (ground_of s trees) shelf i.node.0 written key height
 
   pub known : (i : Identity) (key height : ℕ) → IsPublished shelf i key height → Known i key height
-  known i key height p = let f = fit.slots t i p.slot p.claimed in let b = f.publishes key height p.known in record { written = b.0; wrote = f.writes b.0 b.1; typed = f.typed; stands = b.2 }
+  known i key height p = let f = fit.slots t i p.slot p.claimed in let b = f.publishes key height p.known in record { written = b.0; typed = f.typed; stands = b.2 }
 
   -- a height that references add is no more than that of the tree
   attained-height : (n : ℕ) (i : Identity) (h : ℕ) → size (trees i.node.0).meaning ≤ n → (written : Written) → WroteTree v.types (ground_of s trees) i.node.0 written
@@ -73,7 +72,7 @@ module _ {N E : Type 0} (v : Values N) (s : MachineState N E) (trees : ℕ → T
   attained-height (suc n) i h few written w (inr a) =
       let part = part-of w a.r a.among in
       let k = known (identity_of a.r) a.key a.below a.known in
-      let below = attained-height n (identity_of a.r) a.below (omega arith) k.written k.wrote k.stands.attained in
+      let below = attained-height n (identity_of a.r) a.below (omega arith) k.written k.stands.wrote k.stands.attained in
       grind (arith, nat_tests)
 
   -- a path that is too long from the reference's place is one of the task's
@@ -83,7 +82,7 @@ module _ {N E : Type 0} (v : Values N) (s : MachineState N E) (trees : ℕ → T
   leads-down n task r (to_finish o ∷ below) (more, e) (known, attained, place, reach, expects, waits) (stands, apart, all) long =
       let claim = stands.1 in
       let f = fit.slots t (identity_of o.reference) claim.slot claim.claimed in
-      let part = part-of (f.writes o.written claim.written_so) r (next-among shelf o.written.references o.keys r more e) in
+      let part = part-of (f.writes o.written.references claim.written_so).1 r (next-among shelf o.written.references o.keys r more e) in
       let m = (trees r.node.0).meaning in
       let above_it = (trees o.reference.node.0).meaning in
       let up = climbs (is_eager r.kind.0) o.place (height m) (deepest_path m) (height above_it) (deepest_path above_it) part.top part.deep (height-within m) long in
@@ -100,7 +99,7 @@ module _ {N E : Type 0} (v : Values N) (s : MachineState N E) (trees : ℕ → T
   not-below n task q r (to_finish o ∷ below) few (more, e) (known, attained, place, reach, expects, waits) (stands, apart, all) is =
       let claim = stands.1 in
       let f = fit.slots t (identity_of o.reference) claim.slot claim.claimed in
-      let part = part-of (f.writes o.written claim.written_so) r (next-among shelf o.written.references o.keys r more e) in
+      let part = part-of (f.writes o.written.references claim.written_so).1 r (next-among shelf o.written.references o.keys r more e) in
       elim (or_cases (is_identity q (identity_of o.reference)) (is_open_in q below) is) [
         | inl same ↦ let e = ap (λ (j : Identity). size (trees j.node.0).meaning) (is-same q (identity_of o.reference) same) in absurd (omega arith)
         | inr rest ↦ not-below n task q o.reference below (omega arith) expects waits all rest
@@ -117,7 +116,7 @@ module _ {N E : Type 0} (v : Values N) (s : MachineState N E) (trees : ℕ → T
     | inr (inl (none_there, is, inl long)) ↦ inl (grind (arith, nat_tests, leads-down))
     | inr (inl (none_there, is, inr (inl (key, h, p, long)))) ↦
         let k = known (identity_of r) key h p in
-        let few = attained-height (size (trees (identity_of r).node.0).meaning) (identity_of r) h (omega arith) k.written k.wrote k.stands.attained in
+        let few = attained-height (size (trees (identity_of r).node.0).meaning) (identity_of r) h (omega arith) k.written k.stands.wrote k.stands.attained in
         inl (grind (arith, nat_tests, leads-down))
     | inr (inl (none_there, is, inr (inr (slot, still, back)))) ↦
         let other : slot.worker ≢ n = λ own. not-below n task (identity_of r) r below (omega arith) expects waits all (covers (identity_of r) slot still.claimed own still.no_result_yet) in
@@ -139,22 +138,22 @@ module _ {N E : Type 0} (v : Values N) (s : MachineState N E) (trees : ℕ → T
       let k = known (identity_of r) l.key l.below l.known in
       let kinds : kind ≡ r.kind.0 = cc in
       let meanings : a ≡ c = cc in
-      let p = shallow l.below k.written.references k.stands.within k.stands.low k.wrote.follows c (is ∙ meanings) in
+      let p = shallow l.below k.written.references k.stands.within k.stands.low k.stands.wrote.follows c (is ∙ meanings) in
       grind (arith, nat_tests)
   shallow limit rs le lows (followed-leads kind x a none h) m e = absurd none
   shallow limit rs le lows follows x5 e = grind (arith, nat_tests)
 
   -- so is the tree of an identity whose key is known
   shallow-tree : (i : Identity) (key h : ℕ) → IsPublished shelf i key h → (height (trees i.node.0).meaning ≤ h) × (deepest_path (trees i.node.0).meaning ≤ longest_path)
-  shallow-tree i key h p = let k = known i key h p in shallow h k.written.references k.stands.within k.stands.low k.wrote.follows (trees i.node.0).meaning refl
+  shallow-tree i key h p = let k = known i key h p in shallow h k.written.references k.stands.within k.stands.low k.stands.wrote.follows (trees i.node.0).meaning refl
 
   -- ---- and the tree has a form, and so has each that it reaches
 
   has-form : (i : Identity) {key height : ℕ} → Known i key height → HasNoForm v.types (trees i.node.0) → ⊥
   has-form i k formless =
-      let same : k.wrote.shape ≡ formless.shape = same_some _ _ (sym k.wrote.is ∙ formless.is) in
+      let same : k.stands.wrote.shape ≡ formless.shape = same_some _ _ (sym k.stands.wrote.is ∙ formless.is) in
       let kids = kids_of trees k.written.references in
-      formless.none_within k.written.bytes kids (subst (λ x. TreeForm v.types x (trees i.node.0).meaning k.written.bytes kids) same (tree-form k.wrote))
+      formless.none_within k.written.bytes kids (subst (λ x. TreeForm v.types x (trees i.node.0).meaning k.written.bytes kids) same (tree-form k.stands.wrote))
 
   -- and so has each that it reaches
   below-has-form : {i : Identity} {key height : ℕ} (j : Known i key height) {own : Meaning ArcRef} {m n : Meaning ⊥} {u : Tree} → Reaches n u → FollowsTo trees j.written.references own m
@@ -170,7 +169,7 @@ module _ {N E : Type 0} (v : Values N) (s : MachineState N E) (trees : ℕ → T
       let p = known-of shelf j.written.references j.stands.keys j.stands.known r among in
       let k = known (identity_of r) p.0 p.1.0 p.1.1 in
       let meanings : b ≡ a = cc in
-      below-has-form {i = identity_of r} {key = p.0} {height = p.1.0} k reach k.wrote.follows (meanings ∙ sym is) formless
+      below-has-form {i = identity_of r} {key = p.0} {height = p.1.0} k reach k.stands.wrote.follows (meanings ∙ sym is) formless
   below-has-form j (in-first c d u reach) (pair-leads x y a b h g) e formless = below-has-form j reach h (cc) formless
   below-has-form j (in-rest c d u reach) (pair-leads x y a b h g) e formless = below-has-form j reach g (cc) formless
   below-has-form j (in-part n c u reach) (variant-leads i x a h) e formless = below-has-form j reach h (cc) formless
@@ -179,7 +178,7 @@ module _ {N E : Type 0} (v : Values N) (s : MachineState N E) (trees : ℕ → T
 
   has-forms : (i : Identity) (key height : ℕ) → IsPublished shelf i key height → LeadsToNoForm v.types (trees i.node.0) → ⊥
   has-forms i key height p (inl formless) = has-form i (known i key height p) formless
-  has-forms i key height p (inr (u, reach, formless)) = let k = known i key height p in below-has-form k reach k.wrote.follows refl formless
+  has-forms i key height p (inr (u, reach, formless)) = let k = known i key height p in below-has-form k reach k.stands.wrote.follows refl formless
 
   -- a task that has come to a key leads down no path that is too long, and to no value that has no form
   task-is-fine : (task : Task) (key : ℕ) → IsDone v shelf task key → (¬ IsTooDeepTask trees task) × (¬ IsFormlessTask v.types trees task)

@@ -21,6 +21,7 @@ mod Level
 mod Deeply
 pub mod SparingSteps
 pub mod Moments
+pub mod Beside
 mod Callers
 mod Sound
 mod OnePiece

@@ -457,7 +457,7 @@ module _ {N E B W : Type 0} (m : Seen N B W) (lawful : IsLawful m.values) where
       → EntryAsksWell run
       → (a : Stays m.values s trees s') × ((key : ℕ) → answer ≡ WorkerAnswer.Key key → EntryIsPagedOut m.values s.core place s' a.trees' key)
   entry-stays at (entry-is-refused h row t s' is none c) asks = (unchanged at c, λ key same. absurd (cc))
-  entry-stays at (no-entry-worker s' c) asks = (unchanged at c, λ key same. absurd (cc))
+  entry-stays at (no-entry-worker e s' why c) asks = (unchanged at c, λ key same. absurd (cc))
   entry-stays {s} {place = place} {trees = trees} at (entry-is-walked h row t n steps answer mid s' is kinds starts run) asks =
       let r = entry-walks m lawful (record { pager = s; shelf = no_shelf }) at.well at.nobody
       (same-shelf refl) at.settled trees at.stands place h row t n mid is kinds starts run asks in (
@@ -468,7 +468,7 @@ module _ {N E B W : Type 0} (m : Seen N B W) (lawful : IsLawful m.values) where
   pub item-stays : {s s' : AccessState N E} {answer : WorkerAnswer} {trees : ℕ → Tree} (item : W) → Stands m.values s.pager trees → SameShelf no_shelf s.shelf
       → (run : ItemRun m s (m.written_of item) answer s') → ItemAsksWell run
       → (a : Stays m.values s.pager trees s'.pager) × ((key : ℕ) → answer ≡ WorkerAnswer.Key key → LeavesPagedOut m.values s'.pager s'.shelf a.trees' (of_item (m.written_of item)) key)
-  item-stays item at new (no-worker s' c same_shelf) asks = (unchanged at c, λ key same. absurd (cc))
+  item-stays item at new (no-worker e s' why c same_shelf) asks = (unchanged at c, λ key same. absurd (cc))
   item-stays {s} {trees = trees} item at new (item-is-walked n steps answer mid s' starts run) asks =
       let r = item-walks m lawful s at.well at.nobody new at.settled trees at.stands item starts run asks in
       (record { trees' = r.trees'; after = r.after; now = record { well = r.well; nobody = r.nobody; settled = r.settled; stands = r.after.stands } }, r.out)

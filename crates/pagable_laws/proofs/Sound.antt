@@ -44,7 +44,7 @@ module _ {N E : Type 0} (v : Values N) (s : MachineState N E) (trees : ℕ → T
   known-frame : (frame : Frame) (i : Identity) (height : ℕ) → IsPublished shelf i frame.key height → frame.node_type ≡ (trees i.node.0).type → stored frame.key ≡ Some frame.blob → IsKnown frame height
   known-frame frame i height p typed is =
       let f = fit.slots table i p.slot p.claimed in let b = f.publishes frame.key height p.known in
-      let written : Written = b.0 in let w = f.writes written b.1 in
+      let written : Written = b.0 in let w = b.2.wrote in
       let there : v.types.nodes frame.node_type ≡ Some w.shape = ap v.types.nodes typed ∙ w.is in
       let same : blob_of written.bytes b.2.keys ≡ frame.blob = same_some _ _ (sym b.2.is_stored ∙ is) in
       let form : IsFormOf v.types frame.node_type (blob_of written.bytes b.2.keys) written.references =

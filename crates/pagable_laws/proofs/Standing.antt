@@ -6,10 +6,10 @@ use Rattle.{pagable_laws.proofs.Words.{◌||◌, ◌∙◌, ◌∷◌, ◌≡◌
 use Rattle.pagable_world.specs.{Workers.{is_open_outcome, next_start, with_changed_slot, with_failed, with_outcome, with_slot}, World.{Fault, Open, Outcome, SameShelf, failed, is_identity}}
 use Rattle.{pagable_world.specs.World.to_publish, std.proofs.lemmas.Bool.{or_cases, or_right}}
 
--- the slot has the same worker, and what was written and the result stay
+-- the slot has the same worker, and the references that were written and the result stay
 pub record SlotGrows (slot slot' : Slot) : Type 0 where
   pub worker : slot'.worker ≡ slot.worker
-  pub written : (w : Written) → slot.written ≡ Some w → slot'.written ≡ Some w
+  pub references : (rs : List ArcRef) → slot.references ≡ Some rs → slot'.references ≡ Some rs
   pub outcome : is_open_outcome slot.outcome ≡ false → slot'.outcome ≡ slot.outcome
 
 -- what a step of the worker does to what stands at one identity
@@ -37,9 +37,9 @@ grows v shelf shelf' changes i slot there = grind (arith, some-none, some-same)
 pub meets-grow : (shelf shelf' : Shelf) (task : Task) (i : Identity) → ShelfGrows shelf shelf' → Meets shelf task i → Meets shelf' task i
 meets-grow shelf shelf' task i more (meets-of-item written r is among) = meets-of-item written r is among
 meets-grow shelf shelf' task i more (meets-entry h j is) = meets-entry h j is
-meets-grow shelf shelf' task i more (meets-below j slot written r meets there is among) =
+meets-grow shelf shelf' task i more (meets-below j slot references r meets there is among) =
     let a = more j slot there in
-    meets-below j a.0 written r (meets-grow shelf shelf' task j more meets) a.1 (a.2.written written is) among
+    meets-below j a.0 references r (meets-grow shelf shelf' task j more meets) a.1 (a.2.references references is) among
 
 abbrev pub KeepsKeys : Shelf → Shelf → Type 0
 KeepsKeys shelf shelf' = (i : Identity) (key height : ℕ) → IsPublished shelf i key height → IsPublished shelf' i key height
@@ -117,16 +117,16 @@ abbrev pub is_failed : Outcome → Bool
 is_failed failed = true
 is_failed _ = false
 
--- the worker has claimed the identity, there is no result yet, and what was written of it is so
-pub record HasClaim (shelf : Shelf) (v : ℕ) (i : Identity) (so : Option Written → Type 0) : Type 0 where
+-- the worker has claimed the identity, there is no result yet, and the references that were written of it are so
+pub record HasClaim (shelf : Shelf) (v : ℕ) (i : Identity) (so : Option (List ArcRef) → Type 0) : Type 0 where
   pub slot : Slot
   pub claimed : shelf.slots i ≡ Some slot
   pub own : slot.worker ≡ v
   pub no_result_yet : slot.outcome ≡ no_result
-  pub written_so : so slot.written
+  pub written_so : so slot.references
 
 -- the task meets it, and it is claimed so
-abbrev pub IsMetClaim : Shelf → ℕ → Task → Identity → (Option Written → Type 0) → Type 0
+abbrev pub IsMetClaim : Shelf → ℕ → Task → Identity → (Option (List ArcRef) → Type 0) → Type 0
 IsMetClaim shelf v task i so = Meets shelf task i × HasClaim shelf v i so
 
 -- what holds of one thing that the worker has to do, with what comes below
@@ -135,7 +135,7 @@ Stands shelf v task (to_start r place) below = Meets shelf task (identity_of r)
 Stands shelf v task (to_pin r place) below = IsMetClaim shelf v task (identity_of r) (λ w. w ≡ None)
 Stands shelf v task (to_load r place through reading) below = IsMetClaim shelf v task (identity_of r) (λ w. w ≡ None)
 Stands shelf v task (to_write r place through) below = IsMetClaim shelf v task (identity_of r) (λ w. w ≡ None)
-Stands shelf v task (to_finish o) below = IsMetClaim shelf v task (identity_of o.reference) (λ w. w ≡ Some o.written)
+Stands shelf v task (to_finish o) below = IsMetClaim shelf v task (identity_of o.reference) (λ w. w ≡ Some o.written.references)
 Stands shelf v task (to_item written keys) below = (task ≡ of_item written) × (below ≡ [])
 Stands shelf v task (to_set r through key height) below = IsMetClaim shelf v task (identity_of r) (λ w. is_some w ≡ true)
 Stands shelf v task (to_publish r key height) below = IsMetClaim shelf v task (identity_of r) (λ w. is_some w ≡ true)

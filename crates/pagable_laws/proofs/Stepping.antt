@@ -2,12 +2,12 @@
 use Rattle.pagable_laws.proofs.{Coming.{EventTurns, StandsIn, same-grow, turns-grow, turns-keep}, Following.{IdentityStands, key-stands, leads-on, wrote}, ReadingSteps.site_of, Standing.AllStand}
 use Rattle.pagable_laws.proofs.{Standing.{HasClaim, KeepsKeys, PutsSlot, ShelfGrows, among-drop, changes-slot, keys-grow, put-cases, puts-slot, some-same}, Trees.followed-all, Words.{Among, ArcRef}}
 use Rattle.pagable_laws.proofs.Words.{Walking, WorkerReply, cases_Bool, step_of, Blob, Bool, Claim, Does, Event, EventReply, FollowsTo, HandleNumber, HoldsSettled, Identity, IsLawful, IsMachineWhole, IsPublished, List, MachineState, None, Ok}
-use Rattle.pagable_laws.proofs.Words.{IsReadableType, IsWellAsked, Option, Represents, Seen, Shelf, Site, Slot, Some, Task, Todo, Took, Tree, Values, WorkFits, Written, [], above, answer_after, ap, arith, blob_of}
+use Rattle.pagable_laws.proofs.Words.{IsReadableType, IsWellAsked, Option, Represents, Seen, Shelf, Site, Slot, Some, Task, Todo, Took, Tree, Types, Values, WorkFits, Written, [], above, answer_after, ap, arith, blob_of}
 use Rattle.pagable_laws.proofs.Words.{drop, give, identity_of, if◌then◌else◌, inl, inr, is_eager, length, max, nat_eq, nat_tests, no_result, of_entry, of_item, refl, rules, subst, suc, sym, to_fail}
 use Rattle.pagable_laws.{proofs.Words.{to_finish, to_item, to_release, to_set, to_start, to_write, true, type_of, world_of, zero, ℕ, ◌++◌, ◌+◌, ◌==◌, ◌∙◌, ◌∷◌, ◌≡◌, ◌≤◌}, specs.TreeSteps.Above}
-use Rattle.pagable_laws.specs.TreeSteps.{AllLow, BlobStands, Expects, Ground, HasBlob, HasRoom, IsAttained, IsDone, IsLow, KeyStands, KeysSoFar, Placed, SlotFits, SlotsFit, Waits, Walks, WroteTree}
+use Rattle.pagable_laws.specs.TreeSteps.{AllLow, AllWrote, BlobStands, Expects, Ground, HasBlob, HasRoom, IsAttained, IsDone, IsLow, KeyStands, KeysSoFar, Placed, SlotFits, SlotsFit, Waits, Walks, Wrote, WroteOver, WroteTree}
 use Rattle.{pagable_laws.specs.TreeSteps.ground_of, pagable_world.specs.{Calls.Stores, Events.Ends, Headline.AreKeysOf, Pager.{ReplyWrites, TookWrites}, Plain.longest_path, Workers.claim_fault}}
-use Rattle.pagable_world.specs.{Workers.{first_todo, give_known, next_start, open_node, with_failed, with_outcome, with_wait}, World.{Fault, Open, digest, failed, published, to_publish}}
+use Rattle.pagable_world.specs.{Workers.{first_todo, give_known, next_start, open_node, with_failed, with_outcome, with_wait}, World.{Fault, Open, digest, failed, published, to_load, to_pin, to_publish}}
 use Rattle.pagable_world.specs.Runs.{TodoAsksWell}
 use Rattle.pagable_laws.proofs.Trees.{same-number}
 
@@ -55,10 +55,39 @@ module _ {N : Type 0} (v : Values N) {g g' : Ground} (goes : GroundGoes g g') wh
     pub blob-on : {n key height : ℕ} {written : Written} → n ≤ g.last → BlobStands v g shelf n written key height → BlobStands v g' shelf' n written key height
     blob-on {n} {key} {height} {written} given b =
         let right : KeyStands v g'.stored (g'.trees n) key = subst (λ t. KeyStands v g'.stored t key) (sym (goes.trees n given)) (stands-on b.right) in
-        search (keys-on keys written.references b.keys b.known, goes.kept key _ b.is_stored, right, b.within, low-on keys, b.low, attained-on keys height written.references b.attained)
+        search (wrote-on given b.wrote, keys-on keys written.references b.keys b.known, goes.kept key _ b.is_stored, right, b.within, low-on keys, b.low, attained-on keys height written.references b.attained)
 
     pub slot-on : {i : Identity} {slot : Slot} → SlotFits v g shelf i slot → SlotFits v g' shelf' i slot
-    slot-on {i} {slot} fits = search (rules, wrote-on, blob-on)
+    slot-on {i} {slot} fits = record {
+      given = let a = fits.given in let b = goes.last in omega arith;
+      typed = ap (λ (t : Tree). t.type) (goes.trees i.node.0 fits.given) ∙ fits.typed;
+      writes = λ references is. let (bytes, w) = fits.writes references is in (bytes, wrote-on fits.given w);
+      publishes = λ key height is. let (written, so, b) = fits.publishes key height is in (written, so, blob-on fits.given b);
+    }
+
+module _ {N : Type 0} (v : Values N) {g g' : Ground} (goes : GroundGoes g g') where
+  first-wrote-on : (x : Todo) → Wrote v.types g x → Wrote v.types g' x
+  first-wrote-on (to_finish o) (given, w) = (let more = goes.last in omega arith, wrote-on v goes given w)
+  first-wrote-on x0 w = grind (arith, nat_tests)
+
+  pub all-wrote-on : (todo : List Todo) → AllWrote v.types g todo → AllWrote v.types g' todo
+  all-wrote-on [] all = tt
+  all-wrote-on (x ∷ below) (w, all) = (first-wrote-on x w, all-wrote-on below all)
+
+module _ (types : Types) (g : Ground) where
+  pub wrote-start : (place : ℕ) (rs : List ArcRef) (todo : List Todo) → AllWrote types g todo → AllWrote types g (next_start place rs ++ todo)
+  wrote-start place [] todo all = all
+  wrote-start place (r ∷ rs) todo all = (tt, all)
+
+  pub wrote-give : (r : ArcRef) (key height : ℕ) (todo : List Todo) → AllWrote types g todo → AllWrote types g (give r key height todo)
+  wrote-give r key height (to_finish o ∷ below) all =
+      wrote-start o.place _ (to_finish (record o { keys = o.keys ++ key ∷ []; height = max o.height (above r.kind.0 height) }) ∷ below) all
+  wrote-give r key height (to_item written keys ∷ below) all = wrote-start 0 _ (to_item written (keys ++ key ∷ []) ∷ below) all
+  wrote-give r key height x3 all = grind (arith, nat_tests)
+
+  pub wrote-known : (r : ArcRef) (key height : ℕ) (todo : List Todo) → AllWrote types g todo → AllWrote types g (give_known r key height todo)
+  wrote-known r key height [] all = (tt, tt)
+  wrote-known r key height (x ∷ below) all = wrote-give r key height (x ∷ below) all
 
 pub keys-same : {shelf shelf' : Shelf} → ((i : Identity) → shelf'.slots i ≡ shelf.slots i) → KeepsKeys shelf shelf'
 keys-same same i key height p = record { slot = p.slot; claimed = same i ∙ p.claimed; known = p.known }
@@ -76,7 +105,10 @@ module _ (shelf shelf' : Shelf) (more : ShelfGrows shelf shelf') where
 
 module _ {N : Type 0} {v : Values N} {g g' : Ground} {shelf shelf' : Shelf} (goes : GroundGoes g g') (more : ShelfGrows shelf shelf') (fits : SlotsFit v g shelf) where
   pub has-blob-on : {r : ArcRef} {key height : ℕ} → HasBlob v g shelf r key height → HasBlob v g' shelf' r key height
-  has-blob-on {r} b = search (rules, blob-on, keys-grow)
+  has-blob-on {r} b =
+      let a = more (identity_of r) b.slot b.claimed in
+      let given = (fits (identity_of r) b.slot b.claimed).given in
+      record { slot = a.0; written = b.written; claimed = a.1; wrote = a.2.references b.written.references b.wrote; stands = blob-on v goes (keys-grow more) given b.stands }
 
   -- ---- slots: all stay, one is put in, or the worker's claims without a result have failed
 
@@ -96,7 +128,17 @@ module _ {N : Type 0} {v : Values N} {g g' : Ground} {shelf shelf' : Shelf} (goe
 
 module _ {N : Type 0} {v : Values N} {g g' : Ground} {shelf : Shelf} (shelf' : Shelf) (goes : GroundGoes g g') (more : ShelfGrows shelf shelf') (fits : SlotsFit v g shelf) where
   pub walks-on : (task : Task) (todo : List Todo) → Walks v g shelf task todo → Walks v g' shelf' task todo
-  walks-on task x1 x2 = grind (arith, nat_tests, above-on, wait-on, has-blob-on, keys-grow)
+  walks-on task [] walks = tt
+  walks-on task (to_start r place ∷ below) (at, rest) = (at, above-on shelf shelf' more task r below rest)
+  walks-on task (to_pin r place ∷ below) (at, few, rest) = (at, few, above-on shelf shelf' more task r below rest)
+  walks-on task (to_load r place through reading ∷ below) (at, few, rest) = (at, few, above-on shelf shelf' more task r below rest)
+  walks-on task (to_write r place through ∷ below) (at, few, rest) = (at, few, above-on shelf shelf' more task r below rest)
+  walks-on task (to_finish o ∷ below) waits = wait-on shelf shelf' more task (to_finish o ∷ below) waits
+  walks-on task (to_item written keys ∷ below) waits = wait-on shelf shelf' more task (to_item written keys ∷ below) waits
+  walks-on task (to_set r through key height ∷ below) (blob, reach, rest) = (has-blob-on goes more fits blob, reach, above-on shelf shelf' more task r below rest)
+  walks-on task (to_publish r key height ∷ below) (blob, reach, rest) = (has-blob-on goes more fits blob, reach, above-on shelf shelf' more task r below rest)
+  walks-on task (to_release r key height ∷ below) (p, reach, rest) = (keys-grow more _ _ _ p, reach, above-on shelf shelf' more task r below rest)
+  walks-on task (to_fail fault back ∷ below) walks = tt
 
 -- A worker's step, case by case: its table and its to-do list fit afterwards.
 
@@ -183,36 +225,42 @@ module _ {N B W : Type 0} (m : Seen N B W) (n : ℕ) {g g' : Ground} (task : Tas
     fails : {back : Option HandleNumber} (fault : Fault) → s'.todo ≡ to_fail fault back ∷ [] → Fits
     fails fault e = did kept e tt
 
-    finishes : (o : Open) (below : List Todo) (key : ℕ) → HasClaim s.shelf n (identity_of o.reference) (λ w. w ≡ Some o.written) → Waits s.shelf task (to_finish o ∷ below)
+    finishes : (o : Open) (below : List Todo) (key : ℕ) → HasClaim s.shelf n (identity_of o.reference) (λ w. w ≡ Some o.written.references)
+        → WroteTree m.values.types g' o.reference.node.0 o.written → Waits s.shelf task (to_finish o ∷ below)
         → length o.keys ≡ length o.written.references → key ≡ digest m.values (blob_of o.written.bytes o.keys) → g'.stored key ≡ Some (blob_of o.written.bytes o.keys)
         → Walks m.values g' s'.shelf task (to_set o.reference o.through key o.height ∷ below)
     unfolding Waits
-    finishes o below key claim (known, attained, place, reach, expects, waits) all is there =
+    finishes o below key claim wrote (known, attained, place, reach, expects, waits) all is there =
         let a = more (identity_of o.reference) claim.slot claim.claimed in
-        let wrote = a.2.written o.written claim.written_so in
-        let fit = kept (identity_of o.reference) a.0 a.1 in
+        let so = a.2.references o.written.references claim.written_so in
         let first = so-far-on (keys-grow more) o.height o.written.references o.keys known in
         let known' = all-known s'.shelf o.height o.written.references o.keys all first in
-        let right = key-stands o.keys (stands-for m.values g' s'.shelf kept) (fit.writes o.written wrote) known' there is in
+        let right = key-stands o.keys (stands-for m.values g' s'.shelf kept) wrote known' there is in
         let small : o.height ≤ longest_path = omega arith in
         let most : IsAttained s'.shelf o.height o.written.references = attained-on (keys-grow more) o.height o.written.references attained in
         let stands : BlobStands m.values g' s'.shelf o.reference.node.0 o.written key o.height =
-        search (known', there, right, small, all-low s'.shelf o.height o.written.references o.keys all first, most) in
-        (record { slot = a.0; written = o.written; claimed = a.1; wrote = wrote; stands = stands }, reach, still o.reference below (expects, waits))
+        search (wrote, known', there, right, small, all-low s'.shelf o.height o.written.references o.keys all first, most) in
+        (record { slot = a.0; written = o.written; claimed = a.1; wrote = so; stands = stands }, reach, still o.reference below (expects, waits))
 
   writes : (r : ArcRef) (place : ℕ) (through : HandleNumber) (below : List Todo) (written : Written) (claim : HasClaim s.shelf n (identity_of r) (λ w. w ≡ None))
-      → WroteTree m.values.types g r.node.0 written → PutsSlot s.shelf.slots s'.shelf.slots (identity_of r) (record claim.slot { written = Some written })
+      → WroteTree m.values.types g r.node.0 written → PutsSlot s.shelf.slots s'.shelf.slots (identity_of r) (record claim.slot { references = Some written.references })
       → Placed s.shelf task r place below → s'.todo ≡ open_node r place through written below → Fits
   unfolding Waits
   writes r place through below written claim w puts (at, few, above) e =
       let fit = fits (identity_of r) claim.slot claim.claimed in
       let on : SlotFits m.values g' s'.shelf (identity_of r) claim.slot = slot-on m.values goes (keys-grow more) fit in
       let now = wrote-on m.values goes fit.given w in let none = claim.no_result_yet in
-      let fits_new : SlotFits m.values g' s'.shelf (identity_of r) (record claim.slot { written = Some written }) = grind (arith, nat_tests, on.given, on.typed) in
+      let over : (rs : List ArcRef) → Some written.references ≡ Some rs → WroteOver m.values.types g' r.node.0 rs =
+      λ rs is. (written.bytes, subst (λ x. WroteTree m.values.types g' r.node.0 (record { bytes = written.bytes; references = x })) (some-same refl is) now) in
+      let fits_new : SlotFits m.values g' s'.shelf (identity_of r) (record claim.slot { references = Some written.references }) =
+      record { given = on.given; typed = on.typed; writes = over; publishes = λ key height known. absurd (cc) } in
       let a = still r below above in
       did (slots-but goes more fits puts fits_new) e
       (started-node m.values g' s'.shelf task (record { reference = r; place = place; through = through; written = written; keys = []; height = 0 }) below _ refl
       (tt, inl refl, at, omega arith, a.0, a.1))
+
+  listed : {next : List Todo} → s'.todo ≡ next → AllWrote m.values.types g' next → AllWrote m.values.types g' s'.todo
+  listed e all = subst (λ t. AllWrote m.values.types g' t) (sym e) all
 
   stored-so : (key : ℕ) (b : Blob) → Stores s.core key b s'.core → s'.core.stored key ≡ Some b
   stored-so key b h = let e : (key == key) ≡ true = grind (arith, nat_tests) in h.adds.each key ∙ ap (λ t. if t then Some b else s.core.stored key) e
@@ -222,43 +270,62 @@ module _ {N B W : Type 0} (m : Seen N B W) (n : ℕ) {g g' : Ground} (task : Tas
       (readable : (r : ArcRef) (place : ℕ) (through : HandleNumber) (below : List Todo) → s.todo ≡ to_write r place through ∷ below
       → IsReadableType m.values.types (type_of r.kind.0))
       (ends : answer_after s.todo step ≡ None → (key : ℕ) (b : Blob) → s'.core.stored key ≡ Some b → g'.stored key ≡ Some b) where
-    stepped : (todo : List Todo) → s.todo ≡ todo → (took : Took W) → step ≡ took → Does m n s todo took s' → AllStand s.shelf n task todo → Walks m.values g s.shelf task todo → Fits
-    stepped (to_start r place ∷ below) e (Took.Claim i (Ok Claim.Claimed)) st (is, c) all (at, above) =
+    stepped : (todo : List Todo) → s.todo ≡ todo → AllWrote m.values.types g todo → (took : Took W) → step ≡ took → Does m n s todo took s' → AllStand s.shelf n task todo → Walks m.values g s.shelf task todo → Fits
+    stepped (to_start r place ∷ below) e written (Took.Claim i (Ok Claim.Claimed)) st (is, c) all (at, above) =
         let t = c.finds.1.2 in
         let ok = claimable r c.finds.0 in
-        let new : Slot = record { worker = n; written = None; outcome = no_result } in let more_last = goes.last in
+        let new : Slot = record { worker = n; references = None; outcome = no_result } in let more_last = goes.last in
         let typed : (g'.trees r.node.0).type ≡ type_of r.kind.0 = ap (λ (t : Tree). t.type) (goes.trees r.node.0 ok.0) ∙ ok.1 in
         let fits_new : SlotFits m.values g' s'.shelf (identity_of r) new = grind (arith, nat_tests) in
         did (slots-but goes more fits (puts-slot (with_wait s.shelf n None) s'.shelf (identity_of r) new t.table_is) fits_new) t.list_is (at, c.finds.1.0, still r below above)
-    stepped (to_start r place ∷ below) e (Took.Claim i (Ok (Claim.Known key height))) st (is, c) all (at, above) =
+    stepped (to_start r place ∷ below) e written (Took.Claim i (Ok (Claim.Known key height))) st (is, c) all (at, above) =
         let t = c.finds.1.2 in let a = still r below above in
         did (kept (λ j. t.table_is.slots j)) t.list_is
         (given-known m.values g' s'.shelf task r key height (keys-grow more _ _ _ c.finds.1.1) below (subst (λ q. q + height ≤ longest_path) at c.finds.1.0) a.0 a.1)
-    stepped (to_write r place through ∷ below) e (Took.Write i (Ok out)) st (is, p) (stands, apart, all) above =
+    stepped (to_write r place through ∷ below) e written (Took.Write i (Ok out)) st (is, p) (stands, apart, all) above =
         let t = p.writes in
         let claim = stands.1 in
         let can = subst (IsReadableType m.values.types) (sym (fits (identity_of r) claim.slot claim.claimed).typed) (readable r place through below e) in
         let w = subst (λ (j : Identity). IsReadableType m.values.types (g.trees j.node.0).type → WroteTree m.values.types g j.node.0 (m.written_of out)) is
         (wrote i out st) can in
         writes r place through below (m.written_of out) claim w
-        (changes-slot s.shelf s'.shelf (identity_of r) claim.slot (λ slot. record slot { written = Some (m.written_of out) }) claim.claimed t.table_is) above t.list_is
-    stepped (to_set r through key height ∷ below) e (Took.SetKey i (Ok u)) st (is, p) all (blob, reach, above) =
+        (changes-slot s.shelf s'.shelf (identity_of r) claim.slot (λ slot. record slot { references = Some (m.written_of out).references }) claim.claimed t.table_is) above t.list_is
+    stepped (to_set r through key height ∷ below) e written (Took.SetKey i (Ok u)) st (is, p) all (blob, reach, above) =
         let t = p.goes in did (kept t.table_stays.slots) t.list_is (has-blob-on goes more fits blob, reach, still r below above)
-    stepped (to_publish r key height ∷ below) e (Took.Publish i k h) st (is, same_key, same_height, t) (stands, apart, all) (blob, reach, above) =
+    stepped (to_publish r key height ∷ below) e written (Took.Publish i k h) st (is, same_key, same_height, t) (stands, apart, all) (blob, reach, above) =
         let claim = stands.1 in
         let no_result_yet : blob.slot.outcome ≡ no_result = ap (λ (z : Slot). z.outcome) (some-same blob.claimed claim.claimed) ∙ claim.no_result_yet in
         let puts = rw no_result_yet at (changes-slot s.shelf s'.shelf (identity_of r) blob.slot (with_outcome (published key height)) blob.claimed t.table_is) in
         let fit = fits (identity_of r) blob.slot blob.claimed in
         let on : SlotFits m.values g' s'.shelf (identity_of r) blob.slot = slot-on m.values goes (keys-grow more) fit in
         let stands = blob-on m.values goes (keys-grow more) fit.given blob.stands in
-        let publishes : (k h : ℕ) → published key height ≡ published k h → (w : Written) × (blob.slot.written ≡ Some w) × BlobStands m.values g' s'.shelf r.node.0 w k h =
+        let publishes : (k h : ℕ) → published key height ≡ published k h → (w : Written) × (blob.slot.references ≡ Some w.references) × BlobStands m.values g' s'.shelf r.node.0 w k h =
         λ k h known. let same : key ≡ k = cc in let equal : height ≡ h = cc in (blob.written, blob.wrote, rw (← same, ← equal) stands) in
         let fits_new : SlotFits m.values g' s'.shelf (identity_of r) (record blob.slot { outcome = published key height }) = search (on.given, on.typed, on.writes, publishes) in
         did (slots-but goes more fits puts fits_new) t.list_is (record { slot = record blob.slot { outcome = published key height }; claimed = puts.at; known = refl }, reach, still r below above)
-    stepped (to_release r key height ∷ below) e (Took.Release i) st (is, falls, t) all (p, reach, above) =
+    stepped (to_release r key height ∷ below) e written (Took.Release i) st (is, falls, t) all (p, reach, above) =
         let a = still r below above in did (kept t.table_stays.slots) t.list_is (given m.values g' s'.shelf task r key height (keys-grow more _ _ _ p) below reach a.0 a.1)
-    stepped (to_fail fault back ∷ below) e Took.Fail st (gives, same, list_is) all walks = did (slots-failed goes more fits n same.slots) list_is tt
-    stepped _ e step st does all walks = grind (arith, nat_tests, fails, did, kept, still, finishes, stored-so, given-known, given, keys-grow, has-blob-on, slots-failed)
+    stepped (to_fail fault back ∷ below) e written Took.Fail st (gives, same, list_is) all walks = did (slots-failed goes more fits n same.slots) list_is tt
+    stepped (to_finish o ∷ below) e ((given, w), rest) (Took.Store i (Ok key)) st (is, p) (stands, apart, all) walks =
+        let t = p.goes in let b = p.stored.stores in
+        let none : answer_after s.todo step ≡ None = subst (λ t. answer_after t step ≡ None) (sym e) (subst (λ k. answer_after (to_finish o ∷ below) k ≡ None) (sym st) refl) in
+        did (kept t.table_stays.slots) t.list_is (finishes t.table_stays.slots o below key stands.1 (wrote-on m.values goes given w) walks p.all b.0 (ends none key _ (stored-so key _ b.1)))
+    stepped _ e written step st does all walks = grind (arith, nat_tests, fails, did, kept, still, stored-so, given-known, given, keys-grow, has-blob-on, slots-failed)
+
+    -- and what waits is still a form of its node's tree
+    wrote-stepped : (todo : List Todo) → (took : Took W) → step ≡ took → Does m n s todo took s' → AllStand s.shelf n task todo → s.todo ≡ todo → AllWrote m.values.types g todo → AllWrote m.values.types g' s'.todo
+    wrote-stepped (to_start r place ∷ below) (Took.Claim i (Ok (Claim.Known key height))) st (is, c) all e written =
+        listed c.finds.1.2.list_is (wrote-known m.values.types g' r key height below (all-wrote-on m.values goes below written.1))
+    wrote-stepped (to_write r place through ∷ below) (Took.Write i (Ok out)) st (is, p) (stands, apart, all) e written =
+        let claim = stands.1 in let given = (fits (identity_of r) claim.slot claim.claimed).given in let few = goes.last in
+        let can = subst (IsReadableType m.values.types) (sym (fits (identity_of r) claim.slot claim.claimed).typed) (readable r place through below e) in
+        let w = subst (λ (j : Identity). IsReadableType m.values.types (g.trees j.node.0).type → WroteTree m.values.types g j.node.0 (m.written_of out)) is
+        (wrote i out st) can in
+        listed p.writes.list_is (wrote-start m.values.types g' place _ (to_finish (record { reference = r; place = place; through = through; written = m.written_of out; keys = []; height = 0 }) ∷ below)
+        ((omega arith, wrote-on m.values goes given w), all-wrote-on m.values goes below written.1))
+    wrote-stepped (to_release r key height ∷ below) (Took.Release i) st (is, falls, t) all e written =
+        listed t.list_is (wrote-give m.values.types g' r key height below (all-wrote-on m.values goes below written.1))
+    wrote-stepped todo took st does all e written = grind (arith, nat_tests, listed, all-wrote-on m.values goes)
 
 -- Page-outs by trees: what tables and workers hold fits at first and after each event.
 
@@ -283,20 +350,27 @@ module _ {N B W E : Type 0} (m : Seen N B W) (s s' : MachineState N E) (trees tr
   ]
   walker-asked v x0 x1 r one asked walking there = absurd (grind (arith, nat_tests))
 
+  wrote-first : (task : Task) → AllWrote m.values.types g' (first_todo task)
+  wrote-first (of_item written) = wrote-start m.values.types g' 0 _ (to_item written [] ∷ []) (tt, tt)
+  wrote-first (of_entry h i) = (tt, tt)
+
   pub fits-on : StandsIn (world_of s) → (event : Event N B W) (reply : EventReply N B W) → EventTurns m (world_of s) event reply (world_of s') → ReplyWrites m s.pager reply
       → IsWellAsked m.values s trees event reply → WorkFits m.values s' trees'
   fits-on work event reply turns writes asked =
       let stay : GroundGoes g' g' = record { kept = λ key b e. e; last = omega arith; trees = λ n le. refl } in
-      let h = turns-keep m turns (SlotsFit m.values g') (λ n shelf w. Walks m.values g' shelf w.task w.todo) (λ a b same fits. slots-on stay (same-grow a b same) fits same)
-      (λ a b more fits n w. walks-on b stay more fits w.task w.todo) (λ t shelf more same. slots-on goes more (fit.slots t) same)
-      (λ n w none there. walks-on (s'.work.shelves w.table) goes (turns-grow m turns w.table) (fit.slots w.table) w.task w.todo (fit.walks n w there))
-      (λ n shelf t task. starts-well shelf task) (λ k r w at one more.
+      let h = turns-keep m turns (SlotsFit m.values g') (λ n shelf w. Walks m.values g' shelf w.task w.todo × AllWrote m.values.types g' w.todo) (λ a b same fits. slots-on stay (same-grow a b same) fits same)
+      (λ a b more fits n w (walks, wrote). (walks-on b stay more fits w.task w.todo walks, wrote)) (λ t shelf more same. slots-on goes more (fit.slots t) same)
+      (λ n w none there. (walks-on (s'.work.shelves w.table) goes (turns-grow m turns w.table) (fit.slots w.table) w.task w.todo (fit.walks n w there), all-wrote-on m.values goes w.todo (fit.wrote n w there)))
+      (λ n shelf t task. (starts-well shelf task, wrote-first task)) (λ k r w at one more.
       let ends : answer_after w.walking.todo r.took ≡ None → (key : ℕ) (b : Blob) → w.after.core.stored key ≡ Some b → s'.pager.core.stored key ≡ Some b =
       λ none key b is. (let e = subst (λ a. Ends a k.0 w.after.core s'.pager.core) (w.answers ∙ none) w.ends in e.stored key ∙ is) in
-      stepped m k.0 w.walking.task (site_of (world_of s) w.walking) w.after goes more (fit.slots w.walking.table) (λ r may. grind (arith, nat_tests))
-      r.took (λ i out is can. wrote represents whole.pager settled lawful i.node.0 (m.written_of out) can
-      (subst (λ (t : Took W). TookWrites m.values m.written_of s.pager t) is (grind (arith, nat_tests))))
-      (λ q place through below front. subst (TodoAsksWell m.values s.pager) front (walker-asked turns.who event reply r one asked w.walking (sym
-      (ap s.work.walkings at) ∙ w.at)))
-      ends w.walking.todo refl r.took refl w.does.does (work.workers k.0 w.walking w.at).all (fit.walks k.0 w.walking w.at)) turns.own in
-      record { slots = h.slots; walks = h.walks }
+      let claimable : (r : ArcRef) → claim_fault s.pager.core r ≡ None → (r.node.0 ≤ s.pager.core.last.node) × ((trees r.node.0).type ≡ type_of r.kind.0) = λ r may. grind (arith, nat_tests) in
+      let writes_so : (i : Identity) (out : W) → r.took ≡ Took.Write i (Ok out) → IsReadableType m.values.types (trees i.node.0).type
+      → WroteTree m.values.types (ground_of s trees) i.node.0 (m.written_of out) =
+      λ i out is can. wrote represents whole.pager settled lawful i.node.0 (m.written_of out) can (subst (λ (t : Took W). TookWrites m.values m.written_of s.pager t) is (grind (arith, nat_tests))) in
+      let readable : (q : ArcRef) (place : ℕ) (through : HandleNumber) (below : List Todo) → w.walking.todo ≡ to_write q place through ∷ below → IsReadableType m.values.types (type_of q.kind.0) =
+      λ q place through below front. subst (TodoAsksWell m.values s.pager) front (walker-asked turns.who event reply r one asked w.walking (sym (ap s.work.walkings at) ∙ w.at)) in
+      let site = site_of (world_of s) w.walking in let all = (work.workers k.0 w.walking w.at).all in let wrote_so = fit.wrote k.0 w.walking w.at in
+      let now = stepped m k.0 w.walking.task site w.after goes more (fit.slots w.walking.table) claimable r.took writes_so readable ends w.walking.todo refl wrote_so r.took refl w.does.does all (fit.walks k.0 w.walking w.at) in
+      (now.0, (now.1, wrote-stepped m k.0 w.walking.task site w.after goes more (fit.slots w.walking.table) claimable r.took writes_so readable ends w.walking.todo r.took refl w.does.does all refl wrote_so))) turns.own in
+      record { slots = h.slots; walks = λ n w there. (h.walks n w there).0; wrote = λ n w there. (h.walks n w there).1 }

@@ -5,3 +5,4 @@ pub mod TwoLevels
 pub mod DeepLaws
 pub mod PageOutLaws
 pub mod CallerLaws
+pub mod HeldLaws

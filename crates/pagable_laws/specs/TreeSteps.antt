@@ -339,6 +339,10 @@ pub record WroteTree (types : Types) (g : Ground) (n : ℕ) (written : Written) 
   pub given : (r : ArcRef) → Among written.references r → r.node.0 ≤ g.last
   pub once : (q : ℕ) → times (λ (r : ArcRef). r.handle.0 == q) (references_in own) ≤ 1
 
+-- these references were written of the node, with some bytes
+abbrev pub WroteOver : Types → Ground → ℕ → List ArcRef → Type 0
+WroteOver types g n references = (bytes : List ℕ) × WroteTree types g n (record { bytes = bytes; references = references })
+
 -- the reference's key is known, with a height to which it adds no more than this
 pub record IsLow (shelf : Shelf) (height : ℕ) (r : ArcRef) : Type 0 where
   pub key : ℕ
@@ -364,6 +368,7 @@ IsAttained shelf height rs = (height ≡ 0) ⊎ AddsSo shelf height rs
 
 -- under the key, which is that of the node's tree, stands what was written over the keys that are known of its references; its height is within the limit, and that of the references
 pub record BlobStands {N : Type 0} (v : Values N) (g : Ground) (shelf : Shelf) (n : ℕ) (written : Written) (key height : ℕ) : Type 0 where
+  pub wrote : WroteTree v.types g n written
   pub keys : List ℕ
   pub known : AreKeysOf shelf written.references keys
   pub is_stored : g.stored key ≡ Some (blob_of written.bytes keys)
@@ -372,12 +377,12 @@ pub record BlobStands {N : Type 0} (v : Values N) (g : Ground) (shelf : Shelf) (
   pub low : AllLow shelf height written.references
   pub attained : IsAttained shelf height written.references
 
--- a slot is of a node that was given, of its kind's type; what was written is a form of its tree, and stands under the key that is known
+-- A slot is of a node that was given, of its kind's type. Its references are those of a form of the node's tree; and one with just these stands under the key that is known.
 pub record SlotFits {N : Type 0} (v : Values N) (g : Ground) (shelf : Shelf) (i : Identity) (slot : Slot) : Type 0 where
   pub given : i.node.0 ≤ g.last
   pub typed : (g.trees i.node.0).type ≡ type_of i.kind.0
-  pub writes : (written : Written) → slot.written ≡ Some written → WroteTree v.types g i.node.0 written
-  pub publishes : (key height : ℕ) → slot.outcome ≡ published key height → (written : Written) × (slot.written ≡ Some written) × BlobStands v g shelf i.node.0 written key height
+  pub writes : (references : List ArcRef) → slot.references ≡ Some references → WroteOver v.types g i.node.0 references
+  pub publishes : (key height : ℕ) → slot.outcome ≡ published key height → (written : Written) × (slot.references ≡ Some written.references) × BlobStands v g shelf i.node.0 written key height
 
 -- the keys that are known of the first of the references, which add no more than this to a height
 abbrev pub KeysSoFar : Shelf → ℕ → List ArcRef → List ℕ → Type 0
@@ -424,7 +429,7 @@ pub record HasBlob {N : Type 0} (v : Values N) (g : Ground) (shelf : Shelf) (r :
   pub slot : Slot
   pub written : Written
   pub claimed : shelf.slots (identity_of r) ≡ Some slot
-  pub wrote : slot.written ≡ Some written
+  pub wrote : slot.references ≡ Some written.references
   pub stands : BlobStands v g shelf r.node.0 written key height
 
 -- what a worker has to do fits its table and trees
@@ -444,10 +449,21 @@ Walks v g shelf task (to_fail fault back ∷ below) = Unit {0}
 abbrev pub SlotsFit : {N : Type 0} → Values N → Ground → Shelf → Type 0
 SlotsFit v g shelf = (i : Identity) (slot : Slot) → shelf.slots i ≡ Some slot → SlotFits v g shelf i slot
 
+-- what was written of a node and waits for its references is a form of the node's tree
+abbrev pub Wrote : Types → Ground → Todo → Type 0
+Wrote types g (to_finish o) = (o.reference.node.0 ≤ g.last) × WroteTree types g o.reference.node.0 o.written
+Wrote types g _ = Unit {0}
+
+-- and so it is of all that is to be done
+abbrev pub AllWrote : Types → Ground → List Todo → Type 0
+AllWrote types g [] = Unit {0}
+AllWrote types g (x ∷ below) = Wrote types g x × AllWrote types g below
+
 -- all slots and all workers of the machine fit
 pub record WorkFits {N E : Type 0} (v : Values N) (s : MachineState N E) (trees : ℕ → Tree) : Type 0 where
   pub slots : (t : ℕ) → SlotsFit v (ground_of s trees) (s.work.shelves t)
   pub walks : (n : ℕ) (walking : Walking) → s.work.walkings n ≡ Some walking → Walks v (ground_of s trees) (s.work.shelves walking.table) walking.task walking.todo
+  pub wrote : (n : ℕ) (walking : Walking) → s.work.walkings n ≡ Some walking → AllWrote v.types (ground_of s trees) walking.todo
 
 -- the key is what the task has come to: over the keys that are known of its item's references, none of which lies too deep, or of its entry
 abbrev pub IsDone : {N : Type 0} → Values N → Shelf → Task → ℕ → Type 0

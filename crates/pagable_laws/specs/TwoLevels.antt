@@ -25,6 +25,7 @@ sample = record {
   node_type = if_there (λ r. 0) 1;
   references = if_there (λ r. r ∷ []) [];
   means = λ x own. own ≡ if_there reference none x;
+  beside = λ x r y. Unit {0};
   read_causes = λ t e. ⊥;
   write_causes = λ t e. ⊥;
   types = sample_types;
@@ -105,14 +106,14 @@ value_of n = if_there (λ x. x) None (value_at two_values n.0)
 -- what a step takes; and what it leaves of pager, table and list
 abbrev pub next_step : Core → Shelf → List Todo → Took Written × Core × Shelf × List Todo
 next_step w s (to_start r place ∷ below) =
-    let claimed = with_slot (with_wait s 1 None) (identity_of r) (Some (record { worker = 1; written = None; outcome = no_result })) in
+    let claimed = with_slot (with_wait s 1 None) (identity_of r) (Some (record { worker = 1; references = None; outcome = no_result })) in
     (Took.Claim (identity_of r) (Ok Claim.Claimed), w, claimed, to_pin r place ∷ below)
 next_step w s (to_pin r place ∷ below) =
     let through = handle (w.last.handle + 1) in let pinned = with_handle (with_mode (cloned w r.node) through Mode.LoosePinned) r.node Mode.Pinned (owner_worker 1) in
     (Took.Pin (identity_of r) (Ok (PinStep.Held (handle (w.last.handle + 1 + 1)))), pinned, s, to_write r place through ∷ below)
 next_step w s (to_write r place through ∷ below) =
     let written = sample_written (value_of r.node) in
-    (Took.Write (identity_of r) (Ok written), w, with_changed_slot s (identity_of r) (λ slot. record slot { written = Some written }), open_node r place through written below)
+    (Took.Write (identity_of r) (Ok written), w, with_changed_slot s (identity_of r) (λ slot. record slot { references = Some written.references }), open_node r place through written below)
 next_step w s (to_finish o ∷ below) =
     let blob = blob_of o.written.bytes o.keys in let key = digest sample blob in
     (Took.Store (Some (identity_of o.reference)) (Ok key), with_blob w blob, s, to_set o.reference o.through key o.height ∷ below)

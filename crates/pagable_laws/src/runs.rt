@@ -3,7 +3,7 @@
 
 ghost use Rattle.pagable_world.specs.{Access.{PinLaw, ReadLaw}, Headline.HeadlineLaw, OneWorker.{KeyIsShallow, OneIdentityLaw}, Plain.Types, World.{Frame, Seen}};
 ghost use Rattle.pagable_laws.specs.DeepLaws.{ClaimIsDeep, DepthIsHeight, DepthIsTold, HoldsAlong, LoadIsDeep, LoadIsFaultless, SoundLaw};
-ghost use Rattle.pagable_laws.specs.{FallLaws.{FallLaws, ChainsJoin, NewIsWhole, NextIsOne, ReadingFills}, CallerLaws.{CallerLaw, PinnedAgainLaw}, PageOutLaws.{ItemLaw, ListLaw}, TwoLevels.TwoLevelsMeetTheHeadline};
+ghost use Rattle.pagable_laws.specs.{FallLaws.{FallLaws, ChainsJoin, NewIsWhole, NextIsOne, ReadingFills}, HeldLaws.{HeldLaw, PinnedLaw}, CallerLaws.{CallerLaw, PinnedAgainLaw}, PageOutLaws.{ItemLaw, ListLaw}, TwoLevels.TwoLevelsMeetTheHeadline};
 
 /// How values of this type are seen, with blobs B and what is written W: any values, so that a law is one of all.
 pub trait SeenAs<B, W>: Sized {
@@ -63,6 +63,14 @@ pub fn loads<N: SeenAs<B, W>, B, W, E>()
     ensures reading_fills { ReadingFills E N.seen }
     ensures pins_stand { PinLaw E N.seen.values }
     ensures readings_stand { ReadLaw E N.seen.values }
+{}
+
+/// Of what values hold beside the references that are read together with them:
+/// - Each value in memory holds the values of its references' nodes, as long as each value that comes does when it comes, whatever step is made.
+/// - A value that holds what the handles of its references pin, as one does that was decoded with them, holds the values of their nodes, where nothing is to be said against the references.
+pub fn held_values<N: SeenAs<B, W>, B, W, E>()
+    ensures stays { HeldLaw E N.seen.values }
+    ensures decoded { PinnedLaw E N.seen.values }
 {}
 
 /// Of page-out by one call of a pager for which nobody else works, where keys, types and values are as the headline asks:

@@ -1,2 +1,3 @@
 mod Foreseen
 pub mod Stepped
+mod Pinned

@@ -1,6 +1,6 @@
 -- What a load needs next, what the calls of its steps did, and whole pins and readings.
 use Rattle.{either.specs.declared.Either.Either, pagable_core.specs.{Context.at_front, Data.blob_of}, pagable_loads.specs.{Decoding.{IsReadAs, Needs}, Frames.{IsLoadOf, frame_of}}}
-use Rattle.pagable_loads.specs.{Frames.{frames_of, onto, reading_of}, Got.{AreLater, AreStandIns, Lends, LendsEach, answer_at, lent_at, stand_in}, Starting.{PinsFirst, Shares, StartsPin, TakesBack, Unpins}}
+use Rattle.pagable_loads.specs.{Frames.{frames_of, onto, reading_of}, Got.{AreLater, AreStandIns, Lends, LendsEach, answer_at, lent_at, stand_in}, Starting.{PinsFirst, Shares, SharesPinned, StartsPin, TakesBack, Unpins}}
 use Rattle.pagable_loads.specs.{Stepping.{Drops, HasGone, IsSameLoad, Met, Runs, Tries}, Telling.{Acting, Acts, ActsThen, AdoptsValue, AsksFor, Brings, IsMade, TakesLazily, Tells}}
 use Rattle.{pagable_loads.specs.declared.{reading.{Frame.Frame as Held, Need.Need, Reading.Reading as Own}, access.PinStart.PinStart}, pagable_model.specs.Blob.Blob}
 use Rattle.pagable_model.specs.{Deep.longest_path, Meaning.Meaning, Reading.{Rest, read_typed}, Shape.Shape, Standing.{Answer, GivesSome, Standing, handles_at, rest_at}}
@@ -14,6 +14,7 @@ use Rattle.pagable_world.specs.{World.{Values, of_key, one_more, row_at}, declar
 use Rattle.{pagable_world.specs.declared.handles.{HandleRow.HandleRow, Owner.Owner}, std.proofs.Common.{Bool, Err, List, None, Ok, Option, Result, Some, [], ap, arith, false, inl, inr, length, refl}}
 use Rattle.std.proofs.{Common.{rules, slice_get, subst, suc, sym, true, zero, ℕ, ◌++◌, ◌+◌, ◌-◌, ◌<◌, ◌∙◌, ◌∷◌, ◌≡◌, ◌≢◌, ◌≤◌, ◌⊎◌}, lemmas.{Bool.Decides.nat_tests, Grind.common_steps}}
 use Rattle.std.{proofs.lemmas.{List.{length-append, nil_from_length}, Option.{slice_get_past, slice_get_within}}, specs.{Arc.arc_value, Option.option_map, Prelude.{IfOk, IsSome}}}
+use Rattle.{pagable_laws.{proofs.{Decoding.among-right, Goes.{NotValues, end-call, low-whole}, SparingSteps.found}, specs.TreeSteps.HasPin}, pagable_world.specs.{Calls.{row_of, with_mode}, Plain.Among, declared.rows.Mode.Mode}}
 use Rattle.pagable_core.specs.Context as context
 
 -- answers by place, key and kind are those of the references got
@@ -23,11 +24,11 @@ same_answers got place [] = refl
 same_answers got place (key ∷ keys) = ap (λ (rest : List Answer). (λ kind. answer_of (slice_get got place) kind) ∷ rest) (same_answers got (place + 1) keys)
 
 -- reading at the front of the blob, with these answers, is reading with these references
-pub reads_with : {X E : Type 0} (own : Error → Type 0) (means : X → Meaning ArcRef → Type 0) (nodes : E → ℕ → Option Shape) (parts : E → ℕ → Shape) (t : ℕ) (env other : E) (levels : ℕ) (got : List ArcRef) (bytes keys : List ℕ) (blob : Blob) (st : Standing) (after : Rest Answer) (result : Result X Error)
-    → st ≡ at_front (answer_at got) bytes keys → levels ≡ 0 → other ≡ env → bytes ≡ blob.bytes → keys ≡ blob.keys
+pub reads_with : {X E N : Type 0} (own : Error → Type 0) (means : X → Meaning ArcRef → Type 0) (nodes : E → ℕ → Option Shape) (parts : E → ℕ → Shape) (t : ℕ) (env other : E) (levels : ℕ) (got : List ArcRef) (bytes keys : List ℕ) (blob : Blob) (lent : ℕ → Option (ArcRef × N)) (st : Standing N) (after : Rest Answer) (result : Result X Error)
+    → st ≡ at_front (answer_at got) lent bytes keys → levels ≡ 0 → other ≡ env → bytes ≡ blob.bytes → keys ≡ blob.keys
     → GivesSome own means after result (read_typed (handles_at levels (parts other)) (nodes other t) (rest_at st))
     → GivesSome own means after result (read_with (record { nodes = nodes env; parts = parts env }) t blob got)
-reads_with own means nodes parts t env other levels got bytes keys blob st after result s l e b k h =
+reads_with own means nodes parts t env other levels got bytes keys blob lent st after result s l e b k h =
     let P : List Answer → Type 0 = λ refs. GivesSome own means after result (read_typed (handles_at 0 (parts env)) (nodes env t) (let x : Rest Answer = record { bytes = blob.bytes; refs = refs } in x)) in
     let there : P (context.answers_from (answer_at got) 0 blob.keys) = rw (s, l, e, b, k) at h in
     subst P (same_answers got 0 blob.keys) there
@@ -232,6 +233,19 @@ module _ {A N E : Type 0} (see : A → N) (s : PagerState N E) where
   pub not_shared : (r : ArcRef) (e : Error) → Shares see s r.handle (Err e) → e ≢ Error.OutOfMemory → Lends s r None
   not_shared r e h other = first_of (grind (arith, common_steps, nat_tests), search (rules))
 
+-- what a new pin shares, and why it may not
+module _ {A N E : Type 0} (see : A → N) (s : PagerState N E) (k : HandleNumber) where
+  pub shares-value : (y : A) → Shares see s k (Ok (Some y)) → SharesPinned see s k (Ok y)
+  shares-value y h = grind (arith, nat_tests, common_steps)
+
+  pub shares-nothing : (e : Error) → Shares see s k (Ok None) → SharesPinned see s k (Err e)
+  shares-nothing e h = grind (arith, nat_tests, common_steps)
+
+  pub shares-not : (e : Error) → Shares see s k (Err e) → SharesPinned see s k (Err e)
+  shares-not e h = grind (arith, nat_tests, common_steps)
+
+pub ruleset pinning = (nat_tests, tells_map, shares-value, shares-nothing, shares-not)
+
 -- what stands at a place once one more came
 pushed_at : {X : Type 0} (xs : List X) (y : X) (k : ℕ) → k < length xs + 1
     → ((k < length xs) × (slice_get (xs ++ y ∷ []) k ≡ slice_get xs k)) ⊎ ((k ≡ length xs) × (slice_get (xs ++ y ∷ []) k ≡ Some y))
@@ -384,6 +398,25 @@ module _ {N E : Type 0} (v : Values N) (h : HandleNumber) where
   pin_whole (load-pins k now mid t starts run) = run_whole run
   pin_whole (load-fails e now mid t starts run) = run_whole run
 
+  -- the new handle pins
+  run_pins : {me : Owner} {reading : Reading} {s t : PagerState N E} {answer : LoadAnswer N} → NotValues me → WellFormed v s → LoadRun v me reading s answer t → (k : HandleNumber) → answer ≡ LoadAnswer.Pinned k → HasPin t.core k
+  run_pins {me} free whole (load-ends now answer s t step) k is =
+      let e = (subst (λ a. ReadingStep v me now s (Some a) [] t) is step).does.does.0 in
+      (end-call s.core t.core (low-whole whole.whole.handles) me now.load e.x _ _ k free e.ended).pin
+  run_pins free whole (load-goes-on now frames answer s mid t step more) k is = run_pins free step.whole more k is
+
+  pin_pins : {s t : PagerState N E} (r : Result HandleNumber Error) {k : HandleNumber} → r ≡ Ok k → PinRun v s h r t → HasPin t.core k
+  pin_pins {s} r {k} is (pins-at-once j t c) =
+      let (row, owns, here) = c.step.pins in
+      let next = here.1 in
+      let alike = here.2 in
+      let new = row_of (s.core.last.handle + 1) row.node Mode.Pinned Owner.Caller in
+      let same : j ≡ k = cc in
+      let among : Among t.core.rows new = subst (λ rows. Among rows new) (sym alike.rows) (among-right (with_mode s.core h Mode.LoosePinned).rows (new ∷ []) 0 new refl) in
+      record { row = new; live = found c.whole.whole.handles k.0 new among (sym next.above ∙ ap (λ (n : HandleNumber). n.0) same); is = refl }
+  pin_pins r is (load-pins j now mid t starts run) = run_pins (λ n is. absurd (cc)) starts.begins.whole run _ (ap LoadAnswer.Pinned (cc))
+  pin_pins r is run = absurd (cc)
+
   -- the handle was a loose one
   pin_loose : {s t : PagerState N E} (r : Result HandleNumber Error) {k : HandleNumber} → r ≡ Ok k → PinRun v s h r t → (row : HandleRow) × (row_at s.core h ≡ Some row) × (is_loose row.mode ≡ true)
   pin_loose r is (pins-at-once k t c) = let p = c.step.pins in (p.0, p.1.live, p.1.as_asked)
@@ -395,11 +428,13 @@ module _ {N E : Type 0} (v : Values N) (h : HandleNumber) where
 
   -- ---- its answer
 
-  pub taken_back : (k : HandleNumber) (was : Bool) (s mid t : PagerState N E) → PinsFirst v s h (Ok (k, was)) mid → TakesBack v was h k mid t → PinsOver v s h (Err Error.OutOfMemory) t
-  taken_back k was s mid t p b =
+  pub taken_back : {X : Type 0} (see : X → N) (k : HandleNumber) (was : Bool) (e : Error) (s mid t : PagerState N E) → PinsFirst v s h (Ok (k, was)) mid → SharesPinned see mid k (Err e)
+      → TakesBack v was h k mid t
+      → PinsOver v s h (Err e) t
+  taken_back see k was e s mid t p shares b =
       let l = pin_loose (Ok k) refl p.pinned.0 in
       let is = p.pinned.1 ∙ ap (if_there (λ (row : HandleRow). is_unpinned row.mode) false) l.1 in
-      record { pins = tt; refused = inr (refl, record { k = k; mid = mid; low = b.low; told = b.told; pins = p.pinned.0; unpins = back s mid b.low was l.0 l.1 l.2 is (pin_whole p.pinned.0) b.unpins; releases = b.releases }) }
+      record { pins = tt; refused = inr (shares.refused (pin_pins (Ok k) refl p.pinned.0), record { k = k; mid = mid; low = b.low; told = b.told; pins = p.pinned.0; unpins = back s mid b.low was l.0 l.1 l.2 is (pin_whole p.pinned.0) b.unpins; releases = b.releases }) }
 
   pub takes_back : {me : Owner} → me ≡ Owner.Caller → (k : HandleNumber) (was : Bool) (s low t : PagerState N E) (told : Result (Unit {0}) Error) → Unpins v was h s low → Called v (λ w'. ReleaseCall low.core me k told w') low t → TakesBack v was h k s t
   takes_back mine k was s low t told u c = record { low = low; unpins = u; told = told; releases = rw mine at c }

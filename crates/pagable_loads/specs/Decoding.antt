@@ -17,6 +17,11 @@ Answers v t blob got (Decoded.Read x) = IsReadAs v t blob got x
 Answers v t blob got (Decoded.Wants kind key) = next_of v.types t blob got ≡ asks kind key
 Answers v t blob got (Decoded.Refused e) = (next_of v.types t blob got ≡ is_faulty e) ⊎ v.read_causes t e
 
+-- of the value, where one was read
+abbrev pub IfRead : {N : Type 0} → Decoded N → (N → Type 0) → Type 0
+IfRead (Decoded.Read x) P = P x
+IfRead d P = Unit {0}
+
 pub record Decodes {N : Type 0} (v : Values N) (t : ℕ) (blob : Blob) (got : List ArcRef) (d : Decoded N) : Type 0 where
   pub answers : Answers v t blob got d
 
@@ -43,6 +48,12 @@ FramesFor own need = Unit {0}
 pub record Needs {N : Type 0} (v : Values N) (own : Own) (need : Need N) : Type 0 where
   pub is : NeedIs v (reading_of own) need
   pub there : FramesFor own need
+
+-- of the value that is to be adopted, or that ends the load
+abbrev pub IfValue : {N : Type 0} → Need N → (N → Type 0) → Type 0
+IfValue (Need.Adopt x) P = P x
+IfValue (Need.End x) P = P x
+IfValue need P = Unit {0}
 
 -- ---- what a blob asks for ahead: references of these kinds, one after the other
 

@@ -14,9 +14,9 @@ lent_at see lent place = option_map see (option_and_then (λ o. o) (slice_get le
 abbrev pub lent_by : {A N : Type 0} → (A → N) → List ArcRef → List (Option A) → ℕ → ArcRef → Option N
 lent_by see got lent place r = if if_there (λ (found : ArcRef). found.handle.0 == r.handle.0) false (slice_get got place) then lent_at see lent place else None
 
--- the value at this place, if a reference was got there
-abbrev pub lent_there : {A N : Type 0} → (A → N) → List ArcRef → List (Option A) → ℕ → Option N
-lent_there see got lent place = if is_some (slice_get got place) then lent_at see lent place else None
+-- the reference that was got at this place with the value there, if there are both
+abbrev pub lent_there : {A N : Type 0} → (A → N) → List ArcRef → List (Option A) → ℕ → Option (ArcRef × N)
+lent_there see got lent place = option_and_then (λ r. option_map (λ x. (r, x)) (lent_at see lent place)) (slice_get got place)
 
 -- The value that its handle pins, if it is read together with it; none where the handle pins none, or is gone.
 pub record Lends {N E : Type 0} (s : PagerState N E) (r : ArcRef) (found : Option N) : Type 0 where

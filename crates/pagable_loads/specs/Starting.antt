@@ -1,6 +1,6 @@
 -- A pin that begins, and one that was begun and is taken back.
 use Rattle.std.specs.{Option.option_map, Prelude.{Bool, Err, IfErr, IfOk, Ok, Option, Result, Some, false, true, ◌≡◌, ◌⊎◌}}
-use Rattle.{pagable_loads.specs.declared.access.PinStart.PinStart, pagable_model.specs.declared.{error.Error.Error, numbers.HandleNumber.HandleNumber}, pagable_world.specs.Access.{Called, PinRun}}
+use Rattle.{pagable_loads.specs.declared.access.PinStart.PinStart, pagable_model.specs.declared.{error.Error.Error, numbers.HandleNumber.HandleNumber}, pagable_laws.specs.TreeSteps.HasPin, pagable_world.specs.Access.{Called, IsValueOf, PinRun}}
 use Rattle.pagable_world.specs.{Calls.{PinCall, ReleaseCall, UnpinCall}, Events.reading_of_load, Kinds.is_unpinned, LoadCalls.BeginCall, Pager.{PagerState, ValueCall}, Plain.if_there}
 use Rattle.pagable_world.specs.{Refusals.live_fault, Workers.fresh, World.{Core, Values, row_at}, declared.{answers.{Beginning.Beginning, Pinning.Pinning}, handles.{HandleRow.HandleRow, Owner.Owner}}}
 
@@ -21,6 +21,11 @@ pub record StartsPin (w : Core) (me : Owner) (h : HandleNumber) (r : Result PinS
 pub record Shares {N E X : Type 0} (see : X → N) (s : PagerState N E) (h : HandleNumber) (r : Result (Option X) Error) : Type 0 where
   pub given : IfOk r (λ found. ValueCall s h (Ok (option_map see found)))
   pub refused : IfErr r (λ e. (live_fault (row_at s.core h) ≡ Some e) ⊎ (e ≡ Error.OutOfMemory))
+
+-- The value that a new pin shares. Where the handle pins, only want of memory refuses it.
+pub record SharesPinned {N E X : Type 0} (see : X → N) (s : PagerState N E) (k : HandleNumber) (r : Result X Error) : Type 0 where
+  pub given : IfOk r (λ x. IsValueOf s k (see x))
+  pub refused : IfErr r (λ e. HasPin s.core k → e ≡ Error.OutOfMemory)
 
 -- a pin with its loads; and whether the handle pinned nothing before
 pub record PinsFirst {N E : Type 0} (v : Values N) (s : PagerState N E) (h : HandleNumber) (r : Result (HandleNumber × Bool) Error) (s' : PagerState N E) : Type 0 where

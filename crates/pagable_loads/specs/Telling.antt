@@ -33,6 +33,7 @@ values_at n e h environment = record {
   node_type = n.type_of;
   references = n.refs_of;
   means = n.means;
+  beside = n.beside;
   read_causes = n.read_causes;
   write_causes = n.write_causes;
   types = record { nodes = n.shape_of environment; parts = e.parts environment };

@@ -2,7 +2,7 @@
 use Rattle.std.specs.Prelude.{Err, IfErr, IfOk, None, Ok, Option, Result, Some, length, true, ℕ, ◌≡◌, ◌≤◌, ◌⊎◌}
 use Rattle.{pagable_loads.specs.declared.access.Taken.Taken, pagable_model.specs.declared.{error.Error.Error, numbers.{ArcRef.ArcRef, HandleNumber.HandleNumber, LoadNumber.LoadNumber}}}
 use Rattle.{pagable_model.specs.declared.numbers.WorkerNumber.WorkerNumber, pagable_world.specs.{Access.{Called, WorkerStarts}, Calls.CloneCall, Events.{IsEntry, with_entry_taken}, Kinds.HasKinds}}
-use Rattle.pagable_world.specs.{Kinds.{HasNoKinds, loose_kind}, LoadCalls.BeginCall, Pager.PagerState, Workers.{PinRefused, PinsAtOnce, RowIs}, World.{Alike, Core, Values}}
+use Rattle.pagable_world.specs.{Kinds.{HasNoKinds, loose_kind}, LoadCalls.BeginCall, Pager.PagerState, Refusals.WorkerFault, Workers.{PinRefused, PinsAtOnce, RowIs}, World.{Alike, Core, Values}}
 use Rattle.pagable_world.specs.declared.{answers.Beginning.Beginning, handles.{HandleRow.HandleRow, Owner.Owner}}
 
 -- why something was refused, if it was
@@ -36,7 +36,7 @@ pub record StartsEntry {N E : Type 0} (v : Values N) (s : PagerState N E) (place
 abbrev pub EntryFault : Core → ℕ → Error → Type 0
 EntryFault w place e = ((e ≡ Error.NoSuchHandle) × (length w.list ≤ place))
     ⊎ ((e ≡ Error.WrongKind) × ((h : HandleNumber) × (row : HandleRow) × (type : ℕ) × IsEntry w place h row type × HasNoKinds type))
-    ⊎ (e ≡ Error.OutOfMemory)
+    ⊎ WorkerFault w e
 
 -- no worker begins for an entry, and nothing changes
 pub record RefusesEntry {N E : Type 0} (v : Values N) (s : PagerState N E) (place : ℕ) (e : Error) (t : PagerState N E) : Type 0 where

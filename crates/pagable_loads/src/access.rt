@@ -7,7 +7,7 @@ ghost use Rattle.{pagable_loads.specs.{Telling.{TakesLazily, Tells, values_at}, 
 ghost use Rattle.{pagable_model.specs.declared.numbers.HandleNumber.HandleNumber as Handle, pagable_world.specs.{Access.{Called, EntryHas, WorkerStarts}, Calls.ReleaseCall}};
 ghost use Rattle.pagable_world.specs.{Calls.{ScheduleCall, SetKeyCall, StoreCall, TakeCall, UnpinCall}, Cascade.FallsAnyhow, declared.calls.Want.Want, LoadCalls.{AskCall, BeginKeyCall}};
 ghost use Rattle.pagable_world.specs.{LoadCalls.{DropCall, EndCall, from_store, HandOverCall}, Pager.{IsCellOf, IsNewNode, PagerState}, Workers.{claim_fault, is_workers_at, WorkerEnds}, World.Alike};
-ghost use Rattle.pagable_world.specs.World.{seen_as};
+ghost use Rattle.pagable_world.specs.{Refusals.WorkerFault, World.seen_as};
 
 use either::Either;
 use pagable_codec::{Env, NodeSet};
@@ -162,14 +162,14 @@ pub trait WorkerAccess<E: Env<Node: NodeSet<E>>>: Access<E> {
     fn schedule_for_paging(&mut self, handle: HandleNumber) -> Result<(), Error>
         ensures { Acts Self.told Self.acting self.old self.new (λ a s t. Called (values_at E.Node.NodeSet E.Env E.Hash.KeyHash a.environment) (λ w'. ScheduleCall s.core a.me handle result w') s t) };
 
-    /// A worker begins, and the calls are its own from now on. Refused with OutOfMemory; then nothing changes.
+    /// A worker begins, and the calls are its own from now on. Refused with NumbersSpent and OutOfMemory; then nothing changes.
     fn worker_begin(&mut self) -> Result<WorkerNumber, Error>
         ensures begins { IfOk result (λ n. ActsThen Self.told Self.acting self.old self.new (as_worker n) (λ a s t. WorkerStarts (values_at E.Node.NodeSet E.Env E.Hash.KeyHash a.environment) s.core s n.0 t)) }
-        ensures refused { IfErr result (λ e. (e ≡ Error.OutOfMemory) × Acts Self.told Self.acting self.old self.new (λ a s t. Called (values_at E.Node.NodeSet E.Env E.Hash.KeyHash a.environment) (λ w'. Alike s.core w') s t)) };
+        ensures refused { IfErr result (λ e. Acts Self.told Self.acting self.old self.new (λ a s t. WorkerFault s.core e × Called (values_at E.Node.NodeSet E.Env E.Hash.KeyHash a.environment) (λ w'. Alike s.core w') s t)) };
 
     /// A worker begins for the entry at this place of the list, counted from 0, which moves to it; and the calls are its own from now on. Answers the reference that
     /// it pages out: the entry's handle, as a loose one of its cell. Refused with NoSuchHandle where there is no such place, with WrongKind where the cell's type is
-    /// too great a number for its kinds, and with OutOfMemory; then nothing changes.
+    /// too great a number for its kinds, and with NumbersSpent and OutOfMemory; then nothing changes.
     fn worker_listed(&mut self, place: usize) -> Result<(WorkerNumber, ArcRef), Error>
         ensures begins { IfOk result (λ b. ActsThen Self.told Self.acting self.old self.new (as_worker b.0) (λ a s t. StartsEntry (values_at E.Node.NodeSet E.Env E.Hash.KeyHash a.environment) s place b.0 b.1 t)) }
         ensures refused { IfErr result (λ e. Acts Self.told Self.acting self.old self.new (λ a s t. RefusesEntry (values_at E.Node.NodeSet E.Env E.Hash.KeyHash a.environment) s place e t)) };

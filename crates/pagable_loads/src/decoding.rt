@@ -1,7 +1,8 @@
 //! A blob is read from its front, with the references that were got so far.
 
 ghost use Rattle.std.specs.{Arc.arc_value, Prelude.{IfOk, None, ◌≡◌}};
-ghost use Rattle.{pagable_core.specs.Data.blob_of, pagable_loads.specs.{Decoding.{Decodes, ReadsWith}, Got.{LendsEach, stand_in}, Telling.{Tells, values_at}}};
+ghost use Rattle.{pagable_core.specs.Data.blob_of, pagable_loads.specs.{Decoding.{Decodes, IfRead, ReadsWith}, Got.{LendsEach, stand_in}, Telling.{Tells, values_at}}};
+ghost use Rattle.pagable_world.specs.{Pager.HoldsPinned};
 
 use crate::access::Access;
 use pagable_codec::{Env, NodeSet};
@@ -58,6 +59,7 @@ impl<'g, E: Env<Node: NodeSet<E>>, A: Access<E>> References<E> for GotReferences
         self.access.session_context()
     }
 
+    #[tactic(auto, using(crate::proofs::Pinned::lent_is, crate::proofs::Pinned::none_is))]
     fn reference(&mut self, place: usize, _key: DataKey, kind: Kind) -> Result<ArcRef, Error> {
         let got = self.got;
         if place < got.len() {
@@ -117,6 +119,7 @@ pub(crate) fn read_got<E: Env<Node: NodeSet<E>>, A: Access<E>>(
 ) -> (Result<E::Node, Error>, Option<Vec<ArcRef>>)
     requires each { Tells (A.told access.now) (λ s. LendsEach arc_value s got.now lent.now) }
     ensures asked { IfOk result.0 (λ x. E.Node.type_of x ≡ node_type) }
+    ensures holds { Tells (A.told access.now) (λ s. IfOk result.0 (HoldsPinned (values_at E.Node.NodeSet E.Env E.Hash.KeyHash (A.acting access.now).environment) s)) }
     ensures reads { noted ≡ None → ReadsWith (values_at E.Node.NodeSet E.Env E.Hash.KeyHash (A.acting access.now).environment) node_type (blob_of blob.now) got.now result.0 }
 {
     let references = GotReferences {
@@ -136,7 +139,8 @@ pub(crate) fn read_got<E: Env<Node: NodeSet<E>>, A: Access<E>>(
 }
 
 /// Reads a blob from its front as a value of this type, with the references that were got for it so far, whose values are lent by their places. Nothing that
-/// its reader did on an earlier way is trusted: what it asks for next is told by the blob alone.
+/// its reader did on an earlier way is trusted: what it asks for next is told by the blob alone. What the value holds beside its references is what their handles pin.
+#[tactic(auto, using(crate::proofs::Stepped::tells_all))]
 pub fn decode<E: Env<Node: NodeSet<E>>, A: Access<E>>(
     access: &A,
     alloc: Global,
@@ -146,6 +150,7 @@ pub fn decode<E: Env<Node: NodeSet<E>>, A: Access<E>>(
     lent: &[Option<Arc<E::Node>>],
 ) -> Decoded<E::Node>
     requires each { Tells (A.told access.now) (λ s. LendsEach arc_value s got.now lent.now) }
+    ensures holds { Tells (A.told access.now) (λ s. IfRead result (HoldsPinned (values_at E.Node.NodeSet E.Env E.Hash.KeyHash (A.acting access.now).environment) s)) }
     ensures decodes { Decodes (values_at E.Node.NodeSet E.Env E.Hash.KeyHash (A.acting access.now).environment) node_type (blob_of blob.now) got.now result }
 {
     let (read, _) = read_got(access, alloc, blob, node_type, got, lent, None);

@@ -10,4 +10,4 @@ pub mod step;
 pub use access::{Access, PinStart, Taken, WorkerAccess};
 pub use decoding::{Decoded, GotReferences, decode};
 pub use reading::{Frame, Need, Reading};
-pub use step::{pin_over, read_over};
+pub use step::{pin_over, pin_with_state_over, read_over};

@@ -2,8 +2,8 @@
 
 ghost use Rattle.std.specs.{Arc.arc_value, Option.option_map, Prelude.{true, IfErr, IfOk, IsSome, OnOk, [], length, vec_capacity, vec_len, ◌++◌, ◌<◌, ◌^◌, ◌∷◌, ◌≡◌, ◌≤◌}};
 ghost use Rattle.{pagable_core.specs.Data.blob_of, pagable_loads.specs.{Frames.{frame_of, frames_of, onto, reading_of}, Got.{AreLater, Lends, LendsEach}, Stepping.{IsSameLoad, TakenOff, TakenTwo}}};
-ghost use Rattle.{pagable_loads.specs.{Decoding.{Needs, is_adoption}, Telling.{Tells, values_at}}, pagable_model.specs.Deep.{is_eager, longest_path}};
-ghost use Rattle.pagable_world.specs.Loads.{handles_of, nested_frame, root_frame};
+ghost use Rattle.{pagable_loads.specs.{Decoding.{IfValue, Needs, is_adoption}, Telling.{Tells, values_at}}, pagable_model.specs.Deep.{is_eager, longest_path}};
+ghost use Rattle.pagable_world.specs.{Loads.{handles_of, nested_frame, root_frame}, Pager.HoldsPinned};
 
 use crate::access::Access;
 use crate::decoding::{Decoded, decode};
@@ -150,13 +150,14 @@ pub(crate) fn lend<E: Env<Node: NodeSet<E>>, A: Access<E>>(
 
 impl Reading {
     /// What the load needs next. The innermost blob is read from its front for it, with the values of the references that it has got, and nothing else is touched. Want of memory for these refuses the
-    /// blob.
-    #[tactic(auto, using(crate::proofs::Stepped::needing))]
+    /// blob. What a value that was read holds beside its references is what their handles pin.
+    #[tactic(auto, using(crate::proofs::Stepped::needing, crate::proofs::Stepped::tells_all))]
     pub fn next<E: Env<Node: NodeSet<E>>, A: Access<E>>(
         &self,
         access: &A,
         alloc: Global,
     ) -> Need<E::Node>
+        ensures holds { Tells (A.told access.now) (λ s. IfValue result (HoldsPinned (values_at E.Node.NodeSet E.Env E.Hash.KeyHash (A.acting access.now).environment) s)) }
         ensures needs { Needs (values_at E.Node.NodeSet E.Env E.Hash.KeyHash (A.acting access.now).environment) self.now result }
     {
         let Some(top) = &self.top else {

@@ -1,8 +1,8 @@
 //! A load's steps, over an access to a pager, and a load that is driven to its end. And whole operations over an access: a pin, with the load that it may need, and the reading of a key.
 
 ghost use Rattle.std.specs.{Arc.arc_value, Prelude.{[], IfNone, IfOk, IsSome, length, Ok, true, ◌<◌, ◌≡◌}};
-ghost use Rattle.pagable_loads.specs.{Decoding.{AllAhead, FramesGo, goes_on_with, GoesFor, GotMore, Needs, rows_of}, Ending.LeadsOn, Frames.{frames_of, reading_of}, Starting.{PinsFirst, Unpins}, Stepping.Drops};
-ghost use Rattle.{pagable_loads.specs.{Stepping.{IsSameLoad, Runs, Tries}, Telling.{Acts, values_at}}, pagable_world.specs.{Access.{PinsOver, ReadsOver}, declared.handles.Owner.Owner}};
+ghost use Rattle.pagable_loads.specs.{Decoding.{AllAhead, FramesGo, goes_on_with, GoesFor, GotMore, Needs, rows_of}, Ending.LeadsOn, Frames.{frames_of, reading_of}, Starting.{PinsFirst, SharesPinned, Unpins}, Stepping.Drops};
+ghost use Rattle.{pagable_loads.specs.{Stepping.{IsSameLoad, Runs, Tries}, Telling.{Acts, Tells, values_at}}, pagable_world.specs.{Access.{PinsOver, ReadsOver}, declared.handles.Owner.Owner}};
 ghost use Rattle.pagable_world.specs.{Loads.{need_of, needs_lazy, ReadsNode, ReadsRoot}, World.{one_more, seen_as}};
 
 use crate::access::{Access, PinStart};
@@ -275,6 +275,43 @@ fn unpin_again<E: Env<Node: NodeSet<E>>, A: Access<E>>(
     }
 }
 
+// The value that a new pin shares. A handle that pins nothing, which no pin is where the access tells its state, has none: NoSuchHandle.
+#[tactic(auto, using(crate::proofs::Stepped::pinning))]
+fn share_pinned<E: Env<Node: NodeSet<E>>, A: Access<E>>(
+    access: &A,
+    pinned: HandleNumber,
+) -> Result<Arc<E::Node>, Error>
+    ensures { Tells (A.told access.now) (λ s. SharesPinned arc_value s pinned result) }
+{
+    match access.share(pinned)? {
+        Some(value) => Ok(value),
+        None => Err(Error::NoSuchHandle),
+    }
+}
+
+/// Pins as `pin_over` does, and tells too whether the loose handle pinned nothing before: who takes the pin back unpins that one then.
+///
+/// # Errors
+/// - as `pin_over`.
+pub fn pin_with_state_over<E: Env<Node: NodeSet<E>>, A: Access<E>>(
+    access: &mut A,
+    alloc: Global,
+    handle: HandleNumber,
+) -> Result<(HandleNumber, Arc<E::Node>, bool), Error>
+    requires caller { (A.acting access.old).me ≡ Owner.Caller }
+    ensures { Acts A.told A.acting access.old access.new (λ a s t. PinsOver (values_at E.Node.NodeSet E.Env E.Hash.KeyHash a.environment) s handle (seen_as (λ a. (a.0, arc_value a.1)) result) t) }
+{
+    let (pinned, was_unpinned) = pin_first(access, alloc, handle)?;
+    match share_pinned(access, pinned) {
+        Ok(value) => Ok((pinned, value, was_unpinned)),
+        Err(e) => {
+            unpin_again(access, handle, was_unpinned);
+            let _told = access.release(pinned);
+            Err(e)
+        }
+    }
+}
+
 /// Pins a loose handle's cell, reading its value from the storage where it isn't in memory, and answers the new Pinned handle and the value, shared. The access
 /// is the caller's. Refused as `begin_pin` and as a load's steps refuse it, and handles and counts are as before; and with OutOfMemory where the value can't be shared.
 pub fn pin_over<E: Env<Node: NodeSet<E>>, A: Access<E>>(
@@ -285,13 +322,8 @@ pub fn pin_over<E: Env<Node: NodeSet<E>>, A: Access<E>>(
     requires caller { (A.acting access.old).me ≡ Owner.Caller }
     ensures { Acts A.told A.acting access.old access.new (λ a s t. PinsOver (values_at E.Node.NodeSet E.Env E.Hash.KeyHash a.environment) s handle (seen_as (λ a. (a.0, arc_value a.1)) result) t) }
 {
-    let (pinned, was_unpinned) = pin_first(access, alloc, handle)?;
-    if let Ok(Some(value)) = access.share(pinned) {
-        return Ok((pinned, value));
-    }
-    unpin_again(access, handle, was_unpinned);
-    let _told = access.release(pinned);
-    Err(Error::OutOfMemory)
+    let (pinned, value, _) = pin_with_state_over(access, alloc, handle)?;
+    Ok((pinned, value))
 }
 
 /// Reads a key as a value of this type, with all that it refers to and that is read together with it; the handles of its references are the caller's, as the

@@ -2,6 +2,19 @@
 //! written with no lock held.
 #![tactic(auto)]
 
+pub mod in_memory;
 pub mod locked;
+pub mod share;
+pub mod shared_claims;
+pub mod slot;
+pub mod storage_handle;
+pub mod table;
+pub mod typed;
 
+pub use in_memory::InMemoryPagableStorage;
 pub use locked::Locked;
+pub use share::ClaimShare;
+pub use shared_claims::SharedClaims;
+pub use slot::ArcSerSlot;
+pub use storage_handle::PagableStorageHandle;
+pub use table::{SlotTable, TableGuard};

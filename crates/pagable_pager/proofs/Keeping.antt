@@ -17,8 +17,8 @@ use Rattle.pagable_world.specs.{Refusals.{Refused, load_fault, references_fault}
 use Rattle.pagable_world.specs.{Calls.{Asked, BirthCall, CloseCall, FetchCall, IsNext, Looks, StoreCall, birth_fault, is_named_by, next_node, row_of, with_handle, with_node}, declared.calls.Want.Want}
 use Rattle.{pagable_world.specs.{Events.{IsEntry, reading_of_load}, Workers.RowIs, declared.{handles.{HandleRow.HandleRow, Owner.Owner}, rows.Mode.Mode}}, std.proofs.Common.{Bool, Err, List, None}}
 use Rattle.std.proofs.Common.{Ok, Option, Result, Some, [], ap, arith, false, if◌then◌else◌, inl, inr, nat_eq, not, refl, rules, subst, sym, true, ℕ, ◌&&◌, ◌++◌, ◌+◌, ◌<◌, ◌==◌, ◌∙◌, ◌∷◌, ◌≡◌, ◌≤◌}
-use Rattle.std.{proofs.lemmas.{Bool.{Decides.nat_tests, cases_Bool, cases_eq, false_from_ne_true}, Option.slice_get_within}, specs.{Arc.arc_value, HashMap.get, Prelude.{IfErr, IfOk}}}
-use Rattle.std.specs.Prelude.{IsSome, IsTrue, OnErr, OnOk, is_some, nat_lt, ◌⊎◌}
+use Rattle.std.{proofs.lemmas.{Bool.{Decides.nat_tests, cases_Bool, cases_eq, false_from_ne_true}, Option.slice_get_within}, specs.{Arc.arc_value, Prelude.{IfErr, IfOk}}}
+use Rattle.{pagable_tables.specs.Rows.row_by, std.specs.Prelude.{IsSome, IsTrue, OnErr, OnOk, is_some, nat_lt, ◌⊎◌}}
 use Rattle.pagable_world.specs.Pager as pager
 
 -- the plain world is whole, whatever is stored, if nothing is listed or known once the storage is closed
@@ -66,8 +66,8 @@ module _ {N S E : Type 0} {tells : Telling S} {says : E → Values N} {p : Pager
   known-valued kind key n known pinning =
       grind (arith, nat_tests, entered-of kind key n (core_in tells p) known, known-here is.state.whole kind key n known pinning, here-in n)
 
-  pub kept-in : AreKept (counts_at p.tables.holdings.nodes) (get nat_eq p.values)
-  kept-in n falls = sym (some-map arc_value (get nat_eq p.values n)) ∙ is.state.valued n ∙ here-in n
+  pub kept-in : AreKept (counts_at p.tables.holdings.nodes) (row_by p.values)
+  kept-in n falls = sym (some-map arc_value (row_by p.values n)) ∙ is.state.valued n ∙ here-in n
 
   module _ {step : Core → Core → Type 0} (t : Tables) (call : Does p.tables step t) where
     pub made-by : (step (core_in tells p) (core_in tells (record p { tables = t })) → IsRight (state_in tells (record p { tables = t }))
@@ -83,7 +83,7 @@ module _ {N S E : Type 0} {tells : Telling S} {says : E → Values N} {p : Pager
     gone = record p { tables = t; values = values }
 
     abbrev Goes : Type 0
-    Goes = Sheds (counts_at p.tables.holdings.nodes) (get nat_eq p.values) (counts_at t.holdings.nodes) (get nat_eq values)
+    Goes = Sheds (counts_at p.tables.holdings.nodes) (row_by p.values) (counts_at t.holdings.nodes) (row_by values)
 
     pub swept : IsWhole t → Goes → (n : ℕ) → value_in values n ≡ (if is_some ((plain_of t).cells n) && is_here (plain_of t) n then value_in p.values n else None)
     swept whole sheds n = grind (arith, nat_tests, here-told, kept-in, left-map, nat_eq)
@@ -286,7 +286,7 @@ module _ {N S E : Type 0} {tells : Telling S} {says : E → Values N} {p : Pager
     (prepared : (stored : ℕ → Option Blob) (closed : Bool) (failures : ℕ) → IsReady (core_of t1 stored closed failures) me l node_type qs r)
     (done : Does t1 (λ w w'. not b ≡ not w.closed → Installs w me l r.row.node r.row.number k rs w') t2) (opens : b ≡ tells.closed p.storage)
     (placed : (n : ℕ) → value_in mid n ≡ with_value r.is_away r.row.node.0 x (value_in p.values) n)
-    (sheds : ShedsBeside r.row.node (counts_at t1.holdings.nodes) (get nat_eq mid) (counts_at t2.holdings.nodes) (get nat_eq values)) where
+    (sheds : ShedsBeside r.row.node (counts_at t1.holdings.nodes) (row_by mid) (counts_at t2.holdings.nodes) (row_by values)) where
   abbrev w : Core
   w = core_in tells p
 
@@ -324,9 +324,9 @@ module _ {N S E : Type 0} {tells : Telling S} {says : E → Values N} {p : Pager
   left : (n : ℕ) → value_in values n ≡ (if has_value (counts_at t2.holdings.nodes n) then with_value r.is_away r.row.node.0 x (value_in p.values) n else None)
   left n =
       let come = came r.is_away r.row.node x (value_in p.values) (counts_at t1.holdings.nodes) there kept in
-      let l = sheds.left (λ m. sym (some-map arc_value (get nat_eq mid m)) ∙ ap is_some (placed m) ∙ come m) n in
+      let l = sheds.left (λ m. sym (some-map arc_value (row_by mid m)) ∙ ap is_some (placed m) ∙ come m) n in
       let here = has_value (counts_at t2.holdings.nodes n) in
-      left-map arc_value here (get nat_eq mid n) (get nat_eq values n) l.0 l.1 ∙ ap (λ v. if here then v else None) (placed n)
+      left-map arc_value here (row_by mid n) (row_by values n) l.0 l.1 ∙ ap (λ v. if here then v else None) (placed n)
 
   swept-so : (b : Bool) → r.is_away ≡ b → (n : ℕ) → value_in values n ≡ (if is_some (w'.cells n) && is_here w' n then with_value b r.row.node.0 x (value_in p.values) n else None)
   swept-so b e n = search (rules, here-told, left)
@@ -489,14 +489,14 @@ module _ {N E : Type 0} {v : Values N} {s : PagerState N E} (is : WellFormed v s
   lends n x0 see g value l = grind (arith, nat_tests, pinned-here, row-held, row-pins)
 
 module _ {N S E : Type 0} (tells : Telling S) (p : PagerView N S E) (rows : p.tables.holdings.handles.places.items ≡ []) (nodes : (n : ℕ) → counts_at p.tables.holdings.nodes n ≡ None)
-    (list : p.tables.holdings.list.items ≡ []) (cache : (kind key : ℕ) → known_at p.tables.cache kind key ≡ None) (none : (n : ℕ) → get nat_eq p.values n ≡ None) where
+    (list : p.tables.holdings.list.items ≡ []) (cache : (kind key : ℕ) → known_at p.tables.cache kind key ≡ None) (none : (n : ℕ) → row_by p.values n ≡ None) where
   pub is-new : ((l : ℕ) → load_at p.tables.loads l ≡ None) → ((v : ℕ) → worker_at p.tables.workers v ≡ None) → (p.tables.last_node ≡ 0) × (p.tables.holdings.last_handle ≡ 0) × (p.tables.last_load ≡ 0) × (p.tables.last_worker ≡ 0) → IsNew (state_in tells p)
   is-new loads workers last = grind (arith, nat_tests)
 
 -- what the storage tells is that it is empty and closed
 module _ {N S E : Type 0} {tells : Telling S} {says : E → Values N} {p : PagerView N S E} (is : IsPager tells says p) (s : S) (t : Tables) (values : ValuesByNode N)
     (empty : (key : ℕ) → tells.stored s key ≡ None) (shut : tells.closed s ≡ true) (call : CloseCall (core_in tells p) (Ok tt) (core_of t (λ key. None) true (tells.failed s))) (whole : IsWhole t)
-    (sheds : Sheds (counts_at p.tables.holdings.nodes) (get nat_eq p.values) (counts_at t.holdings.nodes) (get nat_eq values)) where
+    (sheds : Sheds (counts_at p.tables.holdings.nodes) (row_by p.values) (counts_at t.holdings.nodes) (row_by values)) where
   abbrev new : PagerView N S E
   new = record p { tables = t; values = values; storage = s }
 

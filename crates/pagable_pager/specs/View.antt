@@ -1,14 +1,14 @@
 -- What contracts see of a pager and its open loads, and the plain state that it tells.
-use Rattle.std.specs.declared.{hash.{BuildHasherDefault.BuildHasherDefault, FoldHasher.FoldHasher}, sync.Arc.Arc}
-use Rattle.std.specs.{Arc.arc_value, Global.Global, HashMap.{HashMap, get}, Option.option_map, Prelude.{Bool, IsTrue, None, Option, Some, false, nat_eq, true, ℕ, ◌+◌, ◌≡◌}}
+use Rattle.std.specs.declared.sync.Arc.{Arc}
+use Rattle.std.specs.{Arc.arc_value, Global.Global, Option.option_map, Prelude.{Bool, IsTrue, None, Option, Some, false, true, ℕ, ◌+◌, ◌≡◌}}
 use Rattle.{either.specs.declared.Either.Either, pagable_model.specs.declared.numbers.{ArcRef.ArcRef, HandleNumber.HandleNumber, LoadNumber.LoadNumber, WorkerNumber.WorkerNumber}}
-use Rattle.{pagable_tables.specs.{Core.{AreLater, core_of}, Falling.{counts_at, pins_in}, declared.tables.Tables.Tables}, pagable_world.specs.Kinds.{HasKinds, loose_kind}}
+use Rattle.{pagable_tables.specs.{Core.{AreLater, core_of}, Falling.{counts_at, pins_in}, Rows.row_by, declared.{number_table.NumberTable.NumberTable, tables.Tables.Tables}}, pagable_world.specs.Kinds.{HasKinds, loose_kind}}
 use Rattle.pagable_world.specs.{Events.{IsEntry, with_entry_taken, with_worker}, LoadCalls.{Given, from_cache, from_store}, Pager.{PagerState, WellFormed}, Plain.{Blob, updated}, Refusals.OwnsLoad}
 use Rattle.pagable_world.specs.{Access.Called, World.{Alike, Core, OpenLoad, Root, Values, of_cell, of_key}, declared.{calls.Want.Want, handles.{HandleRow.HandleRow, Owner.Owner}}}
 use Rattle.pagable_tables.specs.Core as tables
 
 abbrev pub ValuesByNode : Type 0 → Type 0
-ValuesByNode N = HashMap ℕ (Arc N Global) (BuildHasherDefault FoldHasher)
+ValuesByNode N = NumberTable (Arc N Global)
 
 -- the tables, the values in memory by the numbers of their nodes, the storage and the environment
 pub record PagerView (N S E : Type 0) : Type 0 where
@@ -19,7 +19,7 @@ pub record PagerView (N S E : Type 0) : Type 0 where
 
 -- the value of a node
 abbrev pub value_in : {N : Type 0} → ValuesByNode N → ℕ → Option N
-value_in values n = option_map arc_value (get nat_eq values n)
+value_in values n = option_map arc_value (row_by values n)
 
 -- the values, with this one at its node if it comes
 abbrev pub with_value : {N : Type 0} → Bool → ℕ → N → (ℕ → Option N) → ℕ → Option N

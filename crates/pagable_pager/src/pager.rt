@@ -12,10 +12,10 @@ pub mod handles;
 
 use crate::setting::PagerSetting;
 use either::Either;
-use indexmap::IndexMap;
 use pagable_codec::{Env, NodeSet};
 use pagable_core::{PagableData, PagableStorage, SessionOf, Setting};
 use pagable_model::{DataKey, Error, HandleNumber, Kind, LoadNumber, WorkerNumber};
+use pagable_tables::number_table::NumberTable;
 use pagable_tables::tables::{LoadRoot, Tables};
 use pagable_tables::{giving, loading, lookups, tables};
 use pagable_world::handles::Owner;
@@ -28,7 +28,7 @@ use std::sync::Arc;
 #[derive(Drop)]
 pub struct Pager<E: Env<Node: NodeSet<E>>, S: PagableStorage<E>> {
     pub(crate) tables: Tables,
-    values: IndexMap<u64, Arc<E::Node>>,
+    values: NumberTable<Arc<E::Node>>,
     storage: S,
     setting: PagerSetting<E>,
 }
@@ -66,7 +66,7 @@ impl<E: Env<Node: NodeSet<E>>, S: PagableStorage<E>> Pager<E, S> {
     {
         Pager {
             tables: tables::new(alloc),
-            values: IndexMap::new(alloc),
+            values: NumberTable::new(alloc),
             storage,
             setting: PagerSetting::Owned(Setting::new(alloc, env)),
         }
@@ -81,7 +81,7 @@ impl<E: Env<Node: NodeSet<E>>, S: PagableStorage<E>> Pager<E, S> {
     {
         Pager {
             tables: tables::new(alloc),
-            values: IndexMap::new(alloc),
+            values: NumberTable::new(alloc),
             storage,
             setting: PagerSetting::Shared(setting),
         }
@@ -92,7 +92,7 @@ impl<E: Env<Node: NodeSet<E>>, S: PagableStorage<E>> Pager<E, S> {
         ensures { ValueCall (state_in (telling S.stored S.is_closed S.failed) self.now) handle (seen_as (option_map (λ x. arc_value x.now)) result) }
     {
         match lookups::pinned_node(&self.tables, handle) {
-            Ok(Some(node)) => Ok(self.values.get(&node.0)),
+            Ok(Some(node)) => Ok(self.values.get(node.0)),
             Ok(None) => Ok(None),
             Err(e) => Err(e),
         }

@@ -3,12 +3,13 @@ use Rattle.std.{proofs.Common.arith, specs.{Arc.arc_value, Global.Vec, Prelude.{
 use Rattle.{pagable_rows.specs.declared.linked.{LinkedNode.LinkedNode, bundle.Bundle.Bundle, chain.Chain.Chain}, pagable_model.specs.Meaning.Meaning}
 use Rattle.pagable_model.specs.{OneForm.{HasOneFormThroughout, over_has_one_form, two_has_one_form}, References.{SameReferences, references_in}}
 use Rattle.pagable_model.specs.{Shape.{Shape, both, list, nothing, optional, reference}, Standing.SomeMeaning, declared.numbers.ArcRef.ArcRef}
-use Rattle.pagable_traits.specs.InNodes.{Holds, holds-none, holds-value}
+use Rattle.pagable_traits.specs.{Beside.{Beside, holding_beside, lists_beside, pairs_beside}, InNodes.{Holds, holds-none, holds-value}}
 use Rattle.pagable_traits.specs.Meanings.{AreSingle, Meanings, exactly, lists, lists_single, options, options_single, pairs, pairs_single, seen_by, some}
 use Rattle.pagable_traits.specs.OwnCauses.{ReadCauses, WriteCauses, reads_either, reads_memory_or, reads_never, writes_either, writes_long_or, writes_memory, writes_memory_or}
 use Rattle.pagable_traits.specs.ReadBack.{IsReadThroughout, over_is_read, two_is_read}
 use Rattle.pagable_traits.specs.References.{holding_means, loose_means, plain_means, reads_unlent, reference_has_one_form, reference_is_read}
 use Rattle.pagable_traits.specs.Refers.{ListsInOrder, both_in_order, list_in_order, optional_in_order, reference_in_order}
+use Rattle.pagable_traits.specs.declared.{holding.HoldingArc.HoldingArc, loose.PagableArc.PagableArc}
 use Rattle.pagable_rows.specs.declared.linked.LinkedNode.TheVariants as nodes
 
 -- the environment has no part with a number
@@ -141,3 +142,18 @@ bundle_in _ = None
 pub holds_bundle : (n : LinkedNode) → HoldsIn bundle_means 2 n (bundle_in n)
 holds_bundle (nodes.Bundle x) = holds-value (arc_value x) refl (λ m h. h) (λ m h. h)
 holds_bundle _ = holds-none (λ e. omega (arith, e))
+
+-- ---- what is held beside references: by the shared ones and the pins of a bundle, the values of their nodes
+
+abbrev many-beside : {T : Type 0} → Beside LinkedNode T → Beside LinkedNode (Vec T)
+many-beside B v = lists_beside B v.items
+
+abbrev pub fields_beside : {shared pin : ℕ} → Beside LinkedNode (Vec (HoldingArc (Chain 3) shared) × (Vec (PagableArc (Chain 1)) × Vec (HoldingArc (Chain 1) pin)))
+fields_beside = pairs_beside (many-beside (holding_beside 1 false arc_link_in)) (pairs_beside (many-beside (λ x r y. Unit {0})) (many-beside (holding_beside 0 true link_in)))
+
+abbrev pub bundle_beside : Beside LinkedNode Bundle
+bundle_beside b = fields_beside (b.shared, (b.loose, b.pinned))
+
+abbrev pub node_beside : LinkedNode → ArcRef → LinkedNode → Type 0
+node_beside (nodes.Bundle b) = bundle_beside (arc_value b)
+node_beside _ = λ r y. Unit {0}

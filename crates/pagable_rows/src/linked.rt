@@ -56,7 +56,7 @@ pub enum LinkedNode {
 }
 
 impl NodeSet<Linked> for LinkedNode {
-    ghost use Rattle.pagable_rows.specs.Linked.{reads, shape_of, told, writes};
+    ghost use Rattle.pagable_rows.specs.Linked.{node_beside, reads, shape_of, told, writes};
 
     ghost type_of = { λ n. (told n).number };
 
@@ -67,6 +67,8 @@ impl NodeSet<Linked> for LinkedNode {
     ghost means = { λ n. (told n).means };
 
     ghost refs_of = { λ n. (told n).refs };
+
+    ghost beside = { node_beside };
 
     ghost write_causes = { λ t. (writes t).are };
 
@@ -106,7 +108,7 @@ impl NodeSet<Linked> for LinkedNode {
         }
     }
 
-    #[tactic(auto, using(crate::proofs::Listed::or_memory))]
+    #[tactic(auto, using(crate::proofs::Listed::or_memory, crate::proofs::Listed::node_holds))]
     fn read<D: PagableDeserializer<Linked>>(
         node_type: u32,
         alloc: Global,

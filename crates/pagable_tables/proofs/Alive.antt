@@ -4,7 +4,7 @@ use Rattle.pagable_tables.proofs.Words.{List, Mode, NodeNumber, None, Option, Ow
 use Rattle.pagable_tables.proofs.Words.{filter, find_row, get_or, get_or-set_at, get_or_default, get_or-set_other, get_or_from_slice_get, if_there, if◌then◌else◌, is_handle, is_live_place, is_owned_by, is_owner}
 use Rattle.pagable_tables.proofs.Words.{left_rows, length, length-append, length-set, live, nat_tests, not, one, only_handle, or_else, owns_nothing, plain_of, refl, set, slice_get, slice_get-get_or}
 use Rattle.pagable_tables.proofs.Words.{slice_get_within, subst, suc, sum_by, sum_by-append, sum_by-cons, sum_by-le-sum_by, sum_by-set, sum_by_push, sym, take, times, true, unpinned, zero, ℕ, ◌&&◌}
-use Rattle.std.proofs.lemmas.List.{length-take-le}
+use Rattle.{pagable_tables.specs.Falling.AreCounted, std.{proofs.lemmas.List.length-take-le, specs.Prelude.{Err, IsOk, Ok, Result, is_ok}}}
 use Rattle.{pagable_tables.{proofs.Words.{◌++◌, ◌+◌, ◌<◌, ◌==◌, ◌||◌, ◌∙◌, ◌∷◌, ◌≡◌, ◌≤◌, ◌⊎◌}, specs.Core.IsWhole}, pagable_world.proofs.Elements.sum-none, std.proofs.lemmas.List.get_or-take}
 use Rattle.pagable_world.specs.Pager as pager
 
@@ -204,14 +204,39 @@ le_or_lt a b = grind arith
 
 -- places are in order and counted after one of them changes
 pub sound-set : (old new : Handles) (i : ℕ) (row : HandleRow) (p : Place) → AreSound old → slice_get old.places.items i ≡ Some (alive row) → p.row.number.0 ≡ row.number.0
-    → new.places.items ≡ set old.places.items i p → new.dead + one p.is_live ≡ old.dead + 1 → AreSound new
+    → new.places.items ≡ set old.places.items i p → new.dead + one p.is_live ≡ old.dead + 1 → AreCounted new
 sound-set old new i row p sound at same is dead = grind (arith, nat_tests, cases_eq, get_or-set_at, slice_get_within, get_or_from_slice_get, get_or-set_other, length-set, sound.ordered, length-live-set)
+
+-- and no more of them are dead than before, where it stays live
+pub sound-kept : (old new : Handles) (i : ℕ) (row : HandleRow) (p : Place) → AreSound old → slice_get old.places.items i ≡ Some (alive row) → p.row.number.0 ≡ row.number.0
+    → new.places.items ≡ set old.places.items i p → p.is_live ≡ true → new.dead ≡ old.dead → AreSound new
+sound-kept old new i row p sound at same is lives dead =
+    let s = sound-set old new i row p sound at same is (omega (arith, dead, ap one lives)) in
+    let few : new.dead ≤ length (live new.places.items) =
+    omega (arith, sound.few, dead, ap one lives, length-live-set old.places.items i row p at, ap (λ ps. length (live ps)) is) in
+    record { ordered = s.ordered; counted = s.counted; few = few }
 
 pub ordered-push : (ss : List Place) (row : HandleRow) → AllPairs IsBefore ss → IsNext row.number.0 ss → AllPairs IsBefore (ss ++ alive row ∷ [])
 ordered-push ss row ordered next = all_pairs_push IsBefore ss (alive row) ordered next
 
 pub next-push : (ss : List Place) (row : HandleRow) → IsNext row.number.0 ss → IsNext (row.number.0 + 1) (ss ++ alive row ∷ [])
 next-push ss row next = All-push (λ (s : Place). s.row.number.0 < row.number.0 + 1) ss (alive row) (λ k d lt. let a = next k d lt in omega arith) (omega arith)
+
+pub sound-push : (old new : Handles) (row : HandleRow) → AreSound old → IsNext row.number.0 old.places.items → new.places.items ≡ old.places.items ++ alive row ∷ [] → new.dead ≡ old.dead → AreSound new
+sound-push old new row sound next is dead =
+    let rows : length (live new.places.items) ≡ length (live old.places.items) + 1 =
+    ap (λ ps. length (live ps)) is ∙ ap length (live-append old.places.items (alive row ∷ [])) ∙ length-append (live old.places.items) (row ∷ []) in
+    let places : length new.places.items ≡ length old.places.items + 1 = ap length is ∙ length-append old.places.items (alive row ∷ []) in
+    record {
+      ordered = subst (AllPairs IsBefore) (sym is) (ordered-push old.places.items row sound.ordered next);
+      counted = omega (arith, rows, places, dead, sound.counted);
+      few = omega (arith, rows, dead, sound.few);
+    }
+
+-- what is so where a call succeeds, where it did
+pub ok-then : {T E X : Type 0} {x z : X} (y : X) (r : Result T E) → IsOk r → z ≡ (if is_ok r then x else y) → z ≡ x
+ok-then y (Ok t) is e = e
+ok-then y (Err f) is e = absurd cc
 
 pub ruleset ends = (nat_tests, length-live-le, length-take-le, pairs-take)
 

@@ -1,4 +1,5 @@
 -- A node comes, and the handles that its value refers to are the value's. And it comes with its handles to a node that is there, has no value and is pinned.
+use Rattle.std.specs.VecDeque.{deque_capacity}
 use Rattle.pagable_tables.proofs.Words.{Alike, AllPairs, Among, ArcRef, Blob, Bool, Core, Counts, Ending, Error, Falls, Fits, HandleNumber, HandleRow, Holdings, Installs, IsHandleBefore, IsReady}
 use Rattle.pagable_tables.proofs.Words.{Last, List, LoadNumber, LoadRow, MayEnd, MayOwnLoad, Mode, NodeNumber, None, OnlyRoom, Option, Owner, Places, Result, Right, SoFar, Some, Tables, [], ap, arith}
 use Rattle.pagable_tables.proofs.Words.{cases_eq, cell_in, changed, core_of, counts_at, false, find_row, has_come, has_value, if◌then◌else◌, inl, inr, is_at, is_handle, is_in, is_named_by}
@@ -177,7 +178,7 @@ module _ (t t1 : Tables) (stored : ℕ → Option Blob) (closed lists : Bool) (f
         let more = sum_by_push (λ (h : HandleRow). one (is_handle q h && is_owned_by Owner.List h)) mid x in
         grind (arith, nat_tests, turned-sum (λ (h : HandleRow). one (is_handle q h && is_owned_by Owner.List h)) row.number.0 rows0 (λ y. refl), had)) (rows ∙ come) (ap (λ v. v.items) list ∙ a.list) (last ∙ ap (λ (v : Last). v.handle) a.last)
         (let b = whole.core.handles.within.0 in omega arith)
-        (record { handles = (let b = a.places.handles in omega arith); entries = (let b = a.places.entries in let d = ap vec_capacity list in omega arith) }) (λ n. cells n ∙ a.cells n) refl
+        (record { handles = (let b = a.places.handles in omega arith); entries = (let b = a.places.entries in let d = ap deque_capacity list in omega arith) }) (λ n. cells n ∙ a.cells n) refl
 
     owned-pinned : (q : ℕ) → is_owned_in u (Owner.Load l) q ≡ given q
     owned-pinned q = grind (arith, nat_tests, cases_eq, found-first, no-load, passes-here, passes-none, owned-mode, owned-moved)

@@ -1,4 +1,5 @@
 mod Words
+pub mod Places
 pub mod Alive
 pub mod Worlds
 pub mod Kept

@@ -4,9 +4,9 @@ use Rattle.pagable_tables.proofs.{Fitting.{begun, closed-is, is_owned, no-value,
 use Rattle.pagable_tables.proofs.{Next.{and_owned, no-entry, owned, passes-here, passes-left, passes-none, regiven, sheds-still}, Told.{Goes, IsNewer, OnlyNewer, alike-goes, born-whole, named-mine}}
 use Rattle.pagable_tables.proofs.{Told.{newer-handle, newer-moved, newer-then, not-list, owned-moved, settled}, Words.{Alike, AllPairs, Among, ArcRef, AreLater, ArePlaced, AwayBirthCall, Bears, Blob}}
 use Rattle.pagable_tables.proofs.Words.{Bool, Core, Error, Falls, Fits, Giving, HandleNumber, HandleRow, Handles, HandlesAreWhole, HasRoom, Holdings, InReach, IndexMap, IsBefore, IsClosed, IsFalling}
-use Rattle.pagable_tables.proofs.Words.{IsHandleBefore, IsLeast, IsNoLess, Last, List, LoadNumber, LoadRow, MayHold, MayOwnLoad, Mode, NodeNumber, NodeRow, None, Ok, OnlyRoom, OpenLoad, Option}
+use Rattle.pagable_tables.proofs.Words.{IsHandleBefore, IsLeast, IsNoLess, Last, List, LoadNumber, LoadRow, MayHold, MayOwnLoad, Mode, NodeNumber, NodeRow, NumberTable, None, Ok, OnlyRoom, OpenLoad, Option}
 use Rattle.pagable_tables.proofs.Words.{OptionalDataKey, Owner, Place, Places, Reach, Result, Sheds, SoFar, Some, Tables, TakeCall, [], alive, and_parts, ap, arith, cases_Bool, cases_eq, changed}
-use Rattle.pagable_tables.proofs.Words.{core_of, counts_at, false, find_row, get, get_or, get_or_default, gives_row, greatest, has_key, held, if_there, if◌then◌else◌, inl, inr, is_at, is_handle}
+use Rattle.pagable_tables.proofs.Words.{core_of, counts_at, false, find_row, get, row_by, get_or, get_or_default, gives_row, greatest, has_key, held, if_there, if◌then◌else◌, inl, inr, is_at, is_handle}
 use Rattle.pagable_tables.proofs.Words.{is_keyed, is_loose_kind, is_named_by, is_outside, is_owned_by, is_owned_in, is_owner, is_pin, is_pinning, is_plain_pin, is_shared, is_some, is_valued, key_in}
 use Rattle.pagable_tables.proofs.Words.{known_at, left_rows, length, live, load_at, load_in, loses_value, mode_of, moved, nat_eq, nat_lt, nat_tests, next_node, nobody, not, one, only_handle}
 use Rattle.pagable_tables.proofs.Words.{option_map, or_else, owner_value, owner_worker, owns_nothing, passes_in, pins, plain_of, reach_at, references_fault, refl, refs_at, row_of, sharing, slice_get}
@@ -362,16 +362,16 @@ module _ {lists : Bool} {old new : Tables} {step : Core → Core → Type 0} (do
   lazily-so goes loads workers = lazily-by (λ plain. (goes plain).whole) (λ plain later. later-on later (goes plain).newer loads workers)
 
 -- and values go
-pub sheds-with : {X S : Type 0} {lists : Bool} {old new : Tables} {values values' : IndexMap ℕ X S} {step : Core → Core → Type 0} → Does old (λ w w'. lists ≡ not w.closed → step w w') new
-    → Sheds (counts_at old.holdings.nodes) (get nat_eq values) (counts_at new.holdings.nodes) (get nat_eq values') → DoesShed lists old values step new values'
+pub sheds-with : {X : Type 0} {lists : Bool} {old new : Tables} {values values' : NumberTable X} {step : Core → Core → Type 0} → Does old (λ w w'. lists ≡ not w.closed → step w w') new
+    → Sheds (counts_at old.holdings.nodes) (row_by values) (counts_at new.holdings.nodes) (row_by values') → DoesShed lists old values step new values'
 sheds-with does sheds = record { does = does.does; whole = does.whole; later = does.later; sheds = sheds }
 
-pub nothing-shed : {X S : Type 0} {lists : Bool} {t : Tables} {values : IndexMap ℕ X S} {step : Core → Core → Type 0} → IsWhole t → Each t (λ w w'. lists ≡ not w.closed → step w w') t
+pub nothing-shed : {X : Type 0} {lists : Bool} {t : Tables} {values : NumberTable X} {step : Core → Core → Type 0} → IsWhole t → Each t (λ w w'. lists ≡ not w.closed → step w w') t
     → DoesShed lists t values step t values
 nothing-shed {t = t} whole does = record { does = does; whole = whole; later = λ later. later; sheds = sheds-still t.holdings _ whole.steady }
 
 -- handles widen, and nodes and the cache are told as they were
-pub widens-does : (t : Tables) (h : Handles) (nodes : IndexMap ℕ NodeRow _) (cache : IndexMap (ℕ × ℕ) NodeNumber _) → IsWhole t → Widens t.holdings.handles h
+pub widens-does : (t : Tables) (h : Handles) (nodes : NumberTable NodeRow) (cache : IndexMap (ℕ × ℕ) NodeNumber _) → IsWhole t → Widens t.holdings.handles h
     → ((n : ℕ) → counts_at nodes n ≡ counts_at t.holdings.nodes n) → ((n : ℕ) → refs_at nodes n ≡ refs_at t.holdings.nodes n) → ((kind key : ℕ) → known_at cache kind key ≡ known_at t.cache kind key)
     → Does t OnlyRoom (record t { holdings = record t.holdings { handles = h; nodes = nodes }; cache = cache })
 widens-does t h nodes cache whole e counts refs known = does-so (λ stored closed failures. grind (arith, nat_tests, e.rows, e.capacity, counts, known))

@@ -1,6 +1,6 @@
 -- Where no node falls any more, all has gone that had to go, and no more. Values that go as nodes fall.
 use Rattle.pagable_tables.proofs.Alive.{and_one, entries-more, entries-none, found-append, gives-sums, kept-more, left-more, left-none, none-entered, none-listed, of_list, one-le, ones, sum-most}
-use Rattle.pagable_tables.proofs.Words.{Falls, GivesUp, HandleNumber, HandleRow, HasFallen, HasPlaces, Holdings, IndexMap, IsApart, IsClosed, IsFalling, IsLeast, IsListRefusal, IsUnlisted, IsWithin}
+use Rattle.pagable_tables.proofs.Words.{Falls, GivesUp, HandleNumber, HandleRow, HasFallen, HasPlaces, Holdings, NumberTable, IsApart, IsClosed, IsFalling, IsLeast, IsListRefusal, IsUnlisted, IsWithin}
 use Rattle.pagable_tables.proofs.Words.{List, LoadNumber, MustList, NodeNumber, NodeRow, None, Option, Owner, Result, Sheds, SoFar, Some, Steps, TellsListing, ValueStays, [], and_parts, ap}
 use Rattle.pagable_tables.proofs.Words.{append-nil, append_assoc, arith, cases_Bool, cases_eq, cell_in, counts_at, entries_of, entry, fallen, falls_in, false, filter, filter-append, find_row}
 use Rattle.pagable_tables.proofs.Words.{has_value, held, if◌then◌else◌, inl, inr, is_at, is_handle, is_keyed, is_listing, is_owned_by, is_owned_in, is_owner, is_pin, is_plain_pin, is_share}
@@ -67,7 +67,7 @@ list-kept : (gone : ℕ → Bool) (q : ℕ) (rows : List HandleRow) (list : List
 list-kept gone q rows list listed none = grind (arith, nat_tests, sum_by-le-sum_by, kept-more)
 
 -- a handle that the list doesn't own may go apart from it
-unlisted-apart : {before w : Core} {given : ℕ → Bool} {lists : Bool} {t new : Holdings} {nodes : IndexMap ℕ NodeRow _} {stack : List ℕ} {x : HandleRow} (f : SoFar before w given lists t)
+unlisted-apart : {before w : Core} {given : ℕ → Bool} {lists : Bool} {t new : Holdings} {nodes : NumberTable NodeRow} {stack : List ℕ} {x : HandleRow} (f : SoFar before w given lists t)
     → GivesUp (record t { nodes = nodes }) stack x false lists new → is_owned_by Owner.List x ≡ false → IsApart before w given lists t f x.number.0
 unlisted-apart {w = w} {t = t} {x = x} f g owner =
     let none : times (of_list x.number.0) (live t.handles.places.items) ≡ 0 = none-listed g.leaves owner in
@@ -88,7 +88,7 @@ tells-as : {before w w' : Core} {entries : List HandleRow} (rows : List HandleRo
 tells-as rows cells long x4 tells = grind (arith, nat_tests, must-as)
 
 -- A handle has gone, or it stays without its pin; then an entry may have come.
-module _ {before w : Core} {given : ℕ → Bool} {lists stays : Bool} {t new : Holdings} {nodes : IndexMap ℕ NodeRow _} {stack : List ℕ} {x : HandleRow} (f : SoFar before w given lists t)
+module _ {before w : Core} {given : ℕ → Bool} {lists stays : Bool} {t new : Holdings} {nodes : NumberTable NodeRow} {stack : List ℕ} {x : HandleRow} (f : SoFar before w given lists t)
     (g : GivesUp (record t { nodes = nodes }) stack x stays lists new) (counts : (n : ℕ) → counts_at nodes n ≡ counts_at t.nodes n)
     (pinned : (n : ℕ) → pins_in (counts_at t.nodes n) ≡ pins n (live t.handles.places.items)) (few : length (live t.handles.places.items) ≤ length w.rows) where
   abbrev entries : List HandleRow
@@ -207,7 +207,7 @@ module _ {before w : Core} {given : ℕ → Bool} {lists stays : Bool} {t new : 
     few = few';
   }
 
-module _ {before w : Core} {given : ℕ → Bool} {lists : Bool} {t new : Holdings} {nodes : IndexMap ℕ NodeRow _} {stack : List ℕ} {x : HandleRow} (given' : ℕ → Bool) (f : SoFar before w given lists t)
+module _ {before w : Core} {given : ℕ → Bool} {lists : Bool} {t new : Holdings} {nodes : NumberTable NodeRow} {stack : List ℕ} {x : HandleRow} (given' : ℕ → Bool) (f : SoFar before w given lists t)
     (g : GivesUp (record t { nodes = nodes }) stack x false lists new) (counts : (n : ℕ) → counts_at nodes n ≡ counts_at t.nodes n)
     (pinned : (n : ℕ) → pins_in (counts_at t.nodes n) ≡ pins n (live t.handles.places.items)) (few : length (live t.handles.places.items) ≤ length w.rows)
     (apart : IsApart before w given lists t f x.number.0) where
@@ -226,7 +226,7 @@ with-one : (gone s : ℕ → Bool) (q : ℕ) (rows : List HandleRow) → s q ≡
 with-one gone s q rows is within = grind (arith, nat_tests)
 
 -- the least set, over the whole step
-least-more : {before w : Core} {given : ℕ → Bool} {lists : Bool} {t new : Holdings} {nodes : IndexMap ℕ NodeRow _} {stack : List ℕ} {x : HandleRow} {n : ℕ} (f : SoFar before w given lists t)
+least-more : {before w : Core} {given : ℕ → Bool} {lists : Bool} {t new : Holdings} {nodes : NumberTable NodeRow} {stack : List ℕ} {x : HandleRow} {n : ℕ} (f : SoFar before w given lists t)
     → GivesUp (record t { nodes = nodes }) stack x false lists new → x.owner ≡ owner_value n → HasFallen (counts_at t.nodes) (live t.handles.places.items) n
     → (s : ℕ → Bool) (final : List HandleRow) → ((m : ℕ) → held m (live new.handles.places.items) ≡ 0 → held m final ≡ 0) → IsWithin w.rows given s
     → IsClosed w.rows (is_keyed w) final s → IsWithin w.rows (and_one f.gone x.number.0) s

@@ -1,12 +1,14 @@
 -- The plain world that the tables tell, when they are whole, what a call of them does and keeps, and the steps that are asked of them.
-use Rattle.std.specs.{Option.option_map, Prelude.{Bool, IfErr, IfOk, List, None, Option, Result, Some, [], false, get_or, if◌then◌else◌, is_some, length, nat_eq, not, slice_get, suc, true}}
+use Rattle.std.specs.VecDeque.{deque_capacity}
+use Rattle.std.specs.{Option.option_map, Prelude.{Bool, IfErr, IfOk, IsSome, List, None, Option, Result, Some, [], false, get_or, if◌then◌else◌, is_some, length, not, slice_get, suc, true}}
 use Rattle.std.specs.Prelude.{vec_capacity, zero, ℕ, ◌&&◌, ◌+◌, ◌<◌, ◌==◌, ◌||◌, ◌∷◌, ◌≡◌, ◌≤◌, ◌⊎◌}
-use Rattle.{indexmap.specs.IndexMap.{IndexMap, get, spare}, pagable_model.specs.declared.{error.Error.Error, numbers.{ArcRef.ArcRef, HandleNumber.HandleNumber, NodeNumber.NodeNumber}}}
+use Rattle.{indexmap.specs.IndexMap.IndexMap, pagable_model.specs.declared.{error.Error.Error, numbers.{ArcRef.ArcRef, HandleNumber.HandleNumber, NodeNumber.NodeNumber}}}
 use Rattle.{pagable_model.specs.declared.numbers.WorkerNumber.WorkerNumber, pagable_world.specs.{Calls.{IsNext, next_node, with_handle, with_mode, with_node}, Events.{with_entry_taken, with_worker}}}
-use Rattle.pagable_world.specs.{Kinds.{find_row, is_owner, is_shared, owner_worker}, LoadCalls.is_owned_in, Plain.{Among, Blob, if_there}, Refusals.{AreHandlesFull, Refused, spent}}
+use Rattle.pagable_world.specs.{Kinds.{find_row, is_owner, is_shared, owner_worker}, LoadCalls.is_owned_in, Plain.{Among, Blob, if_there}, Refusals.{AreHandlesFull, Refused, WorkerFault, spent}}
 use Rattle.pagable_world.specs.{Workers.is_load_of, World.{Alike, Core, HasRoom, OpenLoad, Root, greatest, of_cell, of_key}, declared.{handles.{HandleRow.HandleRow, Owner.Owner}, rows.Mode.Mode}}
 use Rattle.pagable_tables.specs.Falling.{IsFalling, Sheds, alive, cell_in, counts_at, is_valued, key_in, known_at, live, load_at, owns_nothing, reach_at, room, worker_at}
-use Rattle.pagable_tables.specs.declared.{giving.Giving.Giving, tables.{HandleAt.HandleAt, LoadRoot.LoadRoot, LoadRow.LoadRow, Place.Place, Reach.Reach, Tables.Tables}}
+use Rattle.pagable_tables.specs.Rows.{place_at, row_by}
+use Rattle.pagable_tables.specs.declared.{giving.Giving.Giving, number_table.NumberTable.NumberTable, tables.{HandleAt.HandleAt, LoadRoot.LoadRoot, LoadRow.LoadRow, Place.Place, Reach.Reach, Tables.Tables}}
 use Rattle.pagable_world.specs.Pager as pager
 
 abbrev pub root_in : LoadRoot → Root
@@ -29,7 +31,7 @@ core_of t stored closed failures = record {
   loads = λ l. option_map load_in (load_at t.loads l);
   workers = λ v. is_some (worker_at t.workers v);
   last = record { node = t.last_node; handle = t.holdings.last_handle; load = t.last_load; worker = t.last_worker };
-  places = record { handles = vec_capacity t.holdings.handles.places; entries = vec_capacity t.holdings.list };
+  places = record { handles = vec_capacity t.holdings.handles.places; entries = deque_capacity t.holdings.list };
 }
 
 -- the same, while nothing is stored
@@ -109,15 +111,15 @@ pub record IsNoLess {S : Type 0} (workers workers' : IndexMap ℕ Reach S) : Typ
   pub wider : (v q : ℕ) → InReach (reach_at workers v) q → InReach (reach_at workers' v) q
   pub before : (v : ℕ) → (reach_at workers' v).since ≤ (reach_at workers v).since
 
--- one worker more is at work; or memory is wanting
+-- one worker more is at work, or none begins
 pub record BeginsWorker (w : Core) (r : Result WorkerNumber Error) (w' : Core) : Type 0 where
   pub begun : IfOk r (λ v. (v.0 ≡ w.last.worker + 1) × Alike (with_worker w) w')
-  pub refused : IfErr r (λ e. (e ≡ Error.OutOfMemory) × Alike w w')
+  pub refused : IfErr r (λ e. WorkerFault w e × Alike w w')
 
 -- the same, for an entry of the list, which moves to the worker
 pub record TakesWorker (w : Core) (place : ℕ) (r : Result WorkerNumber Error) (w' : Core) : Type 0 where
   pub taken : IfOk r (λ v. (h : HandleNumber) × (slice_get w.list place ≡ Some h) × (v.0 ≡ w.last.worker + 1) × Alike (with_worker (with_entry_taken w place h v)) w')
-  pub refused : IfErr r (λ e. (e ≡ Error.OutOfMemory) × Alike w w')
+  pub refused : IfErr r (λ e. WorkerFault w e × Alike w w')
 
 -- ---- what loads and workers own has come since they began
 
@@ -139,11 +141,11 @@ pub record Does (old : Tables) (step : Core → Core → Type 0) (new : Tables) 
   pub later : AreLater old → AreLater new
 
 -- The same, where cells are listed while the storage is open; and values go with their nodes.
-pub record DoesShed {X S : Type 0} (lists : Bool) (old : Tables) (values : IndexMap ℕ X S) (step : Core → Core → Type 0) (new : Tables) (values' : IndexMap ℕ X S) : Type 0 where
+pub record DoesShed {X : Type 0} (lists : Bool) (old : Tables) (values : NumberTable X) (step : Core → Core → Type 0) (new : Tables) (values' : NumberTable X) : Type 0 where
   pub does : (stored : ℕ → Option Blob) (closed : Bool) (failures : ℕ) → lists ≡ not closed → step (core_of old stored closed failures) (core_of new stored closed failures)
   pub whole : IsWhole new
   pub later : AreLater old → AreLater new
-  pub sheds : Sheds (counts_at old.holdings.nodes) (get nat_eq values) (counts_at new.holdings.nodes) (get nat_eq values')
+  pub sheds : Sheds (counts_at old.holdings.nodes) (row_by values) (counts_at new.holdings.nodes) (row_by values')
 
 -- ---- handles that come to another owner, one after the other where they are named, or are pinned
 
@@ -168,7 +170,7 @@ pub record IsReady (t : Tables) : Type 0 where
   pub node_left : t.last_node < greatest
   pub handle_left : t.holdings.last_handle < greatest
   pub handle_room : 0 < room t.holdings.handles
-  pub node_room : 0 < spare t.holdings.nodes
+  pub node_room : IsSome (place_at t.holdings.nodes (t.last_node + 1))
 
 -- the second is the first, with more room
 pub record OnlyRoom (w w' : Core) : Type 0 where

@@ -1,10 +1,11 @@
 -- Handles, nodes and list by their rows and numbers, in the midst of giving handles up, and what has gone and come since.
 use Rattle.{indexmap.specs.IndexMap.{IndexMap, get}, pagable_model.specs.declared.{data_key.OptionalDataKey.OptionalDataKey, error.Error.Error, numbers.{ArcRef.ArcRef, HandleNumber.HandleNumber}}}
-use Rattle.{pagable_model.specs.declared.numbers.NodeNumber.NodeNumber, pagable_tables.specs.declared.{handles.Handles.Handles, holdings.Holdings.Holdings, tables.{Counts.Counts, LoadRow.LoadRow}}}
+use Rattle.{pagable_model.specs.declared.numbers.NodeNumber.NodeNumber, pagable_tables.specs.{Rows.row_by, declared.{handles.Handles.Handles, holdings.Holdings.Holdings, number_table.NumberTable.NumberTable, tables.{Counts.Counts, LoadRow.LoadRow}}}}
 use Rattle.{pagable_tables.specs.declared.tables.{NodeRow.NodeRow, Place.Place, Reach.Reach}, pagable_world.specs.{Calls.row_of, Cascade.{AreNewEntries, IsClosed, IsWithin, MustList, TellsListing}}}
 use Rattle.pagable_world.specs.{Cascade.{is_keyed, left_rows, only_handle}, Kinds.{held, is_handle, is_owned_by, is_pin, is_shared, owner_value, pins, sharing}, Plain.{SameAt, changed, if_there, one}}
 use Rattle.pagable_world.specs.{Plain.{or_else, times, updated}, World.{Cell, Core, HasRoom, greatest}, declared.{handles.{HandleRow.HandleRow, Owner.Owner}, rows.Mode.Mode}}
 use Rattle.std.specs.{List.AllPairs, Option.{option_map, option_map_or}, Prelude.{All, Bool, Err, IfSome, List, None, Ok, Option, Result, Some, [], false, filter, if◌then◌else◌, is_some, length, map}}
+use Rattle.std.specs.VecDeque.{deque_capacity}
 use Rattle.std.specs.Prelude.{nat_eq, nat_lt, not, suc, sum_by, true, vec_capacity, vec_len, zero, ℕ, ◌&&◌, ◌*◌, ◌++◌, ◌+◌, ◌-◌, ◌<◌, ◌==◌, ◌||◌, ◌∷◌, ◌≡◌, ◌≢◌, ◌≤◌, ◌⊎◌}
 
 -- the rows that are live, in their order
@@ -26,9 +27,15 @@ abbrev pub IsNext : ℕ → List Place → Type 0
 IsNext q places = All (λ p. p.row.number.0 < q) places
 
 -- the places are in order, and the dead are counted
+pub record AreCounted (h : Handles) : Type 0 where
+  pub ordered : AllPairs IsBefore h.places.items
+  pub counted : length (live h.places.items) + h.dead ≡ length h.places.items
+
+-- So they are, and no more rows are dead than live: rows take at most twice the places of what lives.
 pub record AreSound (h : Handles) : Type 0 where
   pub ordered : AllPairs IsBefore h.places.items
   pub counted : length (live h.places.items) + h.dead ≡ length h.places.items
+  pub few : h.dead ≤ length (live h.places.items)
 
 -- how many rows can come without memory
 abbrev pub room : Handles → ℕ
@@ -40,13 +47,13 @@ room h = vec_capacity h.places - (vec_len h.places - h.dead)
 abbrev pub is_same : ℕ × ℕ → ℕ × ℕ → Bool
 is_same x y = nat_eq x.0 y.0 && nat_eq x.1 y.1
 
+abbrev pub counts_at : NumberTable NodeRow → ℕ → Option Counts
+counts_at nodes n = option_map (λ (r : NodeRow). r.counts) (row_by nodes n)
+
+abbrev pub refs_at : NumberTable NodeRow → ℕ → List ArcRef
+refs_at nodes n = option_map_or (λ (r : NodeRow). r.references.items) (row_by nodes n) []
+
 module _ {S : Type 0} where
-  abbrev pub counts_at : IndexMap ℕ NodeRow S → ℕ → Option Counts
-  counts_at nodes n = option_map (λ (r : NodeRow). r.counts) (get nat_eq nodes n)
-
-  abbrev pub refs_at : IndexMap ℕ NodeRow S → ℕ → List ArcRef
-  refs_at nodes n = option_map_or (λ (r : NodeRow). r.references.items) (get nat_eq nodes n) []
-
   abbrev pub load_at : IndexMap ℕ LoadRow S → ℕ → Option LoadRow
   load_at loads l = get nat_eq loads l
 
@@ -173,13 +180,13 @@ pub record IsFalling (t : Holdings) (stack : List ℕ) (extra : ℕ → ℕ → 
 -- why no entry can come: no number is left, or no place
 abbrev pub IsUnlisted : Holdings → Error → Type 0
 IsUnlisted t Error.NumbersSpent = greatest ≤ t.last_handle
-IsUnlisted t Error.OutOfMemory = (t.last_handle < greatest) × ((vec_capacity t.handles.places ≤ length (live t.handles.places.items)) ⊎ (vec_capacity t.list ≤ length t.list.items))
+IsUnlisted t Error.OutOfMemory = (t.last_handle < greatest) × ((vec_capacity t.handles.places ≤ length (live t.handles.places.items)) ⊎ (deque_capacity t.list ≤ length t.list.items))
 IsUnlisted t e = ⊥
 
 -- places are never fewer
 pub record HasPlaces (old new : Holdings) : Type 0 where
   pub handles : vec_capacity old.handles.places ≤ vec_capacity new.handles.places
-  pub entries : vec_capacity old.list ≤ vec_capacity new.list
+  pub entries : deque_capacity old.list ≤ deque_capacity new.list
 
 -- an entry for the node came to the end of handles and list, or it couldn't
 pub record Comes (old : Holdings) (node : NodeNumber) (listed : Bool) (new : Holdings) : Type 0 where
@@ -323,7 +330,7 @@ with_tables w t = record w {
   cells = λ n. cell_in (counts_at t.nodes n);
   list = t.list.items;
   last = record w.last { handle = t.last_handle };
-  places = record { handles = vec_capacity t.handles.places; entries = vec_capacity t.list };
+  places = record { handles = vec_capacity t.handles.places; entries = deque_capacity t.list };
 }
 
 -- the answer, by the cause that was kept

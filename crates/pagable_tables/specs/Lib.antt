@@ -1,3 +1,4 @@
+pub mod Rows
 pub mod Falling
 pub mod Core
 pub mod Ready

@@ -1,13 +1,13 @@
 //! Handles that are given up: one, or together all that a load owns, a worker, or the list. Loose ones that let their pins go, or whose cells get keys. Page-out workers: they begin, give up what they
 //! have at a node, and end. And the list of cells that wait for page-out: entries come and are taken.
 
-ghost use Rattle.{indexmap.specs.IndexMap.get, pagable_model.specs.declared.numbers.LoadNumber.LoadNumber, pagable_tables.specs.Core.{AreLater, BeginsWorker, Does, DoesShed, InReach, IsLast}};
+ghost use Rattle.{pagable_tables.specs.Rows.row_by, pagable_model.specs.declared.numbers.LoadNumber.LoadNumber, pagable_tables.specs.Core.{AreLater, BeginsWorker, Does, DoesShed, InReach, IsLast}};
 ghost use Rattle.pagable_tables.specs.{Core.{IsNoLess, IsWhole, LoadsAre, MayHold, TakesWorker, core_of, gives_row, left_load, passes_in, plain_of}, Falling.{AreSound, IsFalling, Sheds, SoFar}};
 ghost use Rattle.pagable_tables.specs.{Falling.{alive, counts_at, is_valued, live, load_at, owns_nothing, reach_at, with_tables, worker_at}, declared.giving.Giving.Giving};
 ghost use Rattle.pagable_world.specs.{Calls.{CloseCall, ReleaseCall, ScheduleCall, SetKeyCall, TakeCall, UnpinCall}, Cascade.{Falls, FallsAnyhow, nobody, only_handle}, Kinds.{is_owner, owner_worker}};
 ghost use Rattle.pagable_world.specs.{LoadCalls.{DropCall, HandOverCall, hand_over_fault, is_owned_in}, Plain.{Blob, updated}, Workers.{WorkerEnds, is_workers_at}, World.Core};
 ghost use Rattle.pagable_world.specs.declared.handles.Owner.{Owner};
-ghost use Rattle.std.specs.Prelude.{Bool, IfNone, IfOk, IfSome, List, None, Ok, Option, Some, [], false, is_some, length, nat_eq, not, slice_get, true, ℕ, ◌&&◌, ◌+◌, ◌<◌, ◌==◌, ◌||◌, ◌≡◌, ◌≤◌};
+ghost use Rattle.std.specs.Prelude.{Bool, IfNone, IfOk, IfSome, List, None, Ok, Option, Some, [], false, is_some, length, not, slice_get, true, ℕ, ◌&&◌, ◌+◌, ◌<◌, ◌==◌, ◌||◌, ◌≡◌, ◌≤◌};
 
 use crate::handles::{self, Handles};
 use crate::holdings::{Holdings, fall, give_up, shed, top_after};
@@ -123,7 +123,7 @@ pub fn give_all<N: Drop>(
     ensures steady { IsFalling t.new [] owns_nothing }
     ensures falls { (before u w : Core) → LoadsAre loads.now w → SoFar before u nobody lists (record t.old { unlisted = None }) → length (live t.old.handles.places.items) ≤ length u.rows
         → ((q : ℕ) → passes_in (gives_row w giving) u.rows q ≡ true → InReach reach q × (q ≤ t.old.last_handle)) → Falls before u (passes_in (gives_row w giving) u.rows) result (with_tables u t.new) }
-    ensures sheds { Sheds (counts_at t.old.nodes) (get nat_eq values.old) (counts_at t.new.nodes) (get nat_eq values.new) }
+    ensures sheds { Sheds (counts_at t.old.nodes) (row_by values.old) (counts_at t.new.nodes) (row_by values.new) }
 {
     t.unlisted = None;
     let mut left = t.last_handle;
@@ -142,7 +142,7 @@ pub fn close<N: Drop>(t: &mut Tables, values: &mut Arcs<N>)
     ensures closed { (stored : ℕ → Option Blob) (closed : Bool) (failures failures' : ℕ) → failures ≤ failures' → CloseCall (core_of t.old stored closed failures) (Ok tt) (core_of t.new (λ key. None) true failures') }
     ensures whole { IsWhole t.new }
     ensures later { AreLater t.old → AreLater t.new }
-    ensures sheds { Sheds (counts_at t.old.holdings.nodes) (get nat_eq values.old) (counts_at t.new.holdings.nodes) (get nat_eq values.new) }
+    ensures sheds { Sheds (counts_at t.old.holdings.nodes) (row_by values.old) (counts_at t.new.holdings.nodes) (row_by values.new) }
 {
     t.cache.clear();
     t.holdings.list.clear();
@@ -164,7 +164,7 @@ pub fn give_next<N: Drop>(
     ensures steady { IsFalling t.new [] owns_nothing }
     ensures fewer { length (live t.new.handles.places.items) ≤ length (live t.old.handles.places.items) }
     ensures so_far { (before w : Core) (given : ℕ → Bool) → SoFar before w given lists t.old → length (live t.old.handles.places.items) ≤ length w.rows → SoFar before w (λ q. given q || (q == handle.0 && is_owned_in w (Owner.Load load) q)) lists t.new }
-    ensures sheds { Sheds (counts_at t.old.nodes) (get nat_eq values.old) (counts_at t.new.nodes) (get nat_eq values.new) }
+    ensures sheds { Sheds (counts_at t.old.nodes) (row_by values.old) (counts_at t.new.nodes) (row_by values.new) }
 {
     if let Some(at) = handles::look(&t.handles, handle) {
         if is_owner(Owner::Load(load), at.row.owner) {
@@ -246,7 +246,7 @@ pub fn give_back<N: Drop>(
     ensures steady { IsFalling t.new [] owns_nothing }
     ensures falls { (before w : Core) → SoFar before w nobody lists (record t.old { unlisted = None }) → length (live t.old.handles.places.items) ≤ length w.rows
         → Falls before w (only_handle at.row.number) result (with_tables w t.new) }
-    ensures sheds { Sheds (counts_at t.old.nodes) (get nat_eq values.old) (counts_at t.new.nodes) (get nat_eq values.new) }
+    ensures sheds { Sheds (counts_at t.old.nodes) (row_by values.old) (counts_at t.new.nodes) (row_by values.new) }
 {
     t.unlisted = None;
     shed(t, values, at, lists);
@@ -325,7 +325,7 @@ pub fn set_data_key<N: Drop>(
     fall(&mut t.holdings, values, lists)
 }
 
-/// One worker more is at work. OutOfMemory where it has no place, or no number is left for it.
+/// One worker more is at work. NumbersSpent where no number is left for it, OutOfMemory where it has no place.
 #[tactic(auto, using(crate::proofs::Newer::working))]
 pub fn worker_begin(t: &mut Tables) -> Result<WorkerNumber, Error>
     requires { IsWhole t.old }
@@ -335,7 +335,7 @@ pub fn worker_begin(t: &mut Tables) -> Result<WorkerNumber, Error>
     ensures same { t.new ≡ record t.old { workers = t.new.workers; last_worker = t.new.last_worker } }
 {
     if t.last_worker == u64::MAX {
-        return Err(Error::OutOfMemory);
+        return Err(Error::NumbersSpent);
     }
     let worker = t.last_worker + 1;
     let since = t.holdings.last_handle;
@@ -429,7 +429,7 @@ pub fn schedule_for_paging<N: Drop>(
         return Ok(());
     }
     t.holdings.list.reserve(1)?;
-    t.holdings.list.push(handle).unwrap();
+    t.holdings.list.push_back(handle).unwrap();
     handles::hand_over(&mut t.holdings.handles, at, Owner::List);
     Ok(())
 }
@@ -451,7 +451,8 @@ fn reach_to(workers: &mut Workers, me: Owner, handle: HandleNumber)
     }
 }
 
-/// The entry at this place of the list moves to the one who asks. None past the end.
+/// The entry at this place of the list moves to the one who asks. None past the end. It costs as many moves as entries
+/// stand before it or behind it, whichever are fewer.
 pub fn take_pending(t: &mut Tables, me: Owner, place: usize) -> Option<HandleNumber>
     requires whole { IsWhole t.old }
     requires holder { MayHold (plain_of t.old) me }
@@ -462,7 +463,9 @@ pub fn take_pending(t: &mut Tables, me: Owner, place: usize) -> Option<HandleNum
     if place >= t.holdings.list.len() {
         return None;
     }
-    let handle = t.holdings.list.remove(place);
+    let Some(handle) = t.holdings.list.remove(place) else {
+        unreachable!();
+    };
     let Some(at) = handles::look(&t.holdings.handles, handle) else {
         unreachable!();
     };

@@ -1,7 +1,7 @@
 //! Live handles in the order of their numbers, found by halving. A dead row stays in its place until none behind it lives, or more than half are dead.
 
 ghost use Rattle.std.specs.{List.{AllPairs, Sorted.IsPartitionPoint}, Prelude.{IfNone, IfSome, None, OnErr, OnOk, Some, [], false, get_or, length, slice_get, sum_by, ◌++◌, ◌+◌, ◌<◌, ◌∷◌, ◌≡◌, ◌≤◌}};
-ghost use Rattle.pagable_tables.specs.{Falling.{AreSound, Becomes, IsBefore, IsFalling, IsNext, Widens, alive, is_valued, live, owns_nothing, room}, declared.holdings.Holdings.Holdings};
+ghost use Rattle.pagable_tables.specs.{Falling.{AreCounted, AreSound, Becomes, IsBefore, IsFalling, IsNext, Widens, alive, is_valued, live, owns_nothing, room}, declared.holdings.Holdings.Holdings};
 ghost use Rattle.{pagable_tables.specs.declared.tables.Place.Place, pagable_world.specs.{Calls.{is_named_by, moved}, Cascade.{left_rows, only_handle}, Kinds.{find_row, is_handle}}};
 ghost use Rattle.{pagable_world.specs.{LoadCalls.numbers_of, Plain.{changed, is_in}, declared.handles.HandleRow.HandleRow}, std.specs.Prelude.{vec_capacity, vec_len, ℕ}};
 
@@ -97,7 +97,7 @@ pub fn room_of(handles: &Handles) -> usize
 
 /// Clears the dead rows away, in place.
 fn compact(handles: &mut Handles)
-    requires { AreSound handles.old }
+    requires { AreCounted handles.old }
     ensures becomes { Becomes handles.old (live handles.old.places.items) handles.new }
     ensures none_dead { handles.new.dead ≡ 0 }
 {
@@ -108,7 +108,7 @@ fn compact(handles: &mut Handles)
 /// Clears dead rows away: those at the end, so that who looks from there meets few of them, and all where more than half are dead.
 #[tactic(auto, using(crate::proofs::Alive::ends))]
 fn clear(handles: &mut Handles)
-    requires { AreSound handles.old }
+    requires { AreCounted handles.old }
     ensures { Becomes handles.old (live handles.old.places.items) handles.new }
 {
     let mut end = handles.places.len();

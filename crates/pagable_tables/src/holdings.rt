@@ -1,7 +1,7 @@
 //! Who holds what: handles, nodes with what their values refer to, and the list of cells that wait for page-out. Handles are given up here, with all that goes with them.
 
-ghost use Rattle.std.specs.Prelude.{Bool, IfErr, List, None, Some, [], false, if◌then◌else◌, length, nat_eq, not, slice_get, true, ◌&&◌, ◌+◌, ◌<◌, ◌==◌, ◌^◌, ◌||◌, ◌≡◌, ◌≢◌, ◌≤◌, ◌⊎◌};
-ghost use Rattle.{indexmap.specs.IndexMap.get, pagable_tables.specs.Falling.{AreSound, Comes, GivesUp, IsApart, IsFalling, IsNext, IsUnlisted, Leaves, MayList, Sheds, SoFar, Steps, after, alive}};
+ghost use Rattle.std.specs.Prelude.{Bool, IfErr, List, None, Some, [], false, if◌then◌else◌, length, not, slice_get, true, ◌&&◌, ◌+◌, ◌<◌, ◌==◌, ◌^◌, ◌||◌, ◌≡◌, ◌≢◌, ◌≤◌, ◌⊎◌};
+ghost use Rattle.pagable_tables.specs.{Rows.row_by, Falling.{AreSound, Comes, GivesUp, IsApart, IsFalling, IsNext, IsUnlisted, Leaves, MayList, Sheds, SoFar, Steps, after, alive}};
 ghost use Rattle.{pagable_tables.specs.Falling.{counts_at, is_listing, is_node, is_valued, landed, live, owns, owns_nothing, refs_at, told_by, with_tables}, pagable_world.specs.Cascade.Falls};
 ghost use Rattle.{pagable_world.specs.{Kinds.{is_owner, is_pinning}, Plain.one, World.Core, declared.handles.Owner.Owner}, std.specs.{Prelude.ℕ, Result.is_ok}};
 
@@ -10,6 +10,7 @@ use crate::tables::{self, Arcs, Counts, HandleAt, Nodes};
 use pagable_model::{Error, HandleNumber, NodeNumber};
 use pagable_world::Mode;
 use pagable_world::handles::{HandleRow, Owner};
+use std::collections::VecDeque;
 
 /// Handles, nodes and list, with no fact that is true of them all.
 #[derive(Drop)]
@@ -17,7 +18,7 @@ pub struct Holdings {
     pub handles: Handles,
     pub nodes: Nodes,
     /// The cells that wait for page-out, by the handles that the list owns.
-    pub list: Vec<HandleNumber>,
+    pub list: VecDeque<HandleNumber>,
     /// The first node that falls, 0 where none does.
     pub top: u64,
     /// Why a cell couldn't be listed since handles began to be given up, the first cause.
@@ -52,7 +53,7 @@ fn enlist(t: &mut Holdings, node: NodeNumber) -> Result<(), Error>
         owner: Owner::List,
     };
     handles::push(&mut t.handles, row)?;
-    t.list.push(number).unwrap();
+    t.list.push_back(number).unwrap();
     t.last_handle = number.0;
     Ok(())
 }
@@ -149,7 +150,7 @@ fn land(nodes: &mut Nodes, node: u64, counts: Counts)
     ensures refs { (q : ℕ) → refs_at nodes.new q ≡ refs_at nodes.old q }
 {
     if counts.holds == 0 {
-        nodes.swap_remove(&node);
+        nodes.remove(node);
     } else {
         let mut left = counts;
         left.is_falling = false;
@@ -184,10 +185,10 @@ pub fn step(t: &mut Holdings, lists: bool) -> Option<NodeNumber>
 
 /// The value of a node that fell goes.
 fn let_go<N: Drop>(values: &mut Arcs<N>, done: Option<NodeNumber>)
-    ensures { (n : ℕ) → get nat_eq values.new n ≡ (if is_node done n then None else get nat_eq values.old n) }
+    ensures { (n : ℕ) → row_by values.new n ≡ (if is_node done n then None else row_by values.old n) }
 {
     if let Some(node) = done {
-        values.swap_remove(&node.0);
+        values.remove(node.0);
     }
 }
 
@@ -200,7 +201,7 @@ pub fn cascade<N: Drop>(t: &mut Holdings, values: &mut Arcs<N>, lists: bool)
     ensures unlisting { lists ≡ false → t.new.list.items ≡ t.old.list.items }
     ensures so_far { (before w : Core) (given : ℕ → Bool) → SoFar before w given lists t.old → SoFar before w given lists t.new }
     ensures falls { (before w : Core) (given : ℕ → Bool) → SoFar before w given lists t.old → Falls before w given (told_by t.new.unlisted) (with_tables w t.new) }
-    ensures sheds { Sheds (counts_at t.old.nodes) (get nat_eq values.old) (counts_at t.new.nodes) (get nat_eq values.new) }
+    ensures sheds { Sheds (counts_at t.old.nodes) (row_by values.old) (counts_at t.new.nodes) (row_by values.new) }
 {
     // twice the number of live handles, and one: so many steps are enough once a handle was given up
     let mut left = 2 * (t.handles.places.len() - t.handles.dead) + 1;
@@ -221,7 +222,7 @@ pub fn shed<N: Drop>(t: &mut Holdings, values: &mut Arcs<N>, at: HandleAt, lists
     ensures so_far { (before w : Core) (given : ℕ → Bool) (f : SoFar before w given lists t.old) → length (live t.old.handles.places.items) ≤ length w.rows
         → (is_owner Owner.List at.row.owner ≡ false) ⊎ IsApart before w given lists t.old f at.row.number.0 → SoFar before w (λ q. given q || q == at.row.number.0) lists t.new }
     ensures unlisting { lists ≡ false → t.new.list.items ≡ t.old.list.items }
-    ensures sheds { Sheds (counts_at t.old.nodes) (get nat_eq values.old) (counts_at t.new.nodes) (get nat_eq values.new) }
+    ensures sheds { Sheds (counts_at t.old.nodes) (row_by values.old) (counts_at t.new.nodes) (row_by values.new) }
 {
     give_up(t, at, false, lists);
     cascade(t, values, lists);
@@ -232,7 +233,7 @@ pub fn fall<N: Drop>(t: &mut Holdings, values: &mut Arcs<N>, lists: bool) -> Res
     requires falling { (stack : List ℕ) × IsFalling t.old stack owns_nothing × (length stack ≤ 1) }
     ensures steady { IsFalling t.new [] owns_nothing }
     ensures falls { (before w : Core) (given : ℕ → Bool) → SoFar before w given lists t.old → Falls before w given result (with_tables w t.new) }
-    ensures sheds { Sheds (counts_at t.old.nodes) (get nat_eq values.old) (counts_at t.new.nodes) (get nat_eq values.new) }
+    ensures sheds { Sheds (counts_at t.old.nodes) (row_by values.old) (counts_at t.new.nodes) (row_by values.new) }
 {
     cascade(t, values, lists);
     match t.unlisted.take() {

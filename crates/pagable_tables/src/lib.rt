@@ -8,4 +8,5 @@ pub mod holdings;
 pub mod loading;
 pub mod lookups;
 pub mod making;
+pub mod number_table;
 pub mod tables;

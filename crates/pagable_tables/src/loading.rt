@@ -4,8 +4,8 @@ ghost use Rattle.pagable_tables.specs.{Falling.{IsFalling, Sheds, SoFar, coming,
 ghost use Rattle.pagable_world.specs.{Cascade.nobody, Kinds.{is_pinning, is_shared, mode_of, owner_value}, LoadCalls.{Adopts, BeginCall, BeginKeyCall, Installs, LazyCall, adopt_fault, adopted}};
 ghost use Rattle.pagable_world.specs.{LoadCalls.{end_fault, first_key, is_owned_in, root_fault}, Pager.MayOwnLoad, Plain.{Blob, if_there, is_loose_kind}, Refusals.{OwnsLoad, Refused, load_fault}};
 ghost use Rattle.pagable_world.specs.{Refusals.references_fault, World.{Alike, Core, OpenLoad, usable}, declared.{handles.Owner.Owner, rows.Mode.Mode}};
-ghost use Rattle.std.specs.Prelude.{Bool, IfErr, IfNone, IfOk, IfSome, IsSome, None, OnOk, Option, Some, [], false, length, nat_eq, not, true, ℕ, ◌<◌, ◌≡◌, ◌≢◌, ◌≤◌, ◌⊎◌};
-ghost use Rattle.{indexmap.specs.IndexMap.{get, spare}, pagable_tables.specs.{Core.{AreLater, Does, IsReady, IsWhole, MayHold, OnlyRoom, core_of, load_in, plain_of}, Falling.{AreSound, Becomes}}};
+ghost use Rattle.std.specs.Prelude.{Bool, IfErr, IfNone, IfOk, IfSome, IsSome, None, OnOk, Option, Some, [], false, length, not, true, ℕ, ◌<◌, ◌≡◌, ◌≢◌, ◌≤◌, ◌⊎◌};
+ghost use Rattle.{indexmap.specs.IndexMap.spare, pagable_tables.specs.Rows.row_by, pagable_tables.specs.{Core.{AreLater, Does, IsReady, IsWhole, MayHold, OnlyRoom, core_of, load_in, plain_of}, Falling.{AreSound, Becomes}}};
 ghost use Rattle.{pagable_tables.specs.Ready.{IsReady as IsEndReady, ShedsBeside, Unends, early_fault}, pagable_world.specs.{Calls.{IsNext, birth_fault, is_named_by, moved}, Cascade.FallsAnyhow}};
 ghost use Rattle.pagable_world.specs.declared.handles.Owner.TheVariants as owners;
 
@@ -128,7 +128,7 @@ pub fn make_ready_to_learn(t: &mut Tables) -> Result<(), Error>
         return Err(Error::NumbersSpent);
     }
     let handles = handles::reserve(&mut t.holdings.handles, 1);
-    let nodes = t.holdings.nodes.reserve(1);
+    let nodes = t.holdings.nodes.reserve(t.last_node + 1);
     let cache = t.cache.reserve(1);
     handles.and(nodes).and(cache)?;
     Ok(())
@@ -214,7 +214,7 @@ fn give_named<N: Drop>(
 )
     requires { IsFalling t.old [] owns_nothing }
     ensures steady { IsFalling t.new [] owns_nothing }
-    ensures sheds { Sheds (counts_at t.old.nodes) (get nat_eq values.old) (counts_at t.new.nodes) (get nat_eq values.new) }
+    ensures sheds { Sheds (counts_at t.old.nodes) (row_by values.old) (counts_at t.new.nodes) (row_by values.new) }
     ensures falls { (before w : Core) → SoFar before w nobody lists (record t.old { unlisted = None }) → length (live t.old.handles.places.items) ≤ length w.rows → ((q : ℕ) → is_named_by references.now q ≡ true → is_owned_in w (owners.Load load) q ≡ true) → FallsAnyhow before w (is_named_by references.now) (with_tables w t.new) }
 {
     t.unlisted = None;
@@ -249,7 +249,7 @@ pub fn adopt_if_known<N: Drop>(
     ensures refused { (stored : ℕ → Option Blob) (closed : Bool) (failures : ℕ) → IfErr result (λ e. Refused (adopt_fault (core_of t.old stored closed failures) me load kind key node_type references.now) (load_fault (core_of t.old stored closed failures) me load) (Unit {0}) (core_of t.old stored closed failures) e (core_of t.new stored closed failures)) }
     ensures whole { IsWhole t.new }
     ensures later { AreLater t.new }
-    ensures sheds { Sheds (counts_at t.old.holdings.nodes) (get nat_eq values.old) (counts_at t.new.holdings.nodes) (get nat_eq values.new) }
+    ensures sheds { Sheds (counts_at t.old.holdings.nodes) (row_by values.old) (counts_at t.new.holdings.nodes) (row_by values.new) }
 {
     if let Some(e) = adopt_fault(t, me, load, kind, node_type, references) {
         return Err(e);
@@ -411,7 +411,7 @@ pub fn install<N: Drop>(
     requires ready { (stored : ℕ → Option Blob) (closed : Bool) (failures : ℕ) → IsEndReady (core_of t.old stored closed failures) me load node_type references.items ending }
     requires place { HasPlace t.old load ending }
     ensures does { Does t.old (λ w w'. lists ≡ not w.closed → Installs w me load ending.row.node ending.row.number result references.items w') t.new }
-    ensures sheds { ShedsBeside ending.row.node (counts_at t.old.holdings.nodes) (get nat_eq values.old) (counts_at t.new.holdings.nodes) (get nat_eq values.new) }
+    ensures sheds { ShedsBeside ending.row.node (counts_at t.old.holdings.nodes) (row_by values.old) (counts_at t.new.holdings.nodes) (row_by values.new) }
 {
     let Ok(handle) = pin_here(t, me, ending.row) else {
         unreachable!();

@@ -4,8 +4,8 @@
 ghost use Rattle.pagable_tables.specs.{Core.{AreLater, Does, IsWhole, MayHold, core_of, load_in, plain_of}, Falling.{Sheds, cell_in, counts_at, has_value, key_in, known_at, live, pins_in}};
 ghost use Rattle.pagable_world.specs.{Calls.{AwayCall, CountCall, KeyCall, Looks, NodeCall, OfferCall, RecallCall, TypeCall, is_named_by, offer_fault}, LoadCalls.cell_fault, Workers.claim_fault};
 ghost use Rattle.pagable_world.specs.{Kinds.{find_row, fits_mode, is_in_memory, is_loose, is_owner, is_pinning, is_unpinned, mode_of}, World.{Cell, Core, OpenLoad, key_at, type_at, usable}};
-ghost use Rattle.std.specs.Prelude.{IfErr, IfNone, IfOk, IfSome, IsOk, List, None, OnErr, OnOk, Option, Some, [], false, if◌then◌else◌, length, nat_eq, not, true, ℕ, ◌<◌, ◌||◌, ◌≡◌, ◌≢◌, ◌≤◌, ◌⊎◌};
-ghost use Rattle.{indexmap.specs.IndexMap.{get, spare}, pagable_model.specs.declared.{data_key.OptionalDataKey.OptionalDataKey, numbers.NodeNumber.NodeNumber}, pagable_tables.specs.Falling.AreSound};
+ghost use Rattle.std.specs.Prelude.{IfErr, IfNone, IfOk, IfSome, IsOk, List, None, OnErr, OnOk, Option, Some, [], false, if◌then◌else◌, length, not, true, ℕ, ◌<◌, ◌||◌, ◌≡◌, ◌≢◌, ◌≤◌, ◌⊎◌};
+ghost use Rattle.{indexmap.specs.IndexMap.spare, pagable_tables.specs.Rows.row_by, pagable_model.specs.declared.{data_key.OptionalDataKey.OptionalDataKey, numbers.NodeNumber.NodeNumber}, pagable_tables.specs.Falling.AreSound};
 ghost use Rattle.{pagable_tables.specs.Core.seen, pagable_world.specs.{Events.IsEntry, Refusals.{Owns, earlier, is_type, named_fault, rank, reference_fault, references_fault, refused_if, row_fault}}};
 ghost use Rattle.{pagable_world.specs.{Plain.{Blob, if_there, is_in, is_loose_kind, is_pinned_kind, type_of}, declared.handles.HandleRow.HandleRow}, std.specs.{Option.option_map, Prelude.Bool}};
 ghost use Rattle.pagable_model.specs.declared.error.Error.TheVariants as errors;
@@ -341,11 +341,11 @@ pub fn entry(t: &Tables, place: usize) -> Option<(HandleRow, u32, OptionalDataKe
     Some((at.row, counts.unwrap().node_type, key_in(counts)))
 }
 
-/// The cells that wait for page-out, by the handles that the list owns.
-pub fn pending(t: &Tables) -> &[HandleNumber]
-    ensures { result.now ≡ t.now.holdings.list.items }
+/// How many cells wait for page-out.
+pub fn pending(t: &Tables) -> usize
+    ensures { result ≡ length t.now.holdings.list.items }
 {
-    &t.holdings.list
+    t.holdings.list.len()
 }
 
 /// A node is known under a kind and a key from now on. With room to spare it succeeds.
@@ -435,7 +435,7 @@ pub fn offer<N: Drop>(
         → OfferCall (core_of t.old stored closed failures) me kind key handle result (core_of t.new stored closed failures) }
     ensures whole { IsWhole t.new }
     ensures sheds { ((n : ℕ) → usable (plain_of t.old) kind.0 key ≡ Some n → is_pinning (mode_of kind.0) ≡ true → has_value (counts_at t.old.holdings.nodes n) ≡ true)
-        → Sheds (counts_at t.old.holdings.nodes) (get nat_eq values.old) (counts_at t.new.holdings.nodes) (get nat_eq values.new) }
+        → Sheds (counts_at t.old.holdings.nodes) (row_by values.old) (counts_at t.new.holdings.nodes) (row_by values.new) }
     ensures later { AreLater t.old → AreLater t.new }
 {
     let row = offered(t, me, kind, handle)?;

@@ -136,9 +136,7 @@ pub fn bear(
         unreachable!();
     };
     let value = NodeRow { counts, references };
-    let Ok(_) = t.holdings.nodes.insert(node.0, value) else {
-        unreachable!();
-    };
+    t.holdings.nodes.put(node.0, value);
     t.holdings.last_handle = number.0;
     t.last_node = node.0;
     number

@@ -1,20 +1,23 @@
 //! What the tables keep of handles and nodes, rows of nodes, loads and workers by their numbers, and the tables together, with room for handles and for entries of the list. Nodes are seen as two
 //! functions of a number: what is counted of each, and what its value refers to.
 
-ghost use Rattle.std.specs.{Option.option_to_list, Prelude.{IfNone, IsSome, None, OnErr, OnOk, Option, Some, [], nat_eq, ℕ, ◌++◌, ◌<◌, ◌≡◌, ◌≢◌}};
+ghost use Rattle.std.specs.{Option.option_to_list, Prelude.{IfNone, IsSome, None, OnErr, OnOk, Option, Some, [], length, nat_eq, ℕ, ◌++◌, ◌+◌, ◌<◌, ◌≡◌, ◌≢◌, ◌≤◌}};
 ghost use Rattle.{indexmap.specs.IndexMap.get, pagable_tables.specs.{Core.{AreLater, Does, IsWhole, plain_of}, Falling.{counts_at, known_at, load_at, refs_at, worker_at}}};
 ghost use Rattle.pagable_world.specs.Calls.{ClearCall, ReserveCall, room_of};
+ghost use Rattle.std.specs.VecDeque.{deque_capacity};
 
 use crate::handles::{self, Handles};
 use crate::holdings::Holdings;
+use crate::number_table::{NumberTable, chunk_of, place_of};
 use indexmap::IndexMap;
 use pagable_model::{ArcRef, DataKey, Error, HandleNumber, NodeNumber};
 use pagable_world::handles::{HandleRow, Owner};
 use std::alloc::{AllocError, Global};
+use std::collections::VecDeque;
 use std::sync::Arc;
 
 /// Nodes, loads and workers by their numbers, and what the cache knows under a kind and a key.
-pub type Nodes = IndexMap<u64, NodeRow>;
+pub type Nodes = NumberTable<NodeRow>;
 
 pub type Loads = IndexMap<u64, LoadRow>;
 
@@ -23,7 +26,7 @@ pub type Workers = IndexMap<u64, Reach>;
 pub type Cache = IndexMap<(u32, DataKey), NodeNumber>;
 
 /// The values in memory, by the numbers of their nodes. They stand beside the tables.
-pub type Arcs<N> = IndexMap<u64, Arc<N>>;
+pub type Arcs<N> = NumberTable<Arc<N>>;
 
 /// A place in the vector of handles: a live row, or a dead one that waits to be cleared away.
 #[derive(Clone, Copy)]
@@ -146,8 +149,8 @@ pub fn new(alloc: Global) -> Tables
                 places: Vec::new(alloc),
                 dead: 0,
             },
-            nodes: IndexMap::new(alloc),
-            list: Vec::new(alloc),
+            nodes: NumberTable::new(alloc),
+            list: VecDeque::new(alloc),
             top: 0,
             unlisted: None,
             last_handle: 0,
@@ -170,13 +173,27 @@ pub fn room(t: &Tables) -> usize
     handles::room_of(&t.holdings.handles).min(entries)
 }
 
+// Makes places ready for so many more entries. A refused growth is passed on where they are still too few.
+fn reserve_entries(list: &mut VecDeque<HandleNumber>, more: usize) -> Result<(), AllocError>
+    ensures items { list.new.items ≡ list.old.items }
+    ensures capacity { deque_capacity list.old ≤ deque_capacity list.new }
+    ensures ok { OnOk result (length list.new.items + more ≤ deque_capacity list.new) }
+    ensures err { OnErr result (deque_capacity list.new < length list.new.items + more) }
+{
+    let reserved = list.reserve(more);
+    if list.capacity() - list.len() >= more {
+        return Ok(());
+    }
+    reserved
+}
+
 /// Makes places ready for so many more handles and entries. Refused with OutOfMemory where either can't grow.
 pub fn reserve(t: &mut Tables, more: usize) -> Result<(), Error>
     requires { IsWhole t.old }
     ensures { Does t.old (λ w w'. ReserveCall w more result w') t.new }
 {
     handles::reserve(&mut t.holdings.handles, more)?;
-    t.holdings.list.reserve(more)?;
+    reserve_entries(&mut t.holdings.list, more)?;
     Ok(())
 }
 
@@ -193,39 +210,48 @@ pub fn cache_clear(t: &mut Tables) -> Result<(), Error>
 pub fn counts_of(nodes: &Nodes, node: u64) -> Option<Counts>
     ensures { result ≡ counts_at nodes.now node }
 {
-    Some(nodes.get(&node)?.counts)
+    Some(nodes.get(node)?.counts)
 }
 
 /// Other counts for a node.
+#[tactic(auto, unfolding(crate::specs::Rows::place_at, crate::specs::Rows::row_by))]
 pub fn set_counts(nodes: &mut Nodes, node: u64, counts: Counts)
     requires { IsSome (counts_at nodes.old node) }
     ensures here { counts_at nodes.new node ≡ Some counts }
     ensures others { (q : ℕ) → q ≢ node → counts_at nodes.new q ≡ counts_at nodes.old q }
     ensures refs { (q : ℕ) → refs_at nodes.new q ≡ refs_at nodes.old q }
 {
-    if let Some(row) = nodes.get_mut(&node) {
+    let rows = &mut nodes.chunks[chunk_of(node)];
+    if let Some(row) = &mut rows[place_of(node)] {
         row.counts = counts;
     }
 }
 
 /// Takes the last reference of a node.
+#[tactic(auto, unfolding(crate::specs::Rows::place_at, crate::specs::Rows::row_by))]
 pub fn pop_reference(nodes: &mut Nodes, node: u64) -> Option<ArcRef>
     ensures counts { (q : ℕ) → counts_at nodes.new q ≡ counts_at nodes.old q }
     ensures others { (q : ℕ) → q ≢ node → refs_at nodes.new q ≡ refs_at nodes.old q }
     ensures here { refs_at nodes.old node ≡ refs_at nodes.new node ++ option_to_list result }
     ensures none { IfNone result (refs_at nodes.new node ≡ []) }
 {
-    nodes.get_mut(&node)?.references.pop()
+    let rows = nodes.chunks.get_mut(chunk_of(node))?;
+    match rows.get_mut(place_of(node))? {
+        Some(row) => row.references.pop(),
+        None => None,
+    }
 }
 
 /// What the value of a node refers to from now on.
+#[tactic(auto, unfolding(crate::specs::Rows::place_at, crate::specs::Rows::row_by))]
 pub fn set_references(nodes: &mut Nodes, node: u64, references: Vec<ArcRef>)
     requires { IsSome (counts_at nodes.old node) }
     ensures counts { (q : ℕ) → counts_at nodes.new q ≡ counts_at nodes.old q }
     ensures here { refs_at nodes.new node ≡ references.items }
     ensures others { (q : ℕ) → q ≢ node → refs_at nodes.new q ≡ refs_at nodes.old q }
 {
-    if let Some(row) = nodes.get_mut(&node) {
+    let rows = &mut nodes.chunks[chunk_of(node)];
+    if let Some(row) = &mut rows[place_of(node)] {
         row.references = references;
     }
 }

@@ -156,7 +156,7 @@ pub collected_none : {T : Type 0} (M : T → Meaning ArcRef → Type 0) (puts : 
 unfolding PutInTurn
 collected_none M puts now e = record { xs = []; each = mean-none; is = e }
 
-puts-last : {T : Type 0} (puts : List T → T → List T → Type 0) (acc xs : List T) (x : T) (old new : List T) → PutInTurn puts acc xs old → puts old x new → PutInTurn puts acc (xs ++ x ∷ []) new
+pub puts-last : {T : Type 0} (puts : List T → T → List T → Type 0) (acc xs : List T) (x : T) (old new : List T) → PutInTurn puts acc xs old → puts old x new → PutInTurn puts acc (xs ++ x ∷ []) new
 unfolding PutInTurn
 puts-last {T} puts acc [] x old new e h = let P : List T → Type 0 = λ ys. puts ys x new in (new, subst P e h, refl)
 puts-last puts acc (y ∷ ys) x old new before h = (before.0, before.1, puts-last puts before.0 ys x old new before.2 h)
@@ -171,7 +171,7 @@ put-in-turn put acc [] now e = e
 put-in-turn {T} put acc (x ∷ xs) now h = put-in-turn put h.0 xs now h.2 ∙ ap (λ (ys : List T). put_all put ys xs) h.1
 
 -- items that each come last are all there, in their order
-put-at-end : {T : Type 0} (acc xs : List T) → put_all (λ ys y. ys ++ y ∷ []) acc xs ≡ acc ++ xs
+pub put-at-end : {T : Type 0} (acc xs : List T) → put_all (λ ys y. ys ++ y ∷ []) acc xs ≡ acc ++ xs
 unfolding put_all
 put-at-end acc [] = sym (append-nil acc)
 put-at-end acc (x ∷ xs) = put-at-end (acc ++ x ∷ []) xs ∙ append_assoc acc (x ∷ []) xs

@@ -1,6 +1,7 @@
 mod Words
 pub mod Parts
 pub mod Items
+pub mod Lent
 pub mod Maps
 pub mod Hashed
 pub mod JsonSteps

@@ -28,6 +28,8 @@ impl<E: Env, O: Carried<E>, X: CarriedAs<Other = O>> Carried<E> for X {
     ghost shape = { λ e. O.shape e };
 
     ghost means = { seen_by X.other O.means };
+
+    ghost beside = { λ x. O.beside (X.other x) };
 }
 
 impl<E: Env, O: OneMeaning<E>, X: CarriedAs<Other = O>> OneMeaning<E> for X {
@@ -42,6 +44,7 @@ impl<'de, E: Env, O: PagableDeserialize<'de, E>, X: ReadAs<Other = O>> PagableDe
     for X {
     ghost read_causes = { O.read_causes };
 
+    #[tactic(auto, using(crate::proofs::Lent::seen_holds))]
     fn pagable_deserialize<D: PagableDeserializer<E>>(
         alloc: Global,
         deserializer: &mut D,

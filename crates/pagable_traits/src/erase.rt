@@ -1,7 +1,7 @@
 //! What the three sorts of references have in common, whatever the type of their values.
 
-ghost use Rattle.std.specs.Prelude.{List, codes, refl, ℕ, ◌≡◌};
-ghost use Rattle.pagable_model.specs.Reading.{read};
+ghost use Rattle.std.specs.Prelude.{IfOk, List, codes, refl, ℕ, ◌≡◌};
+ghost use Rattle.pagable_model.specs.{Reading.read, Standing.HoldsLent};
 ghost use Rattle.{pagable_model.specs.declared.numbers.ArcRef.ArcRef as Reference, pagable_traits.specs.{Clauses.Reads, References.{holding, holding_kind, holding_name, loose, loose_kind}}};
 
 use crate::PagableDeserialize;
@@ -126,7 +126,8 @@ pub fn deserialize_arc<
     A: ArcErase<E> + PagableDeserialize<'de, E>,
     D: PagableDeserializer<E>,
 >(alloc: Global, deserializer: &mut D) -> Result<A, Error>
-    ensures { Reads E.Env D.PagableDeserializer A.read_causes.are A.means.of (λ c. read c (A.shape (D.environment deserializer.old))) deserializer.old deserializer.new result }
+    ensures reads { Reads E.Env D.PagableDeserializer A.read_causes.are A.means.of (λ c. read c (A.shape (D.environment deserializer.old))) deserializer.old deserializer.new result }
+    ensures holds { IfOk result (HoldsLent (D.standing deserializer.old) A.beside) }
 {
     A::pagable_deserialize(alloc, deserializer)
 }

@@ -1,18 +1,22 @@
 //! References that hold their shared value.
 
-ghost use Rattle.std.specs.{Arc.arc_value, Prelude.{IfErr, IfOk, Some, nat_eq, option_and_then, ◌≡◌, ◌≢◌}};
-ghost use Rattle.pagable_model.specs.{Reading.read, Shape.reference as reference_shape, Standing.Is};
-ghost use Rattle.pagable_traits.specs.{Clauses.Reads, Meanings.exactly, References.{holding, holding_kind, holding_means, reads_unlent, reference_has_one_form, unlent}};
+ghost use Rattle.std.specs.{Arc.arc_value, Prelude.{IfErr, IfOk, IfSome, nat_eq, ◌≡◌, ◌≢◌}};
+ghost use Rattle.pagable_model.specs.Shape.{reference as reference_shape};
+ghost use Rattle.pagable_traits.specs.{Beside.holding_beside, Meanings.exactly, References.{holding, holding_kind, holding_means, reads_unlent, reference_has_one_form, unlent}};
 
 use crate::plain::{read_reference, write_reference};
-use crate::{Canonical, Carried, OneMeaning, PagableDeserialize, PagableSerialize};
+use crate::storage::{FirstHandle, has_gone};
+use crate::{
+    Canonical, Carried, OneMeaning, PagableArc, PagableDeserialize, PagableSerialize, Storage,
+};
 use pagable_codec::{
     ArcRef, Env, HandleNumber, Kind, NodeNumber, OfNode, PagableDeserializer, PagableSerializer,
 };
 use pagable_flavors::{Error, Reason};
+use pagable_model::OptionalDataKey;
 use std::alloc::Global;
 use std::ops::Deref;
-use std::sync::Arc as Shared;
+use std::sync::{Arc as Shared, Wait};
 
 /// A reference that holds its shared value, so that looking at the value takes no lock. Where values of type `T` have the
 /// number `t`, its kind is `3t + 2` if it pins, and else `3t`. Two are equal where their values are, whichever nodes these
@@ -92,9 +96,158 @@ impl<T, const PINS: bool> HoldingArc<T, PINS> {
     {
         left.node.0 == right.node.0
     }
+
+    /// Inserts the value into the storage as a new node, and answers its first handle, which holds it.
+    ///
+    /// # Errors
+    /// - as `Storage::insert`, and OutOfMemory where the value can't be shared once more. The value comes back.
+    pub fn new<E: Env, R: Wait, S: Storage<E>>(
+        rt: &R,
+        alloc: Global,
+        value: Shared<T>,
+        storage: &S,
+    ) -> Result<HoldingArc<T, PINS>, (Error, Shared<T>)>
+    where
+        T: OfNode<E> + Drop,
+        ensures holds { IfOk result (λ a. arc_value a.value ≡ arc_value value) }
+        ensures back { IfErr result (λ r. arc_value r.1 ≡ arc_value value) }
+    {
+        let inserted = match Shared::try_clone(&value) {
+            Ok(shared) => storage.insert(rt, alloc, T::into_node(shared), first_handle(PINS)),
+            Err(e) => Err(e.into()),
+        };
+        match inserted {
+            Ok((node, handle)) => Ok(HoldingArc {
+                node,
+                handle,
+                value,
+            }),
+            Err(e) => Err((e, value)),
+        }
+    }
+
+    /// Makes one more of the same mode, which holds the same value.
+    ///
+    /// # Errors
+    /// - as `Storage::clone_handle`, and OutOfMemory where the value can't be shared once more.
+    pub fn clone<E: Env, R: Wait, S: Storage<E>>(
+        &self,
+        rt: &R,
+        storage: &S,
+    ) -> Result<HoldingArc<T, PINS>, Error>
+    where
+        T: Drop,
+        ensures value { IfOk result (λ a. arc_value a.value ≡ arc_value self.now.value) }
+        ensures node { IfOk result (λ a. a.node ≡ self.now.node) }
+    {
+        let value = Shared::try_clone(&self.value)?;
+        let handle = storage.clone_handle(rt, self.handle)?;
+        Ok(HoldingArc {
+            node: self.node,
+            handle,
+            value,
+        })
+    }
+
+    /// Gives it up.
+    ///
+    /// # Errors
+    /// - as `Storage::release`. It comes back, but where it was given up all the same.
+    pub fn release<E: Env, R: Wait, S: Storage<E>>(
+        self,
+        rt: &R,
+        storage: &S,
+    ) -> Result<(), (Error, Option<HoldingArc<T, PINS>>)>
+    where
+        T: Drop,
+        ensures back { IfErr result (λ r. IfSome r.1 (λ a. a ≡ self)) }
+    {
+        match storage.release(rt, self.handle) {
+            Ok(()) => Ok(()),
+            Err(e) if has_gone(&e) => Err((e, None)),
+            Err(e) => Err((e, Some(self))),
+        }
+    }
+
+    /// Counts the handles that pin its node.
+    ///
+    /// # Errors
+    /// - NoSuchHandle: it was given up by its number.
+    pub fn count<E: Env, R: Wait, S: Storage<E>>(&self, rt: &R, storage: &S) -> Result<u64, Error> {
+        storage.count(rt, self.handle)
+    }
+
+    /// Answers the key of its cell, if it has one.
+    ///
+    /// # Errors
+    /// - NoSuchHandle: it was given up by its number.
+    pub fn key<E: Env, R: Wait, S: Storage<E>>(
+        &self,
+        rt: &R,
+        storage: &S,
+    ) -> Result<OptionalDataKey, Error> {
+        storage.key(rt, self.handle)
+    }
+
+    /// Tells whether its cell has its value in the storage alone.
+    ///
+    /// # Errors
+    /// - NoSuchHandle: it was given up by its number.
+    pub fn is_paged_out<E: Env, R: Wait, S: Storage<E>>(
+        &self,
+        rt: &R,
+        storage: &S,
+    ) -> Result<bool, Error> {
+        storage.is_paged_out(rt, self.handle)
+    }
+}
+
+// How a new node is held by the first reference of this sort.
+fn first_handle(is_pin: bool) -> FirstHandle {
+    if is_pin {
+        FirstHandle::Pinned
+    } else {
+        FirstHandle::Shared
+    }
 }
 
 impl<T> HoldingArc<T, true> {
+    /// Joins the numbers of a new pin and the value that it holds.
+    pub(crate) fn of(
+        node: NodeNumber,
+        handle: HandleNumber,
+        value: Shared<T>,
+    ) -> PinnedPagableArc<T>
+        ensures numbers { (result.node ≡ node) × (result.handle ≡ handle) }
+        ensures value { result.value ≡ value }
+    {
+        HoldingArc {
+            node,
+            handle,
+            value,
+        }
+    }
+
+    /// Makes the pin a loose reference with the same number, which pins.
+    ///
+    /// # Errors
+    /// - as `Storage::into_pagable`. The pin comes back.
+    pub fn into_pagable<E: Env, R: Wait, S: Storage<E>>(
+        self,
+        rt: &R,
+        storage: &S,
+    ) -> Result<PagableArc<T>, (Error, PinnedPagableArc<T>)>
+    where
+        T: Drop,
+        ensures numbers { IfOk result (λ a. (a.node ≡ self.node) × (a.handle ≡ self.handle)) }
+        ensures back { IfErr result (λ r. r.1 ≡ self) }
+    {
+        match storage.into_pagable(rt, self.handle) {
+            Ok(()) => Ok(PagableArc::of(self.node, self.handle)),
+            Err(e) => Err((e, self)),
+        }
+    }
+
     /// The pin, borrowed.
     pub fn borrow(pin: &PinnedPagableArc<T>) -> PinnedPagableArcBorrow<'_, T>
         ensures { result.pin.now ≡ pin.now }
@@ -127,6 +280,24 @@ impl<'a, T> PinnedPagableArcBorrow<'a, T> {
         let pin = self.pin;
         pin.get()
     }
+
+    /// Makes a pin of its own, which holds the same value.
+    ///
+    /// # Errors
+    /// - as `PinnedPagableArc::clone`.
+    pub fn clone_arc<E: Env, R: Wait, S: Storage<E>>(
+        self,
+        rt: &R,
+        storage: &S,
+    ) -> Result<PinnedPagableArc<T>, Error>
+    where
+        T: Drop,
+        ensures value { IfOk result (λ a. arc_value a.value ≡ arc_value self.entry.pin.now.value) }
+        ensures node { IfOk result (λ a. a.node ≡ self.entry.pin.now.node) }
+    {
+        let pin = self.pin;
+        pin.clone(rt, storage)
+    }
 }
 
 impl<'a, T> Deref for PinnedPagableArcBorrow<'a, T> {
@@ -144,6 +315,8 @@ impl<E: Env, T: OfNode<E>, const PINS: bool> Carried<E> for HoldingArc<T, PINS> 
     ghost shape = { λ e. reference_shape (holding_kind T.TYPE PINS) };
 
     ghost means = { exactly (holding_means T.TYPE PINS) };
+
+    ghost beside = { holding_beside T.TYPE PINS T.held };
 }
 
 impl<E: Env, T: OfNode<E>, const PINS: bool> OneMeaning<E> for HoldingArc<T, PINS> {
@@ -172,14 +345,11 @@ impl<'de, E: Env, T: OfNode<E> + Drop, const PINS: bool> PagableDeserialize<'de,
 
     /// Reads the next reference, of this sort, and takes the value that it is lent. Beside what the reference itself is
     /// refused by, it is refused for want of memory, and with Custom where no value of the type is lent.
+    #[tactic(auto, using(crate::proofs::Lent::taken_holds))]
     fn pagable_deserialize<D: PagableDeserializer<E>>(
         alloc: Global,
         deserializer: &mut D,
-    ) -> Result<Self, Error>
-        ensures lent { IfOk result (λ a. option_and_then T.held (D.lends deserializer.new (holding T.TYPE PINS a)) ≡ Some (arc_value a.value)) }
-        ensures reads { Reads E.Env D.PagableDeserializer unlent (Is (holding_means T.TYPE PINS)) (λ c. read c (reference_shape (holding_kind T.TYPE PINS)))
-            deserializer.old deserializer.new result }
-    {
+    ) -> Result<Self, Error> {
         let reference = read_reference(holding_kind_of::<E, T>(PINS), deserializer)?;
         match deserializer.shared::<T>(alloc, reference)? {
             None => Err(unlent_refusal()),

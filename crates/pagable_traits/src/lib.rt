@@ -14,6 +14,7 @@ pub mod plain;
 pub mod refers;
 pub mod saved_regex;
 pub mod static_value;
+pub mod storage;
 pub mod traits;
 pub mod typetag;
 
@@ -37,6 +38,7 @@ pub use static_value::{
     HasStaticValueRegistry, StaticBytes, StaticStr, StaticValue, StaticValueEntry,
     StaticValueRegistry,
 };
+pub use storage::{FirstHandle, NewPin, Storage};
 pub use traits::{
     Carried, EagerlyCarried, InNode, OneMeaning, Pagable, PagableBoxDeserialize,
     PagableDeserialize, PagableDeserializeOwned, PagableEagerDeserialize, PagableEagerSerialize,

@@ -1,16 +1,21 @@
 //! Loose references.
 
-ghost use Rattle.std.specs.Prelude.{IfNone, IfSome, nat_eq, ◌≡◌, ◌≢◌};
+ghost use Rattle.std.specs.{Arc.arc_value, Prelude.{IfErr, IfNone, IfOk, IfSome, Some, nat_eq, option_and_then, ◌≡◌, ◌≢◌}};
 ghost use Rattle.{pagable_model.specs.Shape.reference as reference_shape, pagable_traits.specs.{Meanings.exactly, References.{loose, loose_kind, loose_means, reference_has_one_form}}};
 
 use crate::plain::write_reference;
-use crate::{Canonical, Carried, OneMeaning, PagableDeserialize, PagableSerialize};
+use crate::storage::{FirstHandle, NewPin, has_gone};
+use crate::{
+    Canonical, Carried, OneMeaning, PagableDeserialize, PagableSerialize, PinnedPagableArc, Storage,
+};
 use pagable_codec::{
     ArcRef, Env, HandleNumber, Kind, NodeNumber, OfNode, PagableDeserializer, PagableSerializer,
 };
 use pagable_flavors::Error;
+use pagable_model::OptionalDataKey;
 use std::alloc::Global;
 use std::marker::PhantomData;
+use std::sync::{Arc, Wait};
 
 /// A loose reference to a shared value of type `T`. It holds no value: reading it reads nothing of the value, and pinning
 /// it gives the value.
@@ -57,6 +62,173 @@ impl<T> PagableArc<T> {
             node: self.node,
             handle: self.handle,
         }
+    }
+
+    /// Joins the numbers of a loose reference.
+    pub(crate) fn of(node: NodeNumber, handle: HandleNumber) -> PagableArc<T>
+        ensures { (result.node ≡ node) × (result.handle ≡ handle) }
+    {
+        PagableArc {
+            node,
+            handle,
+            value: PhantomData,
+        }
+    }
+
+    /// Inserts the value into the storage as a new cell, and answers its first handle, which pins.
+    ///
+    /// # Errors
+    /// - as `Storage::insert`, and OutOfMemory where the value can't be shared once more. The value comes back.
+    pub fn new<E: Env, R: Wait, S: Storage<E>>(
+        rt: &R,
+        alloc: Global,
+        value: Arc<T>,
+        storage: &S,
+    ) -> Result<PagableArc<T>, (Error, Arc<T>)>
+    where
+        T: OfNode<E> + Drop,
+        ensures back { IfErr result (λ r. arc_value r.1 ≡ arc_value value) }
+    {
+        let inserted = match Arc::try_clone(&value) {
+            Ok(shared) => storage.insert(rt, alloc, T::into_node(shared), FirstHandle::Loose),
+            Err(e) => Err(e.into()),
+        };
+        match inserted {
+            Ok((node, handle)) => Ok(PagableArc::of(node, handle)),
+            Err(e) => Err((e, value)),
+        }
+    }
+
+    /// Makes one more of the same mode: it pins as this does.
+    ///
+    /// # Errors
+    /// - as `Storage::clone_handle`.
+    pub fn clone<E: Env, R: Wait, S: Storage<E>>(
+        &self,
+        rt: &R,
+        storage: &S,
+    ) -> Result<PagableArc<T>, Error>
+        ensures node { IfOk result (λ a. a.node ≡ self.now.node) }
+    {
+        let handle = storage.clone_handle(rt, self.handle)?;
+        Ok(PagableArc::of(self.node, handle))
+    }
+
+    /// Pins its cell, reading the value where it isn't in memory, and from then on pins itself. It is for a reference of
+    /// the caller's; `follow` is for one that stands in a value.
+    ///
+    /// # Errors
+    /// - as `Storage::pin`.
+    /// - WrongKind: the cell's value is of another type.
+    /// - OutOfMemory: the value can't be shared once more.
+    ///
+    /// Each leaves handles and counts as they were.
+    pub fn pin_sync<E: Env, R: Wait, S: Storage<E>>(
+        &self,
+        rt: &R,
+        alloc: Global,
+        storage: &S,
+    ) -> Result<PinnedPagableArc<T>, Error>
+    where
+        T: OfNode<E> + Drop,
+        ensures value { IfOk result (λ p. IfSome (S.told storage.now) (λ at. option_and_then T.held (at self.now.handle.0) ≡ Some (arc_value p.value))) }
+        ensures node { IfOk result (λ p. p.node ≡ self.now.node) }
+    {
+        let pin = storage.pin(rt, alloc, self.handle)?;
+        let NewPin {
+            handle,
+            value: node,
+            was_unpinned,
+        } = pin;
+        let refused = match T::from_node(alloc, node.as_ref()) {
+            Ok(Some(value)) => return Ok(PinnedPagableArc::of(self.node, handle, value)),
+            Ok(None) => Error::WrongKind,
+            Err(e) => e,
+        };
+        if was_unpinned {
+            let _told = storage.unpin(rt, self.handle);
+        }
+        let _told = storage.release(rt, handle);
+        Err(refused)
+    }
+
+    /// Pins the cell of a reference that stands in a value, whose handle is that value's: clones it, pins the clone, and
+    /// gives the clone up.
+    ///
+    /// # Errors
+    /// - as `clone` and `pin_sync`: handles and counts are as they were.
+    pub fn follow<E: Env, R: Wait, S: Storage<E>>(
+        &self,
+        rt: &R,
+        alloc: Global,
+        storage: &S,
+    ) -> Result<PinnedPagableArc<T>, Error>
+    where
+        T: OfNode<E> + Drop,
+        ensures node { IfOk result (λ p. p.node ≡ self.now.node) }
+    {
+        let clone = self.clone(rt, storage)?;
+        let pin = clone.pin_sync(rt, alloc, storage);
+        let _told = clone.release(rt, storage);
+        pin
+    }
+
+    /// Lets its pin go. The cell is listed for page-out with its last pin, where it has no key.
+    ///
+    /// # Errors
+    /// - as `Storage::unpin`.
+    pub fn unpin<E: Env, R: Wait, S: Storage<E>>(&self, rt: &R, storage: &S) -> Result<(), Error> {
+        storage.unpin(rt, self.handle)
+    }
+
+    /// Gives it up.
+    ///
+    /// # Errors
+    /// - as `Storage::release`. It comes back, but where it was given up all the same.
+    pub fn release<E: Env, R: Wait, S: Storage<E>>(
+        self,
+        rt: &R,
+        storage: &S,
+    ) -> Result<(), (Error, Option<PagableArc<T>>)>
+        ensures back { IfErr result (λ r. IfSome r.1 (λ a. a ≡ self)) }
+    {
+        match storage.release(rt, self.handle) {
+            Ok(()) => Ok(()),
+            Err(e) if has_gone(&e) => Err((e, None)),
+            Err(e) => Err((e, Some(self))),
+        }
+    }
+
+    /// Counts the handles that pin its node.
+    ///
+    /// # Errors
+    /// - NoSuchHandle: it was given up by its number.
+    pub fn count<E: Env, R: Wait, S: Storage<E>>(&self, rt: &R, storage: &S) -> Result<u64, Error> {
+        storage.count(rt, self.handle)
+    }
+
+    /// Answers the key of its cell, if it has one.
+    ///
+    /// # Errors
+    /// - NoSuchHandle: it was given up by its number.
+    pub fn key<E: Env, R: Wait, S: Storage<E>>(
+        &self,
+        rt: &R,
+        storage: &S,
+    ) -> Result<OptionalDataKey, Error> {
+        storage.key(rt, self.handle)
+    }
+
+    /// Tells whether its cell has its value in the storage alone.
+    ///
+    /// # Errors
+    /// - NoSuchHandle: it was given up by its number.
+    pub fn is_paged_out<E: Env, R: Wait, S: Storage<E>>(
+        &self,
+        rt: &R,
+        storage: &S,
+    ) -> Result<bool, Error> {
+        storage.is_paged_out(rt, self.handle)
     }
 
     /// Whether both refer to the same shared value.

@@ -1,7 +1,7 @@
 //! Plain references: a reference by its kind alone, whatever the type of the value that it refers to is called.
 
-ghost use Rattle.std.specs.Prelude.{IfNone, IfOk, IfSome, ◌≡◌, ◌≢◌};
-ghost use Rattle.pagable_model.specs.{Gives.{memory, never}, Meaning.reference as meaning_of, Reading.read, Shape.reference as reference_shape, Standing.Is};
+ghost use Rattle.std.specs.Prelude.{IfNone, IfOk, IfSome, Some, ◌≡◌, ◌≢◌};
+ghost use Rattle.pagable_model.specs.{Gives.{memory, never}, Meaning.reference as meaning_of, Reading.read, Shape.reference as reference_shape, Standing.{Is, IsLent}};
 ghost use Rattle.pagable_traits.specs.{Clauses.{Reads, Wrote, value as form}, Meanings.exactly, References.{plain, plain_means, reference_has_one_form}};
 
 use crate::{Canonical, Carried, OneMeaning, PagableDeserialize, PagableSerialize};
@@ -30,6 +30,7 @@ pub fn read_reference<E: Env, D: PagableDeserializer<E>>(
     deserializer: &mut D,
 ) -> Result<ArcRef, Error>
     ensures of_kind { IfOk result (λ r. r.kind ≡ kind) }
+    ensures lent { IfOk result (λ r. (y : E.Node) → D.lends deserializer.new r ≡ Some y → IsLent (D.standing deserializer.old) r y) }
     ensures reads { Reads E.Env D.PagableDeserializer never (Is meaning_of) (λ c. read c (reference_shape kind.0)) deserializer.old deserializer.new result }
 {
     let reference = deserializer.deserialize_arc(kind)?;

@@ -4,7 +4,7 @@
 ghost use Rattle.std.specs.{List.{Sorted.{IsPermutation, IsSorted, IsStable}, slice_get}, Prelude.{Err, IfErr, IfNone, IfOk, IfSome, IsTrue, List, Option, Some, length, map, vec_len, ◌<◌, ◌↔◌, ◌≡◌}};
 ghost use Rattle.std.specs.Prelude.{◌≤◌};
 ghost use Rattle.pagable_model.specs.{Basic.longest, Canonical.HasNoReference, Gives.{Gives, memory_or, never}, Lengths.long_or_memory, Meaning.{Meaning, lifted}, Reading.{read, registered}};
-ghost use Rattle.{pagable_model.specs.{Shape.static_value, Standing.Is, Statics.{HasEqual, NoEqualBelow, StandsAt, meanings_of, unregistered}}, pagable_traits.specs.Clauses.{Reads, Wrote}};
+ghost use Rattle.{pagable_model.specs.{Shape.static_value, Standing.{HoldsLent, Is}, Statics.{HasEqual, NoEqualBelow, StandsAt, meanings_of, unregistered}}, pagable_traits.specs.Clauses.{Reads, Wrote}};
 ghost use Rattle.pagable_traits.specs.{Clauses.value as form, Meanings.exactly, OwnCauses.writes_memory_or, StaticValues.{static_is_same, static_refers_to_nothing, writes_unregistered}};
 
 use crate::keys::PagableKey;
@@ -267,6 +267,7 @@ impl<'de, E: Env, T: HasStaticValueRegistry<E>> PagableDeserialize<'de, E> for S
     ) -> Result<Self, Error>
         ensures reads { Reads E.Env D.PagableDeserializer never (Is (λ v. lifted (T.plain v.0.value))) (λ c. read c (static_value (meanings_of T.plain (T.known (D.environment deserializer.old)))))
             deserializer.old deserializer.new result }
+        ensures holds { IfOk result (HoldsLent (D.standing deserializer.old) (λ v r y. Unit {0})) }
         ensures stands { IfOk result (λ v. StandsAt T.plain (T.known (D.environment deserializer.old)) v.0.value v.0.index) }
     {
         let index = <u32 as PagableDeserialize<E>>::pagable_deserialize(alloc, deserializer)?;

@@ -1,7 +1,7 @@
 //! The types that can be written and read, also into a box, eagerly, and as the values of nodes.
 
-ghost use Rattle.std.specs.Prelude.{Some, ◌≡◌};
-ghost use Rattle.{pagable_model.specs.{Gives.memory_or, Reading.read, Shape.Shape, declared.error.Error.Error as Refusal}, pagable_traits.specs.{InNodes.Holds, Clauses.{Reads, Wrote}}};
+ghost use Rattle.std.specs.Prelude.{IfOk, Some, ◌≡◌};
+ghost use Rattle.{pagable_model.specs.{Gives.memory_or, Reading.read, Shape.Shape, Standing.HoldsLent, declared.{error.Error.Error as Refusal, numbers.ArcRef.ArcRef as Reference}}, pagable_traits.specs.{InNodes.Holds, Clauses.{Reads, Wrote}}};
 ghost use Rattle.pagable_traits.specs.{Clauses.value as form, Meanings.{AreSingle, Meanings}, OwnCauses.{ReadCauses, WriteCauses, reads_memory_or, reads_never, writes_memory}};
 
 use pagable_codec::{Env, NodeSet, OfNode, PagableDeserializer, PagableSerializer};
@@ -14,6 +14,9 @@ pub trait Carried<E: Env> {
 
     // What a value may mean: one meaning, or more where its content isn't known.
     ghost means: { Meanings Self };
+
+    // What a value holds beside the reference, wherever it refers by it, is the value of this node. A type whose values hold nothing beside references says nothing.
+    ghost beside: { Self → Reference → E.Node → Type 0 } = { λ x r y. Unit {0} };
 }
 
 /// A type whose values can be written.
@@ -35,12 +38,13 @@ pub trait PagableDeserialize<'de, E: Env>: Carried<E> + Sized {
 
     /// Reads the value at the front of what is left, and leaves the rest. A refusal is the first fault from the
     /// front, that of a reference included, or a cause of the type's own; then the place is between the old one and
-    /// the ends, and as many levels are entered as before.
+    /// the ends, and as many levels are entered as before. What the value holds beside its references is what was lent by them.
     fn pagable_deserialize<D: PagableDeserializer<E>>(
         alloc: Global,
         deserializer: &mut D,
     ) -> Result<Self, Error>
-        ensures { Reads E.Env D.PagableDeserializer read_causes.are Self.means.of (λ c. read c (Self.shape (D.environment deserializer.old))) deserializer.old deserializer.new result };
+        ensures reads { Reads E.Env D.PagableDeserializer read_causes.are Self.means.of (λ c. read c (Self.shape (D.environment deserializer.old))) deserializer.old deserializer.new result }
+        ensures holds { IfOk result (HoldsLent (D.standing deserializer.old) Self.beside) };
 }
 
 /// A type of which each value has exactly one meaning.

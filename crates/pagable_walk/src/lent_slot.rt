@@ -1,15 +1,13 @@
 //! The slot of a claimed identity in a table that is lent.
 
-ghost use Rattle.std.specs.{Arc.arc_value, Prelude.{◌≡◌}};
+ghost use Rattle.std.specs.Prelude.{◌≡◌};
 ghost use Rattle.pagable_world.specs.{Workers.with_outcome, World.{failed, published}};
 ghost use Rattle.{pagable_model.specs.declared.numbers.Identity.Identity as Named, pagable_walk.specs.Slots.{AreNamed, IsNamed, after_failure, failed_by, slot_of, slots_in}};
 
 use crate::SlotResult;
 use indexmap::IndexMap;
 use pagable_codec::{Env, NodeSet};
-use pagable_core::SerializedData;
-use pagable_model::WorkerNumber;
-use std::sync::Arc;
+use pagable_model::{ArcRef, WorkerNumber};
 
 /// What is known of a claim.
 #[derive(Drop)]
@@ -22,11 +20,11 @@ pub enum Outcome<E: Env<Node: NodeSet<E>>> {
     Failed,
 }
 
-/// A claim: the worker that made it, what was written of its node, and its outcome.
+/// A claim: the worker that made it, the references that were written of its node, and its outcome.
 #[derive(Drop)]
 pub struct LentSlot<E: Env<Node: NodeSet<E>>> {
     pub worker: WorkerNumber,
-    pub written: Option<Arc<SerializedData>>,
+    pub references: Option<Vec<ArcRef>>,
     pub outcome: Outcome<E>,
 }
 

@@ -4,7 +4,7 @@ use Rattle.std.specs.Prelude.{[], Err, false, IfErr, IfOk, List, None, Ok, Optio
 use Rattle.pagable_world.specs.{Calls.{PinCall, ReleaseCall, TakeCall, UnpinCall}, Events.{Ends, entry_task, IsEntry, no_shelf, reading_of_load, with_entry_taken, with_worker}, Headline.ReadIsRight}
 use Rattle.pagable_world.specs.{Kinds.{HasKinds, HasNoKinds}, LoadCalls.{BeginCall, BeginKeyCall}, Loads.{gone_on, ReadingDoes}, Pager.{Moves, PagerState, ReadingBrings, Represents, SameTrees}}
 use Rattle.pagable_world.specs.{Pager.{TodoBrings, TookWrites, ValueStands, WellFormed}, Plain.{Beginning, Error, HandleNumber, HandleRow, Identity, LoadAnswer, LoadNumber, Mode, OptionalDataKey}}
-use Rattle.pagable_world.specs.{Plain.{Owner, Pinning, Took, Tree, WorkerAnswer}, Runs.{HoldsSettled, TakesWell}, Workers.{answer_after, first_todo, fresh, is_open_slot, Site}}
+use Rattle.pagable_world.specs.{Plain.{Owner, Pinning, Took, Tree, WorkerAnswer}, Refusals.WorkerFault, Runs.{HoldsSettled, TakesWell}, Workers.{answer_after, first_todo, fresh, is_open_slot, Site}}
 use Rattle.pagable_world.specs.{Workers.WalkDoes, World.{Alike, Core, Frame, IsLawful, IsSettled, key_at, of_item, Reading, row_at, SameShelf, Seen, Shelf, Slot, Todo, Values, Written}}
 
 pub record AccessState (N E : Type 0) : Type 0 where
@@ -122,7 +122,7 @@ pub record WorkerStarts {N E : Type 0} (v : Values N) (core : Core) (s : PagerSt
   pub begins : Called v (λ w'. Alike (with_worker core) w') s s'
 
 pub data ItemRun {N E B W : Type 0} (m : Seen N B W) (s : AccessState N E) (item : Written) : WorkerAnswer → AccessState N E → Type 0 where
-  no-worker : (s' : AccessState N E) → Called m.values (λ w'. Alike s.pager.core w') s.pager s'.pager → SameShelf s.shelf s'.shelf → ItemRun m s item (WorkerAnswer.Failed Error.OutOfMemory) s'
+  no-worker : (e : Error) (s' : AccessState N E) → WorkerFault s.pager.core e ⊎ (e ≡ Error.OutOfMemory) → Called m.values (λ w'. Alike s.pager.core w') s.pager s'.pager → SameShelf s.shelf s'.shelf → ItemRun m s item (WorkerAnswer.Failed e) s'
   item-is-walked : (n : ℕ) (steps : List (Took W)) (answer : WorkerAnswer) (mid : PagerState N E) (s' : AccessState N E) → WorkerStarts m.values s.pager.core s.pager n mid
       → WorkerRun m n (first_todo (of_item item)) (record { pager = mid; shelf = s.shelf }) steps answer s' → ItemRun m s item answer s'
 
@@ -141,7 +141,7 @@ pub record EntryHas (w : Core) (place : ℕ) (h : HandleNumber) (key : OptionalD
 -- an entry is paged out on a table of its own, which nothing is told of afterwards
 pub data EntryRun {N E B W : Type 0} (m : Seen N B W) (s : PagerState N E) (place : ℕ) : WorkerAnswer → PagerState N E → Type 0 where
   entry-is-refused : (h : HandleNumber) (row : HandleRow) (t : ℕ) (s' : PagerState N E) → IsEntry s.core place h row t → HasNoKinds t → Called m.values (λ w'. Alike s.core w') s s' → EntryRun m s place (WorkerAnswer.Failed Error.WrongKind) s'
-  no-entry-worker : (s' : PagerState N E) → Called m.values (λ w'. Alike s.core w') s s' → EntryRun m s place (WorkerAnswer.Failed Error.OutOfMemory) s'
+  no-entry-worker : (e : Error) (s' : PagerState N E) → WorkerFault s.core e → Called m.values (λ w'. Alike s.core w') s s' → EntryRun m s place (WorkerAnswer.Failed e) s'
   entry-is-walked : (h : HandleNumber) (row : HandleRow) (t n : ℕ) (steps : List (Took W)) (answer : WorkerAnswer) (mid : PagerState N E) (s' : AccessState N E) → IsEntry s.core place h row t → HasKinds t
       → WorkerStarts m.values (with_entry_taken s.core place h (record { 0 = n })) s n mid → WorkerRun m n (first_todo (entry_task h row t)) (record { pager = mid; shelf = no_shelf }) steps answer s' → EntryRun m s place answer s'.pager
 

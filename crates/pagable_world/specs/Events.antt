@@ -3,7 +3,7 @@ use Rattle.std.specs.{Prelude.{◌≡◌, length, ℕ, Bool, Option, Result, ◌
 use Rattle.pagable_world.specs.Plain.{Mode, Blob, Error, HandleNumber, WorkerNumber, Owner, Call, Found, Reply, Beginning, TableNumber, LoadReply, WorkerReply, EventReply, LoadNumber, HandleRow}
 use Rattle.pagable_world.specs.{Plain.{LoadAnswer, WorkerAnswer, Event, SameAt, updated, if_there, or_else}, Kinds.{loose_kind, HasKinds, HasNoKinds}, World.{Core, Alike, Seen, digest, seen_as}}
 use Rattle.pagable_world.specs.World.{OpenLoad, of_cell, of_key, Root, Shelf, Frame, Reading, Task, of_item, of_entry, Walking, Work, World, row_at, type_at, one_more, SameShelf, Values}
-use Rattle.pagable_world.specs.{Cascade.only_handle, Refusals.{earlier, load_fault, refused_if}, Calls.{BirthCall, AwayBirthCall, CloneCall, PinCall, UnpinCall, ReleaseCall, LoosenCall, SetKeyCall}}
+use Rattle.pagable_world.specs.{Cascade.only_handle, Refusals.{WorkerFault, earlier, load_fault, refused_if}, Calls.{BirthCall, AwayBirthCall, CloneCall, PinCall, UnpinCall, ReleaseCall, LoosenCall, SetKeyCall}}
 use Rattle.pagable_world.specs.Calls.{CountCall, KeyCall, AwayCall, NodeCall, TypeCall, ScheduleCall, TakeCall, room_of, ReserveCall, RecallCall, OfferCall, ClearCall, FetchCall, StoreCall}
 use Rattle.pagable_world.specs.{Calls.{FlushCall, CloseCall, moved}, LoadCalls.{BeginCall, BeginKeyCall, Given, from_cache, from_store, AskCall, AdoptCall, LazyCall, EndCall, HandOverCall, DropCall}}
 use Rattle.pagable_world.specs.{Loads.{ReadingDoes, gone_on}, Workers.{Site, WalkDoes, WorkerEnds, first_todo, fresh, answer_after, is_counted}}
@@ -127,7 +127,7 @@ pub record WorkIs (shelves : ℕ → Shelf) (last : ℕ) (walkings : ℕ → Opt
   pub last_is : work.last_table ≡ last
   pub same_walkings : SameAt walkings work.walkings
 
--- a new table, under the next number; numbers of tables and workers are never wanting
+-- a new table, under the next number, which is never wanting
 pub record Tabled (u : World) (r : Result TableNumber Error) (u' : World) : Type 0 where
   pub made : IfOk r (λ t. (t.0 ≡ u.work.last_table + 1) × Alike u.core u'.core × ReadingsAre u.work.readings u' × WorkIs (updated t.0 no_shelf u.work.shelves) t.0 u.work.walkings u'.work)
   pub refused : IfErr r (λ e. (e ≡ Error.OutOfMemory) × Stays u u')
@@ -155,7 +155,7 @@ pub record Starts (u : World) (t : TableNumber) (task : Task) (core : Core) (v :
 
 pub record StartedItem (u : World) (t : TableNumber) (task : Task) (r : Result WorkerNumber Error) (u' : World) : Type 0 where
   pub starts : IfOk r (λ v. Starts u t task u.core v u')
-  pub refused : IfErr r (λ e. (((e ≡ Error.NoSuchHandle) × IsNoTable u t) ⊎ ((e ≡ Error.OutOfMemory) × IsTable u t)) × Stays u u')
+  pub refused : IfErr r (λ e. (((e ≡ Error.NoSuchHandle) × IsNoTable u t) ⊎ ((WorkerFault u.core e ⊎ (e ≡ Error.OutOfMemory)) × IsTable u t)) × Stays u u')
 
 -- the entry at this place is of a cell of this type
 pub record IsEntry (w : Core) (i : ℕ) (h : HandleNumber) (row : HandleRow) (t : ℕ) : Type 0 where
@@ -176,7 +176,7 @@ pub record StartedListed (u : World) (t : TableNumber) (i : ℕ) (r : Result Wor
   pub starts : IfOk r (λ v. (h : HandleNumber) × (row : HandleRow) × (type : ℕ) × IsEntry u.core i h row type × HasKinds type × Starts u t (entry_task h row type) (with_entry_taken u.core i h v) v u')
   pub refused : IfErr r (λ e. (((e ≡ Error.NoSuchHandle) × (IsNoTable u t ⊎ (length u.core.list ≤ i)))
       ⊎ ((e ≡ Error.WrongKind) × IsTable u t × ((h : HandleNumber) × (row : HandleRow) × (type : ℕ) × IsEntry u.core i h row type × HasNoKinds type))
-      ⊎ ((e ≡ Error.OutOfMemory) × IsTable u t × (i < length u.core.list))) × Stays u u')
+      ⊎ ((WorkerFault u.core e ⊎ (e ≡ Error.OutOfMemory)) × IsTable u t × (i < length u.core.list))) × Stays u u')
 
 -- how many steps the worker has made after this one
 abbrev pub steps_after : ℕ → Bool → ℕ

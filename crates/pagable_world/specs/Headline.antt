@@ -38,7 +38,7 @@ ReadGives v s trees event reply s' trees' = Unit {0}
 pub data Meets (shelf : Shelf) (task : Task) : Identity → Type 0 where
   meets-of-item : (written : Written) (r : ArcRef) → task ≡ of_item written → Among written.references r → Meets shelf task (identity_of r)
   meets-entry : (h : HandleNumber) (i : Identity) → task ≡ of_entry h i → Meets shelf task i
-  meets-below : (i : Identity) (slot : Slot) (written : Written) (r : ArcRef) → Meets shelf task i → shelf.slots i ≡ Some slot → slot.written ≡ Some written → Among written.references r → Meets shelf task (identity_of r)
+  meets-below : (i : Identity) (slot : Slot) (references : List ArcRef) (r : ArcRef) → Meets shelf task i → shelf.slots i ≡ Some slot → slot.references ≡ Some references → Among references r → Meets shelf task (identity_of r)
 
 pub record TableMeets (u : World) (t : ℕ) (i : Identity) : Type 0 where
   pub n : ℕ
@@ -53,21 +53,21 @@ AreKeysOf shelf [] [] = Unit {0}
 AreKeysOf shelf (r ∷ rs) (k ∷ ks) = ((height : ℕ) × IsPublished shelf (identity_of r) k height) × AreKeysOf shelf rs ks
 AreKeysOf shelf _ _ = ⊥
 
--- The identity was paged out: under its key stands a blob, a form of the node's tree over the keys of what was written of it.
+-- The identity was paged out: under its key stands a blob, a form of the node's tree over the keys of the references that were written of it.
 pub record IsLeftPagedOut {N E : Type 0} (v : Values N) (s : PagerState N E) (shelf : Shelf) (trees : ℕ → Tree) (i : Identity) : Type 0 where
   pub slot : Slot
-  pub written : Written
+  pub references : List ArcRef
   pub blob : Blob
   pub key : ℕ
   pub height : ℕ
   pub shape : Shape
   pub claimed : shelf.slots i ≡ Some slot
-  pub written_is : slot.written ≡ Some written
+  pub written_so : slot.references ≡ Some references
   pub known : IsPublished shelf i key height
   pub stored : s.core.stored key ≡ Some blob
-  pub keys : AreKeysOf shelf written.references blob.keys
+  pub keys : AreKeysOf shelf references blob.keys
   pub has_shape : v.types.nodes (trees i.node.0).type ≡ Some shape
-  pub form : TreeForm v.types shape (trees i.node.0).meaning blob.bytes (kids_of trees written.references)
+  pub form : TreeForm v.types shape (trees i.node.0).meaning blob.bytes (kids_of trees references)
 
 -- the cell has a key that reads as its tree
 pub record HasKeyOf {N E : Type 0} (v : Values N) (s : PagerState N E) (trees : ℕ → Tree) (n : ℕ) : Type 0 where

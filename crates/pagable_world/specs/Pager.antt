@@ -6,7 +6,7 @@ use Rattle.pagable_model.specs.{Refusals.is_writing_fault, Writing.{nesting, NoF
 use Rattle.pagable_model.specs.declared.data_key.OptionalDataKey.{OptionalDataKey}
 use Rattle.pagable_world.specs.Plain.{Mode, Error, ArcRef, Identity, HandleNumber, LoadNumber, NodeNumber, Shape, type_of, Owner, HandleRow, Call, Event, EventReply, Took, Among, times, Meaning, Blob}
 use Rattle.pagable_world.specs.World.{Core, OpenLoad, Root, of_cell, of_key, Reading, Todo, to_load, Walking, Work, World, Written, greatest, row_at, type_at, key_at, is_here, Values, Seen, HasForm}
-use Rattle.pagable_world.specs.{Plain.{Tree, Types, tree, ReadsTree, is_shared_kind}, Kinds.{is_pinning, is_loose, is_shared, is_owned_by, owner_value, is_handle, held, pins, sharing, has_key}}
+use Rattle.pagable_world.specs.{Plain.{Tree, Types, is_eager, tree, ReadsTree, is_shared_kind}, Kinds.{is_pinning, is_loose, is_shared, is_owned_by, owner_value, is_handle, held, pins, sharing, has_key}}
 use Rattle.pagable_world.specs.{World.Frame, Refusals.IsReference, Calls.Looks, Loads.{ReadsNode, ReadsRoot, asks, next_in}, Events.reading_at}
 
 -- the pager: the kept counts and the values by their nodes' numbers
@@ -92,6 +92,20 @@ pub record WellFormed {N E : Type 0} (v : Values N) (s : PagerState N E) : Type 
   pub inside : (n : ℕ) (x : N) (q : ℕ) → s.values n ≡ Some x → times (λ (r : ArcRef). r.handle.0 == q) (v.references x) ≡ times (λ h. is_handle q h && is_owned_by (owner_value n) h) s.core.rows
   pub bare : (n : ℕ) → s.values n ≡ None → times (is_owned_by (owner_value n)) s.core.rows ≡ 0
   pub references : (n : ℕ) (x : N) (r : ArcRef) → s.values n ≡ Some x → Among (v.references x) r → IsReference s.core (owner_value n) r
+
+-- The node of the reference has a value in memory, and that is what x holds beside the reference.
+pub record HoldsNode {N E : Type 0} (v : Values N) (s : PagerState N E) (x : N) (r : ArcRef) : Type 0 where
+  pub y : N
+  pub there : s.values r.node.0 ≡ Some y
+  pub beside : v.beside x r y
+
+-- of each reference that is read together with the value
+abbrev pub HoldsItsNodes : {N E : Type 0} → Values N → PagerState N E → N → Type 0
+HoldsItsNodes v s x = (r : ArcRef) → Among (v.references x) r → is_eager r.kind.0 ≡ true → HoldsNode v s x r
+
+-- each value in memory holds, beside its references, the values of their nodes
+pub record HoldsItsValues {N E : Type 0} (v : Values N) (s : PagerState N E) : Type 0 where
+  pub each : (n : ℕ) (x : N) → s.values n ≡ Some x → HoldsItsNodes v s x
 
 -- each reading is of an open load of the caller's, and of its root's type
 abbrev pub FitsRoot : Root → Reading → Type 0
@@ -212,6 +226,10 @@ Lends s row (Some x) = (is_pinning row.mode ≡ true) × (s.values row.node.0 �
 
 abbrev pub ValueCall : {N E : Type 0} → PagerState N E → HandleNumber → Result (Option N) Error → Type 0
 ValueCall s h r = Looks s.core h (λ x row. Lends s row x) r
+
+-- what x holds beside a reference whose handle pins a value is that value
+pub record HoldsPinned {N E : Type 0} (v : Values N) (s : PagerState N E) (x : N) : Type 0 where
+  pub each : (r : ArcRef) (y : N) → ValueCall s r.handle (Ok (Some y)) → v.beside x r y
 
 -- whatever key the node has reads as the tree
 abbrev pub KeyFits : {N E : Type 0} → Values N → PagerState N E → ℕ → Tree → Type 0

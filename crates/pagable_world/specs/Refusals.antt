@@ -30,6 +30,10 @@ refused_if b e = if b then Some e else None
 abbrev pub spent : ℕ → Option Error
 spent last = refused_if (nat_le greatest last) Error.NumbersSpent
 
+-- why no worker begins: no number is left for it, or memory is wanting
+abbrev pub WorkerFault : Core → Error → Type 0
+WorkerFault w e = (spent w.last.worker ≡ Some e) ⊎ ((spent w.last.worker ≡ None) × (e ≡ Error.OutOfMemory))
+
 -- the vector of handles has no place left
 abbrev pub AreHandlesFull : Core → Type 0
 AreHandlesFull w = w.places.handles ≤ length w.rows

@@ -122,7 +122,7 @@ IsTooDeep s v i place = (longest_path < place) ⊎ ((key height : ℕ) × IsPubl
 abbrev pub Finds : ℕ → Site → ArcRef → ℕ → List Todo → Claim → Site → Type 0
 Finds v s r place below Claim.Claimed s' = (place ≤ longest_path)
     × (s.shelf.slots (identity_of r) ≡ None)
-    × Turns s (with_slot (with_wait s.shelf v None) (identity_of r) (Some (record { worker = v; written = None; outcome = no_result }))) (to_pin r place ∷ below) s'
+    × Turns s (with_slot (with_wait s.shelf v None) (identity_of r) (Some (record { worker = v; references = None; outcome = no_result }))) (to_pin r place ∷ below) s'
 Finds v s r place below (Claim.Known key height) s' =
     (place + height ≤ longest_path) × IsPublished s.shelf (identity_of r) key height × Turns s (with_wait s.shelf v None) (give_known r key height below) s'
 Finds v s r place below Claim.Waiting s' =
@@ -184,9 +184,9 @@ pub record PinsLoaded {N : Type 0} (m : Values N) (v : ℕ) (s : Site) (r : ArcR
 abbrev pub with_changed_slot : Shelf → Identity → (Slot → Slot) → Shelf
 with_changed_slot shelf i f = with_slot shelf i (if_there (λ slot. Some (f slot)) None (shelf.slots i))
 
--- the value is written, and what was written is known from now on
+-- the value is written, and which references were written is known from now on
 pub record Writes {N : Type 0} (m : Values N) (s : Site) (r : ArcRef) (place : ℕ) (through : HandleNumber) (below : List Todo) (result : Result Written Error) (s' : Site) : Type 0 where
-  pub writes : IfOk result (λ written. Turns s (with_changed_slot s.shelf (identity_of r) (λ slot. record slot { written = Some written })) (open_node r place through written below) s')
+  pub writes : IfOk result (λ written. Turns s (with_changed_slot s.shelf (identity_of r) (λ slot. record slot { references = Some written.references })) (open_node r place through written below) s')
   pub refused : IfErr result (λ e. (m.write_causes (type_of r.kind.0) e ⊎ (e ≡ Error.OutOfMemory)) × Turns s s.shelf (failing_by e s.todo) s')
 
 -- the blob of what was written is stored over the keys of its references, which are all known

@@ -61,10 +61,10 @@ pub data Outcome : Type 0 where
   published : ℕ → ℕ → Outcome
   failed : Outcome
 
--- a claim: the worker that made it, what was written of its node, and its outcome
+-- a claim: the worker that made it, the references that were written of its node, and its outcome
 pub record Slot : Type 0 where
   pub worker : ℕ
-  pub written : Option Written
+  pub references : Option (List ArcRef)
   pub outcome : Outcome
 
 -- The claims of one table by their identities; and of each worker whose last answer was that it waits, for which identity.
@@ -212,6 +212,8 @@ pub record Values (N : Type 0) : Type 1 where
   pub node_type : N → ℕ
   pub references : N → List ArcRef
   pub means : N → Meaning ArcRef → Type 0
+  -- what a value holds beside the reference, wherever it refers by it, is the value of this node
+  pub beside : N → ArcRef → N → Type 0
   -- why a reader of values of the type may refuse one, beside the faults of the blob; and all refusals of a writer of them
   pub read_causes : ℕ → Error → Type 0
   pub write_causes : ℕ → Error → Type 0

@@ -31,7 +31,7 @@ impl<'de, R> PagableDeserializerImpl<'de, PagableSlice<'de>, R> {
     ) -> PagableDeserializerImpl<'de, PagableSlice<'de>, R>
     where
         R: References<E>,
-        ensures standing { ⟦<PagableDeserializerImpl<'de, PagableSlice<'de>, R> as PagableDeserializer<E>>⟧.standing result ≡ at_front (R.answer references) bytes.now arcs.now }
+        ensures standing { ⟦<PagableDeserializerImpl<'de, PagableSlice<'de>, R> as PagableDeserializer<E>>⟧.standing result ≡ at_front (R.answer references) (R.lends_at references) bytes.now arcs.now }
         ensures levels { ⟦<PagableDeserializerImpl<'de, PagableSlice<'de>, R> as PagableDeserializer<E>>⟧.levels result ≡ 0 }
         ensures env { ⟦<PagableDeserializerImpl<'de, PagableSlice<'de>, R> as PagableDeserializer<E>>⟧.environment result ≡ R.environment references }
         ensures lends { ⟦<PagableDeserializerImpl<'de, PagableSlice<'de>, R> as PagableDeserializer<E>>⟧.lends result ≡ R.lends references }
@@ -58,9 +58,9 @@ impl<'de, E: Env, B: Reader, R: References<E>> PagableDeserializer<E>
 
     ghost use Rattle.{pagable_core.specs.Context.{moves_of, standing_of}, pagable_model.specs.Standing.rest_at, std.specs.Prelude.refl};
 
-    ghost standing = { λ s. standing_of (R.answer s.references) s.keys (B.track s.reader) };
+    ghost standing = { λ s. standing_of (R.answer s.references) (R.lends_at s.references) s.keys (B.track s.reader) };
 
-    ghost rest = { λ s. rest_at (standing_of (R.answer s.references) s.keys (B.track s.reader)) };
+    ghost rest = { λ s. rest_at (standing_of (R.answer s.references) (R.lends_at s.references) s.keys (B.track s.reader)) };
 
     ghost levels = { λ s. s.levels };
 
@@ -78,7 +78,7 @@ impl<'de, E: Env, B: Reader, R: References<E>> PagableDeserializer<E>
 
     ghost rest_of_with = { λ s r. refl };
 
-    ghost moves_of_with = { λ s r goes. moves_of (R.answer s.references) s.keys (B.track s.reader) (B.track r) goes };
+    ghost moves_of_with = { λ s r goes. moves_of (R.answer s.references) (R.lends_at s.references) s.keys (B.track s.reader) (B.track r) goes };
 
     ghost levels_of_with = { λ s r. refl };
 

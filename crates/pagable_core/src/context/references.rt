@@ -1,6 +1,6 @@
 //! What a deserializer asks for references.
 
-ghost use Rattle.std.specs.Prelude.{◌≡◌, ℕ, Option, None, Result, Err, IfOk, option_map, true};
+ghost use Rattle.std.specs.Prelude.{◌≡◌, ℕ, Option, None, Some, Result, Err, IfOk, option_map, true};
 ghost use Rattle.pagable_model.specs.{Refusals.may_refuse_reference, declared.{error.Error.{Error as Refusal, TheVariants.WrongKind}, numbers.ArcRef.ArcRef as Reference}};
 
 use pagable_codec::{ArcRef, Env, Kind, SessionContext};
@@ -20,8 +20,8 @@ pub trait References<E: Env> {
     // The nodes that it lends by references that it answered.
     ghost lends: { Self → Reference → Option E.Node };
 
-    // The node that it lends by the reference that it answers at a place.
-    ghost lends_at: { Self → ℕ → Option E.Node };
+    // The reference that it answers at a place, with the node that it lends by it there, if it lends one.
+    ghost lends_at: { Self → ℕ → Option (Reference × E.Node) };
 
     fn env(&self) -> &E
         ensures { result.now ≡ environment self.now };
@@ -32,7 +32,7 @@ pub trait References<E: Env> {
     fn reference(&mut self, place: usize, key: DataKey, kind: Kind) -> Result<ArcRef, Error>
         ensures of_kind { IfOk result (λ r. r.kind ≡ kind) }
         ensures answer { result ≡ answer self.old place key kind.0 }
-        ensures lent { IfOk result (λ r. lends self.new r ≡ lends_at self.old place) }
+        ensures lent { IfOk result (λ r. (y : E.Node) → lends self.new r ≡ Some y → lends_at self.old place ≡ Some (r, y)) }
         ensures same_env { environment self.new ≡ environment self.old }
         ensures same_answers { answer self.new ≡ answer self.old }
         ensures same_lent { lends_at self.new ≡ lends_at self.old };

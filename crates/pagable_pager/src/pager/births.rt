@@ -6,11 +6,11 @@ ghost use Rattle.pagable_world.specs.{Calls.{AwayBirthCall, BirthCall}, Kinds.is
 ghost use Rattle.pagable_world.specs.{Plain.{Blob, Error}, Refusals.{Refused, closed_fault, earlier, load_fault}, World.usable};
 
 use crate::pager::Pager;
-use indexmap::IndexMap;
 use pagable_codec::{Env, NodeSet};
 use pagable_core::PagableStorage;
 use pagable_model::{ArcRef, DataKey, Error, HandleNumber, Kind, LoadNumber};
 use pagable_tables::loading::Unended;
+use pagable_tables::number_table::NumberTable;
 use pagable_tables::{loading, making, tables};
 use pagable_world::Mode;
 use pagable_world::handles::Owner;
@@ -19,7 +19,7 @@ use std::sync::Arc;
 
 /// A value is in memory from now on, if it comes, and else it is dropped. Refused with OutOfMemory, and the value comes back.
 fn place<N: Drop>(
-    values: &mut IndexMap<u64, Arc<N>>,
+    values: &mut NumberTable<Arc<N>>,
     alloc: Global,
     node: u64,
     comes: bool,
@@ -33,16 +33,14 @@ fn place<N: Drop>(
     if !comes {
         return Ok(());
     }
-    if let Err(e) = values.reserve(1) {
+    if let Err(e) = values.reserve(node) {
         return Err((Error::from(e), value));
     }
     let shared = match Arc::new(alloc, value) {
         Ok(shared) => shared,
         Err(refused) => return Err(Error::parted(refused)),
     };
-    let Ok(_) = values.insert(node, shared) else {
-        unreachable!();
-    };
+    values.put(node, shared);
     Ok(())
 }
 
@@ -157,14 +155,14 @@ impl<E: Env<Node: NodeSet<E>>, S: PagableStorage<E>> Pager<E, S> {
         Ok(loading::adopt(tables, load, kind, key, references, lists))
     }
 
-    /// Why a load's value neither becomes a node nor ends the load, where its references can't be listed: the load isn't open, or memory is wanting.
-    fn unlisted(&self, me: Owner, load: LoadNumber) -> Error
-        ensures { (later : Option Error) → Refused (earlier (load_fault (core_in (telling S.stored S.is_closed S.failed) self.now) me load) later)
+    /// Why a load's value neither becomes a node nor ends the load, where its references can't be listed for want of memory: the load isn't open, or else that.
+    fn unlisted(&self, me: Owner, load: LoadNumber, e: Error) -> Error
+        ensures { e ≡ Error.OutOfMemory → (later : Option Error) → Refused (earlier (load_fault (core_in (telling S.stored S.is_closed S.failed) self.now) me load) later)
             (closed_fault (core_in (telling S.stored S.is_closed S.failed) self.now) load) (Unit {0}) (core_in (telling S.stored S.is_closed S.failed) self.now) result
             (core_in (telling S.stored S.is_closed S.failed) self.now) }
     {
         match tables::load_of(&self.tables.loads, load.0) {
-            Some(_) => Error::OutOfMemory,
+            Some(_) => e,
             None => Error::NoSuchHandle,
         }
     }
@@ -200,8 +198,9 @@ impl<E: Env<Node: NodeSet<E>>, S: PagableStorage<E>> Pager<E, S> {
         ensures moves { Moves (λ n x. (x ≡ node) × IsNewNode (core_in (telling S.stored S.is_closed S.failed) self.old) n) (state_in (telling S.stored S.is_closed S.failed) self.old) (state_in (telling S.stored S.is_closed S.failed) self.new) }
         ensures storage { self.new.storage ≡ self.old.storage }
     {
-        let Ok(references) = node.refs(alloc) else {
-            return Err((self.unlisted(me, load), node));
+        let references = match node.refs(alloc) {
+            Ok(references) => references,
+            Err(e) => return Err((self.unlisted(me, load, e), node)),
         };
         let node_type = node.node_type();
         let lists = !self.storage.has_closed();
@@ -242,8 +241,9 @@ impl<E: Env<Node: NodeSet<E>>, S: PagableStorage<E>> Pager<E, S> {
         ensures moves { Moves (λ n x. (x ≡ value) × IsCellOf (core_in (telling S.stored S.is_closed S.failed) self.old) load n) (state_in (telling S.stored S.is_closed S.failed) self.old) (state_in (telling S.stored S.is_closed S.failed) self.new) }
         ensures storage { self.new.storage ≡ self.old.storage }
     {
-        let Ok(references) = value.refs(alloc) else {
-            return Err((self.unlisted(me, load), Some(value)));
+        let references = match value.refs(alloc) {
+            Ok(references) => references,
+            Err(e) => return Err((self.unlisted(me, load, e), Some(value))),
         };
         let node_type = value.node_type();
         let tables = &mut self.tables;

@@ -230,7 +230,7 @@ impl<E: Env<Node: NodeSet<E>>, S: PagableStorage<E>> Pager<E, S> {
     pub fn pending(&self) -> usize
         ensures { result ≡ length (core_in (telling S.stored S.is_closed S.failed) self.now).list }
     {
-        lookups::pending(&self.tables).len()
+        lookups::pending(&self.tables)
     }
 
     /// How many handles and entries of the list can still come without a request for memory.
@@ -359,14 +359,14 @@ impl<E: Env<Node: NodeSet<E>>, S: PagableStorage<E>> Pager<E, S> {
         lookups::entry(&self.tables, place)
     }
 
-    /// One worker more is at work. Refused with OutOfMemory.
+    /// One worker more is at work. Refused with NumbersSpent and OutOfMemory.
     pub(crate) fn worker_begin(&mut self) -> Result<WorkerNumber, Error>
         ensures { Calls OnlyTables (telling S.stored S.is_closed S.failed) self.old (λ w w'. BeginsWorker w result w') self.new }
     {
         giving::worker_begin(&mut self.tables)
     }
 
-    /// The same, for the entry at this place of the list, which moves to the worker. Refused with OutOfMemory.
+    /// The same, for the entry at this place of the list, which moves to the worker. Refused with NumbersSpent and OutOfMemory.
     pub(crate) fn worker_take(&mut self, place: usize) -> Result<WorkerNumber, Error>
         requires { place < length (core_in (telling S.stored S.is_closed S.failed) self.old).list }
         ensures { Calls OnlyTables (telling S.stored S.is_closed S.failed) self.old (λ w w'. TakesWorker w place result w') self.new }
@@ -375,7 +375,7 @@ impl<E: Env<Node: NodeSet<E>>, S: PagableStorage<E>> Pager<E, S> {
     }
 
     /// The same, with the reference that the worker pages out: the entry's handle, as a loose one of its cell. Refused with NoSuchHandle past the end, with WrongKind
-    /// where the cell's type has no kinds, and with OutOfMemory.
+    /// where the cell's type has no kinds, and with NumbersSpent and OutOfMemory.
     pub(crate) fn worker_listed(&mut self, place: usize) -> Result<(WorkerNumber, ArcRef), Error>
         ensures begins { IfOk result (λ b. TakesEntry (core_in (telling S.stored S.is_closed S.failed) self.old) place b.0 b.1 (core_in (telling S.stored S.is_closed S.failed) self.new)) }
         ensures refused { IfErr result (λ e. EntryFault (core_in (telling S.stored S.is_closed S.failed) self.old) place e × Alike (core_in (telling S.stored S.is_closed S.failed) self.old) (core_in (telling S.stored S.is_closed S.failed) self.new)) }

@@ -1,6 +1,6 @@
 //! Bundles: references of each sort to values of other types.
 
-ghost use Rattle.pagable_rows.specs.Linked.{bundle_has_one_form, bundle_in_order, bundle_means, bundle_reads, bundle_shape, bundle_single, bundle_writes, no_parts};
+ghost use Rattle.pagable_rows.specs.Linked.{bundle_beside, bundle_has_one_form, bundle_in_order, bundle_means, bundle_reads, bundle_shape, bundle_single, bundle_writes, no_parts};
 ghost use Rattle.pagable_traits.specs.ReadBack.{IsReadThroughout};
 
 use crate::linked::Linked;
@@ -24,6 +24,8 @@ impl Carried<Linked> for Bundle {
     ghost shape = { λ e. bundle_shape };
 
     ghost means = { bundle_means };
+
+    ghost beside = { bundle_beside };
 }
 
 impl OneMeaning<Linked> for Bundle {
@@ -58,7 +60,7 @@ impl PagableSerialize<Linked> for Bundle {
 impl<'de> PagableDeserialize<'de, Linked> for Bundle {
     ghost read_causes = { bundle_reads };
 
-    #[tactic(auto, using(std::proofs::lemmas::Result::err_from_is_err_and))]
+    #[tactic(auto, using(std::proofs::lemmas::Result::err_from_is_err_and, crate::proofs::Listed::bundle_holds))]
     fn pagable_deserialize<D: PagableDeserializer<Linked>>(
         alloc: Global,
         deserializer: &mut D,

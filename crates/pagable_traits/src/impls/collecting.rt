@@ -3,7 +3,7 @@
 
 ghost use Rattle.std.specs.{Iterator.IsFinite, Prelude.{◌≡◌, ℕ, List, [], length, min, ◌≤◌, OnOk, IfOk, IfErr}};
 ghost use Rattle.pagable_model.specs.{Collected.Collected, Gives.{memory, memory_or, long_or}, Reading.{items, counted, read}, Standing.MovesOn};
-ghost use Rattle.pagable_traits.specs.{Clauses.{Reads, Wrote}, Walks.{counted as walked, each}};
+ghost use Rattle.pagable_traits.specs.{Beside.CollectsHeld, Clauses.{Reads, Wrote}, Walks.{counted as walked, each}};
 
 use crate::traits::{PagableDeserialize, PagableSerialize};
 use pagable_codec::parts::{places_for, read_count, write_count};
@@ -69,7 +69,8 @@ pub fn collect_items<
     C: Collects<T> + Drop,
     D: PagableDeserializer<E>,
 >(alloc: Global, count: usize, deserializer: &mut D) -> Result<C, Error>
-    ensures { Reads E.Env D.PagableDeserializer (memory_or T.read_causes.are) (λ c. Collected T.means.of C.puts (C.held c)) (λ x. items (read x (T.shape (D.environment deserializer.old))) count) deserializer.old deserializer.new result }
+    ensures reads { Reads E.Env D.PagableDeserializer (memory_or T.read_causes.are) (λ c. Collected T.means.of C.puts (C.held c)) (λ x. items (read x (T.shape (D.environment deserializer.old))) count) deserializer.old deserializer.new result }
+    ensures holds { IfOk result (λ c. CollectsHeld (D.standing deserializer.old) T.beside C.puts (C.held c)) }
 {
     let mut collected: C = with_room(alloc, count, deserializer)?;
     for index in 0..count {
@@ -80,7 +81,7 @@ pub fn collect_items<
 }
 
 /// Reads how many items follow, and then the items, as `collect_items` does. TooLong above 4,294,967,295.
-#[tactic(auto, using(crate::proofs::Parts::reads))]
+#[tactic(auto, using(crate::proofs::Parts::reads, crate::proofs::Lent::collected_so))]
 pub fn read_collected<
     'de,
     E: Env,
@@ -88,7 +89,8 @@ pub fn read_collected<
     C: Collects<T> + Drop,
     D: PagableDeserializer<E>,
 >(alloc: Global, deserializer: &mut D) -> Result<C, Error>
-    ensures { Reads E.Env D.PagableDeserializer (memory_or T.read_causes.are) (λ c. Collected T.means.of C.puts (C.held c)) (λ x. counted (read x (T.shape (D.environment deserializer.old)))) deserializer.old deserializer.new result }
+    ensures reads { Reads E.Env D.PagableDeserializer (memory_or T.read_causes.are) (λ c. Collected T.means.of C.puts (C.held c)) (λ x. counted (read x (T.shape (D.environment deserializer.old)))) deserializer.old deserializer.new result }
+    ensures holds { IfOk result (λ c. CollectsHeld (D.standing deserializer.old) T.beside C.puts (C.held c)) }
 {
     let count = read_count(deserializer)?;
     collect_items(alloc, count, deserializer)

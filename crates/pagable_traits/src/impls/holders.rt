@@ -4,6 +4,7 @@
 
 ghost use Rattle.pagable_model.specs.{Carried.{atomic_i64, once_lock, thin}, Lifted.{MayHold, MeansAtomic, MeansOnce, atomic_has_meaning, once_has_meaning, result_single}, Shape.{optional, outcome, both}};
 ghost use Rattle.std.specs.Prelude.{option_copied};
+ghost use Rattle.pagable_traits.specs.Beside.{options_beside, pairs_beside};
 ghost use Rattle.pagable_traits.specs.Meanings.{lists, options, results, pairs, seen_by, lists_single, options_single, pairs_single};
 ghost use Rattle.pagable_traits.specs.OwnCauses.{reads_memory_or, reads_either, writes_memory_or, writes_either, writes_long_or, writes_never};
 
@@ -22,6 +23,8 @@ impl<E: Env, T: Carried<E>> Carried<E> for Option<T> {
     ghost shape = { λ e. optional (T.shape e) };
 
     ghost means = { options T.means };
+
+    ghost beside = { options_beside T.beside };
 }
 
 impl<E: Env, T: OneMeaning<E>> OneMeaning<E> for Option<T> {
@@ -45,7 +48,7 @@ impl<E: Env, T: PagableSerialize<E>> PagableSerialize<E> for Option<T> {
 impl<'de, E: Env, T: PagableDeserialize<'de, E>> PagableDeserialize<'de, E> for Option<T> {
     ghost read_causes = { T.read_causes };
 
-    #[tactic(auto, unfolding(pagable_model::specs::Reading::read, pagable_model::specs::Reading::read_with), using(crate::proofs::Parts::reads))]
+    #[tactic(auto, unfolding(pagable_model::specs::Reading::read, pagable_model::specs::Reading::read_with), using(crate::proofs::Parts::reads, crate::proofs::Lent::lent))]
     fn pagable_deserialize<D: PagableDeserializer<E>>(
         alloc: Global,
         deserializer: &mut D,
@@ -75,7 +78,7 @@ impl<E: Env, T: PagableSerialize<E>> PagableSerialize<E> for Box<T> {
 impl<'de, E: Env, T: PagableDeserialize<'de, E> + Drop> PagableDeserialize<'de, E> for Box<T> {
     ghost read_causes = { reads_memory_or T.read_causes };
 
-    #[tactic(auto, using(crate::proofs::Parts::reads))]
+    #[tactic(auto, using(crate::proofs::Parts::reads, crate::proofs::Lent::lent))]
     fn pagable_deserialize<D: PagableDeserializer<E>>(
         alloc: Global,
         deserializer: &mut D,
@@ -89,6 +92,8 @@ impl<E: Env, A: Carried<E>, B: Carried<E>> Carried<E> for (A, B) {
     ghost shape = { λ e. both (A.shape e) (B.shape e) };
 
     ghost means = { pairs A.means B.means };
+
+    ghost beside = { pairs_beside A.beside B.beside };
 }
 
 impl<E: Env, A: OneMeaning<E>, B: OneMeaning<E>> OneMeaning<E> for (A, B) {
@@ -111,7 +116,7 @@ impl<
 > PagableDeserialize<'de, E> for (A, B) {
     ghost read_causes = { reads_either A.read_causes B.read_causes };
 
-    #[tactic(auto, unfolding(pagable_model::specs::Reading::read, pagable_model::specs::Reading::read_with), using(crate::proofs::Parts::reads))]
+    #[tactic(auto, unfolding(pagable_model::specs::Reading::read, pagable_model::specs::Reading::read_with), using(crate::proofs::Parts::reads, crate::proofs::Lent::lent))]
     fn pagable_deserialize<D: PagableDeserializer<E>>(
         alloc: Global,
         deserializer: &mut D,

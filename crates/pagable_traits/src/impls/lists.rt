@@ -2,7 +2,7 @@
 
 ghost use Rattle.std.specs.{Box.boxed_slice_items, Prelude.{[], max, ◌++◌, ◌∷◌, ◌≡◌}, Vec.vec_capacity};
 ghost use Rattle.pagable_model.specs.{Gives.{long_or, memory_or}, Lifted.{MeanAll, MeansList}, Shape.{array, list, run}};
-ghost use Rattle.pagable_traits.specs.{Clauses.{Wrote, all, value as form}, Meanings.{lists, lists_single, seen_by}, OwnCauses.{reads_memory_or, writes_long_or, writes_memory_or}};
+ghost use Rattle.pagable_traits.specs.{Beside.lists_beside, Clauses.{Wrote, all, value as form}, Meanings.{lists, lists_single, seen_by}, OwnCauses.{reads_memory_or, writes_long_or, writes_memory_or}};
 
 use crate::impls::collecting::{
     Collects, collect_items, read_collected, write_counted, write_each,
@@ -61,6 +61,8 @@ impl<E: Env, T: Carried<E>> Carried<E> for Vec<T> {
     ghost shape = { λ e. list (T.shape e) };
 
     ghost means = { seen_by (λ v. v.items) (lists T.means) };
+
+    ghost beside = { λ v. lists_beside T.beside v.items };
 }
 
 impl<E: Env, T: OneMeaning<E>> OneMeaning<E> for Vec<T> {

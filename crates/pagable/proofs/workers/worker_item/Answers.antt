@@ -1,4 +1,4 @@
-use Rattle.{std.proofs.Common.{arith, sym, ◌∙◌, ◌≡◌, refl, inr}, pagable_loads.specs.Telling.values_at}
+use Rattle.{std.proofs.Common.{arith, sym, ◌∙◌, ◌≡◌, refl, inl, inr}, pagable_loads.specs.Telling.values_at}
 use Rattle.pagable.proofs.{Driven.{begun-on, item-started, keeps-after}, Keeping.{as-made, drives, lender-is, nothing-done, one-on, refused, refuses, stay-on, told-so}}
 use Rattle.pagable_tables.proofs.Worlds.{failed}
 use Rattle.pagable.proofs.workers.worker_item.Goals as goal
@@ -6,12 +6,12 @@ use Rattle.pagable.proofs.workers.worker_item.Goals as goal
 pub returns-in_err-ready : goal.returns-in_err-ready
 returns-in_err-ready g c =
     rw (failed c.from_residual.result c.from_residual.ensures.1) (refuses c.requires refl (omega arith) c.ready.ensures.same (λ serving. refused _ serving c.is_whole.ensures (nothing-done _ c.is_whole.ensures) (λ l. refl) refl c.ready.ensures.same
-    _ _ (λ q. refl) (λ stays. record { starts = tt; refused = (c.in_err-ready.ensures.refused, stays) }) tt))
+    _ _ (λ q. refl) (λ stays. record { starts = tt; refused = (elim c.in_err-ready.ensures.refused [ inl none ↦ inl none | inr (is, there) ↦ inr (inr is, there) ], stays) }) tt))
 
 pub returns-in_err-walk : goal.returns-in_err-walk
 returns-in_err-walk g c =
     rw (failed c.from_residual-in_err-walk.result c.from_residual-in_err-walk.ensures.1) (refuses c.requires refl (omega arith) c.ready.ensures.same (λ serving. refused _ serving c.is_whole.ensures (nothing-done _ c.is_whole.ensures) (λ l. refl) refl
-    c.ready.ensures.same _ _ (λ q. refl) (λ stays. record { starts = tt; refused = (inr (c.in_err-walk.ensures.only, c.in_ok-ready.ensures.there), stays) }) tt))
+    c.ready.ensures.same _ _ (λ q. refl) (λ stays. record { starts = tt; refused = (inr (inr c.in_err-walk.ensures.only, c.in_ok-ready.ensures.there), stays) }) tt))
 
 pub returns : goal.returns
 returns g c =
@@ -25,9 +25,8 @@ returns g c =
 
 pub returns-in_err-worker : goal.returns-in_err-worker
 returns-in_err-worker g c =
-    let ends : c.worker_begin.new.self.pager.now ≡ c.pager-1.given.0 = sym (c.pager-1.given.1 (sym (lender-is c.in_err-worker.ensures.refused.1.acting ∙ c.new-lent.ensures.lent))) in
-    let none = c.in_err-worker.ensures.refused in
-    let told = rw ends at (rw c.new-lent.ensures.same at (told-so _ _ _ _ none.1.step)) in
+    let ends : c.worker_begin.new.self.pager.now ≡ c.pager-1.given.0 = sym (c.pager-1.given.1 (sym (lender-is c.in_err-worker.ensures.refused.acting ∙ c.new-lent.ensures.lent))) in
+    let told = rw ends at (rw c.new-lent.ensures.same at (told-so _ _ _ _ c.in_err-worker.ensures.refused.step)) in
     rw (failed c.from_residual-in_err-worker.result c.from_residual-in_err-worker.ensures.1) (drives c.requires (λ is. (told is).0) (stay-on c.requires.on_tables c.ready.ensures.same (omega arith)) (λ is serving. as-made (refused _ serving c.is_whole.ensures
-    (told is).1 (λ l. refl) refl c.ready.ensures.same _ _ (λ q. refl)
-    (λ stays. record { starts = tt; refused = (inr (none.0, c.in_ok-ready.ensures.there), stays) }) tt)))
+    (told is).1.1 (λ l. refl) refl c.ready.ensures.same _ _ (λ q. refl)
+    (λ stays. record { starts = tt; refused = (inr (inl (told is).1.0, c.in_ok-ready.ensures.there), stays) }) tt)))

@@ -9,7 +9,7 @@ returns-then-place-pending g c = refuses c.requires refl (omega arith) (λ q. re
 pub returns-in_err-ready : goal.returns-in_err-ready
 returns-in_err-ready g c =
     rw (failed c.from_residual.result c.from_residual.ensures.1) (refuses c.requires refl (omega arith) c.ready.ensures.same (λ serving. refused _ serving c.is_whole.ensures (nothing-done _ c.is_whole.ensures) (λ l. refl) refl c.ready.ensures.same _ _
-    (λ q. refl) (λ stays. record { starts = tt; refused = (elim c.in_err-ready.ensures.refused [ inl (is, none) ↦ inl (is, inl none) | inr (is, there) ↦ inr (inr (is, there, grind arith)) ], stays) })
+    (λ q. refl) (λ stays. record { starts = tt; refused = (elim c.in_err-ready.ensures.refused [ inl (is, none) ↦ inl (is, inl none) | inr (is, there) ↦ inr (inr (inr is, there, grind arith)) ], stays) })
     tt))
 
 pub returns : goal.returns

@@ -24,9 +24,9 @@ pub returns : goal.returns
 returns g c =
     let w = c.requires.whole.steady in
     let unvalued = ap is_valued (owner-same c.args.me c.in_ok-at.at.row.owner c.in_ok-at.ensures.owner) ∙ not-a-value (plain_of c.args.t.now) c.args.me c.requires.holder in
-    let steady = c.hand_over.ensures.stands (record c.args.t.now.holdings { list = c.push.new.self }) unvalued refl (record { sound = w.sound; next = w.next; fits = w.fits }) in
+    let steady = c.hand_over.ensures.stands (record c.args.t.now.holdings { list = c.push_back.new.self }) unvalued refl (record { sound = w.sound; next = w.next; fits = w.fits }) in
     let t = c.args.t.now in
-    let new = record t { holdings = record t.holdings { list = c.push.new.self; handles = c.hand_over.new.handles } } in
+    let new = record t { holdings = record t.holdings { list = c.push_back.new.self; handles = c.hand_over.new.handles } } in
     sheds-with (lazily-so {lists = c.args.lists} {old = t} {new = new} {step = λ w w'. ScheduleCall w c.args.me c.args.handle (Ok tt) w'}
     (λ stored closed failures e.
     grind (arith, nat_tests, owner-same, closed-is, alike, c.in_ok-at.ensures.found, c.in_ok-at.ensures.owner, c.if-not-lists.false, c.hand_over.ensures.becomes.rows, c.in_ok-at.ensures.number))

@@ -2,35 +2,35 @@ use Rattle.pagable_tables.proofs.{Alive.whole-so, Calls.take-whole, Fitting.{ent
 use Rattle.pagable_tables.proofs.Words.{Bool, InReach, None, Option, Some, TakeCall, ap, arith, core_of, false, inl, inr, live, moved, nat_tests, only_handle, plain_of, reach_at, refl, rules}
 use Rattle.pagable_tables.proofs.{Words.{slice_get_read, subst, ℕ, ◌<◌, ◌∙◌}, Worlds.{alike, at-work-still}}
 
-pub unreachable-requires : Rattle.pagable_tables.proofs.giving.take_pending.Goals.unreachable-requires
-unreachable-requires c =
-    let listed = c.requires.whole.core.owners_there.listed c.remove-handle.result.0 in
-    entry-lives c.args.t.now.holdings.list.items c.args.t.now.holdings.handles.places.items c.args.place c.remove-handle.result (omega arith) c.remove-handle.ensures.value listed (search rules)
+pub unreachable-requires-in_default-look : Rattle.pagable_tables.proofs.giving.take_pending.Goals.unreachable-requires-in_default-look
+unreachable-requires-in_default-look c =
+    let listed = c.requires.whole.core.owners_there.listed c.in-Some.handle.0 in
+    entry-lives c.args.t.now.holdings.list.items c.args.t.now.holdings.handles.places.items c.args.place c.in-Some.handle (omega arith) c.in-Some.ensures.value listed (search rules)
 
 pub returns : Rattle.pagable_tables.proofs.giving.take_pending.Goals.returns
 returns c =
     let u = c.args.t.now in
     let t = u.holdings in
-    let h = c.remove-handle.result in
+    let h = c.in-Some.handle in
     let w = c.requires.whole in
-    let given = c.hand_over.ensures.becomes.rows ∙ ap (λ q. moved (only_handle q) c.args.me (live t.handles.places.items)) c.in-Some.ensures.number in
+    let given = c.hand_over.ensures.becomes.rows ∙ ap (λ q. moved (only_handle q) c.args.me (live t.handles.places.items)) c.in-Some-look.ensures.number in
     let taken : (stored : ℕ → Option Blob) (closed : Bool) (failures : ℕ) → TakeCall (core_of u stored closed failures) c.args.me c.args.place (Some h)
-    (core_of (record u { holdings = record t { handles = c.hand_over.new.handles; list = c.remove-handle.new.self }; workers = c.reach_to.new.workers }) stored closed failures) =
+    (core_of (record u { holdings = record t { handles = c.hand_over.new.handles; list = c.remove.new.self }; workers = c.reach_to.new.workers }) stored closed failures) =
     λ stored closed failures.
-    (let w' = core_of (record u { holdings = record t { handles = c.hand_over.new.handles; list = c.remove-handle.new.self } }) stored closed failures in (
-      slice_get_read t.list.items _ c.args.place h refl (omega arith) c.remove-handle.ensures.value,
-      at-work-still (alike _ w' given (λ n. refl) c.remove-handle.ensures.items (record { handles = omega arith; entries = omega arith }) refl) c.reach_to.ensures.at_work,
+    (let w' = core_of (record u { holdings = record t { handles = c.hand_over.new.handles; list = c.remove.new.self } }) stored closed failures in (
+      slice_get_read t.list.items _ c.args.place h refl (omega arith) c.in-Some.ensures.value,
+      at-work-still (alike _ w' given (λ n. refl) c.in-Some.ensures.items (record { handles = omega arith; entries = omega arith }) refl) c.reach_to.ensures.at_work,
     )) in
-    let none = entry-unvalued t.list.items t.handles.places.items c.args.place h (omega arith) c.remove-handle.ensures.value (w.core.owners_there.listed h.0) in
-    let unvalued = none c.in-Some.at.place c.in-Some.at.row w.steady.sound.ordered c.in-Some.ensures.place c.in-Some.ensures.number in
-    let steady = c.hand_over.ensures.stands (record t { list = c.remove-handle.new.self }) unvalued (not-a-value (plain_of u) c.args.me c.requires.holder)
+    let none = entry-unvalued t.list.items t.handles.places.items c.args.place h (omega arith) c.in-Some.ensures.value (w.core.owners_there.listed h.0) in
+    let unvalued = none c.in-Some-look.at.place c.in-Some-look.at.row w.steady.sound.ordered c.in-Some-look.ensures.place c.in-Some-look.ensures.number in
+    let steady = c.hand_over.ensures.stands (record t { list = c.remove.new.self }) unvalued (not-a-value (plain_of u) c.args.me c.requires.holder)
     (record { sound = w.steady.sound; next = w.steady.next; fits = w.steady.fits }) in
     record {
       taken = taken;
       whole = whole-so steady (take-whole _ c.args.me c.args.place h w.core c.requires.holder (taken (λ key. None) false 0));
       later = λ other later.
-          (let row = found-among h.0 (live t.handles.places.items) c.in-Some.at.row c.in-Some.ensures.found in
-          let numbered : 0 < h.0 = (let n = w.core.handles.numbered c.in-Some.at.row row.0 in let a = n.0 in let is = row.1 in omega arith) in
+          (let row = found-among h.0 (live t.handles.places.items) c.in-Some-look.at.row c.in-Some-look.ensures.found in
+          let numbered : 0 < h.0 = (let n = w.core.handles.numbered c.in-Some-look.at.row row.0 in let a = n.0 in let is = row.1 in omega arith) in
           later-by later (omega arith) (λ l load is. is) c.reach_to.ensures.less (λ l q own. inl (load-kept u later (only_handle h) c.args.me other _ given l q own))
           (λ v q own. elim (worker-kept u later (only_handle h) c.args.me other _ given v q own) [
             | inl had ↦ inl had

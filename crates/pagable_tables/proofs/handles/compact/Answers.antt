@@ -9,6 +9,7 @@ returns-clause-becomes c =
       sound = record {
         ordered = subst (AllPairs IsBefore) (sym e) (AllPairs-filter IsBefore is_live_place old c.requires.ordered);
         counted = omega (arith, c.requires.counted, length-live-filter old, ap length e, ap (λ l. length (live l)) e, ap length (live-filter old));
+        few = omega arith;
       };
       rows = ap live e ∙ live-filter old;
       capacity = search rules;

@@ -4,6 +4,7 @@ use Rattle.pagable_tables.proofs.Words.{Core, Error, Falls, FallsAnyhow, HandleR
 use Rattle.pagable_tables.proofs.Words.{cell_in, changed, core_of, counts_at, false, has_value, inl, inr, is_handle, is_here, is_named_by, is_owned_in, is_pin, live, load_at, load_in, moved}
 use Rattle.pagable_tables.proofs.Words.{nat_tests, not, one, option_map, owner_value, owns, owns_nothing, plain_of, references_fault, refl, refs_at, row_of, subst, sum_by, sym, true, with_pin}
 use Rattle.{pagable_tables.{proofs.{Words.{without_load, ℕ, ◌&&◌, ◌++◌, ◌+◌, ◌<◌, ◌∙◌, ◌∷◌, ◌≡◌, ◌⊎◌}, Worlds.named-none}, specs.Falling.coming}, std.proofs.lemmas.{Bool.{not-false, not-true}, List.map-id}}
+use Rattle.pagable_tables.proofs.Words.{Cell, Counts, Option, OptionalDataKey, Right, Some, falls_in, has_key, if_there, is_in_memory, key_in, named, nat_lt, pins_in}
 use Rattle.pagable_tables.proofs.loading.install.Goals as goal
 
 -- the load gives up what it owns, and what comes doesn't fall
@@ -14,6 +15,20 @@ falls-so : (b : Bool) (w : Core) (me : Owner) (l : LoadNumber) (row : HandleRow)
     ⊎ ((is_here w row.node.0 ≡ true) × FallsAnyhow w (with_pin (without_load w l) row.number row.node me) (is_owned_in w (Owner.Load l)) w')
 falls-so true w me l row rs r w' away falls = inl (not-true _ (sym away), record { told = r; falls = falls })
 falls-so false w me l row rs r w' away falls = inr (not-false _ (sym away), record { told = r; falls = simp (named-none, map-id, and-true) at falls })
+
+stored-key : (k : ℕ) → has_key (key_in k) ≡ nat_lt 0 k
+stored-key k = grind (arith, nat_tests)
+
+-- where nothing falls, a node doesn't
+stands : (o : Option Counts) → 0 ≡ one (falls_in o) → falls_in o ≡ false
+stands o none = grind (arith, nat_tests)
+
+-- a node whose value is away refers to nothing
+bare-away : (o : Option Counts) (refs : List ArcRef) (pinned : ℕ) → Right o refs → falls_in o ≡ false → pins_in o ≡ pinned
+    → is_in_memory pinned (if_there (λ (cell : Cell). cell.key) OptionalDataKey.None (cell_in o)) ≡ false → refs ≡ []
+bare-away o [] pinned right still same away = refl
+bare-away None (r ∷ rs) pinned right still same away = right
+bare-away (Some c) (r ∷ rs) pinned right still same away = absurd (grind (arith, nat_tests, stored-key))
 
 pub pin_here-requires : goal.pin_here-requires
 pin_here-requires g c =
@@ -55,8 +70,11 @@ give_all-requires-clause-steady g c =
       | inr here ↦ subst (λ (h : Holdings). IsFalling h [] owns_nothing) (sym (j.none here)) whole.steady
       | inl comes ↦
           (let away : is_here p n ≡ false = not-true (is_here p n) (sym r.away ∙ comes) in
+          let at : Option Counts = counts_at t.holdings.nodes n in
+          let still : falls_in at ≡ false = stands at (was.steady.fits.marked n) in
+          let bare : refs_at t.holdings.nodes n ≡ [] = bare-away at _ _ (was.steady.fits.right n) still (was.steady.fits.pinned n) away in
           let none : (q : ℕ) → sum_by (λ h. owns h n q) (live t.holdings.handles.places.items) ≡ 0 =
-          λ q. grind (arith, nat_tests, was.steady.fits.owned n q, was.steady.fits.right n, was.steady.fits.pinned n, away) in
+          λ q. sym (was.steady.fits.owned n q) ∙ ap (λ (refs : List ArcRef). named q refs + owns_nothing n q) bare in
           let unvalued = not-a-value p me (may-hold p me (ready-owner t me l c.args.node_type rs c.args.ending was r)) in
           let spared = not-named p l rs was.core.handles r.may.good (t.holdings.last_handle + 1) (omega arith) in
           let before = changed (is_handle row.number.0) turned (live t.holdings.handles.places.items) ++ x ∷ [] in

@@ -4,5 +4,5 @@ pub unreachable-requires : Rattle.pagable_tables.proofs.lookups.entry.Goals.unre
 unreachable-requires c =
     let t = c.args.t.now.holdings in
     let h = c.in_ok-handle.field-0.now in
-    let at = rw c.deref.ensures.value at c.in_ok-handle.ensures.lookup in
-    entry-lives t.list.items t.handles.places.items c.args.place h (grind (arith, nat_tests)) at.1 (c.requires.core.owners_there.listed h.0) c.in_default.ensures.none
+    let at = c.in_ok-handle.ensures.lookup in
+    entry-lives t.list.items t.handles.places.items c.args.place h (grind (arith, nat_tests)) at (c.requires.core.owners_there.listed h.0) c.in_default.ensures.none

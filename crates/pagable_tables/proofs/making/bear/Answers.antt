@@ -12,18 +12,16 @@ returns-clause-does c =
     let w = c.requires.whole in
     let n = u.last_node + 1 in
     let x : HandleRow = record { number = record { 0 = t.last_handle + 1 }; node = record { 0 = n }; mode = c.args.mode; owner = me } in
-    let added = c.in-Ok-insert.ensures.updates in
-    let other : (q : ℕ) → q ≢ n → nat_eq n q ≡ false = λ q ne. grind (arith, nat_tests) in
     let is : Counts = record { node_type = c.args.node_type; key = c.args.key; pins = one (is_pinning c.args.mode); holds = 1; is_falling = false; next = 0 } in
-    let came = ap (option_map (λ (r : NodeRow). r.counts)) added.1 in
-    let here : counts_at c.insert.new.self n ≡ Some is = grind (arith, nat_tests, came, c.pins.ensures) in
-    let others : (q : ℕ) → q ≢ n → counts_at c.insert.new.self q ≡ at q = λ q ne. ap (option_map (λ (r : NodeRow). r.counts)) (added.2 q (other q ne)) in
+    let came = ap (option_map (λ (r : NodeRow). r.counts)) c.put.ensures.here in
+    let here : counts_at c.put.new.self n ≡ Some is = grind (arith, nat_tests, came, c.pins.ensures) in
+    let others : (q : ℕ) → q ≢ n → counts_at c.put.new.self q ≡ at q = λ q ne. ap (option_map (λ (r : NodeRow). r.counts)) (c.put.ensures.others q ne) in
     let refers = λ (o : Option NodeRow). option_map_or (λ (r : NodeRow). r.references.items) o [] in
     let free : at n ≡ None = let given = w.core.handles.nodes_numbered n in grind (arith, nat_tests) in
     let rows = c.in-Ok.ensures.rows ∙ ap (λ l. l ++ x ∷ []) (c.hand_over_all.ensures.rows ∙ ap (λ l. moved (is_named_by l) (owner_value n) (live t.handles.places.items)) c.deref.ensures.value) in
     let unvalued = not-a-value (plain_of u) me c.requires.holder in
-    let fits = born-fits (plain_of u) me rs w.core.handles.ordered c.requires.fit unvalued at (counts_at c.insert.new.self) (refs_at t.nodes) (refs_at c.insert.new.self) t.top x _ w.steady.fits refl
-    refl (elim c.requires.bare [ inl none ↦ inl none | inr so ↦ inr so.1 ]) (omega arith) free here others (ap refers added.1) (λ q ne. ap refers (added.2 q (other q ne))) in
+    let fits = born-fits (plain_of u) me rs w.core.handles.ordered c.requires.fit unvalued at (counts_at c.put.new.self) (refs_at t.nodes) (refs_at c.put.new.self) t.top x _ w.steady.fits refl
+    refl (elim c.requires.bare [ inl none ↦ inl none | inr so ↦ inr so.1 ]) (omega arith) free here others (ap refers c.put.ensures.here) (λ q ne. ap refers (c.put.ensures.others q ne)) in
     does-so (λ stored closed failures. grind (arith, nat_tests, same-cache))
-    (record { sound = c.push.ensures.sound; next = c.in-Ok.ensures.next; fits = rows-told (counts_at c.insert.new.self) (refs_at c.insert.new.self) _ _ t.top rows fits })
+    (record { sound = c.push.ensures.sound; next = c.in-Ok.ensures.next; fits = rows-told (counts_at c.put.new.self) (refs_at c.put.new.self) _ _ t.top rows fits })
     (bears-goes me c.args.node_type c.args.key rs c.args.mode _ w.core c.requires.holder c.requires.fit c.requires.ready.node_left (elim c.requires.bare [ inl none ↦ λ is. ap (λ k. has_key (key_in k)) none | inr so ↦ λ is. absurd (let a = so.0 in cc) ])) refl refl

@@ -1,7 +1,7 @@
-use Rattle.pagable_tables.proofs.{Next.passes-none, Words.{AreLater, None, Tables, [], ap, arith, get, known_at, live, load_at, nat_eq, nat_tests}}
+use Rattle.pagable_tables.proofs.{Next.passes-none, Words.{AreLater, None, Tables, [], ap, arith, known_at, live, load_at, nat_tests, row_by}}
 use Rattle.pagable_tables.{proofs.Words.{refl, worker_at, ℕ, ◌≡◌}, specs.Core.IsWhole}
 
-nothing-whole : (t : Tables) → t.holdings.handles.dead ≡ 0 → t.holdings.handles.places.items ≡ [] → ((n : ℕ) → get nat_eq t.holdings.nodes n ≡ None) → t.holdings.list.items ≡ []
+nothing-whole : (t : Tables) → t.holdings.handles.dead ≡ 0 → t.holdings.handles.places.items ≡ [] → ((n : ℕ) → row_by t.holdings.nodes n ≡ None) → t.holdings.list.items ≡ []
     → ((kind key : ℕ) → known_at t.cache kind key ≡ None) → ((l : ℕ) → load_at t.loads l ≡ None) → ((v : ℕ) → worker_at t.workers v ≡ None)
     → (t.holdings.top ≡ 0) × (t.holdings.last_handle ≡ 0) × (t.last_node ≡ 0) × (t.last_load ≡ 0) → IsWhole t
 nothing-whole t dead rows found list cache loads workers last = grind (arith, nat_tests)
@@ -14,5 +14,5 @@ returns-clause-later c = nothing-later _ (ap live c.new.ensures.items) (λ l. rw
 
 pub returns-clause-whole : Rattle.pagable_tables.proofs.tables.new.Goals.returns-clause-whole
 returns-clause-whole c =
-    nothing-whole _ refl c.new.ensures.items (λ n. rw c.new-2.ensures.empty refl) c.new-3.ensures.items (λ kind key. rw c.new-4.ensures.empty refl) (λ l. rw c.new-5.ensures.empty refl)
+    nothing-whole _ refl c.new.ensures.items c.new-2.ensures c.new-3.ensures.items (λ kind key. rw c.new-4.ensures.empty refl) (λ l. rw c.new-5.ensures.empty refl)
     (λ v. rw c.new-6.ensures.empty refl) (refl, refl, refl, refl)

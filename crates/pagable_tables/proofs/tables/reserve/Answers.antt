@@ -1,9 +1,10 @@
-use Rattle.pagable_tables.proofs.{Fitting.rows-told, Newer.{does-as, does-so}, Told.alike-goes, Words.{Alike, Holdings, Tables, arith, nat_tests, refl, vec_capacity, ◌+◌, ◌≡◌}}
+use Rattle.std.specs.VecDeque.{deque_capacity}
+use Rattle.pagable_tables.proofs.{Fitting.rows-told, Newer.{does-as, does-so}, Told.alike-goes, Words.{Alike, Holdings, Tables, arith, nat_tests, refl, ◌+◌, ◌≡◌}}
 use Rattle.pagable_tables.{proofs.{Words.◌≤◌, Worlds.{failed, same-cache}}, specs.{Core.{Does, IsWhole}, Falling.Widens}}
 use Rattle.pagable_tables.proofs.tables.reserve.Goals as goal
 
 -- there is room, and all else is as it was
-grown : (t : Tables) (u : Holdings) → IsWhole t → Widens t.holdings.handles u.handles → u.list.items ≡ t.holdings.list.items → vec_capacity t.holdings.list ≤ vec_capacity u.list
+grown : (t : Tables) (u : Holdings) → IsWhole t → Widens t.holdings.handles u.handles → u.list.items ≡ t.holdings.list.items → deque_capacity t.holdings.list ≤ deque_capacity u.list
     → Does t Alike (record t { holdings = record t.holdings { handles = u.handles; list = u.list } })
 grown t u w e items capacity = does-so (λ stored closed failures. grind (arith, nat_tests, same-cache, e.rows, items, e.capacity, capacity))
     (record { sound = e.sound; next = e.next (t.holdings.last_handle + 1) w.steady.next; fits = rows-told _ _ _ _ t.holdings.top e.rows w.steady.fits })
@@ -14,12 +15,12 @@ returns-in_err-reserve c = rw (failed c.from_residual.result c.from_residual.ens
     (does-as (grown c.args.t.now (record c.args.t.now.holdings { handles = c.reserve.new.handles }) c.requires c.reserve.ensures.widens refl (omega arith))
     (λ stored closed failures grown. record { stays = grown; enough = tt; wanting = (refl, grind (arith, nat_tests, c.in_err-reserve.ensures.err)) }))
 
-pub returns-in_err-reserve-2 : goal.returns-in_err-reserve-2
-returns-in_err-reserve-2 c = rw (failed c.from_residual-in_err-reserve-2.result c.from_residual-in_err-reserve-2.ensures.1)
-    (does-as (grown c.args.t.now (record c.args.t.now.holdings { handles = c.reserve.new.handles; list = c.reserve-2.new.self }) c.requires c.reserve.ensures.widens c.reserve-2.ensures.items c.reserve-2.ensures.capacity)
-    (λ stored closed failures grown. record { stays = grown; enough = tt; wanting = (refl, grind (arith, nat_tests, c.in_err-reserve-2.ensures.full, c.in_err-reserve-2.ensures.err, c.reserve-2.ensures.len)) }))
+pub returns-in_err-reserve_entries : goal.returns-in_err-reserve_entries
+returns-in_err-reserve_entries c = rw (failed c.from_residual-in_err-reserve_entries.result c.from_residual-in_err-reserve_entries.ensures.1)
+    (does-as (grown c.args.t.now (record c.args.t.now.holdings { handles = c.reserve.new.handles; list = c.reserve_entries.new.list }) c.requires c.reserve.ensures.widens c.reserve_entries.ensures.items c.reserve_entries.ensures.capacity)
+    (λ stored closed failures grown. record { stays = grown; enough = tt; wanting = (refl, grind (arith, nat_tests, c.in_err-reserve_entries.ensures.err)) }))
 
 pub returns : goal.returns
 returns c =
-    does-as (grown c.args.t.now (record c.args.t.now.holdings { handles = c.reserve.new.handles; list = c.reserve-2.new.self }) c.requires c.reserve.ensures.widens c.reserve-2.ensures.items c.reserve-2.ensures.capacity)
-    (λ stored closed failures grown. record { stays = grown; enough = grind (arith, nat_tests, c.in_ok-reserve.ensures.ok, c.in_ok-reserve-2.ensures.ok); wanting = tt })
+    does-as (grown c.args.t.now (record c.args.t.now.holdings { handles = c.reserve.new.handles; list = c.reserve_entries.new.list }) c.requires c.reserve.ensures.widens c.reserve_entries.ensures.items c.reserve_entries.ensures.capacity)
+    (λ stored closed failures grown. record { stays = grown; enough = grind (arith, nat_tests, c.in_ok-reserve.ensures.ok, c.in_ok-reserve_entries.ensures.ok); wanting = tt })

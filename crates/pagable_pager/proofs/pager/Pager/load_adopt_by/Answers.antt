@@ -38,11 +38,11 @@ returns-in-Ok-None g c =
     rw (← c.self.view_is, ← (rw c.in-Ok-None.field-0-is at e.same), ← (rw c.in-Ok-None.field-0-is at e.kept)) (record { step = c.adopt_as_new.ensures.step; moves = c.adopt_as_new.ensures.moves; storage = c.adopt_as_new.ensures.storage })
 
 pub invariant_of-self-in-Err-adopt_if_known : goal.invariant_of-self-in-Err-adopt_if_known
-invariant_of-self-in-Err-adopt_if_known g c = let e = c.in-Err.ensures in same-so c.self.invariant _ _ e.whole e.later e.sheds (e.refused _ _ _).stays
+invariant_of-self-in-Err-adopt_if_known g c = let e = c.in-Err-adopt_if_known.ensures in same-so c.self.invariant _ _ e.whole e.later e.sheds (e.refused _ _ _).stays
 
-pub returns-in-Err : goal.returns-in-Err
-returns-in-Err g c =
-    let e = c.in-Err.ensures in
+pub returns-in-Err-adopt_if_known : goal.returns-in-Err-adopt_if_known
+returns-in-Err-adopt_if_known g c =
+    let e = c.in-Err-adopt_if_known.ensures in
     let less = only-less c.self.invariant c.adopt_if_known.new.t c.adopt_if_known.new.values e.sheds in
     rw (← c.self.view_is) (record {
       step = not-adopted c.node_type-node_type.ensures.value (c.deref.ensures.value ∙ c.in-Ok.ensures.ok) refl (e.refused _ _ _);

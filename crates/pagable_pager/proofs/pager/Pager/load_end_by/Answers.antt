@@ -20,11 +20,11 @@ returns-in-Err-InVain-clause-step g c =
 pub returns-in-Err-InVain-clause-moves : goal.returns-in-Err-InVain-clause-moves
 returns-in-Err-InVain-clause-moves g c = let less = c.load_drop_by.ensures.only in rw (← c.self.view_is) (record { each = λ n x has. inl (less.values n x has); environment = less.environment })
 
-pub invariant_of-self-in-Err : goal.invariant_of-self-in-Err
-invariant_of-self-in-Err g c = roomier c.self.invariant c.place.new.values c.prepare_end.ensures.does c.in-Err.ensures.kept
+pub invariant_of-self-in-Err-place : goal.invariant_of-self-in-Err-place
+invariant_of-self-in-Err-place g c = roomier c.self.invariant c.place.new.values c.prepare_end.ensures.does c.in-Err-place.ensures.kept
 
-pub returns-in-Err-clause-step : goal.returns-in-Err-clause-step
-returns-in-Err-clause-step g c = rw (← c.self.view_is, c.in-Err.ensures.only) (no-room c.self.invariant c.place.new.values c.prepare_end.ensures.does c.in-Err.ensures.back (c.in-Ok-prepare_end.ensures.ready _ _ _))
+pub returns-in-Err-place-clause-step : goal.returns-in-Err-place-clause-step
+returns-in-Err-place-clause-step g c = rw (← c.self.view_is, c.in-Err-place.ensures.only) (no-room c.self.invariant c.place.new.values c.prepare_end.ensures.does c.in-Err-place.ensures.back (c.in-Ok-prepare_end.ensures.ready _ _ _))
 
 pub install-requires-clause-ready : goal.install-requires-clause-ready
 install-requires-clause-ready g c stored closed failures = ready-told refl c.deref.ensures.value (c.in-Ok-prepare_end.ensures.ready stored closed failures)
@@ -32,10 +32,10 @@ install-requires-clause-ready g c stored closed failures = ready-told refl c.der
 pub invariant_of-self-2 : goal.invariant_of-self-2
 invariant_of-self-2 g c =
     ended-so c.self.invariant c.args.value c.place.new.values c.install.new.values c.node_type-node_type.ensures.value c.deref.ensures.value c.in-Ok.ensures.ok c.prepare_end.ensures.does
-    c.prepare_end.ensures.nodes c.in-Ok-prepare_end.ensures.ready c.install.ensures.does c.has_closed-lists.ensures c.in_default-place.ensures.placed c.install.ensures.sheds
+    c.prepare_end.ensures.nodes c.in-Ok-prepare_end.ensures.ready c.install.ensures.does c.has_closed-lists.ensures c.in_default.ensures.placed c.install.ensures.sheds
 
 pub returns : goal.returns
 returns g c =
     let ended = ended-told c.self.invariant c.args.value c.place.new.values c.install.new.values c.node_type-node_type.ensures.value c.deref.ensures.value c.in-Ok.ensures.ok
-    c.prepare_end.ensures.does c.prepare_end.ensures.nodes c.in-Ok-prepare_end.ensures.ready c.install.ensures.does c.has_closed-lists.ensures c.in_default-place.ensures.placed c.install.ensures.sheds in
+    c.prepare_end.ensures.does c.prepare_end.ensures.nodes c.in-Ok-prepare_end.ensures.ready c.install.ensures.does c.has_closed-lists.ensures c.in_default.ensures.placed c.install.ensures.sheds in
     rw (← c.self.view_is) (record { step = ended.0; moves = ended.1; storage = refl })

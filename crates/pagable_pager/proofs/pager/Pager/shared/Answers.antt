@@ -4,4 +4,4 @@ pub returns-clause-empty : Rattle.pagable_pager.proofs.pager.Pager.shared.Goals.
 returns-clause-empty g c =
     let e = c.new.ensures in
     is-new (telling g.S.PagableStorage.stored g.S.PagableStorage.is_closed g.S.PagableStorage.failed) (record { tables = c.new.result; values = c.new-2.result; storage = c.args.storage; environment = (arc_value c.args.setting).env })
-    e.rows e.nodes e.list e.cache (λ n. rw c.new-2.ensures.empty refl) e.loads e.workers e.last
+    e.rows e.nodes e.list e.cache c.new-2.ensures e.loads e.workers e.last

@@ -2,12 +2,12 @@ use Rattle.{pagable_tables.{proofs.Worlds.{earlier-first, still}, specs.Core.loa
 use Rattle.std.{proofs.Common.{None, Some, ap, arith, inl, inr, not, refl, sym, ◌∙◌}, specs.Option.option_map}
 
 pub returns-in-Some : Rattle.pagable_pager.proofs.pager.Pager.unlisted.Goals.returns-in-Some
-returns-in-Some g c later =
+returns-in-Some g c wants later =
     let open_load = ap (option_map load_in) (sym c.load_of.ensures ∙ c.in-Some.is) in
-    rw (← c.self.view_is) (record { why = inr (refl, ap (if_there (λ (load : OpenLoad). None) (Some Error.NoSuchHandle)) open_load, tt); stays = still _ })
+    rw (← c.self.view_is) (record { why = inr (wants, ap (if_there (λ (load : OpenLoad). None) (Some Error.NoSuchHandle)) open_load, tt); stays = still _ })
 
 pub returns-in-None : Rattle.pagable_pager.proofs.pager.Pager.unlisted.Goals.returns-in-None
-returns-in-None g c later =
+returns-in-None g c wants later =
     let gone = ap (option_map load_in) (sym c.load_of.ensures ∙ c.in-None.is) in
     let fault = ap (if_there (λ (load : OpenLoad). refused_if (not (is_owner c.args.me load.owner)) Error.NotYours) (Some Error.NoSuchHandle)) gone in
     rw (← c.self.view_is) (record { why = inl (earlier-first _ later Error.NoSuchHandle fault (λ f late. omega arith)); stays = still _ })

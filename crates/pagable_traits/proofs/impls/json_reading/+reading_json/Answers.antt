@@ -19,24 +19,24 @@ read_value-returns-in-0 g t c =
 pub read_value-returns-in_err-flag-in-1 : goal.read_value-returns-in_err-flag-in-1
 read_value-returns-in_err-flag-in-1 g t c =
     let told = c.in_ok-case.ensures in
-    then-err g.E.Env g.D.PagableDeserializer c.from_residual-in_err-flag-in-1.result (λ m. variant 1 m) c.from_residual-in_err-flag-in-1.ensures.1 told.moves told.same_env told.same_levels c.in_err-flag-in-1.ensures
+    then-err g.E.Env g.D.PagableDeserializer c.from_residual-in_err-flag-in-1.result (λ m. variant 1 m) c.from_residual-in_err-flag-in-1.ensures.1 told.moves told.same_env told.same_levels c.in_err-flag-in-1.ensures.reads
     (flag-part _ _ _ _ _ told.gives c.in-1.is) (λ no. absurd no)
 
 pub read_value-returns-in_ok-flag-in-1 : goal.read_value-returns-in_ok-flag-in-1
 read_value-returns-in_ok-flag-in-1 g t c =
     let told = c.in_ok-case.ensures in
-    then-ok g.E.Env g.D.PagableDeserializer _ (λ m. variant 1 m) told.moves told.same_env told.same_levels c.in_ok-flag-in-1.ensures (flag-part _ _ _ _ _ told.gives c.in-1.is) (λ m is. is-flag _ m is)
+    then-ok g.E.Env g.D.PagableDeserializer _ (λ m. variant 1 m) told.moves told.same_env told.same_levels c.in_ok-flag-in-1.ensures.reads (flag-part _ _ _ _ _ told.gives c.in-1.is) (λ m is. is-flag _ m is)
 
 pub read_value-returns-in_err-text-in-3 : goal.read_value-returns-in_err-text-in-3
 read_value-returns-in_err-text-in-3 g t c =
     let told = c.in_ok-case.ensures in
-    then-err g.E.Env g.D.PagableDeserializer c.from_residual-in_err-text-in-3.result (λ m. variant 3 m) c.from_residual-in_err-text-in-3.ensures.1 told.moves told.same_env told.same_levels c.in_err-text-in-3.ensures
+    then-err g.E.Env g.D.PagableDeserializer c.from_residual-in_err-text-in-3.result (λ m. variant 3 m) c.from_residual-in_err-text-in-3.ensures.1 told.moves told.same_env told.same_levels c.in_err-text-in-3.ensures.reads
     (text-part _ _ _ _ _ told.gives c.in-3.is) (λ h. h)
 
 pub read_value-returns-in_ok-text-in-3 : goal.read_value-returns-in_ok-text-in-3
 read_value-returns-in_ok-text-in-3 g t c =
     let told = c.in_ok-case.ensures in
-    then-ok g.E.Env g.D.PagableDeserializer _ (λ m. variant 3 m) told.moves told.same_env told.same_levels c.in_ok-text-in-3.ensures (text-part _ _ _ _ _ told.gives c.in-3.is) (λ m is. is-text _ m is)
+    then-ok g.E.Env g.D.PagableDeserializer _ (λ m. variant 3 m) told.moves told.same_env told.same_levels c.in_ok-text-in-3.ensures.reads (text-part _ _ _ _ _ told.gives c.in-3.is) (λ m is. is-text _ m is)
 
 pub read_value-returns-in-4 : goal.read_value-returns-in-4
 read_value-returns-in-4 g t c =

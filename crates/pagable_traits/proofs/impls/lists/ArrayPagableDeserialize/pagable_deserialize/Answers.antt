@@ -1,8 +1,8 @@
 use Rattle.pagable_traits.proofs.{Items.{array_made, lists}, Words.{arith, read, read_with}}
 
 pub unwrap-requires : Rattle.pagable_traits.proofs.impls.lists.ArrayPagableDeserialize.pagable_deserialize.Goals.unwrap-requires
-unwrap-requires g c = array_made _ _ g.T.Carried.means.of c.in_ok-values.values _ _ _ _ c.try_from.result c.in_ok-values.ensures.gives c.try_from.ensures
+unwrap-requires g c = array_made _ _ g.T.Carried.means.of c.in_ok-values.values _ _ _ _ c.try_from.result c.in_ok-values.ensures.reads.gives c.try_from.ensures
 
-pub returns : Rattle.pagable_traits.proofs.impls.lists.ArrayPagableDeserialize.pagable_deserialize.Goals.returns
+pub returns-clause-reads : Rattle.pagable_traits.proofs.impls.lists.ArrayPagableDeserialize.pagable_deserialize.Goals.returns-clause-reads
 unfolding read read_with
-returns g c = let values = c.in_ok-values.ensures in record { gives = grind (arith, lists); moves = values.moves; same_env = values.same_env; same_levels = values.same_levels }
+returns-clause-reads g c = let values = c.in_ok-values.ensures.reads in record { gives = grind (arith, lists); moves = values.moves; same_env = values.same_env; same_levels = values.same_levels }

@@ -1,7 +1,7 @@
 use Rattle.pagable_traits.proofs.{JsonSteps.reads-as, Words.same_key, Maps.key_like, Maps.reads_placed_map}
 
-pub returns : Rattle.pagable_traits.proofs.impls.maps.IndexMapPagableDeserialize.pagable_deserialize.Goals.returns
-returns g c =
+pub returns-clause-reads : Rattle.pagable_traits.proofs.impls.maps.IndexMapPagableDeserialize.pagable_deserialize.Goals.returns-clause-reads
+returns-clause-reads g c =
     let same = key_like g.K.Carried.means.of g.K.Carried.means.meaning g.met.K.OneMeaning.single g.K.PartialEq.eq same_key (λ b. b) g.met.K.PagableKey.key.same g.met.K.Eq.laws.symm in
-    reads-as g.E.Env g.D.PagableDeserializer c.read_collected.result c.read_collected.ensures
+    reads-as g.E.Env g.D.PagableDeserializer c.read_collected.result c.read_collected.ensures.reads
     (λ h. reads_placed_map _ g.K.Carried.means.of g.V.Carried.means.of g.K.PartialEq.eq same c.read_collected.result (λ x. x.entries) _ _ _ _ _ h)

@@ -1,8 +1,8 @@
 use Rattle.{pagable_model.specs.Meaning.text, pagable_traits.proofs.{Parts.text-read, Words.{read, read_with, refl}}}
 
-pub returns : Rattle.pagable_traits.proofs.impls.texts.StringPagableDeserialize.pagable_deserialize.Goals.returns
+pub returns-clause-reads : Rattle.pagable_traits.proofs.impls.texts.StringPagableDeserialize.pagable_deserialize.Goals.returns-clause-reads
 unfolding read read_with
-returns g c =
+returns-clause-reads g c =
     let law = g.met.D.PagableDeserializer in
     let old = c.args.deserializer.now in
     let told = rw c.serde.ensures.value at c.read_string.ensures in

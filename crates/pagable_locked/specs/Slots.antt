@@ -1,0 +1,31 @@
+-- What a slot and a claim tell is of their identity.
+use Rattle.std.specs.Prelude.{IfSome, ◌≡◌, ◌≢◌}
+use Rattle.{pagable_locked.specs.declared.table.Probe.Probe, pagable_model.specs.declared.numbers.Identity.Identity}
+use Rattle.pagable_walk.specs.declared.{lent_slot.Outcome.Outcome, results.SlotResult.SlotResult}
+use Rattle.pagable_codec.specs.declared.{env.Env.Ghosts as Environments, hash.KeyHash.Ghosts as Hashes, nodes.NodeSet.Ghosts as Nodes}
+use Rattle.std.specs.declared.cmp.{Ord.Ghosts as Orders, PartialEq.Ghosts as Equalities, PartialOrd.Ghosts as PartialOrders}
+
+module _ {E EN EH EK EV : Type 0} {g : Environments E EN EH EK EV} {gh : Hashes EH} {go : Orders EK} {gq : Equalities EK} {gp : PartialOrders EK} {gn : Nodes EN E EN EH EK EV} where
+  -- of two outcomes that are set one after the other, the one that stays
+  abbrev pub first_outcome : Outcome E EN EH EK EV g gh go gq gp gn → Outcome E EN EH EK EV g gh go gq gp gn → Outcome E EN EH EK EV g gh go gq gp gn
+  first_outcome Outcome.Open later = later
+  first_outcome outcome later = outcome
+
+  -- this outcome is told so to who asks for an identity: the same result, or a failure where it is another's
+  abbrev pub IsToldAs : Identity → Outcome E EN EH EK EV g gh go gq gp gn → Outcome E EN EH EK EV g gh go gq gp gn → Type 0
+  IsToldAs i Outcome.Open Outcome.Open = Unit {0}
+  IsToldAs i (Outcome.Published r) (Outcome.Published t) = (r.identity ≡ i) × (t.key ≡ r.key) × (t.height ≡ r.height)
+  IsToldAs i (Outcome.Published r) Outcome.Failed = r.identity ≢ i
+  IsToldAs i Outcome.Failed Outcome.Failed = Unit {0}
+  IsToldAs i outcome told = ⊥
+
+  -- a result is of this identity
+  abbrev pub IsOutcomeOf : Identity → Outcome E EN EH EK EV g gh go gq gp gn → Type 0
+  IsOutcomeOf i (Outcome.Published r) = r.identity ≡ i
+  IsOutcomeOf i outcome = Unit {0}
+
+  -- the slot, or the result, is of this identity
+  abbrev pub IsProbeOf : Identity → Probe E EN EH EK EV g gh go gq gp gn → Type 0
+  IsProbeOf i (Probe.Claimed slot) = slot.identity ≡ i
+  IsProbeOf i (Probe.Waits slot) = slot.identity ≡ i
+  IsProbeOf i (Probe.Ended outcome) = IfSome outcome (λ r. r.identity ≡ i)

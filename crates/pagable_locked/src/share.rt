@@ -1,0 +1,61 @@
+//! A worker's part of the total of claims.
+
+ghost use Rattle.std.specs.Prelude.{◌+◌, ◌<◌, ◌≡◌, ◌≤◌};
+
+use std::sync::ledger::{Ledger, Share};
+
+/// A worker's part of the total of claims on the table that `L` names: how many it has made. It can be cut into as many
+/// as it has parts, and joined again.
+#[derive(Drop)]
+pub struct ClaimShare<L: Ledger> {
+    pub(crate) share: Share<L>,
+    pub ghost some: { 0 < share.parts },
+}
+
+impl<L: Ledger> ClaimShare<L> {
+    /// Makes a claims' share of the ledger's.
+    pub(crate) fn of(share: Share<L>) -> ClaimShare<L>
+        requires { 0 < share.parts }
+        ensures { result.share ≡ share }
+    {
+        ClaimShare { share }
+    }
+
+    /// Splits one part off, which has no claims.
+    pub fn split_off(&mut self) -> ClaimShare<L>
+        requires { 1 < self.old.share.parts }
+        ensures part { (result.share.parts ≡ 1) × (self.new.share.parts + 1 ≡ self.old.share.parts) }
+        ensures amount { (result.share.amount ≡ 0) × (self.new.share.amount ≡ self.old.share.amount) }
+    {
+        ClaimShare::of(self.share.split_off(1, 0))
+    }
+
+    /// Joins another's parts and claims to this.
+    pub fn merge(&mut self, other: ClaimShare<L>)
+        ensures parts { self.new.share.parts ≡ self.old.share.parts + other.share.parts }
+        ensures amount { self.new.share.amount ≡ self.old.share.amount + other.share.amount }
+        ensures within { self.new.share.parts ≤ L.parts }
+    {
+        let ClaimShare { share } = other;
+        self.share.merge(share);
+    }
+}
+
+/// One part, as a worker's walk owns it.
+#[derive(Drop)]
+pub struct WalkShare<L: Ledger> {
+    pub share: ClaimShare<L>,
+    pub ghost one: { share.share.parts ≡ 1 },
+}
+
+impl<L: Ledger> WalkShare<L> {
+    /// Splits one part off a share that has more.
+    pub fn split_off(all: &mut ClaimShare<L>) -> WalkShare<L>
+        requires { 1 < all.old.share.parts }
+        ensures parts { all.new.share.parts + 1 ≡ all.old.share.parts }
+        ensures amount { (result.share.share.amount ≡ 0) × (all.new.share.amount ≡ all.old.share.amount) }
+    {
+        let share = all.split_off();
+        WalkShare { share }
+    }
+}

@@ -1,0 +1,121 @@
+//! The claims of a table that threads share, for the walks of one worker.
+
+ghost use Rattle.std.specs.Prelude.{IfOk, IfSome, ◌≡◌, ◌≤◌};
+ghost use Rattle.pagable_walk.specs.{Both.IsNear, Table.IsFoundOf};
+
+use crate::share::{ClaimShare, WalkShare};
+use crate::slot::ArcSerSlot;
+use crate::table::{Probe, SlotTable};
+use pagable_codec::{Env, NodeSet};
+use pagable_model::{ArcRef, Error, Identity, WorkerNumber};
+use pagable_walk::{Claims, Found, SlotResult};
+use std::alloc::Global;
+use std::mem::replace;
+use std::sync::Wait;
+use std::sync::ledger::Ledger;
+
+/// A worker's claims on a table that threads share: its part of the total, and the slots that it has claimed and not
+/// yet published, the last one last. A claim that another worker has waits for that one's outcome.
+#[derive(Drop)]
+pub struct SharedClaims<'a, R: Wait, E: Env<Node: NodeSet<E>>, L: Ledger> {
+    rt: &'a R,
+    alloc: Global,
+    table: &'a SlotTable<E, L>,
+    share: WalkShare<L>,
+    open: Vec<ArcSerSlot<E>>,
+}
+
+impl<'a, R: Wait, E: Env<Node: NodeSet<E>>, L: Ledger> SharedClaims<'a, R, E, L> {
+    /// Makes the claims of a worker that has none yet. It takes no memory.
+    pub fn new(
+        rt: &'a R,
+        alloc: Global,
+        table: &'a SlotTable<E, L>,
+        share: WalkShare<L>,
+    ) -> SharedClaims<'a, R, E, L> {
+        SharedClaims {
+            rt,
+            alloc,
+            table,
+            share,
+            open: Vec::new(alloc),
+        }
+    }
+
+    /// Gives the worker's part of the total back.
+    pub fn into_share(self) -> ClaimShare<L>
+        ensures { result.share.parts ≡ 1 }
+    {
+        let WalkShare { share } = self.share;
+        share
+    }
+}
+
+// What a claim at this place on a path finds of an identity that has an outcome.
+fn found<E: Env<Node: NodeSet<E>>>(
+    outcome: Option<SlotResult<E>>,
+    identity: Identity,
+    place: u64,
+) -> Result<Found<E>, Error>
+    requires near { place ≤ 128 }
+    requires own { IfSome outcome (λ r. r.identity ≡ identity) }
+    ensures near { IfOk result (IsNear place) }
+    ensures own { IfOk result (IsFoundOf identity) }
+{
+    let Some(found) = outcome else {
+        return Ok(Found::AlreadyFailed);
+    };
+    if found.height > 128 - place {
+        return Err(Error::TooDeep);
+    }
+    Ok(Found::Known(found))
+}
+
+impl<'a, R: Wait, E: Env<Node: NodeSet<E>>, L: Ledger> Claims<E> for SharedClaims<'a, R, E, L> {
+    ghost use Rattle.std.specs.Prelude.{None};
+
+    ghost shelf = { λ t. None };
+
+    fn claim_for(
+        &mut self,
+        worker: WorkerNumber,
+        identity: Identity,
+        place: u64,
+    ) -> Result<Found<E>, Error> {
+        if place > 128 {
+            return Err(Error::TooDeep);
+        }
+        // A claim that is made finds room here, and so is published or failed.
+        self.open.reserve(1)?;
+        let probe = self
+            .share
+            .probe(self.rt, self.alloc, self.table, worker, identity)?;
+        match probe {
+            Probe::Claimed(slot) => {
+                self.open.push_reserved(slot);
+                Ok(Found::Claimed)
+            }
+            Probe::Waits(slot) => found(slot.wait(self.rt), identity, place),
+            Probe::Ended(outcome) => found(outcome, identity, place),
+        }
+    }
+
+    // A worker waits only within a claim.
+    fn forget_wait(&mut self, _worker: WorkerNumber) {}
+
+    // Others ask for the outcome alone.
+    fn note_written(&mut self, _identity: Identity, _references: Vec<ArcRef>) {}
+
+    // A walk publishes first what it claimed last.
+    fn publish(&mut self, found: &SlotResult<E>) {
+        if let Some(slot) = self.open.pop() {
+            slot.set_success(self.rt, found.again());
+        }
+    }
+
+    fn fail_claims(&mut self, _worker: WorkerNumber) {
+        for slot in replace(&mut self.open, Vec::new(self.alloc)) {
+            slot.set_failed(self.rt);
+        }
+    }
+}

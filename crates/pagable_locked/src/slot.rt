@@ -1,0 +1,125 @@
+//! The slot of an identity, behind a lock of its own: its first outcome stays, and who waits for it is woken.
+
+ghost use Rattle.std.specs.Prelude.{IfOk, IfSome, ◌≡◌};
+ghost use Rattle.pagable_locked.specs.Slots.{IsOutcomeOf, IsToldAs, first_outcome};
+
+use pagable_codec::{Env, NodeSet};
+use pagable_model::{Error, Identity};
+use pagable_walk::{Outcome, SlotResult};
+use std::alloc::Global;
+use std::sync::{Arc, Condvar, Mutex, Wait};
+
+/// A slot's outcome, as it stands under the slot's lock.
+#[derive(Drop)]
+pub struct SlotState<E: Env<Node: NodeSet<E>>> {
+    pub outcome: Outcome<E>,
+}
+
+impl<E: Env<Node: NodeSet<E>>> SlotState<E> {
+    /// Sets the outcome, where none stands. It takes no memory.
+    pub fn set(&mut self, outcome: Outcome<E>)
+        ensures { self.new.outcome ≡ first_outcome self.old.outcome outcome }
+    {
+        if matches!(&self.outcome, Outcome::Open) {
+            self.outcome = outcome;
+        }
+    }
+
+    /// Tells the outcome to who asks for this identity: a result of another one counts as a failure.
+    pub fn outcome_for(&self, identity: Identity) -> Outcome<E>
+        ensures told { IsToldAs identity self.now.outcome result }
+        ensures own { IsOutcomeOf identity result }
+    {
+        match &self.outcome {
+            Outcome::Open => Outcome::Open,
+            Outcome::Published(found) if found.identity == identity => {
+                Outcome::Published(found.again())
+            }
+            _ => Outcome::Failed,
+        }
+    }
+}
+
+#[derive(Drop)]
+struct Shared<E: Env<Node: NodeSet<E>>> {
+    state: Mutex<SlotState<E>>,
+    ended: Condvar,
+}
+
+/// The slot of an identity in a table that threads share. Its first outcome stays.
+#[derive(Drop)]
+pub struct ArcSerSlot<E: Env<Node: NodeSet<E>>> {
+    pub identity: Identity,
+    shared: Arc<Shared<E>>,
+}
+
+impl<E: Env<Node: NodeSet<E>>> ArcSerSlot<E> {
+    /// Makes a slot without an outcome.
+    ///
+    /// # Errors
+    /// - OutOfMemory: no slot is made.
+    pub fn new(alloc: Global, identity: Identity) -> Result<ArcSerSlot<E>, Error>
+        ensures { IfOk result (λ s. s.identity ≡ identity) }
+    {
+        let state = SlotState {
+            outcome: Outcome::Open,
+        };
+        let shared = Shared {
+            state: Mutex::new(state),
+            ended: Condvar::new(),
+        };
+        let shared = Arc::new(alloc, shared)?;
+        Ok(ArcSerSlot { identity, shared })
+    }
+
+    /// Shares the same slot once more.
+    ///
+    /// # Errors
+    /// - OutOfMemory: it is shared too often already.
+    pub fn clone(&self) -> Result<ArcSerSlot<E>, Error>
+        ensures { IfOk result (λ s. s.identity ≡ self.now.identity) }
+    {
+        Ok(ArcSerSlot {
+            identity: self.identity,
+            shared: Arc::try_clone(&self.shared)?,
+        })
+    }
+
+    fn set<R: Wait>(&self, rt: &R, outcome: Outcome<E>) {
+        self.shared.state.lock(rt).set(outcome);
+        self.shared.ended.notify_all();
+    }
+
+    /// Publishes a result, where no outcome stands, and wakes who waits. It takes no memory, and nothing refuses it.
+    /// A result of another identity fails the slot.
+    pub fn set_success<R: Wait>(&self, rt: &R, found: SlotResult<E>) {
+        self.set(rt, Outcome::Published(found));
+    }
+
+    /// Fails the slot, where no outcome stands, and wakes who waits. It takes no memory, and nothing refuses it.
+    pub fn set_failed<R: Wait>(&self, rt: &R) {
+        self.set(rt, Outcome::Failed);
+    }
+
+    /// Tells the outcome as it stands, and waits for none.
+    pub fn outcome<R: Wait>(&self, rt: &R) -> Outcome<E>
+        ensures { IsOutcomeOf self.now.identity result }
+    {
+        self.shared.state.lock(rt).outcome_for(self.identity)
+    }
+
+    /// Waits for the outcome, and answers the result, or `None` where the slot failed.
+    pub fn wait<R: Wait>(&self, rt: &R) -> Option<SlotResult<E>>
+        ensures { IfSome result (λ r. r.identity ≡ self.now.identity) }
+    {
+        let state = self.shared.state.lock(rt);
+        let state = self
+            .shared
+            .ended
+            .wait_while(rt, state, |s| matches!(&s.outcome, Outcome::Open));
+        match state.outcome_for(self.identity) {
+            Outcome::Published(found) => Some(found),
+            _ => None,
+        }
+    }
+}

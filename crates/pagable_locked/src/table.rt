@@ -1,0 +1,274 @@
+//! The table of slots that threads share. Its lock is held only to look up, make or claim a slot; each slot has its own.
+
+ghost use Rattle.std.specs.{BTreeSet.btree_set_len, Prelude.{IfOk, OnErr, if◌then◌else◌, ◌+◌, ◌<◌, ◌≡◌}};
+ghost use Rattle.pagable_locked.specs.Slots.{IsProbeOf};
+
+use crate::share::{ClaimShare, WalkShare};
+use crate::slot::ArcSerSlot;
+use indexmap::IndexMap;
+use pagable_codec::{Env, NodeSet};
+use pagable_model::{Error, Identity, WorkerNumber};
+use pagable_walk::{Outcome, SlotResult};
+use std::alloc::Global;
+use std::collections::BTreeSet;
+use std::sync::ledger::{Blank, Book, Ledger};
+use std::sync::{Mutex, MutexGuard, Wait};
+
+/// What a worker's claim finds.
+#[derive(Drop)]
+pub enum Probe<E: Env<Node: NodeSet<E>>> {
+    /// The identity was free and is the worker's. Its slot.
+    Claimed(ArcSerSlot<E>),
+    /// Another has it, and the worker is noted as one that waits for this slot's outcome.
+    Waits(ArcSerSlot<E>),
+    /// Its result, or None where it failed.
+    Ended(Option<SlotResult<E>>),
+}
+
+#[derive(Drop)]
+struct Row<E: Env<Node: NodeSet<E>>> {
+    slot: ArcSerSlot<E>,
+    // the worker whose walk claimed it, if one did
+    worker: Option<WorkerNumber>,
+}
+
+// What the table's lock keeps: the slots, which of them are claimed, for whose outcome each worker waited last, and the
+// book of claims, whose total is their number.
+#[derive(Drop)]
+struct Slots<E: Env<Node: NodeSet<E>>, L: Ledger> {
+    rows: IndexMap<(u32, u64), Row<E>>,
+    claimed: BTreeSet<(u32, u64)>,
+    waits: IndexMap<u64, Identity>,
+    book: Book<L>,
+    pub ghost counted: { book.total ≡ btree_set_len claimed },
+}
+
+fn key_of(identity: Identity) -> (u32, u64) {
+    (identity.kind.0, identity.node.0)
+}
+
+impl<E: Env<Node: NodeSet<E>>, L: Ledger> Slots<E, L> {
+    fn new(alloc: Global, parts: Blank) -> (Slots<E, L>, ClaimShare<L>)
+        requires name { parts.name ≡ L.name }
+        requires parts { parts.parts ≡ L.parts }
+        requires two { 1 < L.parts }
+        ensures whole { result.1.share.parts ≡ L.parts }
+        ensures none { result.1.share.amount ≡ 0 }
+    {
+        let (book, share) = parts.open::<L>();
+        let slots = Slots {
+            rows: IndexMap::new(alloc),
+            claimed: BTreeSet::new(alloc),
+            waits: IndexMap::new(alloc),
+            book,
+        };
+        (slots, ClaimShare::of(share))
+    }
+
+    // The slot of an identity, made where there is none.
+    fn slot(&mut self, alloc: Global, identity: Identity) -> Result<ArcSerSlot<E>, Error>
+        ensures { IfOk result (λ s. s.identity ≡ identity) }
+    {
+        if let Some(row) = self.rows.get(&key_of(identity)) {
+            if row.slot.identity == identity {
+                return row.slot.clone();
+            }
+        }
+        let slot = ArcSerSlot::new(alloc, identity)?;
+        let kept = slot.clone()?;
+        let row = Row {
+            slot: kept,
+            worker: None,
+        };
+        self.rows.insert(key_of(identity), row)?;
+        Ok(slot)
+    }
+
+    // Claims a free identity, and counts the claim.
+    fn try_claim(&mut self, identity: Identity, share: &mut ClaimShare<L>) -> Result<bool, Error>
+        ensures amount { IfOk result (λ b. share.new.share.amount ≡ share.old.share.amount + (if b then 1 else 0)) }
+        ensures parts { share.new.share.parts ≡ share.old.share.parts }
+        ensures err { OnErr result (share.new.share.amount ≡ share.old.share.amount) }
+    {
+        let Slots { claimed, book, .. } = self;
+        let ClaimShare { share } = share;
+        let is_free = claimed.insert(key_of(identity))?;
+        if is_free {
+            book.add(share, 1);
+        }
+        Ok(is_free)
+    }
+
+    // The number of claims, which the whole share has.
+    fn claims(&mut self, all: &mut ClaimShare<L>) -> u64
+        requires { all.old.share.parts ≡ L.parts }
+        ensures claims { (result ≡ all.old.share.amount) × (all.new.share.amount ≡ all.old.share.amount) }
+        ensures parts { all.new.share.parts ≡ all.old.share.parts }
+    {
+        let Slots { claimed, book, .. } = self;
+        let ClaimShare { share } = all;
+        book.audit(share);
+        claimed.len() as u64
+    }
+
+    // The worker whose walk has claimed an identity, as long as that has no outcome.
+    fn open_claimer<R: Wait>(&self, rt: &R, identity: Identity) -> Option<WorkerNumber> {
+        let row = self.rows.get(&key_of(identity))?;
+        match row.slot.outcome(rt) {
+            Outcome::Open => row.worker,
+            _ => None,
+        }
+    }
+
+    // Whether the worker that has an identity is `asker`, or waits for one that is, and so on. A wait whose slot has
+    // an outcome has ended, also where its worker hasn't come to know; and no chain is longer than there are waits.
+    fn leads_to<R: Wait>(&self, rt: &R, asker: WorkerNumber, identity: Identity) -> bool {
+        let mut claimed = identity;
+        for _ in 0..=self.waits.len() {
+            let Some(worker) = self.open_claimer(rt, claimed) else {
+                return false;
+            };
+            if worker == asker {
+                return true;
+            }
+            let Some(next) = self.waits.get(&worker.0) else {
+                return false;
+            };
+            claimed = *next;
+        }
+        false
+    }
+
+    // Claims an identity for a worker's walk, or finds what its slot says. Where that is nothing yet, the worker waits
+    // from now on, unless workers would wait in a ring.
+    fn probe<R: Wait>(
+        &mut self,
+        rt: &R,
+        alloc: Global,
+        worker: WorkerNumber,
+        identity: Identity,
+        share: &mut ClaimShare<L>,
+    ) -> Result<Probe<E>, Error>
+        ensures own { IfOk result (IsProbeOf identity) }
+        ensures parts { share.new.share.parts ≡ share.old.share.parts }
+    {
+        let slot = self.slot(alloc, identity)?;
+        if self.try_claim(identity, share)? {
+            if let Some(row) = self.rows.get_mut(&key_of(identity)) {
+                row.worker = Some(worker);
+            }
+            return Ok(Probe::Claimed(slot));
+        }
+        match slot.outcome(rt) {
+            Outcome::Published(found) => Ok(Probe::Ended(Some(found))),
+            Outcome::Failed => Ok(Probe::Ended(None)),
+            Outcome::Open => {
+                if self.leads_to(rt, worker, identity) {
+                    return Err(Error::TooDeep);
+                }
+                self.waits.insert(worker.0, identity)?;
+                Ok(Probe::Waits(slot))
+            }
+        }
+    }
+}
+
+/// The table of slots for any number of threads, each of which has a share of its claims.
+#[derive(Drop)]
+pub struct SlotTable<E: Env<Node: NodeSet<E>>, L: Ledger> {
+    slots: Mutex<Slots<E, L>>,
+}
+
+/// The table's lock, as long as this lives. It lends nothing.
+#[derive(Drop)]
+pub struct TableGuard<'a, E: Env<Node: NodeSet<E>>, L: Ledger> {
+    guard: MutexGuard<'a, Slots<E, L>>,
+}
+
+impl<E: Env<Node: NodeSet<E>>, L: Ledger> SlotTable<E, L> {
+    /// Makes a table without slots, and its one whole share, which has no claims. It takes no memory. Two parts or
+    /// more are asked: one for the table's user to keep, and one for each page-out that is going on.
+    pub fn new(alloc: Global, parts: Blank) -> (SlotTable<E, L>, ClaimShare<L>)
+        requires name { parts.name ≡ L.name }
+        requires parts { parts.parts ≡ L.parts }
+        requires two { 1 < L.parts }
+        ensures whole { result.1.share.parts ≡ L.parts }
+        ensures none { result.1.share.amount ≡ 0 }
+    {
+        let (slots, share) = Slots::new(alloc, parts);
+        let slots = Mutex::new(slots);
+        (SlotTable { slots }, share)
+    }
+
+    /// Answers the slot of an identity, made where there is none.
+    ///
+    /// # Errors
+    /// - OutOfMemory: no slot could be made or shared.
+    pub fn slot<R: Wait>(
+        &self,
+        rt: &R,
+        alloc: Global,
+        identity: Identity,
+    ) -> Result<ArcSerSlot<E>, Error>
+        ensures { IfOk result (λ s. s.identity ≡ identity) }
+    {
+        self.slots.lock(rt).slot(alloc, identity)
+    }
+
+    /// Claims a free identity, counts that to the share, and tells whether it was free.
+    ///
+    /// # Errors
+    /// - OutOfMemory: it isn't claimed.
+    pub fn try_claim<R: Wait>(
+        &self,
+        rt: &R,
+        identity: Identity,
+        share: &mut ClaimShare<L>,
+    ) -> Result<bool, Error>
+        ensures amount { IfOk result (λ b. share.new.share.amount ≡ share.old.share.amount + (if b then 1 else 0)) }
+        ensures parts { share.new.share.parts ≡ share.old.share.parts }
+        ensures err { OnErr result (share.new.share.amount ≡ share.old.share.amount) }
+    {
+        self.slots.lock(rt).try_claim(identity, share)
+    }
+
+    /// Counts the claimed identities, once all shares are merged: as many as the whole share has.
+    pub fn claims<R: Wait>(&self, rt: &R, all: &mut ClaimShare<L>) -> u64
+        requires { all.old.share.parts ≡ L.parts }
+        ensures claims { (result ≡ all.old.share.amount) × (all.new.share.amount ≡ all.old.share.amount) }
+        ensures parts { all.new.share.parts ≡ all.old.share.parts }
+    {
+        self.slots.lock(rt).claims(all)
+    }
+
+    /// Holds the table's lock as long as the guard lives. Slots that others have stay usable: each has a lock of its own.
+    pub fn hold<R: Wait>(&self, rt: &R) -> TableGuard<'_, E, L> {
+        let guard = self.slots.lock(rt);
+        TableGuard { guard }
+    }
+}
+
+impl<L: Ledger> WalkShare<L> {
+    /// Claims an identity for a worker's walk, or finds what its slot says; where that is nothing yet, the worker is
+    /// noted as one that waits.
+    ///
+    /// # Errors
+    /// - TooDeep: workers would wait in a ring.
+    /// - OutOfMemory: no slot could be made, nothing claimed, or no wait noted.
+    pub(crate) fn probe<R: Wait, E: Env<Node: NodeSet<E>>>(
+        &mut self,
+        rt: &R,
+        alloc: Global,
+        table: &SlotTable<E, L>,
+        worker: WorkerNumber,
+        identity: Identity,
+    ) -> Result<Probe<E>, Error>
+        ensures { IfOk result (IsProbeOf identity) }
+    {
+        let WalkShare { share } = self;
+        table
+            .slots
+            .lock(rt)
+            .probe(rt, alloc, worker, identity, share)
+    }
+}

@@ -1,0 +1,79 @@
+//! The calls of typed handles on a storage that threads share.
+
+use crate::storage_handle::PagableStorageHandle;
+use pagable_codec::{Env, NodeSet};
+use pagable_core::PagableStorage;
+use pagable_loads::pin_with_state_over;
+use pagable_model::{Error, HandleNumber, NodeNumber, OptionalDataKey};
+use pagable_traits::{FirstHandle, NewPin, Storage};
+use std::alloc::Global;
+use std::sync::Wait;
+
+impl<E: Env<Node: NodeSet<E>>, S: PagableStorage<E>> Storage<E> for PagableStorageHandle<E, S> {
+    ghost use Rattle.std.specs.Prelude.{None};
+
+    ghost told = { λ s. None };
+
+    fn insert<R: Wait>(
+        &self,
+        rt: &R,
+        alloc: Global,
+        node: E::Node,
+        first: FirstHandle,
+    ) -> Result<(NodeNumber, HandleNumber), Error> {
+        let mut pager = self.inner.pager.lock(rt);
+        let inserted = match first {
+            FirstHandle::Loose => pager.new_loose(alloc, node),
+            FirstHandle::Shared => pager.new_shared(alloc, node),
+            FirstHandle::Pinned => pager.new_pinned(alloc, node),
+        };
+        match inserted {
+            Ok(handle) => Ok((pager.node_of(handle)?, handle)),
+            Err((e, _node)) => Err(e),
+        }
+    }
+
+    fn clone_handle<R: Wait>(&self, rt: &R, handle: HandleNumber) -> Result<HandleNumber, Error> {
+        self.inner.pager.lock(rt).clone(handle)
+    }
+
+    fn pin<R: Wait>(
+        &self,
+        rt: &R,
+        alloc: Global,
+        handle: HandleNumber,
+    ) -> Result<NewPin<E::Node>, Error> {
+        let mut access = self.access(rt);
+        let (handle, value, was_unpinned) = pin_with_state_over(&mut access, alloc, handle)?;
+        Ok(NewPin {
+            handle,
+            value,
+            was_unpinned,
+        })
+    }
+
+    fn unpin<R: Wait>(&self, rt: &R, handle: HandleNumber) -> Result<(), Error> {
+        self.inner.pager.lock(rt).unpin(handle)
+    }
+
+    fn into_pagable<R: Wait>(&self, rt: &R, handle: HandleNumber) -> Result<(), Error> {
+        let _same = self.inner.pager.lock(rt).into_pagable(handle)?;
+        Ok(())
+    }
+
+    fn release<R: Wait>(&self, rt: &R, handle: HandleNumber) -> Result<(), Error> {
+        self.inner.pager.lock(rt).release(handle)
+    }
+
+    fn count<R: Wait>(&self, rt: &R, handle: HandleNumber) -> Result<u64, Error> {
+        self.inner.pager.lock(rt).count(handle)
+    }
+
+    fn key<R: Wait>(&self, rt: &R, handle: HandleNumber) -> Result<OptionalDataKey, Error> {
+        self.inner.pager.lock(rt).key(handle)
+    }
+
+    fn is_paged_out<R: Wait>(&self, rt: &R, handle: HandleNumber) -> Result<bool, Error> {
+        self.inner.pager.lock(rt).is_paged_out(handle)
+    }
+}

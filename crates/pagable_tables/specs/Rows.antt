@@ -1,0 +1,15 @@
+-- Rows by their numbers: the place of a number, in chunks for 256 numbers each, and its row.
+use Rattle.std.specs.{Option.option_and_then, Prelude.{List, None, Option, Some, slice_get, ℕ, ◌%◌, ◌/◌}}
+use Rattle.pagable_tables.specs.declared.number_table.NumberTable.{NumberTable}
+
+-- what stands at a number's place, if the place is there
+unfoldable pub place_at : {T : Type 0} → NumberTable T → ℕ → Option (Option T)
+place_at t n = option_and_then (λ rows. slice_get rows.items (n % 256)) (slice_get t.chunks.items (n / 256))
+
+-- the row of this number
+unfoldable pub row_by : {T : Type 0} → NumberTable T → ℕ → Option T
+row_by t n = option_and_then (λ row. row) (place_at t n)
+
+-- the row at a place of a chunk
+abbrev pub row_in : {T : Type 0} → List (Option T) → ℕ → Option T
+row_in rows place = option_and_then (λ row. row) (slice_get rows place)

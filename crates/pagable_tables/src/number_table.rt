@@ -1,0 +1,148 @@
+//! Rows by their numbers, for numbers that are given out in order and never again: each number has its own place, and a
+//! look-up is two steps.
+
+ghost use Rattle.std.specs.Prelude.{IsSome, None, OnOk, Option, Some, [], option_copied, slice_get, vec_capacity};
+ghost use Rattle.std.specs.Prelude.{vec_len, ℕ, ◌%◌, ◌+◌, ◌/◌, ◌<◌, ◌≡◌, ◌≢◌, ◌≤◌};
+ghost use Rattle.pagable_tables.specs.Rows.{place_at, row_by, row_in};
+
+use std::alloc::{AllocError, Global};
+
+/// Rows by their numbers. Places stand in chunks for 256 numbers each. A chunk grows as its places come, loses those behind
+/// its last row, and keeps no memory without a row; beside it a vector holds 24 bytes for each 256 numbers up to the
+/// greatest that was ever reserved.
+#[derive(Drop)]
+pub struct NumberTable<T> {
+    pub(crate) chunks: Vec<Vec<Option<T>>>,
+    alloc: Global,
+}
+
+/// The chunk in which this number has its place.
+pub(crate) fn chunk_of(number: u64) -> usize
+    ensures { result ≡ number / 256 }
+{
+    (number / 256) as usize
+}
+
+/// The place of this number in its chunk.
+pub(crate) fn place_of(number: u64) -> usize
+    ensures { result ≡ number % 256 }
+{
+    (number % 256) as usize
+}
+
+/// Makes places for so many numbers of a chunk, where there are fewer. Refused where the chunk can't grow.
+fn add_places<T: Drop>(rows: &mut Vec<Option<T>>, many: usize) -> Result<(), AllocError>
+    ensures there { OnOk result ((p : ℕ) → p < many → IsSome (slice_get rows.new.items p)) }
+    ensures rows { (p : ℕ) → row_in rows.new.items p ≡ row_in rows.old.items p }
+{
+    if rows.len() < many {
+        rows.resize_with(
+            many,
+            || -> Option<T>
+                ensures { result ≡ None }
+            { None },
+        )?;
+    }
+    Ok(())
+}
+
+/// Drops the places behind the last row of a chunk, and its memory where it has no row.
+fn trim<T: Drop>(rows: &mut Vec<Option<T>>)
+    ensures rows { (p : ℕ) → row_in rows.new.items p ≡ row_in rows.old.items p }
+    ensures freed { ((p : ℕ) → row_in rows.old.items p ≡ None) → vec_capacity rows.new ≡ 0 }
+{
+    let mut end = rows.len();
+    while end > 0 && rows[end - 1].is_none() {
+        end -= 1;
+    }
+    rows.truncate(end);
+    if end == 0 {
+        rows.shrink_to_fit();
+    }
+}
+
+impl<T: Drop> NumberTable<T> {
+    /// Makes a table without a row. It takes no memory.
+    #[tactic(auto, unfolding(crate::specs::Rows::place_at, crate::specs::Rows::row_by))]
+    pub fn new(alloc: Global) -> NumberTable<T>
+        ensures { (n : ℕ) → row_by result n ≡ None }
+    {
+        NumberTable {
+            chunks: Vec::new(alloc),
+            alloc,
+        }
+    }
+
+    /// Finds the row of this number.
+    #[tactic(auto, unfolding(crate::specs::Rows::place_at, crate::specs::Rows::row_by))]
+    pub fn get(&self, number: u64) -> Option<&T>
+        ensures { option_copied result ≡ row_by self.now number }
+    {
+        let rows = self.chunks.get(chunk_of(number))?;
+        rows.get(place_of(number))?.as_ref()
+    }
+
+    /// Makes so many chunks, where there are fewer. Refused where there is no room for them.
+    #[tactic(auto, unfolding(crate::specs::Rows::place_at, crate::specs::Rows::row_by))]
+    fn add_chunks(&mut self, many: usize) -> Result<(), AllocError>
+        ensures there { OnOk result (many ≤ vec_len self.new.chunks) }
+        ensures rows { (n : ℕ) → row_by self.new n ≡ row_by self.old n }
+    {
+        let alloc = self.alloc;
+        if self.chunks.len() < many {
+            self.chunks.resize_with(
+                many,
+                || -> Vec<Option<T>>
+                    ensures { result.items ≡ [] }
+                { Vec::new(alloc) },
+            )?;
+        }
+        Ok(())
+    }
+
+    /// Makes the place of this number ready for a row. Refused where the table can't grow. Its rows stay in any case.
+    #[tactic(auto, unfolding(crate::specs::Rows::place_at, crate::specs::Rows::row_by))]
+    pub fn reserve(&mut self, number: u64) -> Result<(), AllocError>
+        ensures ready { OnOk result (IsSome (place_at self.new number)) }
+        ensures rows { (n : ℕ) → row_by self.new n ≡ row_by self.old n }
+    {
+        let chunk = chunk_of(number);
+        self.add_chunks(chunk + 1)?;
+        add_places(&mut self.chunks[chunk], place_of(number) + 1)
+    }
+
+    /// Puts a row at the place of this number, which is ready.
+    #[tactic(auto, unfolding(crate::specs::Rows::place_at, crate::specs::Rows::row_by))]
+    pub fn put(&mut self, number: u64, row: T)
+        requires { IsSome (place_at self.old number) }
+        ensures here { row_by self.new number ≡ Some row }
+        ensures others { (q : ℕ) → q ≢ number → row_by self.new q ≡ row_by self.old q }
+    {
+        let rows = &mut self.chunks[chunk_of(number)];
+        rows[place_of(number)] = Some(row);
+    }
+
+    /// Takes the row of this number, if there is one, and leaves its place.
+    #[tactic(auto, unfolding(crate::specs::Rows::place_at, crate::specs::Rows::row_by))]
+    fn take(&mut self, number: u64) -> Option<T>
+        ensures value { result ≡ row_by self.old number }
+        ensures here { row_by self.new number ≡ None }
+        ensures others { (q : ℕ) → q ≢ number → row_by self.new q ≡ row_by self.old q }
+        ensures ready { IsSome result → IsSome (place_at self.new number) }
+    {
+        let rows = self.chunks.get_mut(chunk_of(number))?;
+        rows.get_mut(place_of(number))?.take()
+    }
+
+    /// Removes the row of this number, if there is one, with the memory of its chunk where it was the last row there.
+    #[tactic(auto, unfolding(crate::specs::Rows::place_at, crate::specs::Rows::row_by))]
+    pub fn remove(&mut self, number: u64) -> Option<T>
+        ensures value { result ≡ row_by self.old number }
+        ensures here { row_by self.new number ≡ None }
+        ensures others { (q : ℕ) → q ≢ number → row_by self.new q ≡ row_by self.old q }
+    {
+        let row = self.take(number)?;
+        trim(&mut self.chunks[chunk_of(number)]);
+        Some(row)
+    }
+}

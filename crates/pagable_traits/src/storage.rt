@@ -1,0 +1,114 @@
+//! What makes, pins and gives up the handles of typed references: a pager behind a lock, or one that is lent.
+
+ghost use Rattle.std.specs.{Arc.arc_value, Prelude.{IfOk, IfSome, Option, Some, ℕ, ◌≡◌}};
+
+use pagable_codec::{Env, HandleNumber, NodeNumber};
+use pagable_flavors::Error;
+use pagable_model::OptionalDataKey;
+use std::alloc::Global;
+use std::sync::{Arc, Wait};
+
+/// The mode in which a new node's first handle holds it.
+#[derive(Clone, Copy, Debug, PartialEq)]
+pub enum FirstHandle {
+    /// A loose handle, which pins.
+    Loose,
+    /// A Shared handle: the node has no key.
+    Shared,
+    /// A Pinned handle.
+    Pinned,
+}
+
+/// A new pin, the value that it holds, and whether the handle by which it was made pinned nothing before.
+#[derive(Drop)]
+pub struct NewPin<N> {
+    pub handle: HandleNumber,
+    pub value: Arc<N>,
+    pub was_unpinned: bool,
+}
+
+/// Keeps the nodes of typed references behind numbers: each call of a `PagableArc`, a `PinnedPagableArc` or an `Arc` on its
+/// storage goes by one of these. Where it tells what its handles name, a pin answers that.
+pub trait Storage<E: Env> {
+    // the value of each handle's node, if that is told
+    ghost told: { Self → Option (ℕ → Option E.Node) };
+
+    /// Inserts a node, with its first handle, which is the caller's as the handles in the value were.
+    ///
+    /// # Errors
+    /// - NoSuchHandle, NotYours, WrongMode, WrongKind: a reference of the value isn't one of the caller's that fits.
+    /// - NumbersSpent, OutOfMemory.
+    ///
+    /// Each lets the node go: who asks keeps a share of the value.
+    fn insert<R: Wait>(
+        &self,
+        rt: &R,
+        alloc: Global,
+        node: E::Node,
+        first: FirstHandle,
+    ) -> Result<(NodeNumber, HandleNumber), Error>;
+
+    /// Makes one more handle of a handle's node, in the same mode.
+    ///
+    /// # Errors
+    /// - NoSuchHandle, NumbersSpent, OutOfMemory: nothing changes.
+    fn clone_handle<R: Wait>(&self, rt: &R, handle: HandleNumber) -> Result<HandleNumber, Error>;
+
+    /// Pins the cell of the caller's loose handle, reading its value where it isn't in memory.
+    ///
+    /// # Errors
+    /// - NoSuchHandle, NotYours, WrongMode: the handle isn't a loose one of the caller's.
+    /// - what reading the value is refused by, NumbersSpent and OutOfMemory.
+    ///
+    /// Each leaves handles and counts as they were.
+    fn pin<R: Wait>(
+        &self,
+        rt: &R,
+        alloc: Global,
+        handle: HandleNumber,
+    ) -> Result<NewPin<E::Node>, Error>
+        ensures value { IfOk result (λ p. IfSome (told self.now) (λ at. at handle.0 ≡ Some (arc_value p.value))) };
+
+    /// Has the caller's loose handle let its pin go.
+    ///
+    /// # Errors
+    /// - NoSuchHandle, NotYours, WrongMode: nothing changes.
+    /// - NumbersSpent, OutOfMemory: the cell couldn't be listed; the pin is let go all the same.
+    fn unpin<R: Wait>(&self, rt: &R, handle: HandleNumber) -> Result<(), Error>;
+
+    /// Makes the caller's Pinned handle a loose one with the same number, which pins.
+    ///
+    /// # Errors
+    /// - NoSuchHandle, NotYours, WrongMode: nothing changes.
+    fn into_pagable<R: Wait>(&self, rt: &R, handle: HandleNumber) -> Result<(), Error>;
+
+    /// Gives a handle of the caller's up.
+    ///
+    /// # Errors
+    /// - NoSuchHandle, NotYours: nothing changes.
+    /// - NumbersSpent, OutOfMemory: a cell couldn't be listed; the handle is given up all the same.
+    fn release<R: Wait>(&self, rt: &R, handle: HandleNumber) -> Result<(), Error>;
+
+    /// Counts the handles that pin a handle's node.
+    ///
+    /// # Errors
+    /// - NoSuchHandle.
+    fn count<R: Wait>(&self, rt: &R, handle: HandleNumber) -> Result<u64, Error>;
+
+    /// Answers the key of a handle's cell, if it has one.
+    ///
+    /// # Errors
+    /// - NoSuchHandle.
+    fn key<R: Wait>(&self, rt: &R, handle: HandleNumber) -> Result<OptionalDataKey, Error>;
+
+    /// Tells whether a handle's cell has its value in the storage alone.
+    ///
+    /// # Errors
+    /// - NoSuchHandle.
+    fn is_paged_out<R: Wait>(&self, rt: &R, handle: HandleNumber) -> Result<bool, Error>;
+}
+
+/// Whether a release that is refused so has given the handle up all the same.
+pub(crate) fn has_gone(why: &Error) -> bool {
+    matches!(why, Error::NumbersSpent | Error::OutOfMemory)
+}
