@@ -11,4 +11,6 @@ mod items;
 #[cfg(test)]
 mod links;
 #[cfg(test)]
+mod slots;
+#[cfg(test)]
 mod threads;
