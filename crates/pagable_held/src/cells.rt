@@ -2,12 +2,12 @@
 
 use crate::counting::{CountingStorage, StorageCalls};
 use crate::paging::{is_key, new_cell};
-use pagable_core::{InMemoryBlobs, PagableData, WeighHash};
+use pagable_core::{InMemoryBlobs, WeighHash};
 use pagable_locked::{InMemoryPagableStorage, PagableStorageHandle};
-use pagable_model::{DataKey, Error, Kind};
+use pagable_model::Error;
 use pagable_rows::FailingStorage;
 use pagable_rows::text::TextEnv;
-use pagable_traits::{Arc, PinnedPagableArc};
+use pagable_traits::PinnedPagableArc;
 use std::sync::Arc as Shared;
 
 type Texts = TextEnv<WeighHash>;

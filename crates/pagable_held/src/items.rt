@@ -10,7 +10,7 @@ use pagable_locked::{InMemoryPagableStorage, PagableStorageHandle};
 use pagable_model::{DataKey, Error, HandleNumber, Kind};
 use pagable_rows::cells::{CellEnv, CellNode};
 use pagable_rows::text::TextEnv;
-use pagable_traits::{Arc, FirstHandle, OfKind, PagableArc, PinnedPagableArc, Storage};
+use pagable_traits::{Arc, FirstHandle, OfKind, PinnedPagableArc, Storage};
 use std::alloc::Global;
 use std::sync::{Arc as Shared, Wait};
 

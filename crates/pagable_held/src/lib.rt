@@ -1,15 +1,17 @@
 //! Tests of the calls on a pager that threads share. What they expect is computed from the rules of keys and of cells.
 #![tactic(auto)]
 
-pub mod counting;
-pub mod paging;
-
 #[cfg(test)]
 mod cells;
+pub mod counting;
 #[cfg(test)]
 mod items;
 #[cfg(test)]
 mod links;
+pub mod paging;
+pub mod quick_start;
+#[cfg(test)]
+mod shared_table;
 #[cfg(test)]
 mod slots;
 #[cfg(test)]

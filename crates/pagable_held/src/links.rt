@@ -3,7 +3,7 @@
 use crate::counting::{CountingStorage, StorageCalls};
 use crate::paging::is_key;
 use pagable_codec::{ArcRef, NodeSet};
-use pagable_core::{InMemoryBlobs, PagableStorage, Sha256Key};
+use pagable_core::{InMemoryBlobs, Sha256Key};
 use pagable_locked::PagableStorageHandle;
 use pagable_model::{DataKey, Error, HandleNumber, Kind};
 use pagable_rows::cells::{CellEnv, CellNode};
@@ -148,7 +148,12 @@ fn loose_links_are_read_one_by_one(rt: HostRuntime) -> Result<(), Error> {
     let top = chain(&rt, alloc, &storage, 130, false)?.handle;
     storage.unpin(&rt, top)?;
     assert!(rt; storage.page_out_pending(&rt, alloc).is_ok());
-    assert!(rt; is_key(storage.key(&rt, top)?, 64774723321446467605344910487651106384));
+    assert!(rt;
+        is_key(
+            storage.key(&rt, top)?,
+            64774723321446467605344910487651106384
+        )
+    );
     assert!(rt; storage.is_paged_out(&rt, top)?);
     storage.cache_clear(&rt)?;
     let pin = storage.pin(&rt, alloc, top)?;
@@ -158,7 +163,12 @@ fn loose_links_are_read_one_by_one(rt: HostRuntime) -> Result<(), Error> {
     let next = next[0].handle;
     assert_eq!(rt; storage.count(&rt, next)?, 0);
     assert!(rt; storage.is_paged_out(&rt, next)?);
-    assert!(rt; is_key(storage.key(&rt, next)?, 40657111461448115765714812676886398291));
+    assert!(rt;
+        is_key(
+            storage.key(&rt, next)?,
+            40657111461448115765714812676886398291
+        )
+    );
     Ok(())
 }
 
@@ -183,7 +193,12 @@ fn shared_links_are_read_to_their_end(rt: HostRuntime) -> Result<(), Error> {
     let storage = PagableStorageHandle::new(alloc, storage, Cells::new())?;
     let top = listed_above(&rt, alloc, &storage, 128)?;
     assert!(rt; storage.page_out_pending(&rt, alloc).is_ok());
-    assert!(rt; is_key(storage.key(&rt, top)?, 40657111461448115765714812676886398291));
+    assert!(rt;
+        is_key(
+            storage.key(&rt, top)?,
+            40657111461448115765714812676886398291
+        )
+    );
     assert!(rt; storage.is_paged_out(&rt, top)?);
     storage.cache_clear(&rt)?;
     let pin = storage.pin(&rt, alloc, top)?;

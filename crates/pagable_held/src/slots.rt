@@ -1,21 +1,15 @@
-//! Rows of slots, and of a table on which two threads page out.
+//! Rows of slots.
 
 ghost use Rattle.std.specs.Prelude.{◌<◌, ◌≡◌};
 
-use crate::counting::{CountingStorage, StorageCalls};
-use crate::paging::item;
-use pagable_codec::ArcRef;
-use pagable_core::{InMemoryBlobs, Sha256Key};
-use pagable_locked::{ArcSerSlot, ClaimShare, PagableStorageHandle, SlotTable};
+use pagable_locked::{ArcSerSlot, SlotTable};
 use pagable_model::{Error, Identity, Kind, NodeNumber};
 use pagable_rows::linked::Linked;
-use pagable_rows::text::TextEnv;
-use pagable_traits::Arc;
 use std::alloc::Global;
 use std::marker::Brand;
 use std::sync::atomic::{AtomicU64, Ordering};
 use std::sync::ledger::{Blank, Ledger};
-use std::sync::{Arc as Shared, Wait};
+use std::sync::Wait;
 use std::thread;
 use std::thread::Threads;
 
@@ -86,8 +80,7 @@ fn slot_is_failed_while_held<L: Ledger, R: Threads + Wait + Sync>(
 #[test]
 fn slot_has_a_lock_of_its_own(rt: HostRuntime) -> Result<(), Error> {
     let alloc = rt.alloc();
-    let holds =
-        slot_is_failed_while_held::<Brand, HostRuntime>(&rt, alloc, Blank::new(2))?;
+    let holds = slot_is_failed_while_held::<Brand, HostRuntime>(&rt, alloc, Blank::new(2))?;
     assert!(rt; holds);
     Ok(())
 }

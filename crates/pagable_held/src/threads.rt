@@ -1,6 +1,6 @@
 //! Two threads on one storage. What they leave doesn't depend on which of them comes first.
 
-use crate::paging::{is_key, new_cell};
+use crate::paging::new_cell;
 use pagable_core::{InMemoryBlobs, Sha256Key};
 use pagable_locked::{InMemoryPagableStorage, PagableStorageHandle};
 use pagable_model::{Error, OptionalDataKey};
@@ -75,7 +75,9 @@ fn visit_all<R: Wait>(
     let mut number = seed;
     let mut are_same = true;
     for round in 0..2_000u64 {
-        number = number.wrapping_mul(6364136223846793005).wrapping_add(1442695040888963407);
+        number = number
+            .wrapping_mul(6364136223846793005)
+            .wrapping_add(1442695040888963407);
         let place = (number >> 33) as usize % 1_000;
         are_same = visit(rt, alloc, storage, cells, place)? && are_same;
         if round % 50 == 0 {
