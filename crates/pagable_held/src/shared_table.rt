@@ -103,8 +103,13 @@ fn two_threads_claim_a_shared_text_once(rt: HostRuntime) -> Result<(), PageOutEr
     let (storage, calls) = counting(alloc).map_err(|e| PageOutError::Failed(e))?;
     let text = shared_text(&rt, alloc, &storage).map_err(|e| PageOutError::Failed(e))?;
     let text = text.reference::<Texts>();
-    let (sum, claims) =
-        page_out_by_two::<Brand, HostRuntime>(&rt, alloc, &storage, text, Blank::new(4))?;
+    let (sum, claims) = page_out_by_two::<Brand, HostRuntime>(
+        &rt,
+        alloc,
+        &storage,
+        text,
+        Blank::new(4),
+    )?;
     assert!(rt; sum == SUM);
     assert_eq!(rt; claims, 1);
     assert!(rt; calls.counts() == (0, 101));

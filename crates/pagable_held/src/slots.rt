@@ -7,9 +7,9 @@ use pagable_model::{Error, Identity, Kind, NodeNumber};
 use pagable_rows::linked::Linked;
 use std::alloc::Global;
 use std::marker::Brand;
+use std::sync::Wait;
 use std::sync::atomic::{AtomicU64, Ordering};
 use std::sync::ledger::{Blank, Ledger};
-use std::sync::Wait;
 use std::thread;
 use std::thread::Threads;
 
