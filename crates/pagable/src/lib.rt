@@ -48,7 +48,7 @@ pub mod pagable_arc {
     pub use pagable_model::{LoadNumber, WorkerNumber};
     pub use pagable_pager::{ArcCell, DeserializedArcCache, Pager};
     pub use pagable_traits::{
-        Arc, HoldingArc, PagableArc, PinnedPagableArc, PinnedPagableArcBorrow,
+        Arc, FirstHandle, HoldingArc, NewPin, PagableArc, PinnedPagableArc, PinnedPagableArcBorrow,
     };
     pub use pagable_world::handles::Owner;
     pub use pagable_world::{
@@ -71,9 +71,16 @@ pub mod storage {
         pub use pagable_traits::KeyHash;
     }
 
-    /// A store in memory.
+    /// The handle of a storage that threads share, and what the references to its values ask of it.
+    pub mod handle {
+        pub use pagable_locked::PagableStorageHandle;
+        pub use pagable_traits::Storage;
+    }
+
+    /// A store in memory, and a storage over it that threads share.
     pub mod in_memory {
         pub use pagable_core::InMemoryBlobs;
+        pub use pagable_locked::InMemoryPagableStorage;
     }
 
     /// The serializer of one cell's value.
@@ -81,11 +88,18 @@ pub mod storage {
         pub use pagable_core::SerializerForPaging;
     }
 
-    /// What a store answers, the setting that its writes and reads share, what is known of the nodes that items refer to,
-    /// and why a page-out fails.
+    /// What a store answers, the setting that its writes and reads share; the accesses to a pager, lent and behind a lock,
+    /// and what goes over any of them; what is known of the nodes that items refer to, and why a page-out fails.
     pub mod traits {
         pub use pagable_core::{PagableStorage, Setting};
-        pub use pagable_walk::{LentTable, PageOutError};
+        pub use pagable_loads::{Access, WorkerAccess, pin_over, read_over};
+        pub use pagable_locked::{
+            ArcSerSlot, ClaimShare, Locked, SharedClaims, SlotTable, TableGuard,
+        };
+        pub use pagable_pager::{DeserializedArcCache, Lent};
+        pub use pagable_walk::{
+            Claims, LentTable, PageOutError, SlotResult, page_out_item_over, page_out_pending_over,
+        };
     }
 }
 
@@ -140,8 +154,16 @@ pub use pagable_core::{
     PagableSerializerImpl, PagableStorage, References, SerializedData, SerializerForPaging,
     Setting, Sha256Key, WeighHash,
 };
-pub use pagable_pager::{ArcCell, DeserializedArcCache, Pager};
-pub use pagable_walk::{LentTable, PageOutError};
+pub use pagable_loads::{Access, WorkerAccess, pin_over, read_over};
+pub use pagable_locked::{
+    ArcSerSlot, ClaimShare, InMemoryPagableStorage, Locked, PagableStorageHandle, SharedClaims,
+    SlotTable, TableGuard,
+};
+pub use pagable_pager::{ArcCell, DeserializedArcCache, Lent, Pager};
+pub use pagable_traits::{FirstHandle, NewPin};
+pub use pagable_walk::{
+    Claims, LentTable, PageOutError, SlotResult, page_out_item_over, page_out_pending_over,
+};
 pub use pagable_world::handles::Owner;
 pub use pagable_world::{
     Beginning, Call, Claim, Event, EventReply, Found, LoadAnswer, LoadReply, Mode, PinStep,

@@ -3,7 +3,7 @@
 use pagable_flavors::Error;
 use pagable_model::ArcRef;
 use pagable_traits::{
-    Env, KeyHash, NodeSet, PagableDeserialize, PagableDeserializer, PagableSerialize,
+    Env, KeyHash, NodeSet, OfNode, PagableDeserialize, PagableDeserializer, PagableSerialize,
     PagableSerializer,
 };
 use std::alloc::Global;
@@ -19,6 +19,12 @@ pub struct TextEnv<H> {
 impl<H: KeyHash> TextEnv<H> {
     pub fn new() -> TextEnv<H> {
         TextEnv { hash: PhantomData }
+    }
+}
+
+impl<H: KeyHash> Default for TextEnv<H> {
+    fn default() -> TextEnv<H> {
+        TextEnv::new()
     }
 }
 
@@ -105,4 +111,27 @@ impl<H: KeyHash> NodeSet<TextEnv<H>> for TextNode {
         let text = String::pagable_deserialize(alloc, deserializer)?;
         Ok(TextNode(Arc::new(alloc, text)?))
     }
+}
+
+impl<H: KeyHash> OfNode<TextEnv<H>> for String {
+    ghost use Rattle.std.specs.{Arc.arc_value, Prelude.{Some, ◌≡◌}};
+    ghost use Rattle.pagable_rows.specs.Texts.{number_is_small, text_in};
+
+    ghost TYPE = { 0 };
+
+    ghost held = { text_in };
+
+    const TYPE: u32 = 0;
+
+    fn into_node(value: Arc<String>) -> TextNode
+        ensures { text_in result ≡ Some (arc_value value) }
+    {
+        TextNode(value)
+    }
+
+    fn from_node(_alloc: Global, node: &TextNode) -> Result<Option<Arc<String>>, Error> {
+        Ok(Some(node.0.clone()?))
+    }
+
+    ghost small = { number_is_small };
 }

@@ -1,0 +1,47 @@
+//! The shortest use of a storage that threads share: a text is kept, paged out, and read back.
+
+use pagable_core::WeighHash;
+use pagable_locked::InMemoryPagableStorage;
+use pagable_model::Error;
+use pagable_rows::text::TextEnv;
+use pagable_traits::PagableArc;
+use pagable_walk::PageOutError;
+use std::alloc::Global;
+use std::sync::{Arc, Wait};
+
+/// A storage of texts in memory.
+type TextStorage = InMemoryPagableStorage<TextEnv<WeighHash>>;
+
+/// Keeps a text, pages it out, reads it back, and says whether it is the same.
+pub fn page_out_and_read_back<R: Wait>(rt: &R, alloc: Global, text: &str) -> Result<bool, Error> {
+    // Each thread has a handle of its own, which `clone` makes.
+    let storage = TextStorage::default(alloc)?;
+    let handle = storage.handle()?;
+
+    // A value becomes a cell with one reference, which pins it.
+    let value = Arc::new(alloc, String::from_str(alloc, text)?)?;
+    let cell = PagableArc::new(rt, alloc, value, &handle).map_err(|refused| refused.0)?;
+
+    // Without a pin the cell waits for page-out: it is stored under its content's key, and leaves memory.
+    cell.unpin(rt, &handle)?;
+    if let Err(PageOutError::Failed(e)) = storage.page_out_pending(rt, alloc) {
+        return Err(e);
+    }
+
+    // A pin reads it back with no lock held, and holds the value: to look at it takes no lock.
+    let pin = cell.pin_sync(rt, alloc, &handle)?;
+    let is_same = pin.get().as_str() == text;
+    pin.release(rt, &handle).map_err(|refused| refused.0)?;
+    Ok(is_same)
+}
+
+#[cfg(test)]
+mod tests {
+    use super::*;
+
+    #[test]
+    fn text_is_the_same(rt: HostRuntime) -> Result<(), Error> {
+        assert!(rt; page_out_and_read_back(&rt, rt.alloc(), "hello world")?);
+        Ok(())
+    }
+}
