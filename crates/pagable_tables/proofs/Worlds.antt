@@ -2,7 +2,7 @@
 use Rattle.pagable_tables.proofs.Words.{Adopts, Alike, ArcRef, AreHandlesFull, Bool, Core, Err, Error, FallsAnyhow, HandleNumber, HandleRow, HasRoom, Kind, LazyCall, List, LoadNumber, Makes, Mode}
 use Rattle.pagable_tables.proofs.Words.{NodeNumber, None, Ok, OnlyRoom, OpenLoad, Option, OptionalDataKey, Owner, OwnsLoad, RecallCall, Refused, Result, SameAt, SameCache, Some, [], add-one}
 use Rattle.pagable_tables.proofs.Words.{adopt_fault, adopted, ap, arith, at_drop_more, birth_fault, closed_fault, drop, drop-cons, drop_all, earlier, early_fault, false, find_row}
-use Rattle.pagable_tables.proofs.Words.{first_key, get_or, greatest, handle_fault, if_there, if◌then◌else◌, inl, inr, is_in, is_loose_kind, is_named_by, is_owner, length, load_fault, map, mode_of}
+use Rattle.pagable_tables.proofs.Words.{first_key, get_or, greatest, handle_fault, if_there, if◌then◌else◌, inl, inr, is_in, is_loose_kind, is_named_by, is_owner, is_some, length, load_fault, map, mode_of}
 use Rattle.pagable_tables.proofs.Words.{moved, named_at, named_fault, nat_lt, nat_tests, next_node, node_fault, not, numbers_of, only_handle, option_map, or_else, rank, reference_fault, references_fault}
 use Rattle.pagable_tables.proofs.Words.{refl, refused_if, seen, spent, subst, suc, sym, take, take-suc, take_all, true, type_of, usable, where_so, with_cached, with_handle, with_node, zero, ℕ, ◌&&◌}
 use Rattle.pagable_tables.proofs.Words.{◌++◌, ◌+◌, ◌<◌, ◌==◌, ◌||◌, ◌∙◌, ◌∷◌}
@@ -13,6 +13,44 @@ same-cache w w' e same is = grind (arith, nat_tests)
 
 pub still : (w : Core) → Alike w w
 still w = grind (arith, nat_tests, same-cache)
+
+-- one after the other
+pub alike-on : {u v w : Core} → Alike u v → Alike v w → Alike u w
+alike-on a b = record {
+  rows = b.rows ∙ a.rows;
+  cells = λ n. b.cells n ∙ a.cells n;
+  list = b.list ∙ a.list;
+  cache = record { gives = λ kind key. b.cache.gives kind key ∙ a.cache.gives kind key; only = λ kind key n is. a.cache.only kind key n (b.cache.only kind key n is) };
+  stored = λ key. b.stored key ∙ a.stored key;
+  closed = b.closed ∙ a.closed;
+  failures = b.failures ∙ a.failures;
+  loads = λ l. b.loads l ∙ a.loads l;
+  workers = λ v. b.workers v ∙ a.workers v;
+  last = b.last ∙ a.last;
+  places = record { handles = omega (arith, a.places.handles, b.places.handles); entries = omega (arith, a.places.entries, b.places.entries) };
+}
+
+-- the cache forgets entries whose cells are gone
+pub forgets-gone : (w : Core) (cache : ℕ → ℕ → Option ℕ) → ((kind key : ℕ) → cache kind key ≡ if_there (λ n. if is_some (w.cells n) then Some n else None) None (w.cache kind key)) → Alike w (record w { cache = cache })
+forgets-gone w cache is = record {
+  rows = refl;
+  cells = λ n. refl;
+  list = refl;
+  cache = record { gives = λ kind key. gives kind key (w.cache kind key) (is kind key) refl; only = λ kind key n here. only kind key n (w.cache kind key) refl (sym (is kind key) ∙ here) };
+  stored = λ key. refl;
+  closed = refl;
+  failures = refl;
+  loads = λ l. refl;
+  workers = λ v. refl;
+  last = refl;
+  places = record { handles = omega arith; entries = omega arith };
+} where
+  gives : (kind key : ℕ) (known : Option ℕ) → cache kind key ≡ if_there (λ n. if is_some (w.cells n) then Some n else None) None known → w.cache kind key ≡ known
+      → usable (record w { cache = cache }) kind key ≡ usable w kind key
+  gives kind key known e f = grind (arith, nat_tests)
+
+  only : (kind key n : ℕ) (known : Option ℕ) → w.cache kind key ≡ known → if_there (λ m. if is_some (w.cells m) then Some m else None) None known ≡ Some n → w.cache kind key ≡ Some n
+  only kind key n known f e = grind (arith, nat_tests)
 
 -- rows, cells, list and room may be told anew
 pub alike : (w w' : Core) → w'.rows ≡ w.rows → SameAt w.cells w'.cells → w'.list ≡ w.list → HasRoom w.places w'.places

@@ -53,6 +53,11 @@ counts_at nodes n = option_map (λ (r : NodeRow). r.counts) (row_by nodes n)
 abbrev pub refs_at : NumberTable NodeRow → ℕ → List ArcRef
 refs_at nodes n = option_map_or (λ (r : NodeRow). r.references.items) (row_by nodes n) []
 
+-- the node, if it is there
+abbrev pub living : (ℕ → Option Counts) → Option NodeNumber → Option NodeNumber
+living at None = None
+living at (Some n) = if is_some (at n.0) then Some n else None
+
 module _ {S : Type 0} where
   abbrev pub load_at : IndexMap ℕ LoadRow S → ℕ → Option LoadRow
   load_at loads l = get nat_eq loads l

@@ -135,7 +135,7 @@ pub fn make_ready_to_learn(t: &mut Tables) -> Result<(), Error>
 }
 
 /// A new node with a handle of the load's, which the cache knows from now on, where it is to learn. All was made ready for it, so it isn't refused.
-fn learn_new(
+fn bear_known(
     t: &mut Tables,
     load: LoadNumber,
     kind: Kind,
@@ -155,6 +155,30 @@ fn learn_new(
     let me = Owner::Load(load);
     let handle = bear(t, me, kind.0 / 3, own_key, references, mode_of(kind));
     lookups::learn_if(&mut t.cache, lists, kind, key, NodeNumber(t.last_node));
+    handle
+}
+
+/// A new node with a handle of the load's, which the cache knows from now on, where it is to learn. All was made ready for it, so it isn't refused. And the cache may forget
+/// entries of nodes that are gone.
+fn learn_new(
+    t: &mut Tables,
+    load: LoadNumber,
+    kind: Kind,
+    key: DataKey,
+    own_key: u128,
+    references: Vec<ArcRef>,
+    lists: bool,
+) -> HandleNumber
+    requires whole { IsWhole t.old }
+    requires ready { IsReady t.old }
+    requires learns { 0 < spare t.old.cache }
+    requires holder { MayHold (plain_of t.old) (owners.Load load) }
+    requires fit { references_fault (plain_of t.old) (owners.Load load) [] references.items ≡ None }
+    requires bare { (own_key ≡ 0) ⊎ ((is_shared (mode_of kind.0) ≡ false) × ((references.items ≡ []) ⊎ (is_pinning (mode_of kind.0) ≡ true))) }
+    ensures { Does t.old (λ w w'. IsNext result w × (lists ≡ not w.closed → Alike (adopted w load kind key (key_in own_key) references.items) w')) t.new }
+{
+    let handle = bear_known(t, load, kind, key, own_key, references, lists);
+    lookups::forget_gone(t);
     handle
 }
 

@@ -1,20 +1,20 @@
 //! What is asked of modes, kinds, handles and nodes, and why calls are refused: the references of a value that is handed in, and which of several causes is told. Nothing changes by that.
 //! And the cache, which owns nothing: which node is known under a kind and a key, what it gives, and handles that are offered to it.
 
-ghost use Rattle.pagable_tables.specs.{Core.{AreLater, Does, IsWhole, MayHold, core_of, load_in, plain_of}, Falling.{Sheds, cell_in, counts_at, has_value, key_in, known_at, live, pins_in}};
+ghost use Rattle.pagable_tables.specs.{Core.{AreLater, Does, IsWhole, MayHold, core_of, load_in, plain_of}, Falling.{Sheds, cell_in, counts_at, has_value, key_in, known_at, live, living, pins_in}};
 ghost use Rattle.pagable_world.specs.{Calls.{AwayCall, CountCall, KeyCall, Looks, NodeCall, OfferCall, RecallCall, TypeCall, is_named_by, offer_fault}, LoadCalls.cell_fault, Workers.claim_fault};
 ghost use Rattle.pagable_world.specs.{Kinds.{find_row, fits_mode, is_in_memory, is_loose, is_owner, is_pinning, is_unpinned, mode_of}, World.{Cell, Core, OpenLoad, key_at, type_at, usable}};
-ghost use Rattle.std.specs.Prelude.{IfErr, IfNone, IfOk, IfSome, IsOk, List, None, OnErr, OnOk, Option, Some, [], false, if◌then◌else◌, length, not, true, ℕ, ◌<◌, ◌||◌, ◌≡◌, ◌≢◌, ◌≤◌, ◌⊎◌};
+ghost use Rattle.std.specs.Prelude.{IfErr, IfNone, IfOk, IfSome, IsOk, List, None, OnErr, OnOk, Option, Some, [], false, if◌then◌else◌, length, not, true, ℕ, ◌<◌, ◌||◌, ◌≡◌, ◌≢◌, ◌≤◌, ◌⊎◌, ◌*◌, ◌+◌};
 ghost use Rattle.{indexmap.specs.IndexMap.spare, pagable_tables.specs.Rows.row_by, pagable_model.specs.declared.{data_key.OptionalDataKey.OptionalDataKey, numbers.NodeNumber.NodeNumber}, pagable_tables.specs.Falling.AreSound};
 ghost use Rattle.{pagable_tables.specs.Core.seen, pagable_world.specs.{Events.IsEntry, Refusals.{Owns, earlier, is_type, named_fault, rank, reference_fault, references_fault, refused_if, row_fault}}};
-ghost use Rattle.{pagable_world.specs.{Plain.{Blob, if_there, is_in, is_loose_kind, is_pinned_kind, type_of}, declared.handles.HandleRow.HandleRow}, std.specs.{Option.option_map, Prelude.Bool}};
+ghost use Rattle.{pagable_world.specs.{World.Alike, Plain.{Blob, if_there, is_in, is_loose_kind, is_pinned_kind, type_of}, declared.handles.HandleRow.HandleRow}, std.specs.{Option.option_map, Prelude.{Bool, is_some}}};
 ghost use Rattle.pagable_model.specs.declared.error.Error.TheVariants as errors;
 
 use crate::giving::give_back;
 use crate::handles::{self, Handles};
 use crate::holdings::pins;
 use crate::making::{is_owner, make, own};
-use crate::tables::{self, Arcs, Cache, Counts, LoadRoot, LoadRow, Tables};
+use crate::tables::{self, Arcs, Cache, Counts, LoadRoot, LoadRow, Nodes, Tables};
 use pagable_model::{ArcRef, DataKey, Error, HandleNumber, Kind, NodeNumber, OptionalDataKey};
 use pagable_world::Mode;
 use pagable_world::handles::{HandleRow, Owner};
@@ -371,6 +371,38 @@ pub fn learn_if(cache: &mut Cache, learns: bool, kind: Kind, key: DataKey, node:
     }
 }
 
+/// How many entries the cache may have before it is looked through again, beside twice those that were left.
+const FEW_ENTRIES: usize = 64;
+
+/// The cache forgets its entries of nodes that are gone.
+fn keep_living(cache: &mut Cache, nodes: &Nodes)
+    ensures { (kind key : ℕ) → known_at cache.new kind key ≡ living (counts_at nodes.now) (known_at cache.old kind key) }
+{
+    let _many = cache.len();
+    cache.retain(
+        |_under: &(u32, DataKey), node: &mut NodeNumber| -> bool
+            ensures { (result ≡ is_some (counts_at nodes.entry.now node.old.0)) × (node.new ≡ node.old) }
+        { tables::counts_of(nodes, node.0).is_some() },
+    );
+}
+
+/// Forgets the cache's entries of nodes that are gone, where it has more than its limit, which becomes twice what is
+/// left and some. So an insertion looks at an entry or two besides, and the cache never has more than twice the entries
+/// whose nodes lived when it was last looked through, and some.
+pub fn forget_gone(t: &mut Tables)
+    requires { IsWhole t.old }
+    ensures does { Does t.old Alike t.new }
+    ensures gone { t.old.cache_limit < length t.old.cache.entries → (kind key : ℕ) → IfSome (known_at t.new.cache kind key) (λ n. is_some (counts_at t.old.holdings.nodes n.0) ≡ true) }
+    ensures few { t.old.cache_limit < length t.old.cache.entries → t.new.cache_limit ≤ 2 * length t.new.cache.entries + 64 }
+    ensures same { t.new ≡ record t.old { cache = t.new.cache; cache_limit = t.new.cache_limit } }
+{
+    if t.cache.len() <= t.cache_limit {
+        return;
+    }
+    keep_living(&mut t.cache, &t.holdings.nodes);
+    t.cache_limit = t.cache.len().saturating_mul(2).saturating_add(FEW_ENTRIES);
+}
+
 /// The node that the cache gives for a kind and a key. An entry counts only while its node lives and, as a pin, has its value.
 pub fn usable_of(t: &Tables, kind: Kind, key: DataKey) -> Option<NodeNumber>
     requires { IsWhole t.now }
@@ -444,6 +476,7 @@ pub fn offer<N: Drop>(
     }
     let Some(node) = usable_of(t, kind, key) else {
         put(&mut t.cache, kind, key, row.node)?;
+        forget_gone(t);
         return Ok(None);
     };
     let known = make(t, node, mode_of(kind), me)?;

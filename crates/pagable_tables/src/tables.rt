@@ -123,6 +123,8 @@ pub struct Tables {
     pub holdings: Holdings,
     /// Which node is known under a kind and a key.
     pub cache: Cache,
+    /// The cache is looked through for entries that can't be used when it has more than so many.
+    pub cache_limit: usize,
     pub loads: Loads,
     /// The workers at work, and which handles each may have.
     pub workers: Workers,
@@ -156,6 +158,7 @@ pub fn new(alloc: Global) -> Tables
             last_handle: 0,
         },
         cache: IndexMap::new(alloc),
+        cache_limit: 0,
         loads: IndexMap::new(alloc),
         workers: IndexMap::new(alloc),
         last_node: 0,

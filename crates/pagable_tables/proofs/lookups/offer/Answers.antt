@@ -1,7 +1,7 @@
 use Rattle.pagable_tables.proofs.{Alive.whole-so, Calls.{known-suits, learns-whole}, Fitting.{begun-whole, closed-is}, Kept.found-among, Newer.{begun-made, falls-made, found-again, later-on}}
 use Rattle.pagable_tables.proofs.{Next.{sheds-still, stays-first}, Told.{lone-falling, not-a-value, not-list, told-whole}, Words.{Alike, NodeNumber, None, Owner, Owns, any_mode, ap, arith, core_of}}
 use Rattle.pagable_tables.proofs.Words.{counts_at, false, fits_mode, has_value, inl, inr, is_owner, is_pinning, is_valued, length, mode_of, nat_tests, not, offer_fault, only_handle, option_map}
-use Rattle.pagable_tables.proofs.{Words.{plain_of, recall_fault, refl, sym, true, with_cached, with_known, ℕ, ◌+◌, ◌∙◌, ◌≡◌}, Worlds.{failed, not-recalled, owner-same, owner-self, same-cache}}
+use Rattle.pagable_tables.proofs.{Words.{plain_of, recall_fault, refl, sym, true, with_cached, with_known, ℕ, ◌+◌, ◌∙◌, ◌≡◌}, Worlds.{alike-on, failed, not-recalled, owner-same, owner-self, same-cache}}
 use Rattle.pagable_tables.proofs.lookups.offer.Goals as goal
 
 pub make-requires-clause-suits : goal.make-requires-clause-suits
@@ -49,6 +49,14 @@ returns g c =
       later = λ later. later-on (made.later later) went.newer refl refl;
     }
 
+pub forget_gone-requires : goal.forget_gone-requires
+forget_gone-requires g c =
+    let w = plain_of c.args.t.now in
+    let owns : Owns w c.args.me c.args.handle (fits_mode c.args.kind.0) c.in_ok-row.row = grind (arith, nat_tests, c.in_ok-row.ensures.owns) in
+    let alike : Alike (with_cached w c.args.kind c.args.key c.in_ok-row.row.node) (plain_of (record c.args.t.now { cache = c.put.new.cache })) =
+    grind (arith, nat_tests, same-cache, c.in_ok-put.ensures.here, c.in_ok-put.ensures.others) in
+    whole-so c.requires.whole.steady (learns-whole c.args.me c.args.kind c.args.key c.args.handle c.in_ok-row.row c.requires.whole.core owns c.in_ok-row.ensures.typed alike)
+
 pub returns-in_default-clause-offered : goal.returns-in_default-clause-offered
 returns-in_default-clause-offered g c stored closed failures e =
     let w = core_of c.args.t.now stored false failures in
@@ -56,12 +64,10 @@ returns-in_default-clause-offered g c stored closed failures e =
     let alike : Alike (with_cached w c.args.kind c.args.key c.in_ok-row.row.node) (core_of (record c.args.t.now { cache = c.put.new.cache }) stored false failures) =
     grind (arith, nat_tests, same-cache, c.in_ok-put.ensures.here, c.in_ok-put.ensures.others) in
     rw (closed-is c.args.lists closed e ∙ ap not c.if-not-lists.false)
-    (record { answers = (c.in_ok-row.row, owns, c.in_ok-row.ensures.typed, (refl, sym (c.in_default.ensures stored false failures), alike)); refused = tt })
+    (record { answers = (c.in_ok-row.row, owns, c.in_ok-row.ensures.typed, (refl, sym (c.in_default.ensures stored false failures), alike-on alike (c.forget_gone.ensures.does.does stored false failures))); refused = tt })
 
 pub returns-in_default-clause-whole : goal.returns-in_default-clause-whole
-returns-in_default-clause-whole g c =
-    let (row, owns, typed, learned) = (returns-in_default-clause-offered g c (λ key. None) false 0 c.if-not-lists.false).answers in
-    whole-so c.requires.whole.steady (learns-whole c.args.me c.args.kind c.args.key c.args.handle row c.requires.whole.core owns typed learned.2)
+returns-in_default-clause-whole g c = c.forget_gone.ensures.does.whole
 
 pub returns-in_err-put-clause-whole : goal.returns-in_err-put-clause-whole
 returns-in_err-put-clause-whole g c =
