@@ -42,7 +42,7 @@ fn fail_and_tell<R: Wait>(
     was_held && has_failed
 }
 
-fn slot_is_failed_while_held<L: Ledger, R: Threads + Wait + Sync>(
+fn slot_is_failed_while_held<L: Ledger + Send + Sync, R: Threads + Wait + Sync>(
     rt: &R,
     alloc: Global,
     parts: Blank,
