@@ -7,6 +7,8 @@ mod calls;
 mod cells;
 pub mod counting;
 #[cfg(test)]
+mod gated;
+#[cfg(test)]
 mod items;
 #[cfg(test)]
 mod links;

@@ -11,8 +11,10 @@ use pagable_traits::PagableArc;
 use pagable_walk::PageOutError;
 use std::alloc::Global;
 use std::marker::Brand;
+use std::sync::atomic::{AtomicU64, Ordering};
 use std::sync::ledger::{Blank, Ledger};
 use std::sync::{Arc, Wait};
+use std::thread;
 
 /// Makes a cell of a text, of which the handle is loose and pins.
 pub fn new_cell<H: KeyHash, S: PagableStorage<TextEnv<H>>, R: Wait>(
@@ -80,4 +82,15 @@ fn page_out_on<L: Ledger, E: Env<Node: NodeSet<E>>, S: PagableStorage<E>, R: Wai
         Ok(key) => Ok((key, table.claims(rt, &mut share))),
         Err(e) => Err(e),
     }
+}
+
+/// Yields until a flag is 1, at most a million times: whether it was.
+pub fn is_set(flag: &AtomicU64) -> bool {
+    for _ in 0..1_000_000u32 {
+        if flag.load(Ordering::SeqCst) == 1 {
+            return true;
+        }
+        thread::yield_now();
+    }
+    false
 }

@@ -66,7 +66,7 @@ fn page_out_items<L: Ledger, R: Wait>(
 }
 
 // Has two threads page out 50 items each: the sum of their keys, and the claims that both made.
-fn page_out_by_two<L: Ledger, R: Threads + Wait + Sync>(
+fn page_out_by_two<L: Ledger + Send + Sync, R: Threads + Wait + Sync>(
     rt: &R,
     alloc: Global,
     storage: &Handle,

@@ -2,6 +2,7 @@
 
 ghost use Rattle.std.specs.Prelude.{◌<◌, ◌≡◌};
 
+use crate::paging::is_set;
 use pagable_locked::{ArcSerSlot, SlotTable};
 use pagable_model::{Error, Identity, Kind, NodeNumber};
 use pagable_rows::linked::Linked;
@@ -12,17 +13,6 @@ use std::sync::atomic::{AtomicU64, Ordering};
 use std::sync::ledger::{Blank, Ledger};
 use std::thread;
 use std::thread::Threads;
-
-// Yields until a flag is set, at most a million times: whether it was.
-fn is_set(flag: &AtomicU64) -> bool {
-    for _ in 0..1_000_000 {
-        if flag.load(Ordering::SeqCst) == 1 {
-            return true;
-        }
-        thread::yield_now();
-    }
-    false
-}
 
 // Holds the table's lock until a flag is set.
 fn hold_until_told<L: Ledger, R: Wait>(
@@ -52,7 +42,7 @@ fn fail_and_tell<R: Wait>(
     was_held && has_failed
 }
 
-fn slot_is_failed_while_held<L: Ledger, R: Threads + Wait + Sync>(
+fn slot_is_failed_while_held<L: Ledger + Send + Sync, R: Threads + Wait + Sync>(
     rt: &R,
     alloc: Global,
     parts: Blank,

@@ -32,10 +32,10 @@ struct Row<E: Env<Node: NodeSet<E>>> {
     worker: Option<WorkerNumber>,
 }
 
-// What the table's lock keeps: the slots, which of them are claimed, for whose outcome each worker waited last, and the
-// book of claims, whose total is their number.
+/// What the table's lock keeps: the slots, which of them are claimed, for whose outcome each worker waited last, and the
+/// book of claims, whose total is their number. None but the table's own calls reach it.
 #[derive(Drop)]
-struct Slots<E: Env<Node: NodeSet<E>>, L: Ledger> {
+pub struct Slots<E: Env<Node: NodeSet<E>>, L: Ledger> {
     rows: IndexMap<(u32, u64), Row<E>>,
     claimed: BTreeSet<(u32, u64)>,
     waits: IndexMap<u64, Identity>,
@@ -180,10 +180,7 @@ pub struct SlotTable<E: Env<Node: NodeSet<E>>, L: Ledger> {
 }
 
 /// The table's lock, as long as this lives. It lends nothing.
-#[derive(Drop)]
-pub struct TableGuard<'a, E: Env<Node: NodeSet<E>>, L: Ledger> {
-    guard: MutexGuard<'a, Slots<E, L>>,
-}
+pub type TableGuard<'a, E, L> = MutexGuard<'a, Slots<E, L>>;
 
 impl<E: Env<Node: NodeSet<E>>, L: Ledger> SlotTable<E, L> {
     /// Makes a table without slots, and its one whole share, which has no claims. It takes no memory. Two parts or
@@ -243,8 +240,7 @@ impl<E: Env<Node: NodeSet<E>>, L: Ledger> SlotTable<E, L> {
 
     /// Holds the table's lock as long as the guard lives. Slots that others have stay usable: each has a lock of its own.
     pub fn hold<R: Wait>(&self, rt: &R) -> TableGuard<'_, E, L> {
-        let guard = self.slots.lock(rt);
-        TableGuard { guard }
+        self.slots.lock(rt)
     }
 }
 
