@@ -50,7 +50,7 @@ ROWS = [
     ("fronts", 100_000),
     ("backwards", 20_000),
 ]
-SQUARES = {"chain", "loads"}
+SQUARES = {"loads"}
 # What the original has no call for.
 OURS = {"loads", "fronts", "backwards"}
 CALLS = {"calls", "falls", "loads", "fronts"}

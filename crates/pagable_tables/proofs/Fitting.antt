@@ -184,11 +184,11 @@ pub ruleset counting = (nat_tests, row-le-live, held-here, pins-le-held, held-fe
 
 -- why a cell isn't listed is told aside
 pub aside : (t : Holdings) (u : Option Error) (stack : List ℕ) (extra : ℕ → ℕ → ℕ) → IsFalling t stack extra → IsFalling (record t { unlisted = u }) stack extra
-aside t u stack extra w = record { sound = w.sound; next = w.next; fits = w.fits }
+aside t u stack extra w = record { sound = w.sound; next = w.next; fits = w.fits; worked = w.worked }
 
 -- a handle that no value owns weighs nothing there
 pub unowned : (t : Holdings) (x : HandleRow) (stack : List ℕ) → is_valued x.owner ≡ false → IsFalling t stack owns_nothing → IsFalling t stack (owns x)
-unowned t x stack plain w = record { sound = w.sound; next = w.next; fits = grind (arith, nat_tests, owned-by-none, w.fits) }
+unowned t x stack plain w = record { sound = w.sound; next = w.next; fits = grind (arith, nat_tests, owned-by-none, w.fits); worked = w.worked }
 
 share-plain : (n : ℕ) (rows : List HandleRow) → sharing n rows + times (is_plain_pin n) rows ≤ held n rows
 share-plain n [] = omega arith

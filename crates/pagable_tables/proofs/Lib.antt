@@ -3,6 +3,7 @@ pub mod Places
 pub mod Alive
 pub mod Worlds
 pub mod Kept
+pub mod Working
 pub mod Fitting
 pub mod Next
 pub mod Told

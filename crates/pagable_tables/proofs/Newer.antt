@@ -12,8 +12,8 @@ use Rattle.pagable_tables.proofs.Words.{known_at, left_rows, length, live, load_
 use Rattle.pagable_tables.proofs.Words.{option_map, or_else, owner_value, owner_worker, owns_nothing, passes_in, pins, plain_of, reach_at, references_fault, refl, refs_at, row_of, sharing, slice_get}
 use Rattle.pagable_tables.proofs.Words.{slice_get-get_or, subst, suc, sum_by, sum_by-append, sum_by-le-sum_by, sum_by_push, sym, take, times, true, updated, with_handle, with_mode, with_node}
 use Rattle.pagable_tables.proofs.{Words.{with_tables, with_worker, ℕ, ◌&&◌, ◌++◌, ◌+◌, ◌-◌, ◌<◌, ◌==◌, ◌||◌, ◌∙◌, ◌∷◌, ◌≡◌, ◌≢◌, ◌≤◌, ◌⊎◌}, Worlds.{born-past, found-map, moved-twice, named-none}}
-use Rattle.pagable_tables.{proofs.Worlds.{named-take, next-past, owner-same, owner-self, room-alike, same-cache}, specs.{Core.{Does, DoesShed, IsWhole, TakesWorker, gives}, Falling.{Becomes, Widens}}}
-use Rattle.pagable_world.specs.Workers.{is_load_of}
+use Rattle.pagable_tables.{proofs.Worlds.{named-take, next-past, owner-same, owner-self, room-alike, same-cache}, specs.{Core.{Does, DoesShed, IsWhole, TakesWorker, gives}, Falling.{AreAtWork, Becomes, Widens, work_at}}}
+use Rattle.{pagable_tables.proofs.Working.{work-more, work-told}, pagable_world.specs.Workers.{is_load_of}}
 use Rattle.pagable_world.specs.Pager as pager
 
 pub moved-times : (f : HandleRow → Bool) (s : ℕ → Bool) (o : Owner) (rows : List HandleRow) → ((x : HandleRow) → f (record x { owner = o }) ≡ f x) → times f (moved s o rows) ≡ times f rows
@@ -23,8 +23,8 @@ pub no-load : (w : Core) (o : Owner) (l : LoadNumber) → MayOwnLoad w o → is_
 no-load w o l may = grind (arith, nat_tests)
 
 pub moved-stands : (t : Holdings) (h : Handles) (s : ℕ → Bool) (o : Owner) → IsFalling t [] owns_nothing → is_valued o ≡ false → ((x : HandleRow) → Among (live t.handles.places.items) x → s x.number.0 ≡ true → is_valued x.owner ≡ false)
-    → Becomes t.handles (moved s o (live t.handles.places.items)) h → IsFalling (record t { handles = h }) [] owns_nothing
-moved-stands t h s o w plain free is =
+    → AreAtWork (moved s o (live t.handles.places.items)) t.nodes → Becomes t.handles (moved s o (live t.handles.places.items)) h → IsFalling (record t { handles = h }) [] owns_nothing
+moved-stands t h s o w plain free work is =
     let rows = live t.handles.places.items in
     let pinned : (n : ℕ) → pins n (moved s o rows) ≡ pins n rows = λ n. moved-times (is_pin n) s o rows (λ x. refl) in
     let holding : (n : ℕ) → held n (moved s o rows) ≡ held n rows = λ n. moved-times (is_at n) s o rows (λ x. refl) in
@@ -32,7 +32,12 @@ moved-stands t h s o w plain free is =
     λ n q. sum-map (is_owned n q) (is_owned n q) (λ x. if s x.number.0 then record x { owner = o } else x) rows
     (λ x among. let z = free x among in grind (arith, nat_tests, owned-by-none n q (record x { owner = o }) plain, owned-by-none n q x)) in
     let fits : Fits (counts_at t.nodes) (refs_at t.nodes) (moved s o rows) t.top [] owns_nothing = grind (arith, nat_tests, w.fits, pinned, holding, own) in
-    record { sound = is.sound; next = is.next (t.last_handle + 1) w.next; fits = rows-told (counts_at t.nodes) (refs_at t.nodes) (moved s o rows) (live h.places.items) t.top is.rows fits }
+    record {
+      sound = is.sound;
+      next = is.next (t.last_handle + 1) w.next;
+      fits = rows-told (counts_at t.nodes) (refs_at t.nodes) (moved s o rows) (live h.places.items) t.top is.rows fits;
+      worked = work-told t.nodes (moved s o rows) (live h.places.items) is.rows work;
+    }
 
 -- a look-up of what changes at one number, as it is told
 pub updated-by : {A B : Type 0} (f : Option A → B) (at at' : ℕ → Option A) (n : ℕ) (o : Option A) → at' n ≡ o → ((q : ℕ) → q ≢ n → at' q ≡ at q) → (q : ℕ) → updated n (f o) (λ q. f (at q)) q ≡ f (at' q)
@@ -372,8 +377,15 @@ nothing-shed {t = t} whole does = record { does = does; whole = whole; later = �
 
 -- handles widen, and nodes and the cache are told as they were
 pub widens-does : (t : Tables) (h : Handles) (nodes : NumberTable NodeRow) (cache : IndexMap (ℕ × ℕ) NodeNumber _) → IsWhole t → Widens t.holdings.handles h
-    → ((n : ℕ) → counts_at nodes n ≡ counts_at t.holdings.nodes n) → ((n : ℕ) → refs_at nodes n ≡ refs_at t.holdings.nodes n) → ((kind key : ℕ) → known_at cache kind key ≡ known_at t.cache kind key)
+    → ((n : ℕ) → counts_at nodes n ≡ counts_at t.holdings.nodes n) → ((n : ℕ) → refs_at nodes n ≡ refs_at t.holdings.nodes n)
+    → ((n : ℕ) → work_at nodes n ≡ work_at t.holdings.nodes n) → ((kind key : ℕ) → known_at cache kind key ≡ known_at t.cache kind key)
     → Does t OnlyRoom (record t { holdings = record t.holdings { handles = h; nodes = nodes }; cache = cache })
-widens-does t h nodes cache whole e counts refs known = does-so (λ stored closed failures. grind (arith, nat_tests, e.rows, e.capacity, counts, known))
-    (record { sound = e.sound; next = e.next (t.holdings.last_handle + 1) whole.steady.next; fits = grind (arith, nat_tests, whole.steady.fits, e.rows, counts, refs) })
+widens-does t h nodes cache whole e counts refs work known = does-so (λ stored closed failures. grind (arith, nat_tests, e.rows, e.capacity, counts, known))
+    (record {
+      sound = e.sound;
+      next = e.next (t.holdings.last_handle + 1) whole.steady.next;
+      fits = grind (arith, nat_tests, whole.steady.fits, e.rows, counts, refs);
+      worked = work-told nodes (live t.holdings.handles.places.items) (live h.places.items) e.rows
+          (work-more (live t.holdings.handles.places.items) t.holdings.nodes nodes (λ n. rw (work n) (omega arith)) whole.steady.worked);
+    })
     (λ room. alike-goes whole.core (room-alike room)) refl refl

@@ -2,7 +2,7 @@
 use Rattle.{indexmap.specs.IndexMap.{IndexMap, get}, pagable_model.specs.declared.{data_key.OptionalDataKey.OptionalDataKey, error.Error.Error, numbers.{ArcRef.ArcRef, HandleNumber.HandleNumber}}}
 use Rattle.{pagable_model.specs.declared.numbers.NodeNumber.NodeNumber, pagable_tables.specs.{Rows.row_by, declared.{handles.Handles.Handles, holdings.Holdings.Holdings, number_table.NumberTable.NumberTable, tables.{Counts.Counts, LoadRow.LoadRow}}}}
 use Rattle.{pagable_tables.specs.declared.tables.{NodeRow.NodeRow, Place.Place, Reach.Reach}, pagable_world.specs.{Calls.row_of, Cascade.{AreNewEntries, IsClosed, IsWithin, MustList, TellsListing}}}
-use Rattle.pagable_world.specs.{Cascade.{is_keyed, left_rows, only_handle}, Kinds.{held, is_handle, is_owned_by, is_pin, is_shared, owner_value, pins, sharing}, Plain.{SameAt, changed, if_there, one}}
+use Rattle.pagable_world.specs.{Cascade.{is_keyed, left_rows, only_handle}, Kinds.{held, is_at, is_handle, is_owned_by, is_pin, is_shared, owner_value, pins, sharing}, Plain.{SameAt, changed, if_there, one}}
 use Rattle.pagable_world.specs.{Plain.{or_else, times, updated}, World.{Cell, Core, HasRoom, greatest}, declared.{handles.{HandleRow.HandleRow, Owner.Owner}, rows.Mode.Mode}}
 use Rattle.std.specs.{List.AllPairs, Option.{option_map, option_map_or}, Prelude.{All, Bool, Err, IfSome, List, None, Ok, Option, Result, Some, [], false, filter, if◌then◌else◌, is_some, length, map}}
 use Rattle.std.specs.VecDeque.{deque_capacity}
@@ -57,6 +57,10 @@ refs_at nodes n = option_map_or (λ (r : NodeRow). r.references.items) (row_by n
 abbrev pub living : (ℕ → Option Counts) → Option NodeNumber → Option NodeNumber
 living at None = None
 living at (Some n) = if is_some (at n.0) then Some n else None
+
+-- how many handles of the node workers own, at most
+abbrev pub work_at : NumberTable NodeRow → ℕ → ℕ
+work_at nodes n = option_map_or (λ (r : NodeRow). r.at_work) (row_by nodes n) 0
 
 module _ {S : Type 0} where
   abbrev pub load_at : IndexMap ℕ LoadRow S → ℕ → Option LoadRow
@@ -177,10 +181,23 @@ pub record Fits (at : ℕ → Option Counts) (refs : ℕ → List ArcRef) (rows 
   pub right : (n : ℕ) → Right (at n) (refs n)
   pub from_one : at 0 ≡ None
 
+-- whether a worker owns the handle, and it is one of the node
+abbrev pub is_worker : Owner → Bool
+is_worker (Owner.Worker v) = true
+is_worker o = false
+
+abbrev pub is_work : ℕ → HandleRow → Bool
+is_work n h = is_at n h && is_worker h.owner
+
+-- workers own no more of each node's handles than it tells
+abbrev pub AreAtWork : List HandleRow → NumberTable NodeRow → Type 0
+AreAtWork rows nodes = (n : ℕ) → times (is_work n) rows ≤ work_at nodes n
+
 pub record IsFalling (t : Holdings) (stack : List ℕ) (extra : ℕ → ℕ → ℕ) : Type 0 where
   pub sound : AreSound t.handles
   pub next : IsNext (t.last_handle + 1) t.handles.places.items
   pub fits : Fits (counts_at t.nodes) (refs_at t.nodes) (live t.handles.places.items) t.top stack extra
+  pub worked : AreAtWork (live t.handles.places.items) t.nodes
 
 -- why no entry can come: no number is left, or no place
 abbrev pub IsUnlisted : Holdings → Error → Type 0

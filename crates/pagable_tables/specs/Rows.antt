@@ -1,5 +1,5 @@
 -- Rows by their numbers: the place of a number, in chunks for 256 numbers each, and its row.
-use Rattle.std.specs.{Option.option_and_then, Prelude.{List, None, Option, Some, slice_get, ℕ, ◌%◌, ◌/◌}}
+use Rattle.std.specs.{Option.option_and_then, Prelude.{List, Option, slice_get, ℕ, ◌%◌, ◌/◌}}
 use Rattle.pagable_tables.specs.declared.number_table.NumberTable.{NumberTable}
 
 -- what stands at a number's place, if the place is there

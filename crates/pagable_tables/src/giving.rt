@@ -1,20 +1,22 @@
 //! Handles that are given up: one, or together all that a load owns, a worker, or the list. Loose ones that let their pins go, or whose cells get keys. Page-out workers: they begin, give up what they
 //! have at a node, and end. And the list of cells that wait for page-out: entries come and are taken.
 
-ghost use Rattle.{pagable_tables.specs.Rows.row_by, pagable_model.specs.declared.numbers.LoadNumber.LoadNumber, pagable_tables.specs.Core.{AreLater, BeginsWorker, Does, DoesShed, InReach, IsLast}};
-ghost use Rattle.pagable_tables.specs.{Core.{IsNoLess, IsWhole, LoadsAre, MayHold, TakesWorker, core_of, gives_row, left_load, passes_in, plain_of}, Falling.{AreSound, IsFalling, Sheds, SoFar}};
-ghost use Rattle.pagable_tables.specs.{Falling.{alive, counts_at, is_valued, live, load_at, owns_nothing, reach_at, with_tables, worker_at}, declared.giving.Giving.Giving};
-ghost use Rattle.pagable_world.specs.{Calls.{CloseCall, ReleaseCall, ScheduleCall, SetKeyCall, TakeCall, UnpinCall}, Cascade.{Falls, FallsAnyhow, nobody, only_handle}, Kinds.{is_owner, owner_worker}};
-ghost use Rattle.pagable_world.specs.{LoadCalls.{DropCall, HandOverCall, hand_over_fault, is_owned_in}, Plain.{Blob, updated}, Workers.{WorkerEnds, is_workers_at}, World.Core};
-ghost use Rattle.pagable_world.specs.declared.handles.Owner.{Owner};
+ghost use Rattle.pagable_model.specs.declared.numbers.{LoadNumber.LoadNumber, NodeNumber.NodeNumber, WorkerNumber.WorkerNumber};
+ghost use Rattle.{pagable_tables.specs.Rows.row_by, pagable_tables.specs.Core.{AreLater, BeginsWorker, Does, DoesShed, InReach, IsLast}};
+ghost use Rattle.pagable_tables.specs.{Core.{IsNoLess, IsWhole, LoadsAre, MayHold, TakesWorker, core_of, gives_row, left_load, passes_in, plain_of}, Falling.{AreAtWork, AreSound, IsFalling}};
+ghost use Rattle.pagable_tables.specs.Falling.{Sheds, SoFar, alive, counts_at, holds_in, is_valued, is_worker, live, load_at, owns_nothing, reach_at, refs_at};
+ghost use Rattle.pagable_tables.specs.{Falling.{with_tables, work_at, worker_at}, declared.giving.Giving.Giving};
+ghost use Rattle.pagable_world.specs.{Calls.{CloseCall, ReleaseCall, ScheduleCall, SetKeyCall, TakeCall, UnpinCall, moved}, Cascade.{Falls, FallsAnyhow, nobody, only_handle}, Kinds.{find_row, held, is_owner, owner_worker}};
+ghost use Rattle.pagable_world.specs.{LoadCalls.{DropCall, HandOverCall, hand_over_fault, is_owned_in, numbers_of}, Plain.{Blob, is_in, updated}, Workers.{WorkerEnds, is_workers_at}, World.Core};
+ghost use Rattle.{pagable_world.specs.{Pager.IsHandleBefore, declared.handles.Owner.{Owner}}, std.specs.List.AllPairs};
 ghost use Rattle.std.specs.Prelude.{Bool, IfNone, IfOk, IfSome, List, None, Ok, Option, Some, [], false, is_some, length, not, slice_get, true, ℕ, ◌&&◌, ◌+◌, ◌<◌, ◌==◌, ◌||◌, ◌≡◌, ◌≤◌};
 
 use crate::handles::{self, Handles};
 use crate::holdings::{Holdings, fall, give_up, shed, top_after};
 use crate::loading::load_row;
 use crate::lookups::{cell_fault, earlier, is_loose_mode, is_unpinned, load_fault, named_fault};
-use crate::making::{is_owner, own};
-use crate::tables::{self, Arcs, HandleAt, LoadRow, Loads, Reach, Tables, Workers};
+use crate::making::{add_work, is_owner, is_worker, own};
+use crate::tables::{self, Arcs, HandleAt, LoadRow, Loads, Nodes, Reach, Tables, Workers};
 use pagable_model::{DataKey, Error, HandleNumber, LoadNumber, NodeNumber, WorkerNumber};
 use pagable_world::Mode;
 use pagable_world::handles::{HandleRow, Owner};
@@ -83,19 +85,34 @@ fn last(
     None
 }
 
+/// Whether handles at a node are given up of which workers have none.
+fn is_done(nodes: &Nodes, giving: Giving) -> bool
+    ensures { result ≡ true → (v : WorkerNumber) × (n : NodeNumber) × (giving ≡ Giving.AtNode v n) × (work_at nodes.now n.0 ≡ 0) }
+{
+    match giving {
+        Giving::AtNode(_, node) => tables::work_of(nodes, node.0) == 0,
+        Giving::Load(_) | Giving::Worker(_) | Giving::Listed => false,
+    }
+}
+
 /// The last handle in reach that is given up, of a number not above `left`.
 fn last_given(
     handles: &Handles,
+    nodes: &Nodes,
     loads: &Loads,
     giving: Giving,
     reach: Reach,
     left: u64,
     guess: usize,
 ) -> Option<HandleAt>
-    requires { AreSound handles.now }
+    requires sound { AreSound handles.now }
+    requires worked { AreAtWork (live handles.now.places.items) nodes.now }
     ensures last { IfSome result (IsLast handles.now.places.items loads.now giving (InReach reach) left) }
     ensures none { IfNone result ((w : Core) (q : ℕ) → LoadsAre loads.now w → InReach reach q → q ≤ left → passes_in (gives_row w giving) (live handles.now.places.items) q ≡ false) }
 {
+    if is_done(nodes, giving) {
+        return None;
+    }
     if let Some(at) = last(handles, loads, giving, reach.since, left, guess) {
         return Some(at);
     }
@@ -128,7 +145,7 @@ pub fn give_all<N: Drop>(
     t.unlisted = None;
     let mut left = t.last_handle;
     let mut guess = t.handles.places.len();
-    while let Some(at) = last_given(&t.handles, loads, giving, reach, left, guess) {
+    while let Some(at) = last_given(&t.handles, &t.nodes, loads, giving, reach, left, guess) {
         left = at.row.number.0 - 1;
         guess = at.place;
         shed(t, values, at, lists);
@@ -204,6 +221,44 @@ fn hand_over_fault(t: &Tables, me: Owner, load: LoadNumber, named: &[HandleNumbe
     earlier(first, earlier(cell, owned))
 }
 
+/// Workers may own each handle that this one's node has, as far as the node tells from now on.
+#[tactic(auto, using(crate::proofs::Fitting::counting))]
+fn may_work(handles: &Handles, nodes: &mut Nodes, handle: HandleNumber)
+    requires sound { AreSound handles.now }
+    requires holding { (n : ℕ) → holds_in (counts_at nodes.old n) ≡ held n (live handles.now.places.items) }
+    ensures here { IfSome (find_row handle.0 (live handles.now.places.items))
+        (λ row. held row.node.0 (live handles.now.places.items) ≤ work_at nodes.new row.node.0) }
+    ensures work { (n : ℕ) → work_at nodes.old n ≤ work_at nodes.new n }
+    ensures counts { (n : ℕ) → counts_at nodes.new n ≡ counts_at nodes.old n }
+    ensures refs { (n : ℕ) → refs_at nodes.new n ≡ refs_at nodes.old n }
+{
+    if let Some(at) = handles::look(handles, handle) {
+        let node = at.row.node.0;
+        let counts = tables::counts_of(nodes, node).unwrap();
+        let work = tables::work_of(nodes, node).max(counts.holds);
+        tables::set_work(nodes, node, work);
+    }
+}
+
+/// The same for each of these handles, where they come to a worker.
+fn all_may_work(handles: &Handles, nodes: &mut Nodes, named: &[HandleNumber], me: Owner)
+    requires sound { AreSound handles.now }
+    requires ordered { AllPairs IsHandleBefore (live handles.now.places.items) }
+    requires holding { (n : ℕ) → holds_in (counts_at nodes.old n) ≡ held n (live handles.now.places.items) }
+    requires worked { AreAtWork (live handles.now.places.items) nodes.old }
+    ensures worked { AreAtWork (moved (is_in (numbers_of named.now)) me (live handles.now.places.items)) nodes.new }
+    ensures work { (n : ℕ) → work_at nodes.old n ≤ work_at nodes.new n }
+    ensures counts { (n : ℕ) → counts_at nodes.new n ≡ counts_at nodes.old n }
+    ensures refs { (n : ℕ) → refs_at nodes.new n ≡ refs_at nodes.old n }
+{
+    if !is_worker(me) {
+        return;
+    }
+    for handle in named {
+        may_work(handles, nodes, *handle);
+    }
+}
+
 /// A load of a key hands over the handles that are named, gives up the rest and is closed. NoSuchHandle where no load is open or a named handle isn't live;
 /// NotYours where another began the load or owns a named handle, or one is named twice; WrongMode where it is a load of a cell.
 pub fn load_take<N: Drop>(
@@ -223,6 +278,7 @@ pub fn load_take<N: Drop>(
     }
     let row = tables::load_of(&t.loads, load.0).unwrap();
     tables::close(&mut t.loads, load.0);
+    all_may_work(&t.holdings.handles, &mut t.holdings.nodes, named, me);
     handles::hand_each(&mut t.holdings.handles, named, me);
     let since = row.since;
     let giving = Giving::Load(load);
@@ -469,7 +525,9 @@ pub fn take_pending(t: &mut Tables, me: Owner, place: usize) -> Option<HandleNum
     let Some(at) = handles::look(&t.holdings.handles, handle) else {
         unreachable!();
     };
+    let _taken = t.holdings.handles.places.len();
     handles::hand_over(&mut t.holdings.handles, at, me);
+    add_work(&mut t.holdings.nodes, at.row.node.0, me);
     reach_to(&mut t.workers, me, handle);
     Some(handle)
 }

@@ -1,7 +1,7 @@
 //! Live handles in the order of their numbers, found by halving. A dead row stays in its place until none behind it lives, or more than half are dead.
 
 ghost use Rattle.std.specs.{List.{AllPairs, Sorted.IsPartitionPoint}, Prelude.{IfNone, IfSome, None, OnErr, OnOk, Some, [], false, get_or, length, slice_get, sum_by, ◌++◌, ◌+◌, ◌<◌, ◌∷◌, ◌≡◌, ◌≤◌}};
-ghost use Rattle.pagable_tables.specs.{Falling.{AreCounted, AreSound, Becomes, IsBefore, IsFalling, IsNext, Widens, alive, is_valued, live, owns_nothing, room}, declared.holdings.Holdings.Holdings};
+ghost use Rattle.pagable_tables.specs.{Falling.{AreAtWork, AreCounted, AreSound, Becomes, IsBefore, IsFalling, IsNext, Widens, alive, is_valued, live, owns_nothing, room}, declared.holdings.Holdings.Holdings};
 ghost use Rattle.{pagable_tables.specs.declared.tables.Place.Place, pagable_world.specs.{Calls.{is_named_by, moved}, Cascade.{left_rows, only_handle}, Kinds.{find_row, is_handle}}};
 ghost use Rattle.{pagable_world.specs.{LoadCalls.numbers_of, Plain.{changed, is_in}, declared.handles.HandleRow.HandleRow}, std.specs.Prelude.{vec_capacity, vec_len, ℕ}};
 
@@ -204,8 +204,11 @@ pub fn hand_over(handles: &mut Handles, at: HandleAt, owner: Owner)
     requires sound { AreSound handles.old }
     requires place { slice_get handles.old.places.items at.place ≡ Some (alive at.row) }
     ensures becomes { Becomes handles.old (moved (only_handle at.row.number) owner (live handles.old.places.items)) handles.new }
-    ensures stands { (t : Holdings) → is_valued at.row.owner ≡ false → is_valued owner ≡ false → IsFalling (record t { handles = handles.old }) [] owns_nothing
+    ensures stands { (t : Holdings) → is_valued at.row.owner ≡ false → is_valued owner ≡ false
+        → AreAtWork (moved (only_handle at.row.number) owner (live handles.old.places.items)) t.nodes → IsFalling (record t { handles = handles.old }) [] owns_nothing
         → IsFalling (record t { handles = handles.new }) [] owns_nothing }
+    ensures sums { (f : HandleRow → ℕ) → sum_by f (live handles.new.places.items) + f at.row
+        ≡ sum_by f (live handles.old.places.items) + f (record at.row { owner = owner }) }
 {
     let row = HandleRow { owner, ..at.row };
     set(handles, at, row);

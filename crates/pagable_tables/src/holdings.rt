@@ -1,11 +1,12 @@
 //! Who holds what: handles, nodes with what their values refer to, and the list of cells that wait for page-out. Handles are given up here, with all that goes with them.
 
-ghost use Rattle.std.specs.Prelude.{Bool, IfErr, List, None, Some, [], false, if◌then◌else◌, length, not, slice_get, true, ◌&&◌, ◌+◌, ◌<◌, ◌==◌, ◌^◌, ◌||◌, ◌≡◌, ◌≢◌, ◌≤◌, ◌⊎◌};
+ghost use Rattle.std.specs.Prelude.{Bool, IfErr, IsSome, List, None, Some, [], false, if◌then◌else◌, length, not, slice_get, true, ◌&&◌, ◌+◌, ◌<◌, ◌==◌, ◌^◌, ◌||◌, ◌≡◌, ◌≢◌, ◌≤◌, ◌⊎◌};
 ghost use Rattle.pagable_tables.specs.{Rows.row_by, Falling.{AreSound, Comes, GivesUp, IsApart, IsFalling, IsNext, IsUnlisted, Leaves, MayList, Sheds, SoFar, Steps, after, alive}};
-ghost use Rattle.{pagable_tables.specs.Falling.{counts_at, is_listing, is_node, is_valued, landed, live, owns, owns_nothing, refs_at, told_by, with_tables}, pagable_world.specs.Cascade.Falls};
+ghost use Rattle.{pagable_tables.specs.Falling.{counts_at, is_listing, is_node, is_valued, is_worker, landed, live, owns, owns_nothing, refs_at, told_by, with_tables, work_at}, pagable_world.specs.Cascade.Falls};
 ghost use Rattle.{pagable_world.specs.{Kinds.{is_owner, is_pinning}, Plain.one, World.Core, declared.handles.Owner.Owner}, std.specs.{Prelude.ℕ, Result.is_ok}};
 
 use crate::handles::{self, Handles};
+use crate::making::is_worker;
 use crate::tables::{self, Arcs, Counts, HandleAt, Nodes};
 use pagable_model::{Error, HandleNumber, NodeNumber};
 use pagable_world::Mode;
@@ -114,6 +115,21 @@ fn counts_after(counts: Counts, pinning: bool, stays: bool, listed: bool, top: u
     left
 }
 
+/// The handle of this row has left, unless it stays.
+fn leave_work(nodes: &mut Nodes, row: HandleRow, stays: bool)
+    requires { IsSome (counts_at nodes.old row.node.0) }
+    ensures here { work_at nodes.old row.node.0 ≤ work_at nodes.new row.node.0 + (if stays then 0 else one (is_worker row.owner)) }
+    ensures others { (q : ℕ) → q ≢ row.node.0 → work_at nodes.new q ≡ work_at nodes.old q }
+    ensures counts { (q : ℕ) → counts_at nodes.new q ≡ counts_at nodes.old q }
+    ensures refs { (q : ℕ) → refs_at nodes.new q ≡ refs_at nodes.old q }
+{
+    if !stays && is_worker(row.owner) {
+        let node = row.node.0;
+        let work = tables::work_of(nodes, node).saturating_sub(1);
+        tables::set_work(nodes, node, work);
+    }
+}
+
 /// The first node that falls after that.
 pub fn top_after(before: bool, falls: bool, node: u64, top: u64) -> u64
     ensures { result ≡ (if falls && not before then node else top) }
@@ -137,6 +153,7 @@ pub fn give_up(t: &mut Holdings, at: HandleAt, stays: bool, lists: bool)
     let listed = enlist_if(t, at.row.node, wanted);
     let left = counts_after(counts, pins(at.row.mode), stays, listed, t.top);
     tables::set_counts(&mut t.nodes, node, left);
+    leave_work(&mut t.nodes, at.row, stays);
     t.top = top_after(counts.is_falling, left.is_falling, node, t.top);
 }
 
@@ -148,6 +165,8 @@ fn land(nodes: &mut Nodes, node: u64, counts: Counts)
     ensures here { counts_at nodes.new node ≡ landed counts }
     ensures others { (q : ℕ) → q ≢ node → counts_at nodes.new q ≡ counts_at nodes.old q }
     ensures refs { (q : ℕ) → refs_at nodes.new q ≡ refs_at nodes.old q }
+    ensures work { (q : ℕ) → q ≢ node → work_at nodes.new q ≡ work_at nodes.old q }
+    ensures here_work { counts.holds ≢ 0 → work_at nodes.new node ≡ work_at nodes.old node }
 {
     if counts.holds == 0 {
         nodes.remove(node);

@@ -1,6 +1,6 @@
 //! Loads that begin, of a key or a cell, and whose an open load is; what a load reads becomes nodes; and loads of cells that end with a value.
 
-ghost use Rattle.pagable_tables.specs.{Falling.{IsFalling, Sheds, SoFar, coming, counts_at, has_value, key_in, live, load_at, owns_nothing, refs_at, with_tables}, Ready.{AsksKnown, HasPlace}};
+ghost use Rattle.pagable_tables.specs.{Falling.{IsFalling, Sheds, SoFar, coming, counts_at, has_value, key_in, live, load_at, owns_nothing, refs_at, with_tables, work_at}, Ready.{AsksKnown, HasPlace}};
 ghost use Rattle.pagable_world.specs.{Cascade.nobody, Kinds.{is_pinning, is_shared, mode_of, owner_value}, LoadCalls.{Adopts, BeginCall, BeginKeyCall, Installs, LazyCall, adopt_fault, adopted}};
 ghost use Rattle.pagable_world.specs.{LoadCalls.{end_fault, first_key, is_owned_in, root_fault}, Pager.MayOwnLoad, Plain.{Blob, if_there, is_loose_kind}, Refusals.{OwnsLoad, Refused, load_fault}};
 ghost use Rattle.pagable_world.specs.{Refusals.references_fault, World.{Alike, Core, OpenLoad, usable}, declared.{handles.Owner.Owner, rows.Mode.Mode}};
@@ -407,6 +407,7 @@ fn join(t: &mut Holdings, node: NodeNumber, references: Vec<ArcRef>, comes: bool
     requires live { IsSome (counts_at t.old.nodes node.0) }
     ensures handles { Becomes t.old.handles (moved (is_named_by (coming comes references.items)) (owner_value node.0) (live t.old.handles.places.items)) t.new.handles }
     ensures counts { (n : ℕ) → counts_at t.new.nodes n ≡ counts_at t.old.nodes n }
+    ensures work { (n : ℕ) → work_at t.new.nodes n ≡ work_at t.old.nodes n }
     ensures here { comes ≡ true → refs_at t.new.nodes node.0 ≡ references.items }
     ensures others { (n : ℕ) → n ≢ node.0 → refs_at t.new.nodes n ≡ refs_at t.old.nodes n }
     ensures none { comes ≡ false → t.new ≡ t.old }

@@ -1,15 +1,15 @@
 //! Nodes that come, handles of live ones, and handles that are pinned from now on, with or without another handle beside.
 
-ghost use Rattle.pagable_tables.specs.{Core.{Bears, Does, IsReady, IsWhole, Makes, MayHold, OnlyRoom, PinsHere, Suits, core_of, plain_of}, Falling.{IsFalling, ValueStays, alive, counts_at}};
+ghost use Rattle.pagable_tables.specs.{Core.{Bears, Does, IsReady, IsWhole, Makes, MayHold, OnlyRoom, PinsHere, Suits, core_of, plain_of}, Falling.{IsFalling, ValueStays, alive, counts_at, is_worker}};
 ghost use Rattle.pagable_world.specs.{Calls.with_mode, Kinds.{find_row, is_loose, is_owned_by, is_owner, is_pinning, is_shared}, Plain.{Blob, one}, Refusals.{Owns, Refused, earlier, handle_fault}};
 ghost use Rattle.pagable_world.specs.{Refusals.references_fault, World.{Alike, Core}, declared.{handles.Owner.Owner, rows.Mode.Mode}};
-ghost use Rattle.std.specs.Prelude.{Bool, IfErr, IfOk, IsSome, None, OnOk, Option, Some, [], false, slice_get, true, ℕ, ◌+◌, ◌<◌, ◌^◌, ◌≡◌, ◌⊎◌};
-ghost use Rattle.{pagable_tables.specs.Falling.{has_value, is_valued, live, owns_nothing, with_tables}, pagable_world.specs.Calls.{AwayBirthCall, CloneCall, LoosenCall, PinCall, birth_fault}};
+ghost use Rattle.std.specs.Prelude.{Bool, IfErr, IfOk, IsSome, None, OnOk, Option, Some, [], false, slice_get, true, ℕ, ◌+◌, ◌<◌, ◌^◌, ◌≡◌, ◌≤◌, ◌⊎◌};
+ghost use Rattle.{pagable_tables.specs.Falling.{has_value, is_valued, live, owns_nothing, refs_at, with_tables, work_at}, pagable_world.specs.Calls.{AwayBirthCall, CloneCall, LoosenCall, PinCall, birth_fault}};
 
 use crate::holdings::{Holdings, pins};
 use crate::loading::make_ready_to_learn;
 use crate::lookups::{is_here, is_loose_mode, key_in, references_fault};
-use crate::tables::{Counts, HandleAt, NodeRow, Tables};
+use crate::tables::{Counts, HandleAt, NodeRow, Nodes, Tables};
 use crate::{handles, tables};
 use pagable_model::{ArcRef, DataKey, Error, HandleNumber, NodeNumber};
 use pagable_world::handles::{HandleRow, Owner};
@@ -26,6 +26,20 @@ pub fn counts_more(counts: Counts, pinning: bool) -> Counts
         pins: counts.pins + pinning as u64,
         holds: counts.holds + 1,
         ..counts
+    }
+}
+
+/// A handle of a live node has come to this owner.
+pub fn add_work(nodes: &mut Nodes, node: u64, owner: Owner)
+    requires { IsSome (counts_at nodes.old node) }
+    ensures here { (k : ℕ) → k < 2 ^ 64 → k ≤ work_at nodes.old node + one (is_worker owner) → k ≤ work_at nodes.new node }
+    ensures others { (q : ℕ) → work_at nodes.old q ≤ work_at nodes.new q }
+    ensures counts { (q : ℕ) → counts_at nodes.new q ≡ counts_at nodes.old q }
+    ensures refs { (q : ℕ) → refs_at nodes.new q ≡ refs_at nodes.old q }
+{
+    if is_worker(owner) {
+        let work = tables::work_of(nodes, node).saturating_add(1);
+        tables::set_work(nodes, node, work);
     }
 }
 
@@ -55,6 +69,7 @@ pub fn add(t: &mut Holdings, node: NodeNumber, mode: Mode, me: Owner) -> Result<
     t.last_handle = number.0;
     let more = counts_more(counts, pins(mode));
     tables::set_counts(&mut t.nodes, node.0, more);
+    add_work(&mut t.nodes, node.0, me);
     Ok(number)
 }
 
@@ -135,7 +150,11 @@ pub fn bear(
     let Ok(()) = handles::push(&mut t.holdings.handles, row) else {
         unreachable!();
     };
-    let value = NodeRow { counts, references };
+    let value = NodeRow {
+        counts,
+        references,
+        at_work: is_worker(me) as u64,
+    };
     t.holdings.nodes.put(node.0, value);
     t.holdings.last_handle = number.0;
     t.last_node = node.0;
@@ -171,6 +190,13 @@ pub fn is_owner(a: Owner, b: Owner) -> bool
         (Owner::Worker(v), Owner::Worker(u)) => u.0 == v.0,
         _ => false,
     }
+}
+
+/// Whether the owner is a worker.
+pub fn is_worker(owner: Owner) -> bool
+    ensures { result ≡ is_worker owner }
+{
+    matches!(owner, Owner::Worker(_))
 }
 
 /// The own handle of this number, with its place.

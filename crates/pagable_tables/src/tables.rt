@@ -2,7 +2,7 @@
 //! functions of a number: what is counted of each, and what its value refers to.
 
 ghost use Rattle.std.specs.{Option.option_to_list, Prelude.{IfNone, IsSome, None, OnErr, OnOk, Option, Some, [], length, nat_eq, ℕ, ◌++◌, ◌+◌, ◌<◌, ◌≡◌, ◌≢◌, ◌≤◌}};
-ghost use Rattle.{indexmap.specs.IndexMap.get, pagable_tables.specs.{Core.{AreLater, Does, IsWhole, plain_of}, Falling.{counts_at, known_at, load_at, refs_at, worker_at}}};
+ghost use Rattle.{indexmap.specs.IndexMap.get, pagable_tables.specs.{Core.{AreLater, Does, IsWhole, plain_of}, Falling.{counts_at, known_at, load_at, refs_at, work_at, worker_at}}};
 ghost use Rattle.pagable_world.specs.Calls.{ClearCall, ReserveCall, room_of};
 ghost use Rattle.std.specs.VecDeque.{deque_capacity};
 
@@ -63,6 +63,8 @@ pub struct NodeRow {
     pub counts: Counts,
     /// What its value refers to, where that is in memory: the value owns the handles.
     pub references: Vec<ArcRef>,
+    /// How many of its handles workers own, at most.
+    pub at_work: u64,
 }
 
 /// What a load reads its key for.
@@ -223,10 +225,33 @@ pub fn set_counts(nodes: &mut Nodes, node: u64, counts: Counts)
     ensures here { counts_at nodes.new node ≡ Some counts }
     ensures others { (q : ℕ) → q ≢ node → counts_at nodes.new q ≡ counts_at nodes.old q }
     ensures refs { (q : ℕ) → refs_at nodes.new q ≡ refs_at nodes.old q }
+    ensures work { (q : ℕ) → work_at nodes.new q ≡ work_at nodes.old q }
 {
     let rows = &mut nodes.chunks[chunk_of(node)];
     if let Some(row) = &mut rows[place_of(node)] {
         row.counts = counts;
+    }
+}
+
+/// How many handles of a node workers own, at most.
+pub fn work_of(nodes: &Nodes, node: u64) -> u64
+    ensures { result ≡ work_at nodes.now node }
+{
+    nodes.get(node).map_or(0, |row| row.at_work)
+}
+
+/// Other work for a node.
+#[tactic(auto, unfolding(crate::specs::Rows::place_at, crate::specs::Rows::row_by))]
+pub fn set_work(nodes: &mut Nodes, node: u64, work: u64)
+    requires { IsSome (counts_at nodes.old node) }
+    ensures here { work_at nodes.new node ≡ work }
+    ensures others { (q : ℕ) → q ≢ node → work_at nodes.new q ≡ work_at nodes.old q }
+    ensures counts { (q : ℕ) → counts_at nodes.new q ≡ counts_at nodes.old q }
+    ensures refs { (q : ℕ) → refs_at nodes.new q ≡ refs_at nodes.old q }
+{
+    let rows = &mut nodes.chunks[chunk_of(node)];
+    if let Some(row) = &mut rows[place_of(node)] {
+        row.at_work = work;
     }
 }
 
@@ -237,6 +262,7 @@ pub fn pop_reference(nodes: &mut Nodes, node: u64) -> Option<ArcRef>
     ensures others { (q : ℕ) → q ≢ node → refs_at nodes.new q ≡ refs_at nodes.old q }
     ensures here { refs_at nodes.old node ≡ refs_at nodes.new node ++ option_to_list result }
     ensures none { IfNone result (refs_at nodes.new node ≡ []) }
+    ensures work { (q : ℕ) → work_at nodes.new q ≡ work_at nodes.old q }
 {
     let rows = nodes.chunks.get_mut(chunk_of(node))?;
     match rows.get_mut(place_of(node))? {
@@ -252,6 +278,7 @@ pub fn set_references(nodes: &mut Nodes, node: u64, references: Vec<ArcRef>)
     ensures counts { (q : ℕ) → counts_at nodes.new q ≡ counts_at nodes.old q }
     ensures here { refs_at nodes.new node ≡ references.items }
     ensures others { (q : ℕ) → q ≢ node → refs_at nodes.new q ≡ refs_at nodes.old q }
+    ensures work { (q : ℕ) → work_at nodes.new q ≡ work_at nodes.old q }
 {
     let rows = &mut nodes.chunks[chunk_of(node)];
     if let Some(row) = &mut rows[place_of(node)] {

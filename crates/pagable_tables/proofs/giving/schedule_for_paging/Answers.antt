@@ -1,5 +1,6 @@
 use Rattle.pagable_tables.proofs.{Calls.schedule-goes, Fitting.{begun-whole, closed-is}, Newer.{lazily-so, nothing-shed, sheds-with}, Next.sheds-still, Told.{alike-goes, not-a-value}, Words.{Err, Error, Ok, Owns}}
 use Rattle.pagable_tables.proofs.{Words.{ScheduleCall, ap, arith, core_of, inl, inr, is_unpinned, is_valued, nat_tests, not, plain_of, refl, rules, ◌∙◌}, Worlds.{alike, failed, owner-same, still}}
+use Rattle.pagable_tables.proofs.{Words.{Owner, live, only_handle}, Working.work-moved}
 use Rattle.pagable_tables.proofs.giving.schedule_for_paging.Goals as goal
 
 pub returns-in_err-at : goal.returns-in_err-at
@@ -24,7 +25,9 @@ pub returns : goal.returns
 returns g c =
     let w = c.requires.whole.steady in
     let unvalued = ap is_valued (owner-same c.args.me c.in_ok-at.at.row.owner c.in_ok-at.ensures.owner) ∙ not-a-value (plain_of c.args.t.now) c.args.me c.requires.holder in
-    let steady = c.hand_over.ensures.stands (record c.args.t.now.holdings { list = c.push_back.new.self }) unvalued refl (record { sound = w.sound; next = w.next; fits = w.fits }) in
+    let steady = c.hand_over.ensures.stands (record c.args.t.now.holdings { list = c.push_back.new.self }) unvalued refl
+    (work-moved c.args.t.now.holdings.nodes (only_handle c.in_ok-at.at.row.number) Owner.List (live c.args.t.now.holdings.handles.places.items) refl w.worked)
+    (record { sound = w.sound; next = w.next; fits = w.fits; worked = w.worked }) in
     let t = c.args.t.now in
     let new = record t { holdings = record t.holdings { list = c.push_back.new.self; handles = c.hand_over.new.handles } } in
     sheds-with (lazily-so {lists = c.args.lists} {old = t} {new = new} {step = λ w w'. ScheduleCall w c.args.me c.args.handle (Ok tt) w'}
@@ -42,4 +45,4 @@ returns-in_err-reserve g c =
     rw (failed c.from_residual-in_err-reserve.result c.from_residual-in_err-reserve.ensures.1) (sheds-with
     (lazily-so {lists = c.args.lists} {old = t} {new = new} {step = λ w w'. ScheduleCall w c.args.me c.args.handle (Err Error.OutOfMemory) w'}
     (λ stored closed failures e1. grind (arith, nat_tests, closed-is, alike, c.in_ok-at.ensures.found, c.in_ok-at.ensures.owner, c.if-not-lists.false, e.items, e.full, e.capacity))
-    (record { sound = w.sound; next = w.next; fits = w.fits }) (λ call. alike-goes c.requires.whole.core call.refused.stays) refl refl) (sheds-still t.holdings _ w))
+    (record { sound = w.sound; next = w.next; fits = w.fits; worked = w.worked }) (λ call. alike-goes c.requires.whole.core call.refused.stays) refl refl) (sheds-still t.holdings _ w))

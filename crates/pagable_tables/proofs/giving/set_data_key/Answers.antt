@@ -1,6 +1,7 @@
 use Rattle.pagable_tables.proofs.{Calls.keyed-whole, Fitting.{key-fits, keyed-on}, Kept.found-among, Newer.{does-as, lazily-so, nothing-shed, sheds-with}, Next.stays-first, Told.falling}
 use Rattle.pagable_tables.proofs.{Told.{loose-unshared, unturned}, Words.{Falls, GetsKey, Some, [], any_mode, arith, cases_eq, counts_at, if◌then◌else◌, inl, inr, keyed, nat_tests, nobody}}
 use Rattle.pagable_tables.proofs.{Words.{plain_of, refl, sym, with_key, ◌==◌, ◌∙◌, ◌∷◌, ◌≡◌}, Worlds.{failed, owner-same, still}}
+use Rattle.pagable_tables.proofs.{Words.live, Working.work-more}
 use Rattle.pagable_tables.proofs.giving.set_data_key.Goals as goal
 
 pub returns-in_err-at : goal.returns-in_err-at
@@ -19,7 +20,8 @@ fall-requires g c =
     let here : counts_at c.set_counts.new.nodes n ≡ Some (keyed y c.get.result t.top) = grind (arith, nat_tests, e.here, c.top_after.ensures) in
     let top : c.top_after-t.result ≡ (if b then n else t.top) = grind (arith, nat_tests, c.top_after-t.ensures) in
     let fits = key-fits _ _ _ _ _ _ n y c.get.result w.fits is c.get.ensures.above here e.others e.refs b refl in
-    record { falling = (if b then n ∷ [] else [], record { sound = w.sound; next = w.next; fits = rw top fits }, grind (arith, nat_tests)) }
+    let worked = work-more (live t.handles.places.items) t.nodes c.set_counts.new.nodes (λ m. rw (e.work m) (omega arith)) w.worked in
+    record { falling = (if b then n ∷ [] else [], record { sound = w.sound; next = w.next; fits = rw top fits; worked = worked }, grind (arith, nat_tests)) }
 
 pub returns : goal.returns
 returns g c =

@@ -1,11 +1,20 @@
-use Rattle.pagable_tables.proofs.{Alive.whole-so, Calls.take-whole, Fitting.{entry-lives, entry-unvalued}, Kept.found-among, Newer.{later-by, load-kept, worker-kept}, Told.not-a-value, Words.Blob}
+use Rattle.pagable_tables.proofs.{Alive.{length-live-le, row-le-live, whole-so}, Fitting.{entry-lives, entry-unvalued, fits-same, held-here, some-held}}
+use Rattle.pagable_tables.proofs.{Calls.take-whole, Kept.found-among, Newer.{later-by, load-kept, worker-kept}, Told.not-a-value, Words.Blob}
 use Rattle.pagable_tables.proofs.Words.{Bool, InReach, None, Option, Some, TakeCall, ap, arith, core_of, false, inl, inr, live, moved, nat_tests, only_handle, plain_of, reach_at, refl, rules}
-use Rattle.pagable_tables.proofs.{Words.{slice_get_read, subst, ℕ, ◌<◌, ◌∙◌}, Worlds.{alike, at-work-still}}
+use Rattle.pagable_tables.proofs.{Words.{[], cases_eq, counts_at, is_at, one, refs_at, slice_get_read, subst, times, ℕ, ◌<◌, ◌∙◌, ◌≡◌}, Working.{work-few, work-more}, Worlds.{alike, at-work-still}}
+use Rattle.pagable_tables.specs.Falling.{AreAtWork, is_work}
 
 pub unreachable-requires-in_default-look : Rattle.pagable_tables.proofs.giving.take_pending.Goals.unreachable-requires-in_default-look
 unreachable-requires-in_default-look c =
     let listed = c.requires.whole.core.owners_there.listed c.in-Some.handle.0 in
     entry-lives c.args.t.now.holdings.list.items c.args.t.now.holdings.handles.places.items c.args.place c.in-Some.handle (omega arith) c.in-Some.ensures.value listed (search rules)
+
+pub add_work-requires : Rattle.pagable_tables.proofs.giving.take_pending.Goals.add_work-requires
+add_work-requires c =
+    let x = c.in-Some-look.at.row in
+    let t = c.args.t.now.holdings in
+    let there = row-le-live (λ h. one (is_at x.node.0 h)) t.handles.places.items c.in-Some-look.at.place x c.in-Some-look.ensures.place in
+    some-held (counts_at t.nodes x.node.0) (omega (arith, there, held-here x, c.requires.whole.steady.fits.holding x.node.0))
 
 pub returns : Rattle.pagable_tables.proofs.giving.take_pending.Goals.returns
 returns c =
@@ -15,16 +24,34 @@ returns c =
     let w = c.requires.whole in
     let given = c.hand_over.ensures.becomes.rows ∙ ap (λ q. moved (only_handle q) c.args.me (live t.handles.places.items)) c.in-Some-look.ensures.number in
     let taken : (stored : ℕ → Option Blob) (closed : Bool) (failures : ℕ) → TakeCall (core_of u stored closed failures) c.args.me c.args.place (Some h)
-    (core_of (record u { holdings = record t { handles = c.hand_over.new.handles; list = c.remove.new.self }; workers = c.reach_to.new.workers }) stored closed failures) =
+    (core_of (record u { holdings = record t { handles = c.hand_over.new.handles; list = c.remove.new.self; nodes = c.add_work.new.nodes }; workers = c.reach_to.new.workers }) stored closed failures) =
     λ stored closed failures.
-    (let w' = core_of (record u { holdings = record t { handles = c.hand_over.new.handles; list = c.remove.new.self } }) stored closed failures in (
+    (let w' = core_of (record u { holdings = record t { handles = c.hand_over.new.handles; list = c.remove.new.self; nodes = c.add_work.new.nodes } }) stored closed failures in (
       slice_get_read t.list.items _ c.args.place h refl (omega arith) c.in-Some.ensures.value,
-      at-work-still (alike _ w' given (λ n. refl) c.in-Some.ensures.items (record { handles = omega arith; entries = omega arith }) refl) c.reach_to.ensures.at_work,
+      at-work-still (alike _ w' given (λ n. rw (c.add_work.ensures.counts n) refl) c.in-Some.ensures.items (record { handles = omega arith; entries = omega arith }) refl) c.reach_to.ensures.at_work,
     )) in
     let none = entry-unvalued t.list.items t.handles.places.items c.args.place h (omega arith) c.in-Some.ensures.value (w.core.owners_there.listed h.0) in
     let unvalued = none c.in-Some-look.at.place c.in-Some-look.at.row w.steady.sound.ordered c.in-Some-look.ensures.place c.in-Some-look.ensures.number in
-    let steady = c.hand_over.ensures.stands (record t { list = c.remove.new.self }) unvalued (not-a-value (plain_of u) c.args.me c.requires.holder)
-    (record { sound = w.steady.sound; next = w.steady.next; fits = w.steady.fits }) in
+    let k = c.add_work.ensures in
+    let x = c.in-Some-look.at.row in
+    let rows = live t.handles.places.items in
+    let new = live c.hand_over.new.handles.places.items in
+    let worked : AreAtWork new c.add_work.new.nodes = λ n.
+    let sum = c.hand_over.ensures.sums (λ h. one (is_work n h)) in
+    let was = w.steady.worked n in
+    let more = k.others n in
+    let few = work-few n new in
+    let long = length-live-le c.hand_over.new.handles.places.items in
+    let here = λ (same : n ≡ x.node.0). k.here (times (is_work n) new) in
+    grind (arith, nat_tests, cases_eq n x.node.0) in
+    let steady = c.hand_over.ensures.stands (record t { list = c.remove.new.self; nodes = c.add_work.new.nodes }) unvalued (not-a-value (plain_of u) c.args.me c.requires.holder)
+    (subst (λ r. AreAtWork r c.add_work.new.nodes) c.hand_over.ensures.becomes.rows worked)
+    (record {
+      sound = w.steady.sound;
+      next = w.steady.next;
+      fits = fits-same (counts_at t.nodes) (counts_at c.add_work.new.nodes) (refs_at t.nodes) (refs_at c.add_work.new.nodes) rows t.top [] w.steady.fits k.counts k.refs;
+      worked = work-more rows t.nodes c.add_work.new.nodes k.others w.steady.worked;
+    }) in
     record {
       taken = taken;
       whole = whole-so steady (take-whole _ c.args.me c.args.place h w.core c.requires.holder (taken (λ key. None) false 0));

@@ -5,6 +5,7 @@ use Rattle.pagable_tables.proofs.Words.{cell_in, changed, core_of, counts_at, fa
 use Rattle.pagable_tables.proofs.Words.{nat_tests, not, one, option_map, owner_value, owns, owns_nothing, plain_of, references_fault, refl, refs_at, row_of, subst, sum_by, sym, true, with_pin}
 use Rattle.{pagable_tables.{proofs.{Words.{without_load, ℕ, ◌&&◌, ◌++◌, ◌+◌, ◌<◌, ◌∙◌, ◌∷◌, ◌≡◌, ◌⊎◌}, Worlds.named-none}, specs.Falling.coming}, std.proofs.lemmas.{Bool.{not-false, not-true}, List.map-id}}
 use Rattle.pagable_tables.proofs.Words.{Cell, Counts, Option, OptionalDataKey, Right, Some, falls_in, has_key, if_there, is_in_memory, key_in, named, nat_lt, pins_in}
+use Rattle.pagable_tables.proofs.Working.{work-more, work-moved, work-told}
 use Rattle.pagable_tables.proofs.loading.install.Goals as goal
 
 -- the load gives up what it owns, and what comes doesn't fall
@@ -87,6 +88,9 @@ give_all-requires-clause-steady g c =
             sound = j.handles.sound;
             next = j.handles.next (k.last_handle + 1) (grind (arith, whole.steady.next, ap (λ (h : Holdings). h.last_handle) j.same));
             fits = rows-told (counts_at k.nodes) (refs_at k.nodes) (moved (is_named_by rs) (owner_value n) before) (live k.handles.places.items) k.top rows (grind (arith, told, ap (λ (h : Holdings). h.top) j.same));
+            worked = work-told k.nodes (moved (is_named_by (coming c.args.ending.is_away rs)) (owner_value n) (live t1.holdings.handles.places.items)) (live k.handles.places.items) j.handles.rows
+                (work-moved k.nodes (is_named_by (coming c.args.ending.is_away rs)) (owner_value n) (live t1.holdings.handles.places.items) refl
+                (work-more (live t1.holdings.handles.places.items) t1.holdings.nodes k.nodes (λ m. rw (j.work m) (omega arith)) whole.steady.worked));
           })
     ]
 

@@ -1,5 +1,6 @@
 use Rattle.pagable_tables.proofs.{Alive.{at-place, changed-known}, Fitting.{turn-fits, turned}, Newer.does-so, Told.{moded, settled}, Words.{Counts, Mode, Some, ap, arith, cases_eq, counts_at}}
 use Rattle.pagable_tables.proofs.{Words.{nat_tests, not, one, refl, sym, ◌+◌, ◌∙◌, ◌≡◌}, Worlds.alike}
+use Rattle.pagable_tables.specs.Falling.{is_work}
 
 pub returns-clause-does : Rattle.pagable_tables.proofs.making.turn.Goals.returns-clause-does
 returns-clause-does c =
@@ -18,6 +19,7 @@ returns-clause-does c =
       sound = c.set.ensures.becomes.sound;
       next = c.set.ensures.becomes.next (t.last_handle + 1) w.steady.next;
       fits = turn-fits _ _ _ _ _ _ _ x y w.steady.fits is c.set.ensures.sums here e.others e.refs;
+      worked = λ n. let sum = c.set.ensures.sums (λ h. one (is_work n h)) in let a = w.steady.worked n in let b = e.work n in grind (arith, nat_tests);
     })
     (λ pins.
     let found = (at-place t.handles.places.items c.args.at.place x w.steady.sound.ordered c.requires.place).2 in

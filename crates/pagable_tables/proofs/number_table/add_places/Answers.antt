@@ -1,4 +1,4 @@
-use Rattle.std.proofs.{Common.{ap, arith, rules, ℕ, ◌∙◌}, lemmas.List.take_all}
+use Rattle.std.proofs.{Common.{ap, arith, rules, ◌∙◌}, lemmas.List.take_all}
 use Rattle.pagable_tables.{proofs.Places.{more, within}, specs.Rows.row_in}
 use Rattle.pagable_tables.proofs.number_table.add_places.Goals as goal
 

@@ -1,5 +1,5 @@
 use Rattle.std.specs.VecDeque.{deque_capacity}
-use Rattle.pagable_tables.proofs.{Fitting.rows-told, Newer.{does-as, does-so}, Told.alike-goes, Words.{Alike, Holdings, Tables, arith, nat_tests, refl, ◌+◌, ◌≡◌}}
+use Rattle.pagable_tables.proofs.{Fitting.rows-told, Newer.{does-as, does-so}, Told.alike-goes, Working.work-told, Words.{Alike, Holdings, Tables, arith, live, nat_tests, refl, ◌+◌, ◌≡◌}}
 use Rattle.pagable_tables.{proofs.{Words.◌≤◌, Worlds.{failed, same-cache}}, specs.{Core.{Does, IsWhole}, Falling.Widens}}
 use Rattle.pagable_tables.proofs.tables.reserve.Goals as goal
 
@@ -7,7 +7,12 @@ use Rattle.pagable_tables.proofs.tables.reserve.Goals as goal
 grown : (t : Tables) (u : Holdings) → IsWhole t → Widens t.holdings.handles u.handles → u.list.items ≡ t.holdings.list.items → deque_capacity t.holdings.list ≤ deque_capacity u.list
     → Does t Alike (record t { holdings = record t.holdings { handles = u.handles; list = u.list } })
 grown t u w e items capacity = does-so (λ stored closed failures. grind (arith, nat_tests, same-cache, e.rows, items, e.capacity, capacity))
-    (record { sound = e.sound; next = e.next (t.holdings.last_handle + 1) w.steady.next; fits = rows-told _ _ _ _ t.holdings.top e.rows w.steady.fits })
+    (record {
+      sound = e.sound;
+      next = e.next (t.holdings.last_handle + 1) w.steady.next;
+      fits = rows-told _ _ _ _ t.holdings.top e.rows w.steady.fits;
+      worked = work-told t.holdings.nodes (live t.holdings.handles.places.items) (live u.handles.places.items) e.rows w.steady.worked;
+    })
     (alike-goes w.core) refl refl
 
 pub returns-in_err-reserve : goal.returns-in_err-reserve
