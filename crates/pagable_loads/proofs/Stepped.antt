@@ -15,6 +15,9 @@ use Rattle.{pagable_world.specs.declared.handles.{HandleRow.HandleRow, Owner.Own
 use Rattle.std.proofs.{Common.{rules, slice_get, subst, suc, sym, true, zero, ℕ, ◌++◌, ◌+◌, ◌-◌, ◌<◌, ◌∙◌, ◌∷◌, ◌≡◌, ◌≢◌, ◌≤◌, ◌⊎◌}, lemmas.{Bool.Decides.nat_tests, Grind.common_steps}}
 use Rattle.std.{proofs.lemmas.{List.{length-append, nil_from_length}, Option.{slice_get_past, slice_get_within}}, specs.{Arc.arc_value, Option.option_map, Prelude.{IfOk, IsSome}}}
 use Rattle.{pagable_laws.{proofs.{Decoding.among-right, Goes.{NotValues, end-call, low-whole}, SparingSteps.found}, specs.TreeSteps.HasPin}, pagable_world.specs.{Calls.{row_of, with_mode}, Plain.Among, declared.rows.Mode.Mode}}
+use Rattle.{pagable_laws.proofs.{Beside.pinned_law, Goes.{find-both, find-left, found-changed}}, pagable_world.specs.{Access.IfReads, Calls.moved, Cascade.{AreNewEntries, FallsAnyhow, left_rows}}}
+use Rattle.pagable_world.specs.{Kinds.{is_handle, is_pinning}, LoadCalls.{numbers_of, without_load}, Pager.{HoldsItsNodes, HoldsPinned}, Plain.{NodeNumber, is_in, or_else}}
+unfoldable use Rattle.pagable_world.specs.{Kinds.find_row, Refusals.references_fault}
 use Rattle.pagable_core.specs.Context as context
 
 -- answers by place, key and kind are those of the references got
@@ -111,6 +114,46 @@ none_comes m = record { each = λ n x is. elim (m.each n x is) [ inl was ↦ inl
 pub moves_then : {N E : Type 0} {comes : ℕ → N → Type 0} {s mid t : PagerState N E} → Moves comes s mid → Moves (λ n x. ⊥) mid t → Moves comes s t
 moves_then m k = record { each = λ n x is. elim (k.each n x is) [ inl was ↦ m.each n x was | inr came ↦ absurd came.1 ]; environment = k.environment ∙ m.environment }
 
+was-held : {N E : Type 0} {s t : PagerState N E} → Moves (λ n x. ⊥) s t → (n : ℕ) (x : N) → t.values n ≡ Some x → s.values n ≡ Some x
+was-held m n x is = elim (m.each n x is) [ inl was ↦ was | inr came ↦ absurd came.1 ]
+
+-- a new entry of the list pins nothing
+new-mode : (last q : ℕ) (entries : List HandleRow) (row : HandleRow) → AreNewEntries last entries → find_row q entries ≡ Some row → is_pinning row.mode ≡ false
+unfolding find_row
+new-mode last q [] row new found = absurd (cc)
+new-mode last q (h ∷ hs) row (number, mode, owner, new) found = let later = new-mode (last + 1) q hs row new in grind (arith, nat_tests, is_handle)
+
+-- no value comes where the pager stays as it is
+none-new : {N E : Type 0} (v : Values N) {s t : PagerState N E} → Alike s.core t.core → WellFormed v s → WellFormed v t → (n : ℕ) (x : N) → s.values n ≡ None → t.values n ≡ Some x → ⊥
+none-new v {s} {t} a whole after n x none some =
+    let before = whole.valued n in let now = after.valued n in let rows = a.rows in let cells = a.cells n in grind (arith, nat_tests, common_steps)
+
+unmoved : {N E : Type 0} (v : Values N) {comes other : ℕ → N → Type 0} {s t : PagerState N E} → Alike s.core t.core → WellFormed v t → Moves comes s t → WellFormed v s → Moves other s t
+unmoved v a after m whole = record { each = λ n x is. elim (m.each n x is) [ inl was ↦ inl was | inr (none, came) ↦ absurd (none-new v a whole after n x none is) ]; environment = m.environment }
+
+-- what pins after handles were handed over pinned the same node before
+record PinnedBefore (w : Core) (k : HandleNumber) (row : HandleRow) : Type 0 where
+  was : HandleRow
+  live : row_at w k ≡ Some was
+  at : was.node ≡ row.node
+  pins : is_pinning was.mode ≡ true
+
+module _ {w w' before left : Core} {given : ℕ → Bool} (test : ℕ → Bool) (owner : Owner) (same : left.rows ≡ moved test owner w.rows) (f : FallsAnyhow before left given w') (k : HandleNumber) (row : HandleRow) where
+  pinned-row : find_row k.0 (moved test owner w.rows) ≡ Some row → is_pinning row.mode ≡ true → PinnedBefore w k row
+  pinned-row at pins = let c = found-changed (λ r. test r.number.0) (λ r. record r { owner = owner }) (λ r. refl) k.0 w.rows row at in grind (arith, nat_tests)
+
+  pinned-by : (left_row : Option HandleRow) → find_row k.0 (left_rows f.falls.gone left.rows) ≡ left_row → or_else left_row (find_row k.0 f.falls.entries) ≡ Some row → is_pinning row.mode ≡ true → PinnedBefore w k row
+  pinned-by (Some other) at is pins =
+      let l = find-left f.falls.gone k.0 left.rows in
+      let there : find_row k.0 left.rows ≡ Some other = grind (arith, nat_tests) in
+      let one : other ≡ row = cc in
+      pinned-row (ap (λ rows. find_row k.0 rows) (sym same) ∙ there ∙ ap (λ r. Some r) one) pins
+  pinned-by None at is pins = absurd (let e = new-mode left.last.handle k.0 f.falls.entries row f.falls.new is in let no : true ≡ false = sym pins ∙ e in cc)
+
+  pinned-before : row_at w' k ≡ Some row → is_pinning row.mode ≡ true → PinnedBefore w k row
+  pinned-before live =
+      pinned-by _ refl (sym (find-both k.0 (left_rows f.falls.gone left.rows) f.falls.entries) ∙ ap (λ rows. find_row k.0 rows) (sym f.falls.leaves.rows) ∙ live)
+
 module _ {N : Type 0} (E : Type 0) (v : Values N) (me : Owner) (own : Own) where
   abbrev reading : Reading
   reading = reading_of own
@@ -119,10 +162,15 @@ module _ {N : Type 0} (E : Type 0) (v : Values N) (me : Owner) (own : Own) where
   comes_as f m = record { each = λ n x is. elim (m.each n x is) [ inl was ↦ inl was | inr (none, came) ↦ inr (none, f n x came) ]; environment = m.environment }
 
   pub met : {does : Core → Type 0} {s t : PagerState N E} {e : Error} → Called v does s t → Meets v s.core me reading e t.core → Met v me reading s e t
-  met c m = record { meets = m; moves = none_comes c.moves }
+  met c m = record { meets = m; moves = none_comes c.moves; holds = λ w. none_comes c.moves }
 
-  went : {does : Core → Type 0} {s t : PagerState N E} {answer : Option (LoadAnswer N)} {frames : List Frame} → Called v does s t → Does v s.core me reading answer frames t.core → ReadingStep v me reading s answer frames t
-  went c d = record { does = record { does = d }; moves = none_comes c.moves; whole = c.whole }
+  went : {does : Core → Type 0} {s t : PagerState N E} {answer : Option (LoadAnswer N)} {frames : List Frame} → Called v does s t → IfReads answer (HoldsPinned v t) → Does v s.core me reading answer frames t.core → ReadingStep v me reading s answer frames t
+  went c h d = record { does = record { does = d }; moves = none_comes c.moves; holds = λ w. none_comes c.moves; answers = h; whole = c.whole }
+
+  -- a value that comes is this one, which holds what the handles of its good references pin
+  came-held : (x : N) {where_to : ℕ → Type 0} {s t : PagerState N E} → references_fault s.core (Owner.Load own.load) [] (v.references x) ≡ None → HoldsPinned v s x → Moves (λ n y. (y ≡ x) × where_to n) s t
+      → WellFormed v s → Moves (λ n y. HoldsItsNodes v s y) s t
+  came-held x {s = s} good pinned m whole = comes_as (λ n y came. subst (HoldsItsNodes v s) (sym came.0) (pinned_law E v s (Owner.Load own.load) x whole good pinned)) m
 
   goes : {s t : PagerState N E} {answer : Option (LoadAnswer N)} {frames : List Frame} → (IsLoadOf s.core me own → ReadingStep v me reading s answer frames t) → Tries v me own s (Ok answer) frames t
   goes f = record { does = f; meets = λ is. tt }
@@ -132,7 +180,7 @@ module _ {N : Type 0} (E : Type 0) (v : Values N) (me : Owner) (own : Own) where
 
   module _ (first : frames_of own.top own.below.items ≡ []) where
     pub root_comes : (blob : Blob) (frames : List Frame) → frames ≡ root_frame own.key own.node_type blob ∷ [] → (s t : PagerState N E) → Called v (λ w'. AskCall s.core me own.load Want.Root (Ok (from_store blob)) w') s t → Tries v me own s (Ok None) frames t
-    root_comes blob frames is s t c = goes (λ o. went c (inl (record { load = o.load; blob = blob; first = first; open_load = o.owned.stands_open; asked = c.step; goes = is ∙ ap (λ k. root_frame k own.node_type blob ∷ []) (sym o.key) })))
+    root_comes blob frames is s t c = goes (λ o. went c tt (inl (record { load = o.load; blob = blob; first = first; open_load = o.owned.stands_open; asked = c.step; goes = is ∙ ap (λ k. root_frame k own.node_type blob ∷ []) (sym o.key) })))
 
   module _ (kind : Kind) (key : ℕ) (top : Held) (under : List Held) (was : frames_of own.top own.below.items ≡ frame_of top ∷ onto [] under) where
     got_goes : (w : Core) (r : ArcRef) (frames : List Frame) → frames ≡ record (frame_of top) { got = top.got.items ++ r ∷ [] } ∷ onto [] under → (m : IsMade w kind r) → frames ≡ with_got kind m.row reading.frames
@@ -143,17 +191,17 @@ module _ {N : Type 0} (E : Type 0) (v : Values N) (me : Owner) (own : Own) where
 
     module _ {B : Type 0} (see : B → Blob) (need : need_of v.types reading.frames ≡ needs_nested kind key) where
       pub nested_known : (r : ArcRef) (frames : List Frame) → frames ≡ record (frame_of top) { got = top.got.items ++ r ∷ [] } ∷ onto [] under → (s t : PagerState N E) → Called v (λ w'. AsksFor see s.core me own.load kind key (Ok (Either.Left r)) w') s t → Tries v me own s (Ok None) frames t
-      nested_known r frames is s t c = goes (λ o. went c (inr (inl (record { kind = kind; key = key; k = r.handle; row = c.step.made.row; needs = need; asked = c.step.asked; made = c.step.made.live; goes = got_goes t.core r frames is c.step.made }))))
+      nested_known r frames is s t c = goes (λ o. went c tt (inr (inl (record { kind = kind; key = key; k = r.handle; row = c.step.made.row; needs = need; asked = c.step.asked; made = c.step.made.live; goes = got_goes t.core r frames is c.step.made }))))
 
       pub nested_blob : (blob : B) (frames : List Frame) → frames ≡ nested_frame kind key (see blob) ∷ frame_of top ∷ onto [] under → length under < longest_path → (s t : PagerState N E) → Called v (λ w'. AsksFor see s.core me own.load kind key (Ok (Either.Right blob)) w') s t → Tries v me own s (Ok None) frames t
-      nested_blob blob frames is short s t c = goes (λ o. went c (inr (inr (inl (record { kind = kind; key = key; blob = see blob; needs = need; short = omega (arith, deep, short); asked = c.step.asked; goes = is ∙ ap (λ fs. nested_frame kind key (see blob) ∷ fs) (sym was) })))))
+      nested_blob blob frames is short s t c = goes (λ o. went c tt (inr (inr (inl (record { kind = kind; key = key; blob = see blob; needs = need; short = omega (arith, deep, short); asked = c.step.asked; goes = is ∙ ap (λ fs. nested_frame kind key (see blob) ∷ fs) (sym was) })))))
 
       pub nested_deep : (blob : B) (e : Error) (frames : List Frame) → e ≡ Error.TooDeep → longest_path ≤ length under → (s t : PagerState N E) → Called v (λ w'. AsksFor see s.core me own.load kind key (Ok (Either.Right blob)) w') s t → Tries v me own s (Err e) frames t
       nested_deep blob e frames is long s t c = fails (λ o. met c (inr (inr (inl (kind, key, need, inr (see blob, is, (omega (arith, deep, long)), c.step.asked))))))
 
     module _ (need : need_of v.types reading.frames ≡ needs_lazy kind key) where
       pub lazy_comes : (r : ArcRef) (frames : List Frame) → frames ≡ record (frame_of top) { got = top.got.items ++ r ∷ [] } ∷ onto [] under → (s t : PagerState N E) → Called v (λ w'. TakesLazily s.core me own.load kind key (Ok r) w') s t → Tries v me own s (Ok None) frames t
-      lazy_comes r frames is s t c = goes (λ o. went c (inr (inr (inr (inl (record { kind = kind; key = key; k = r.handle; row = c.step.made.row; needs = need; asked = c.step.taken; made = c.step.made.live; goes = got_goes t.core r frames is c.step.made }))))))
+      lazy_comes r frames is s t c = goes (λ o. went c tt (inr (inr (inr (inl (record { kind = kind; key = key; k = r.handle; row = c.step.made.row; needs = need; asked = c.step.taken; made = c.step.made.live; goes = got_goes t.core r frames is c.step.made }))))))
 
   module _ (x : N) (node : ReadsNode v reading x) (top under : Held) (rest : List Held) (was : frames_of own.top own.below.items ≡ frame_of top ∷ frame_of under ∷ onto [] rest) where
     -- the same by the blobs that were taken off
@@ -164,9 +212,10 @@ module _ {N : Type 0} (E : Type 0) (v : Values N) (me : Owner) (own : Own) where
     brought : {s t : PagerState N E} → Moves (λ n y. (y ≡ x) × IsNewNode s.core n) s t → Moves (ReadingBrings v s.core reading) s t
     brought {s} m = comes_as (λ n y came. inl (subst (ReadsNode v reading) (sym came.0) node, came.1)) m
 
-    pub adopt_comes : (r : ArcRef) (frames : List Frame) → frames ≡ record (frame_of under) { got = under.got.items ++ r ∷ [] } ∷ onto [] rest → (s t : PagerState N E)
+    pub adopt_comes : (r : ArcRef) (frames : List Frame) → frames ≡ record (frame_of under) { got = under.got.items ++ r ∷ [] } ∷ onto [] rest → (s t : PagerState N E) → HoldsPinned v s x
         → Brings v (λ w'. AdoptsValue s.core me own.load top.kind top.key x (v.node_type x) (v.references x) (Ok r) w') (λ n y. (y ≡ x) × IsNewNode s.core n) s t → Tries v me own s (Ok None) frames t
-    adopt_comes r frames is s t c = goes (λ o. record { does = record { does = inr (inr (inr (inr made))) }; moves = brought c.moves; whole = c.whole })
+    adopt_comes r frames is s t pinned c =
+        goes (λ o. record { does = record { does = inr (inr (inr (inr made))) }; moves = brought c.moves; holds = came-held x c.step.adopted.adopts.good pinned c.moves; answers = tt; whole = c.whole })
       where
         made : MakesNode v s.core me reading frames t.core
         made =
@@ -178,6 +227,7 @@ module _ {N : Type 0} (E : Type 0) (v : Values N) (me : Owner) (own : Own) where
     adopt_refused e frames s t c = fails (λ o. record {
       meets = inr (inr (inr (inr (inl (record { x = x; reads_node = own_node; adopted = record { adopts = tt; refused = (refl, c.step.adopted.refused.1) } })))));
       moves = brought c.moves;
+      holds = unmoved v c.step.adopted.refused.1.stays c.whole c.moves;
     })
 
   module _ (x : N) (root : ReadsRoot v reading x) (cell : own.for_cell ≡ true) where
@@ -187,21 +237,40 @@ module _ {N : Type 0} (E : Type 0) (v : Values N) (me : Owner) (own : Own) where
     comes : {s t : PagerState N E} → Moves (λ n y. (y ≡ x) × IsCellOf s.core own.load n) s t → Moves (ReadingBrings v s.core reading) s t
     comes {s} m = comes_as (λ n y came. inr (subst (ReadsRoot v reading) (sym came.0) root, came.1)) m
 
-    pub end_pins : (k : HandleNumber) (frames : List Frame) → frames ≡ [] → (s t : PagerState N E) → Brings v (λ w'. EndCall s.core me own.load x (v.node_type x) (v.references x) (Ok k) w') (λ n y. (y ≡ x) × IsCellOf s.core own.load n) s t → Tries v me own s (Ok (Some (LoadAnswer.Pinned k))) frames t
-    end_pins k frames none s t c = goes (λ o. record { does = record { does = (record { x = x; reads_root = root; of_cell_load = for_cell s.core o; ended = c.step }, none) }; moves = comes c.moves; whole = c.whole })
+    pub end_pins : (k : HandleNumber) (frames : List Frame) → frames ≡ [] → (s t : PagerState N E) → HoldsPinned v s x → Brings v (λ w'. EndCall s.core me own.load x (v.node_type x) (v.references x) (Ok k) w') (λ n y. (y ≡ x) × IsCellOf s.core own.load n) s t → Tries v me own s (Ok (Some (LoadAnswer.Pinned k))) frames t
+    end_pins k frames none s t pinned c =
+        goes (λ o. record { does = record { does = (record { x = x; reads_root = root; of_cell_load = for_cell s.core o; ended = c.step }, none) }; moves = comes c.moves; holds = came-held x c.step.installs.2.good pinned c.moves; answers = tt; whole = c.whole })
 
-    pub end_closed : (e : Error) (frames : List Frame) → frames ≡ [] → (s t : PagerState N E) → Brings v (λ w'. EndCall s.core me own.load x (v.node_type x) (v.references x) (Err (e, None)) w') (λ n y. (y ≡ x) × IsCellOf s.core own.load n) s t → Tries v me own s (Ok (Some (LoadAnswer.Refused e))) frames t
-    end_closed e frames none s t c = goes (λ o. record { does = record { does = (inr (record { x = x; reads_root = root; ended = c.step }), none) }; moves = comes c.moves; whole = c.whole })
+    pub end_closed : (e : Error) (frames : List Frame) → frames ≡ [] → (s t : PagerState N E) → HoldsPinned v s x → Brings v (λ w'. EndCall s.core me own.load x (v.node_type x) (v.references x) (Err (e, None)) w') (λ n y. (y ≡ x) × IsCellOf s.core own.load n) s t → Tries v me own s (Ok (Some (LoadAnswer.Refused e))) frames t
+    end_closed e frames none s t pinned c =
+        goes (λ o. record { does = record { does = (inr (record { x = x; reads_root = root; ended = c.step }), none) }; moves = comes c.moves; holds = came-held x c.step.refused.may.good pinned c.moves; answers = tt; whole = c.whole })
 
     pub end_refused : (e : Error) (y : N) (frames : List Frame) (s t : PagerState N E) → Brings v (λ w'. EndCall s.core me own.load x (v.node_type x) (v.references x) (Err (e, Some y)) w') (λ n z. (z ≡ x) × IsCellOf s.core own.load n) s t → Tries v me own s (Err e) frames t
-    end_refused e y frames s t c = grind (arith, nat_tests, comes, fails, for_cell)
+    end_refused e y frames s t c = fails (λ o. record {
+      meets = inr (inr (inr (inr (inr (record {
+        x = x;
+        reads_root = root;
+        refuses = inl (for_cell s.core o, subst (λ z. EndCall s.core me own.load x (v.node_type x) (v.references x) (Err (e, Some z)) t.core) c.step.refused.0 c.step);
+      })))));
+      moves = comes c.moves;
+      holds = unmoved v c.step.refused.1.stays c.whole c.moves;
+    })
 
   module _ (x : N) (root : ReadsRoot v reading x) (sort : own.for_cell ≡ false) (named : List HandleNumber) (is : named ≡ handles_of (v.references x)) where
     for_key : (w : Core) → IsLoadOf w me own → LoadIs w reading IsOfKey
     for_key w o = record { load = o.load; open_load = o.owned.stands_open; sort = grind (arith, nat_tests) }
 
-    pub hands_over : (frames : List Frame) → frames ≡ [] → (s t : PagerState N E) → Called v (λ w'. HandOverCall s.core me own.load named (Ok tt) w') s t → Tries v me own s (Ok (Some (LoadAnswer.Read x))) frames t
-    hands_over frames none s t c = goes (λ o. went c (record { reads_root = root; of_key_load = for_key s.core o; handed = subst (λ hs. HandOverCall s.core me own.load hs (Ok tt) t.core) is c.step }, none))
+    handed-holds : {s t : PagerState N E} → Called v (λ w'. HandOverCall s.core me own.load named (Ok tt) w') s t → HoldsPinned v s x → HoldsPinned v t x
+    handed-holds {s} {t} c pinned = record {
+      each = λ r y value.
+          let (row, live, (pins, held)) = value.found in
+          let left = record (without_load s.core own.load) { rows = moved (is_in (numbers_of named)) me s.core.rows } in
+          let p = pinned-before {w = s.core} {left = left} (is_in (numbers_of named)) me refl c.step.hands.1 r.handle row live pins in
+          pinned.each r y (record { found = (p.was, p.live, (p.pins, ap (λ (n : NodeNumber). s.values n.0) p.at ∙ was-held c.moves row.node.0 y held)); refused = tt });
+    }
+
+    pub hands_over : (frames : List Frame) → frames ≡ [] → (s t : PagerState N E) → HoldsPinned v s x → Called v (λ w'. HandOverCall s.core me own.load named (Ok tt) w') s t → Tries v me own s (Ok (Some (LoadAnswer.Read x))) frames t
+    hands_over frames none s t pinned c = goes (λ o. went c (handed-holds c pinned) (record { reads_root = root; of_key_load = for_key s.core o; handed = subst (λ hs. HandOverCall s.core me own.load hs (Ok tt) t.core) is c.step }, none))
 
     pub hand_over_refused : (e : Error) (frames : List Frame) (s t : PagerState N E) → Called v (λ w'. HandOverCall s.core me own.load named (Err e) w') s t → Tries v me own s (Err e) frames t
     hand_over_refused e frames s t c = fails (λ o. met c (inr (inr (inr (inr (inr (record { x = x; reads_root = root; refuses = inr (for_key s.core o, subst (λ hs. HandOverCall s.core me own.load hs (Err e) t.core) is c.step) })))))))
@@ -221,6 +290,8 @@ module _ {N : Type 0} (E : Type 0) (v : Values N) (me : Owner) (own : Own) where
       record {
         does = record { does = (inl (record { mid = mid.core; meets = m.meets; told = d.told; closes = grind (arith, nat_tests) }), is) };
         moves = moves_then m.moves d.call.moves;
+        holds = λ w. moves_then (m.holds w) d.call.moves;
+        answers = tt;
         whole = d.call.whole;
       })
 

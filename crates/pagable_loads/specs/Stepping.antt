@@ -1,6 +1,6 @@
 -- What a load's step does, up to its refusal and with it, in the words of the world.
 use Rattle.std.specs.Prelude.{IfErr, IfOk, List, Option, Result, [], vec_capacity, vec_len, ℕ, ◌<◌, ◌∷◌, ◌≡◌}
-use Rattle.pagable_world.specs.{Access.{Called, ReadingStep, LoadRun}, Loads.Meets, World.{Reading, Values, Frame}, LoadCalls.DropCall, Pager.{PagerState, ReadingBrings, Moves}}
+use Rattle.pagable_world.specs.{Access.{Called, ReadingStep, LoadRun}, Loads.Meets, World.{Reading, Values, Frame}, LoadCalls.DropCall, Pager.{HoldsItsNodes, PagerState, ReadingBrings, Moves, WellFormed}}
 use Rattle.{pagable_world.specs.declared.{handles.Owner.Owner, events.LoadAnswer.LoadAnswer}, pagable_model.specs.declared.{numbers.LoadNumber.LoadNumber, error.Error.Error}}
 use Rattle.pagable_loads.specs.{declared.reading.{Reading.Reading as Own, Frame.Frame as Held}, Frames.{frames_of, reading_of, frame_of, onto, IsLoadOf}}
 
@@ -8,6 +8,7 @@ use Rattle.pagable_loads.specs.{declared.reading.{Reading.Reading as Own, Frame.
 pub record Met {N E : Type 0} (v : Values N) (me : Owner) (reading : Reading) (s : PagerState N E) (e : Error) (t : PagerState N E) : Type 0 where
   pub meets : Meets v s.core me reading e t.core
   pub moves : Moves (ReadingBrings v s.core reading) s t
+  pub holds : WellFormed v s → Moves (λ n x. HoldsItsNodes v s x) s t
 
 -- A step, up to the refusal that it met; with an answer it is a whole one. It is asked that the load is open, and what its own side says.
 pub record Tries {N E : Type 0} (v : Values N) (me : Owner) (own : Own) (s : PagerState N E) (r : Result (Option (LoadAnswer N)) Error) (frames : List Frame) (t : PagerState N E) : Type 0 where

@@ -2,8 +2,8 @@
 //! stand-ins for what wasn't got: one that notes what is asked for, and one that asks for the last of them with all that are before it.
 
 ghost use Rattle.std.specs.{Prelude.{false, IfSome, IsSome, [], length, true, ◌++◌, ◌∷◌, ◌≡◌, ◌⊎◌}};
-ghost use Rattle.pagable_loads.specs.{Decoding.{Follows, IsAhead, KeptAt, LeftIf, Needs, NeedsNext, rows_of}, Frames.frames_of, Got.AreStandIns, Telling.values_at};
-ghost use Rattle.pagable_world.specs.Plain.{Types};
+ghost use Rattle.pagable_loads.specs.{Decoding.{Follows, IfValue, IsAhead, KeptAt, LeftIf, Needs, NeedsNext, rows_of}, Frames.frames_of, Got.AreStandIns, Telling.{Tells, values_at}};
+ghost use Rattle.pagable_world.specs.{Pager.HoldsPinned, Plain.Types};
 
 use crate::access::Access;
 use crate::decoding::{Decoded, decode, read_got, stand_in_for};
@@ -178,7 +178,8 @@ impl Reading {
         Some((row[place].kind, keys[place]))
     }
 
-    /// What the load needs next. The innermost blob is read for it only where its row doesn't tell.
+    /// What the load needs next. The innermost blob is read for it only where its row doesn't tell. What a value that was read holds beside its references is what their handles pin.
+    #[tactic(auto, using(crate::proofs::Stepped::tells_all))]
     pub(crate) fn needed<E: Env<Node: NodeSet<E>>, A: Access<E>>(
         &self,
         access: &A,
@@ -186,7 +187,8 @@ impl Reading {
         row: &[ArcRef],
     ) -> Need<E::Node>
         requires { IsAhead (values_at E.Node.NodeSet E.Env E.Hash.KeyHash (A.acting access.now).environment).types (frames_of self.now.top self.now.below.items) row.now }
-        ensures { Needs (values_at E.Node.NodeSet E.Env E.Hash.KeyHash (A.acting access.now).environment) self.now result }
+        ensures holds { Tells (A.told access.now) (λ s. IfValue result (HoldsPinned (values_at E.Node.NodeSet E.Env E.Hash.KeyHash (A.acting access.now).environment) s)) }
+        ensures needs { Needs (values_at E.Node.NodeSet E.Env E.Hash.KeyHash (A.acting access.now).environment) self.now result }
     {
         let Some((kind, key)) = self.told(row) else {
             return self.next::<E, A>(access, alloc);

@@ -1,9 +1,9 @@
 //! A load's steps, over an access to a pager, and a load that is driven to its end. And whole operations over an access: a pin, with the load that it may need, and the reading of a key.
 
 ghost use Rattle.std.specs.{Arc.arc_value, Prelude.{[], IfNone, IfOk, IsSome, length, Ok, true, ◌<◌, ◌≡◌}};
-ghost use Rattle.pagable_loads.specs.{Decoding.{AllAhead, FramesGo, goes_on_with, GoesFor, GotMore, Needs, rows_of}, Ending.LeadsOn, Frames.{frames_of, reading_of}, Starting.{PinsFirst, SharesPinned, Unpins}, Stepping.Drops};
+ghost use Rattle.pagable_loads.specs.{Decoding.{AllAhead, FramesGo, goes_on_with, GoesFor, GotMore, IfValue, Needs, rows_of}, Ending.LeadsOn, Frames.{frames_of, reading_of}, Starting.{PinsFirst, SharesPinned, Unpins}, Stepping.Drops};
 ghost use Rattle.{pagable_loads.specs.{Stepping.{IsSameLoad, Runs, Tries}, Telling.{Acts, Tells, values_at}}, pagable_world.specs.{Access.{PinsOver, ReadsOver}, declared.handles.Owner.Owner}};
-ghost use Rattle.pagable_world.specs.{Loads.{need_of, needs_lazy, ReadsNode, ReadsRoot}, World.{one_more, seen_as}};
+ghost use Rattle.pagable_world.specs.{Loads.{need_of, needs_lazy, ReadsNode, ReadsRoot}, Pager.HoldsPinned, World.{one_more, seen_as}};
 
 use crate::access::{Access, PinStart};
 use crate::ahead::Ahead;
@@ -49,6 +49,7 @@ impl Reading {
         requires top { IsSome self.old.top }
         requires below { 0 < length self.old.below.items }
         requires node { ReadsNode (values_at E.Node.NodeSet E.Env E.Hash.KeyHash (A.acting access.old).environment) (reading_of self.old) value }
+        requires holds { Tells (A.told access.old) (λ s. HoldsPinned (values_at E.Node.NodeSet E.Env E.Hash.KeyHash (A.acting access.old).environment) s value) }
         ensures acts { Acts A.told A.acting access.old access.new (λ a s t. Tries (values_at E.Node.NodeSet E.Env E.Hash.KeyHash a.environment) a.me self.old s result (frames_of self.new.top self.new.below.items) t) }
         ensures leads { LeadsOn self.old.for_cell (frames_of self.old.top self.old.below.items) (frames_of self.new.top self.new.below.items) result }
         ensures goes { IfOk result (λ answer. FramesGo true (frames_of self.old.top self.old.below.items) (frames_of self.new.top self.new.below.items)) }
@@ -74,6 +75,7 @@ impl Reading {
         value: E::Node,
     ) -> Result<Option<LoadAnswer<E::Node>>, Error>
         requires root { ReadsRoot (values_at E.Node.NodeSet E.Env E.Hash.KeyHash (A.acting access.old).environment) (reading_of self.old) value }
+        requires holds { Tells (A.told access.old) (λ s. HoldsPinned (values_at E.Node.NodeSet E.Env E.Hash.KeyHash (A.acting access.old).environment) s value) }
         ensures acts { Acts A.told A.acting access.old access.new
             (λ a s t. Tries (values_at E.Node.NodeSet E.Env E.Hash.KeyHash a.environment) a.me self.old s result (frames_of self.new.top self.new.below.items) t) }
         ensures leads { LeadsOn self.old.for_cell (frames_of self.old.top self.old.below.items) (frames_of self.new.top self.new.below.items) result }
@@ -110,6 +112,7 @@ impl Reading {
         need: Need<E::Node>,
     ) -> Result<Option<LoadAnswer<E::Node>>, Error>
         requires need { Needs (values_at E.Node.NodeSet E.Env E.Hash.KeyHash (A.acting access.old).environment) self.old need }
+        requires holds { Tells (A.told access.old) (λ s. IfValue need (HoldsPinned (values_at E.Node.NodeSet E.Env E.Hash.KeyHash (A.acting access.old).environment) s)) }
         ensures acts { Acts A.told A.acting access.old access.new (λ a s t. Tries (values_at E.Node.NodeSet E.Env E.Hash.KeyHash a.environment) a.me self.old s result (frames_of self.new.top self.new.below.items) t) }
         ensures leads { LeadsOn self.old.for_cell (frames_of self.old.top self.old.below.items) (frames_of self.new.top self.new.below.items) result }
         ensures goes { IfOk result (λ answer. GoesFor need answer (frames_of self.old.top self.old.below.items) (frames_of self.new.top self.new.below.items)) }

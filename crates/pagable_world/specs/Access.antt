@@ -2,7 +2,7 @@
 -- a run of the steps of one load or of one worker, up to its answer.
 use Rattle.std.specs.Prelude.{[], Err, false, IfErr, IfOk, List, None, Ok, Option, Result, slice_get, Some, ℕ, ◌+◌, ◌∷◌, ◌≡◌, ◌⊎◌}
 use Rattle.pagable_world.specs.{Calls.{PinCall, ReleaseCall, TakeCall, UnpinCall}, Events.{Ends, entry_task, IsEntry, no_shelf, reading_of_load, with_entry_taken, with_worker}, Headline.ReadIsRight}
-use Rattle.pagable_world.specs.{Kinds.{HasKinds, HasNoKinds}, LoadCalls.{BeginCall, BeginKeyCall}, Loads.{gone_on, ReadingDoes}, Pager.{Moves, PagerState, ReadingBrings, Represents, SameTrees}}
+use Rattle.pagable_world.specs.{Kinds.{HasKinds, HasNoKinds}, LoadCalls.{BeginCall, BeginKeyCall}, Loads.{gone_on, ReadingDoes}, Pager.{HoldsItsNodes, HoldsPinned, Moves, PagerState, ReadingBrings, Represents, SameTrees}}
 use Rattle.pagable_world.specs.{Pager.{TodoBrings, TookWrites, ValueStands, WellFormed}, Plain.{Beginning, Error, HandleNumber, HandleRow, Identity, LoadAnswer, LoadNumber, Mode, OptionalDataKey}}
 use Rattle.pagable_world.specs.{Plain.{Owner, Pinning, Took, Tree, WorkerAnswer}, Refusals.WorkerFault, Runs.{HoldsSettled, TakesWell}, Workers.{answer_after, first_todo, fresh, is_open_slot, Site}}
 use Rattle.pagable_world.specs.{Workers.WalkDoes, World.{Alike, Core, Frame, IsLawful, IsSettled, key_at, of_item, Reading, row_at, SameShelf, Seen, Shelf, Slot, Todo, Values, Written}}
@@ -26,9 +26,17 @@ pub record Called {N E : Type 0} (v : Values N) (does : Core → Type 0) (s s' :
   pub moves : Moves (λ n x. ⊥) s s'
   pub whole : WellFormed v s'
 
+-- of the value that a load read, if it answers one
+abbrev pub IfReads : {N : Type 0} → Option (LoadAnswer N) → (N → Type 0) → Type 0
+IfReads (Some (LoadAnswer.Read x)) P = P x
+IfReads answer P = Unit {0}
+
 pub record ReadingStep {N E : Type 0} (v : Values N) (me : Owner) (reading : Reading) (s : PagerState N E) (answer : Option (LoadAnswer N)) (frames : List Frame) (s' : PagerState N E) : Type 0 where
   pub does : ReadingDoes v s.core me reading answer frames s'.core
   pub moves : Moves (ReadingBrings v s.core reading) s s'
+  -- a value that comes holds its nodes' values, and one that is answered what the handles of its references pin
+  pub holds : WellFormed v s → Moves (λ n x. HoldsItsNodes v s x) s s'
+  pub answers : IfReads answer (HoldsPinned v s')
   pub whole : WellFormed v s'
 
 -- a worker's step, from what it has to do to what it has to do then
@@ -39,6 +47,7 @@ pub record WalkStep {N E B W : Type 0} (m : Seen N B W) (n : ℕ) (todo : List T
   pub shelf_is : SameShelf after.shelf s'.shelf
   pub ends : Ends (answer_after todo step) n after.core s'.pager.core
   pub moves : Moves (TodoBrings m.values s.pager.core todo) s.pager s'.pager
+  pub holds : Moves (λ n x. HoldsItsNodes m.values s.pager x) s.pager s'.pager
   pub writes : TookWrites m.values m.written_of s.pager step
   pub whole : WellFormed m.values s'.pager
 
