@@ -1,5 +1,5 @@
 -- What values that hold others hold beside references, made of what their parts hold.
-use Rattle.std.specs.{Arc.arc_value, List.All, Prelude.{Bool, IfSome, List, Option, Some, [], ℕ, ◌≡◌}}
+use Rattle.std.specs.{Arc.arc_value, List.All, Prelude.{Bool, IfSome, List, MatchResult, Option, Result, Some, [], ℕ, ◌≡◌}}
 use Rattle.{pagable_model.specs.{Collected.PutInTurn, Standing.{HoldsLent, Standing}, declared.numbers.ArcRef.ArcRef}, pagable_traits.specs.{References.holding, declared.holding.HoldingArc.HoldingArc}}
 
 -- what a value of the type X holds beside a reference is the value of this node
@@ -12,6 +12,9 @@ holding_beside t pins held a r y = holding t pins a ≡ r → held y ≡ Some (a
 
 abbrev pub options_beside : {N T : Type 0} → Beside N T → Beside N (Option T)
 options_beside B o r y = IfSome o (λ x. B x r y)
+
+abbrev pub results_beside : {N S T : Type 0} → Beside N S → Beside N T → Beside N (Result S T)
+results_beside B C x r y = MatchResult x (λ z. B z r y) (λ z. C z r y)
 
 abbrev pub pairs_beside : {N S T : Type 0} → Beside N S → Beside N T → Beside N (S × T)
 pairs_beside B C p r y = B p.0 r y × C p.1 r y

@@ -77,12 +77,14 @@ pub trait PagableBoxDeserialize<'de, E: Env>: Carried<E> + Sized {
 
     /// Reads the value at the front of what is left into a box, and leaves the rest. A refusal is the first fault from
     /// the front, that of a reference included, or a cause of the type's own; then the place is between the old one and
-    /// the ends, and as many levels are entered as before.
+    /// the ends, and as many levels are entered as before. What the value holds beside its references is what was lent by
+    /// them.
     fn deserialize_box<D: PagableDeserializer<E>>(
         alloc: Global,
         deserializer: &mut D,
     ) -> Result<Box<Self>, Error>
-        ensures { Reads E.Env D.PagableDeserializer box_causes.are (λ b. Self.means.of b.value) (λ c. read c (Self.shape (D.environment deserializer.old))) deserializer.old deserializer.new result };
+        ensures reads { Reads E.Env D.PagableDeserializer box_causes.are (λ b. Self.means.of b.value) (λ c. read c (Self.shape (D.environment deserializer.old))) deserializer.old deserializer.new result }
+        ensures holds { IfOk result (HoldsLent (D.standing deserializer.old) (λ b. Self.beside b.value)) };
 }
 
 /// Want of memory for the box is a cause beside those of the value.

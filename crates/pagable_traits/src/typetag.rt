@@ -3,7 +3,7 @@
 
 ghost use Rattle.std.specs.{Prelude.{Bool, IfErr, IfNone, IfOk, IfSome, List, None, OnOk, Option, Some, [], length, map, ℕ, ◌≡◌, ◌≤◌}, Str.IsUtf8, String.string_bytes};
 ghost use Rattle.pagable_model.specs.{Basic.{longest, text_at, text_form}, Carried.tagged_by, Gives.{Gives, long_or, memory, memory_or}, Lengths.long_or_memory, Reading.{bytes_of, read}};
-ghost use Rattle.pagable_model.specs.{Shape.{Shape, tagged}, Standing.MovesOn, Tagged.{HasDistinctTags, IsLastFor, MeansTagged, NoneFor, ReadsWhatIsWritten, grammars}, Writing.{Grows, added}};
+ghost use Rattle.pagable_model.specs.{Shape.{Shape, tagged}, Standing.{HoldsLent, MovesOn}, Tagged.{HasDistinctTags, IsLastFor, MeansTagged, NoneFor, ReadsWhatIsWritten, grammars}, Writing.{Grows, added}, declared.numbers.ArcRef.ArcRef as Reference};
 ghost use Rattle.pagable_traits.specs.{Clauses.{Reads, Wrote, value as form}, Meanings.Meanings, OwnCauses.{ReadCauses, WriteCauses}, ReadBack.IsReadThroughout};
 
 use pagable_codec::{Env, PagableDeserializer, PagableSerializer, Reader};
@@ -21,6 +21,9 @@ pub trait PagableTagged<E: Env>: Sized {
 
     // What the body of a value may mean.
     ghost body_means: { Meanings Self };
+
+    // What a value holds beside the reference, wherever its body refers by it, is the value of this node. A type whose values hold nothing beside references says nothing.
+    ghost body_beside: { Self → Reference → E.Node → Type 0 } = { λ x r y. Unit {0} };
 
     // All refusals of a body's writing, those among them that say that it has no form.
     ghost body_causes: { WriteCauses };
@@ -81,14 +84,16 @@ pub trait TagReader<E: Env, T: PagableTagged<E>>: ForTag {
     // The refusals beside the faults of the input and those of references.
     ghost read_causes: { ReadCauses };
 
-    /// Reads a body, as `PagableDeserialize` reads a value. The value that it gives has the reader's tag.
+    /// Reads a body, as `PagableDeserialize` reads a value. The value that it gives has the reader's tag, and holds beside
+    /// its references what was lent by them.
     fn read<D: PagableDeserializer<E>>(
         &self,
         alloc: Global,
         deserializer: &mut D,
     ) -> Result<T, Error>
         ensures reads { Reads E.Env D.PagableDeserializer read_causes.are T.body_means.of (λ c. read c (grammar self.now (D.environment deserializer.old))) deserializer.old deserializer.new result }
-        ensures of_tag { IfOk result (λ x. T.tag x ≡ Self.own_tag self.now) };
+        ensures of_tag { IfOk result (λ x. T.tag x ≡ Self.own_tag self.now) }
+        ensures holds { IfOk result (HoldsLent (D.standing deserializer.old) T.body_beside) };
 }
 
 /// A tag, and the reader of the bodies under it, which gives values of this tag.
@@ -145,9 +150,9 @@ impl<T, F: ForTag> TypetagRegistry<T, F> {
     }
 
     /// Reads a tag, and then the body by the reader that was registered last for the tag: UnknownTag where none was.
-    /// The value that it gives has the tag that was read. This is for a registry at hand; `deserialize_tagged` finds the
-    /// environment's own.
-    #[tactic(auto, unfolding(pagable_model::specs::Reading::read, pagable_model::specs::Reading::read_with), using(pagable_codec::proofs::Reading::parts))]
+    /// The value that it gives has the tag that was read, and holds beside its references what was lent by them. This is
+    /// for a registry at hand; `deserialize_tagged` finds the environment's own.
+    #[tactic(auto, unfolding(pagable_model::specs::Reading::read, pagable_model::specs::Reading::read_with), using(pagable_codec::proofs::Reading::parts, crate::proofs::Lent::held_so))]
     pub fn deserialize_tagged<E: Env, D: PagableDeserializer<E>>(
         &self,
         alloc: Global,
@@ -156,8 +161,9 @@ impl<T, F: ForTag> TypetagRegistry<T, F> {
     where
         T: PagableTagged<E>,
         F: TagReader<E, T>,
-        ensures { (written : List ℕ → Shape) → Reads E.Env D.PagableDeserializer (memory_or F.read_causes.are) (λ x. MeansTagged (T.tag x) (T.body_means.of x))
+        ensures reads { (written : List ℕ → Shape) → Reads E.Env D.PagableDeserializer (memory_or F.read_causes.are) (λ x. MeansTagged (T.tag x) (T.body_means.of x))
             (λ c. read c (tagged_by written (grammars F.grammar (D.environment deserializer.old) self.now))) deserializer.old deserializer.new result }
+        ensures holds { IfOk result (HoldsLent (D.standing deserializer.old) T.body_beside) }
     {
         let tag = read_tag(alloc, deserializer)?;
         let found = self.reader_of(tag.as_str());
@@ -222,14 +228,16 @@ fn registered_reader<E: Env, T: HasTypetagRegistry<E>>(tag: &str, env: &E) -> Op
 }
 
 /// Reads a tag, and then the body by the reader that the environment's registry has for the tag, the last one that was
-/// registered: UnknownTag where none was. The value that it gives has the tag that was read.
-#[tactic(auto, unfolding(pagable_model::specs::Reading::read, pagable_model::specs::Reading::read_with), using(pagable_codec::proofs::Reading::parts))]
+/// registered: UnknownTag where none was. The value that it gives has the tag that was read, and holds beside its
+/// references what was lent by them.
+#[tactic(auto, unfolding(pagable_model::specs::Reading::read, pagable_model::specs::Reading::read_with), using(pagable_codec::proofs::Reading::parts, crate::proofs::Lent::held_so))]
 pub fn deserialize_tagged<E: Env, T: HasTypetagRegistry<E>, D: PagableDeserializer<E>>(
     alloc: Global,
     deserializer: &mut D,
 ) -> Result<T, Error>
-    ensures { (written : List ℕ → Shape) → Reads E.Env D.PagableDeserializer (memory_or T.Reader.read_causes.are) (λ x. MeansTagged (T.tag x) (T.body_means.of x))
+    ensures reads { (written : List ℕ → Shape) → Reads E.Env D.PagableDeserializer (memory_or T.Reader.read_causes.are) (λ x. MeansTagged (T.tag x) (T.body_means.of x))
         (λ c. read c (tagged_by written (grammars T.Reader.grammar (D.environment deserializer.old) (T.readers (D.environment deserializer.old))))) deserializer.old deserializer.new result }
+    ensures holds { IfOk result (HoldsLent (D.standing deserializer.old) T.body_beside) }
 {
     let tag = read_tag(alloc, deserializer)?;
     let found = registered_reader::<E, T>(tag.as_str(), deserializer.env());

@@ -4,7 +4,7 @@
 
 ghost use Rattle.pagable_model.specs.{Carried.{atomic_i64, once_lock, thin}, Lifted.{MayHold, MeansAtomic, MeansOnce, atomic_has_meaning, once_has_meaning, result_single}, Shape.{optional, outcome, both}};
 ghost use Rattle.std.specs.Prelude.{option_copied};
-ghost use Rattle.pagable_traits.specs.Beside.{options_beside, pairs_beside};
+ghost use Rattle.pagable_traits.specs.Beside.{lists_beside, options_beside, pairs_beside, results_beside};
 ghost use Rattle.pagable_traits.specs.Meanings.{lists, options, results, pairs, seen_by, lists_single, options_single, pairs_single};
 ghost use Rattle.pagable_traits.specs.OwnCauses.{reads_memory_or, reads_either, writes_memory_or, writes_either, writes_long_or, writes_never};
 
@@ -131,6 +131,8 @@ impl<E: Env, T: Carried<E>, X: Carried<E>> Carried<E> for Result<T, X> {
     ghost shape = { λ e. outcome (T.shape e) (X.shape e) };
 
     ghost means = { results T.means X.means };
+
+    ghost beside = { results_beside T.beside X.beside };
 }
 
 impl<E: Env, T: OneMeaning<E>, X: OneMeaning<E>> OneMeaning<E> for Result<T, X> {
@@ -156,6 +158,7 @@ impl<'de, E: Env, T: PagableDeserialize<'de, E>, X: PagableDeserialize<'de, E>> 
 > for Result<T, X> {
     ghost read_causes = { reads_either T.read_causes X.read_causes };
 
+    #[tactic(auto, using(crate::proofs::Lent::lent))]
     fn pagable_deserialize<D: PagableDeserializer<E>>(
         alloc: Global,
         deserializer: &mut D,
@@ -216,6 +219,8 @@ impl<E: Env, H: Carried<E>, T: Carried<E>> Carried<E> for Thin<H, T> {
     ghost shape = { λ e. thin (H.shape e) (T.shape e) };
 
     ghost means = { seen_by (λ t. (t.header, t.items)) (pairs H.means (seen_by (λ v. v.items) (lists T.means))) };
+
+    ghost beside = { λ t. pairs_beside H.beside (λ v. lists_beside T.beside v.items) (t.header, t.items) };
 }
 
 impl<E: Env, H: OneMeaning<E>, T: OneMeaning<E>> OneMeaning<E> for Thin<H, T> {
@@ -238,6 +243,7 @@ impl<
 > PagableDeserialize<'de, E> for Thin<H, T> {
     ghost read_causes = { reads_either H.read_causes (reads_memory_or T.read_causes) };
 
+    #[tactic(auto, using(crate::proofs::Lent::seen_holds))]
     fn pagable_deserialize<D: PagableDeserializer<E>>(
         alloc: Global,
         deserializer: &mut D,

@@ -112,6 +112,8 @@ impl<E: Env, T: Carried<E>, const N: usize> Carried<E> for SmallVec<T, N> {
     ghost shape = { λ e. list (T.shape e) };
 
     ghost means = { seen_by (λ v. v.items) (lists T.means) };
+
+    ghost beside = { λ v. lists_beside T.beside v.items };
 }
 
 impl<E: Env, T: OneMeaning<E>, const N: usize> OneMeaning<E> for SmallVec<T, N> {
@@ -173,6 +175,8 @@ impl<E: Env, T: Carried<E>> Carried<E> for BoxedSlice<T> {
     ghost shape = { λ e. list (T.shape e) };
 
     ghost means = { seen_by (λ v. boxed_slice_items v) (lists T.means) };
+
+    ghost beside = { λ v. lists_beside T.beside (boxed_slice_items v) };
 }
 
 impl<E: Env, T: OneMeaning<E>> OneMeaning<E> for BoxedSlice<T> {
@@ -191,6 +195,7 @@ impl<'de, E: Env, T: PagableDeserialize<'de, E> + Drop> PagableDeserialize<'de, 
     for BoxedSlice<T> {
     ghost read_causes = { reads_memory_or T.read_causes };
 
+    #[tactic(auto, using(crate::proofs::Lent::items_hold))]
     fn pagable_deserialize<D: PagableDeserializer<E>>(
         alloc: Global,
         deserializer: &mut D,
@@ -204,6 +209,8 @@ impl<E: Env, T: Carried<E>, const N: usize> Carried<E> for [T; N] {
     ghost shape = { λ e. array N (T.shape e) };
 
     ghost means = { lists T.means };
+
+    ghost beside = { lists_beside T.beside };
 }
 
 impl<E: Env, T: OneMeaning<E>, const N: usize> OneMeaning<E> for [T; N] {

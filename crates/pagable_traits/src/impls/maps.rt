@@ -2,7 +2,7 @@
 
 ghost use Rattle.std.specs.{BTreeMap.insert_entry, BTreeSet.insert_key, HashMap.spare, Prelude.{◌≡◌, ◌≤◌}};
 ghost use Rattle.pagable_model.specs.{Gives.either, Hashed.{PutsAnywhere, hash_map_single}, Lifted.MeansPair, Shape.{both, hash_map, placed_map, placed_set, sorted_map, sorted_set}};
-ghost use Rattle.pagable_traits.specs.{Clauses.{Wrote, value as form}, Meanings.{hash_maps, lists, lists_single, pairs, pairs_single, seen_by}, OwnCauses.{reads_either, reads_memory_or}};
+ghost use Rattle.pagable_traits.specs.{Beside.{lists_beside, pairs_beside}, Clauses.{Wrote, value as form}, Meanings.{hash_maps, lists, lists_single, pairs, pairs_single, seen_by}, OwnCauses.{reads_either, reads_memory_or}};
 ghost use Rattle.pagable_traits.specs.OwnCauses.{writes_either, writes_long_or, writes_memory_or};
 ghost use Rattle.indexmap.specs.IndexMap as placed_maps;
 ghost use Rattle.indexmap.specs.IndexSet as placed_sets;
@@ -56,6 +56,8 @@ impl<E: Env, K: PagableOrdKey<E>, V: Carried<E>> Carried<E> for BTreeMap<K, V> {
     ghost shape = { λ e. sorted_map K.order (K.shape e) (V.shape e) };
 
     ghost means = { seen_by (λ m. m.entries) (lists (pairs K.means V.means)) };
+
+    ghost beside = { λ m. lists_beside (pairs_beside K.beside V.beside) m.entries };
 }
 
 impl<E: Env, K: PagableOrdKey<E>, V: OneMeaning<E>> OneMeaning<E> for BTreeMap<K, V> {
@@ -166,6 +168,8 @@ impl<E: Env, K: PagableKey<E> + Hash, V: Carried<E>> Carried<E> for IndexMap<K, 
     ghost shape = { λ e. placed_map (K.shape e) (V.shape e) };
 
     ghost means = { seen_by (λ m. m.entries) (lists (pairs K.means V.means)) };
+
+    ghost beside = { λ m. lists_beside (pairs_beside K.beside V.beside) m.entries };
 }
 
 impl<E: Env, K: PagableKey<E> + Hash, V: OneMeaning<E>> OneMeaning<E> for IndexMap<K, V> {
@@ -281,6 +285,8 @@ impl<E: Env, K: PagableKey<E> + Hash, V: Carried<E>> Carried<E> for HashMap<K, V
     ghost shape = { λ e. hash_map (K.shape e) (V.shape e) };
 
     ghost means = { seen_by (λ m. m.entries) (hash_maps K.means V.means) };
+
+    ghost beside = { λ m. lists_beside (pairs_beside K.beside V.beside) m.entries };
 }
 
 impl<E: Env, K: PagableKey<E> + Hash, V: OneMeaning<E>> OneMeaning<E> for HashMap<K, V> {
