@@ -22,7 +22,7 @@ mod Deeply
 pub mod SparingSteps
 pub mod Moments
 pub mod Beside
-mod Callers
+pub mod Callers
 mod Sound
 mod OnePiece
 mod Heights

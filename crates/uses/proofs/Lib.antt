@@ -1,0 +1,2 @@
+mod Environment
+mod Working

@@ -2,9 +2,14 @@
 #![tactic(auto)]
 
 ghost use Rattle.std.specs.{Arc.arc_value, Prelude.{IfOk, IfSome, IsTrue, ◌≡◌}};
-ghost use Rattle.{pagable_core.specs.Data.blob_of, pagable_model.specs.Blob.key_of};
+ghost use Rattle.{pagable_core.specs.Data.blob_of, pagable_loads.specs.Telling.values_at, pagable_model.specs.Blob.key_of, pagable_pager.specs.View.{state_in, telling}};
+ghost use Rattle.{pagable_laws.specs.CallerLaws.Operations, pagable_walk.specs.Turns.plain, uses.specs.Again.ShowsSame};
 
-use pagable::{DataKey, Env, Error, KeyHash, NodeSet, PagableData, PagableStorage, Pager};
+use pagable::paging::{page_out_pending, pin};
+use pagable::{
+    DataKey, Env, Error, HandleNumber, KeyHash, NodeSet, PagableData, PagableStorage, PageOutError,
+    Pager,
+};
 use std::alloc::Global;
 use std::sync::Arc;
 
@@ -36,4 +41,50 @@ pub fn look_up<E: Env<Node: NodeSet<E>>, S: PagableStorage<E>>(
         Err(Error::NoData(_)) => Ok(None),
         Err(e) => Err(e),
     }
+}
+
+/// Work with a pager: any calls of it, pins, readings and page-outs.
+pub trait Work<E: Env<Node: NodeSet<E>>, S: PagableStorage<E>> {
+    /// Does the work.
+    fn run(&mut self, alloc: Global, pager: &mut Pager<E, S>) -> Result<(), Error>
+        ensures operates { IsTrue (S.is_honest pager.new.storage) → Operations (plain (values_at E.Node.NodeSet E.Env E.Hash.KeyHash pager.old.environment))
+            (state_in (telling S.stored S.is_closed S.failed) pager.old) (state_in (telling S.stored S.is_closed S.failed) pager.new) }
+        ensures honest { IsTrue (S.is_honest pager.new.storage) → IsTrue (S.is_honest pager.old.storage) };
+}
+
+/// The work of paging out what waits for it.
+#[derive(Drop)]
+pub struct PageOut;
+
+impl<E: Env<Node: NodeSet<E>>, S: PagableStorage<E>> Work<E, S> for PageOut {
+    fn run(&mut self, alloc: Global, pager: &mut Pager<E, S>) -> Result<(), Error> {
+        match page_out_pending(alloc, pager) {
+            Err(PageOutError::Failed(e)) => Err(e),
+            _ => Ok(()),
+        }
+    }
+}
+
+/// Pins a loose handle, lets other work be done, and pins the handle again. Both values stand for one tree, whatever the work was, where at first nobody was at
+/// work and all that is done asks what is so. Answers the first value; and the second one, with its Pinned handle.
+///
+/// # Errors
+/// - as `pin`, `Pager::release` and the work. What was done until then stays.
+pub fn pinned_again<E: Env<Node: NodeSet<E>>, S: PagableStorage<E>, W: Work<E, S>>(
+    alloc: Global,
+    pager: &mut Pager<E, S>,
+    handle: HandleNumber,
+    work: &mut W,
+) -> Result<(Arc<E::Node>, (HandleNumber, Arc<E::Node>)), Error>
+    ensures same { IsTrue (S.is_honest pager.new.storage) → IfOk result (λ shown. ShowsSame (values_at E.Node.NodeSet E.Env E.Hash.KeyHash pager.old.environment)
+        (state_in (telling S.stored S.is_closed S.failed) pager.old) handle (arc_value shown.0) shown.1.0 (arc_value shown.1.1) (state_in (telling S.stored S.is_closed S.failed) pager.new)) }
+{
+    pager.is_whole();
+    let (pinned, first) = pin(alloc, pager, handle)?;
+    let released = pager.release(pinned);
+    pager.is_whole();
+    released?;
+    work.run(alloc, pager)?;
+    let again = pin(alloc, pager, handle)?;
+    Ok((first, again))
 }

@@ -1,0 +1,52 @@
+-- A pin, the release of what it gave, other work, and a pin again: what both pins give.
+use Rattle.pagable_laws.{proofs.Callers.pinned_again_law, specs.CallerLaws.{Operations, calls, goes-on, is-done, pages-list}}
+use Rattle.pagable_pager.{proofs.Keeping.less-moves, specs.View.{Calls, OnlyLess, PagerView, Telling, state_in}}
+use Rattle.pagable_world.specs.{Access.{PinsOver}, Calls.ReleaseCall, Pager.{PagerState, WellFormed}, Plain.{Error, HandleNumber}}
+use Rattle.pagable_world.specs.World.{IsLawful, Values}
+use Rattle.pagable_world.specs.declared.{calls.{Call.Call, Reply.Reply}, handles.Owner.Owner}
+use Rattle.std.proofs.Common.{Ok, Result, subst, ◌∙◌, ◌≡◌}
+use Rattle.{pagable.specs.Paged.PagesOutList, pagable_walk.specs.{Turns.plain, declared.tasks.PageOutError.PageOutError}, uses.{proofs.Environment.{all-keep, pin-keeps}, specs.Again.ShowsSame}}
+
+module _ {N S E : Type 0} {tells : Telling S} where
+  -- the release of a handle is a call of the pager's
+  releases : (v : Values N) (old new : PagerView N S E) (k : HandleNumber) (told : Result (Unit {0}) Error)
+      → Calls OnlyLess tells old (λ w w'. ReleaseCall w Owner.Caller k told w') new → WellFormed v (state_in tells new)
+      → (later : PagerState N E) → Operations (plain v) (state_in tells new) later → Operations (plain v) (state_in tells old) later
+  releases v old new k told c well later more = goes-on (state_in tells old) (state_in tells new) later
+      (calls (Call.Release k) (Reply.Done told) (state_in tells old) (state_in tells new)
+      (record { step = record { does = c.step }; moves = less-moves tells old new c.only; whole = well })) more
+
+  pub shows-same : (says : E → Values N) (p mid freed later q : PagerView N S E) (h k l : HandleNumber) (x y : N) (told : Result (Unit {0}) Error) → WellFormed (says p.environment) (state_in tells p)
+      → IsLawful (says p.environment)
+      → PinsOver (says p.environment) (state_in tells p) h (Ok (k, x)) (state_in tells mid)
+      → Calls OnlyLess tells mid (λ w w'. ReleaseCall w Owner.Caller k told w') freed → WellFormed (says freed.environment) (state_in tells freed)
+      → Operations (plain (says freed.environment)) (state_in tells freed) (state_in tells later)
+      → PinsOver (says later.environment) (state_in tells later) h (Ok (l, y)) (state_in tells q)
+      → ShowsSame (says p.environment) (state_in tells p) h x l y (state_in tells q)
+  shows-same says p mid freed later q h k l x y told well lawful first release whole work again =
+      let (run, shown) = first.pins in
+      let still : freed.environment ≡ p.environment = release.only.environment ∙ pin-keeps run in
+      let is : later.environment ≡ p.environment = all-keep work ∙ still in
+      let now : PinsOver (says p.environment) (state_in tells later) h (Ok (l, y)) (state_in tells q) =
+      subst (λ e. PinsOver (says e) (state_in tells later) h (Ok (l, y)) (state_in tells q)) is again in
+      let (run_again, shown_again) = now.pins in
+      let v : Values N = says p.environment in
+      let between : Operations (plain v) (state_in tells mid) (state_in tells later) = releases v mid freed k told release
+      (subst (λ e. WellFormed (says e) (state_in tells freed)) still whole) (state_in tells later)
+      (subst (λ e. Operations (plain (says e)) (state_in tells freed) (state_in tells later)) still work) in
+      record {
+        k = k;
+        mid = state_in tells mid;
+        later = state_in tells later;
+        first = run;
+        shown = shown;
+        between = between;
+        again = run_again;
+        shown_again = shown_again;
+        same = λ nobody settled trees stands asks others last. pinned_again_law E (plain v) (state_in tells p) (state_in tells mid) (state_in tells later) (state_in tells q) trees h k l x y
+            run between run_again well nobody lawful settled stands asks others last shown shown_again;
+      }
+
+-- a page-out of the list is one operation
+pub paged-out : {N E : Type 0} {v : Values N} {s s' : PagerState N E} {r : Result (Unit {0}) PageOutError} → PagesOutList v s r s' → Operations (plain v) s s'
+paged-out {s = s} {s'} pages = goes-on s s' s' (pages-list _ _ s s' pages.run) (is-done s')

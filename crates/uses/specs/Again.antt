@@ -1,0 +1,17 @@
+-- A handle that is pinned, and pinned again after other work with its pager.
+use Rattle.std.specs.Prelude.{Ok, ℕ}
+use Rattle.{pagable_laws.specs.{CallerLaws.{AskWell, Operations, PinAsksWell}, PageOutLaws.NobodyWorks}, pagable_walk.specs.Turns.plain}
+use Rattle.pagable_world.specs.{Access.{IsValueOf, PinRun}, Pager.{PagerState, Represents, ValueStands}, Plain.{HandleNumber, Tree}, Runs.HoldsSettled, World.Values}
+
+-- What the two pins gave, with what was done between them. Where nobody was at work at first, and all that is done asks what is so, both values stand for one tree.
+pub record ShowsSame {N E : Type 0} (v : Values N) (s : PagerState N E) (h : HandleNumber) (x : N) (l : HandleNumber) (y : N) (s' : PagerState N E) : Type 0 where
+  pub k : HandleNumber
+  pub mid : PagerState N E
+  pub later : PagerState N E
+  pub first : PinRun v s h (Ok k) mid
+  pub shown : IsValueOf mid k x
+  pub between : Operations (plain v) mid later
+  pub again : PinRun v later h (Ok l) s'
+  pub shown_again : IsValueOf s' l y
+  pub same : NobodyWorks s.core → HoldsSettled v s → (trees : ℕ → Tree) → Represents v s trees → PinAsksWell first → AskWell between → PinAsksWell again
+      → (t : Tree) × ValueStands v mid x t × ValueStands v s' y t
