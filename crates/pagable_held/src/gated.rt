@@ -1,49 +1,66 @@
-//! Texts whose reader waits for another thread, and a row of one that does.
+//! Texts whose reader and writer wait for another thread, and rows of such.
 
-use crate::paging::is_set;
+ghost use Rattle.std.specs.Prelude.{IfOk, ◌<◌, ◌≡◌};
+ghost use Rattle.std.specs.Thread.{IsSync};
+
+use crate::paging::{is_set, item};
 use pagable_core::{InMemoryBlobs, WeighHash};
-use pagable_locked::PagableStorageHandle;
-use pagable_model::{ArcRef, Error};
+use pagable_locked::{ClaimShare, PagableStorageHandle, SlotTable};
+use pagable_model::{ArcRef, DataKey, Error};
 use pagable_rows::text::TextNode;
 use pagable_traits::{
     Env, NodeSet, OfNode, PagableArc, PagableDeserialize, PagableDeserializer, PagableSerialize,
     PagableSerializer,
 };
+use pagable_walk::PageOutError;
 use std::alloc::Global;
+use std::marker::Brand;
 use std::sync::atomic::{AtomicU64, Ordering};
+use std::sync::ledger::{Blank, Ledger};
 use std::sync::{Arc, Wait};
 use std::thread;
+use std::thread::Threads;
 
-/// What a reader and another thread tell each other: 1 where it is so.
+/// A gate at which one thread waits until another opens it. 1 stands for what is so.
 #[derive(Drop)]
 struct Gate {
-    is_reading: AtomicU64,
+    is_met: AtomicU64,
     is_open: AtomicU64,
     has_passed: AtomicU64,
 }
 
 impl Gate {
-    fn new() -> Gate {
-        Gate {
-            is_reading: AtomicU64::new(0),
-            is_open: AtomicU64::new(0),
+    fn new(alloc: Global, is_open: u64) -> Result<Arc<Gate>, Error> {
+        let gate = Gate {
+            is_met: AtomicU64::new(0),
+            is_open: AtomicU64::new(is_open),
             has_passed: AtomicU64::new(0),
-        }
+        };
+        Ok(Arc::new(alloc, gate)?)
     }
 
     // Waits until it is open, for a million turns.
     fn pass(&self) {
-        self.is_reading.store(1, Ordering::SeqCst);
+        self.is_met.store(1, Ordering::SeqCst);
         if is_set(&self.is_open) {
             self.has_passed.store(1, Ordering::SeqCst);
         }
     }
+
+    fn open(&self) {
+        self.is_open.store(1, Ordering::SeqCst);
+    }
+
+    fn has_been_passed(&self) -> bool {
+        self.has_passed.load(Ordering::SeqCst) == 1
+    }
 }
 
-/// The environment of texts whose reader waits at a gate.
+/// The environment of texts whose reader waits at one gate and whose writer at another.
 #[derive(Drop)]
 struct Gated {
-    gate: Arc<Gate>,
+    reads: Arc<Gate>,
+    writes: Arc<Gate>,
 }
 
 impl Env for Gated {
@@ -98,6 +115,7 @@ impl NodeSet<Gated> for TextNode {
     }
 
     fn write<S: PagableSerializer<Gated>>(&self, serializer: &mut S) -> Result<(), Error> {
+        serializer.env().writes.pass();
         self.0.as_ref().pagable_serialize(serializer)
     }
 
@@ -109,7 +127,7 @@ impl NodeSet<Gated> for TextNode {
         if node_type != 0 {
             return Err(Error::WrongKind);
         }
-        deserializer.env().gate.pass();
+        deserializer.env().reads.pass();
         let text = String::pagable_deserialize(alloc, deserializer)?;
         Ok(TextNode(Arc::new(alloc, text)?))
     }
@@ -163,18 +181,19 @@ fn counts_meanwhile<R: Wait>(
     cell: &PagableArc<String>,
     gate: &Gate,
 ) -> Result<bool, Error> {
-    let is_read = is_set(&gate.is_reading);
+    let is_read = is_set(&gate.is_met);
     let count = cell.count(rt, storage);
-    gate.is_open.store(1, Ordering::SeqCst);
+    gate.open();
     Ok(is_read && count? == 1)
 }
 
 #[test]
 fn other_cells_are_counted_while_one_is_read(rt: HostRuntime) -> Result<(), Error> {
     let alloc = rt.alloc();
-    let gate = Arc::new(alloc, Gate::new())?;
+    let gate = Gate::new(alloc, 0)?;
     let env = Gated {
-        gate: gate.clone()?,
+        reads: gate.clone()?,
+        writes: Gate::new(alloc, 1)?,
     };
     let storage = PagableStorageHandle::new(alloc, InMemoryBlobs::new(alloc), env)?;
     let read = cell(&rt, alloc, &storage)?;
@@ -187,6 +206,98 @@ fn other_cells_are_counted_while_one_is_read(rt: HostRuntime) -> Result<(), Erro
         || counts_meanwhile(&rt, &storage, &other, gate.as_ref()),
     );
     assert!(rt; pinned? && counted?);
-    assert_eq!(rt; gate.has_passed.load(Ordering::SeqCst), 1);
+    assert!(rt; gate.has_been_passed());
+    Ok(())
+}
+
+// Waits until a gate is met, leaves others some turns, and opens it.
+fn open_late(gate: &Gate) -> bool {
+    let is_met = is_set(&gate.is_met);
+    for _ in 0..10_000u32 {
+        thread::yield_now();
+    }
+    gate.open();
+    is_met
+}
+
+// Pages out an item of a reference once a gate is met.
+fn page_out_late<L: Ledger, R: Wait>(
+    rt: &R,
+    alloc: Global,
+    storage: &Handle,
+    text: ArcRef,
+    table: &SlotTable<Gated, L>,
+    share: ClaimShare<L>,
+    gate: Option<&Gate>,
+) -> Result<DataKey, PageOutError>
+    requires { 1 < share.share.parts }
+{
+    if let Some(gate) = gate {
+        let _is_met = is_set(&gate.is_met);
+    }
+    let mut share = share;
+    match item(alloc, None, &[text]) {
+        Ok(item) => storage.page_out_item(rt, alloc, item, table, &mut share),
+        Err(e) => Err(PageOutError::Failed(e)),
+    }
+}
+
+// Has two threads page out items of one text on one table, while its writer waits: whether both get the same key.
+fn both_wait<L: Ledger + Send + Sync, R: Threads + Wait + Sync>(
+    rt: &R,
+    alloc: Global,
+    storage: &Handle,
+    text: ArcRef,
+    gate: &Gate,
+    parts: Blank,
+) -> bool
+    requires name { parts.name ≡ L.name }
+    requires parts { parts.parts ≡ L.parts }
+    requires four { L.parts ≡ 4 }
+{
+    let (table, mut all) = SlotTable::<Gated, L>::new(alloc, parts);
+    let mut own = all.split_off();
+    own.merge(all.split_off());
+    let (first, (second, is_met)) = thread::join(
+        rt,
+        || -> Result<DataKey, PageOutError>
+            requires { IsSync R.row × (1 < all.share.parts) }
+        { page_out_late(rt, alloc, storage, text, &table, all, None) },
+        || -> (Result<DataKey, PageOutError>, bool)
+            requires { IsSync R.row × (1 < own.share.parts) }
+        {
+            thread::join(
+                rt,
+                || -> Result<DataKey, PageOutError>
+                    requires { IsSync R.row × (1 < own.share.parts) }
+                { page_out_late(rt, alloc, storage, text, &table, own, Some(gate)) },
+                || open_late(gate),
+            )
+        },
+    );
+    is_met && first.is_ok() && first == second
+}
+
+#[test]
+fn claimed_text_is_waited_for(rt: HostRuntime) -> Result<(), Error> {
+    let alloc = rt.alloc();
+    let gate = Gate::new(alloc, 0)?;
+    let env = Gated {
+        reads: Gate::new(alloc, 1)?,
+        writes: gate.clone()?,
+    };
+    let storage = PagableStorageHandle::new(alloc, InMemoryBlobs::new(alloc), env)?;
+    let text = cell(&rt, alloc, &storage)?.reference::<Gated>();
+    let parts = Blank::new(4);
+    let are_alike = both_wait::<Brand, HostRuntime>(
+        &rt,
+        alloc,
+        &storage,
+        text,
+        gate.as_ref(),
+        parts,
+    );
+    assert!(rt; are_alike);
+    assert!(rt; gate.has_been_passed());
     Ok(())
 }
