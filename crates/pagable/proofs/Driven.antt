@@ -13,7 +13,7 @@ use Rattle.std.proofs.Common.{Ok, ◌+◌, ◌≤◌, ◌++◌, Some, ℕ, subst
 use Rattle.{std.proofs.{Common.{sym, inl}, lemmas.{Bool.Decides.nat_tests, List.length-append, Grind.common_steps}}, pagable_pager.{proofs.Keeping.less-moves, specs.View.Telling}}
 use Rattle.{pagable_pager.specs.View.{type_of_root, OnlyTables, state_in, core_in, PagerView, OnlyLess, ReadsAs, value_in}, pagable_walk.{proofs.Turning.plain-fits, specs.Slots.written_of}}
 use Rattle.{pagable_walk.specs.{Tasks.IsPlain, Turns.LeavesFit, declared.{lent_table.LentTable.LentTable, tasks.{Task.Task, Turn.Turn}}, Table.shelf_of}, pagable_loads.specs.Frames.{IsLoadOf, reading_of, is_cell}}
-use Rattle.{pagable_loads.specs.{declared.reading.Reading.Reading as Own, Working.{RefusesEntry, StartsEntry}}, pagable_laws.proofs.{ReadingSteps.{caller-free, reading-feels}, Trees.same_some}}
+use Rattle.{pagable_loads.{proofs.Stepped.none_comes, specs.{declared.reading.Reading.Reading as Own, Working.{RefusesEntry, StartsEntry}}}, pagable_laws.proofs.{ReadingSteps.{caller-free, reading-feels}, Trees.same_some}}
 use Rattle.{pagable_laws.proofs.{Trees.same-number, Effects.{owned-mine, IsMine}}, pagable_core.specs.declared.{context.writing.SerializedData.SerializedData, storage.data.PagableData.PagableData}}
 use Rattle.{pagable_tables.proofs.Worlds.{no-load-fault, still}, pagable_model.specs.declared.{error.Error.Error, numbers.{WorkerNumber.WorkerNumber, LoadNumber.LoadNumber, HandleNumber.HandleNumber, ArcRef.ArcRef}}}
 use Rattle.pagable_world.specs.World as world
@@ -266,7 +266,9 @@ module _ {X XN XH XK XV : Type 0} {g : Environments X XN XH XK XV} {gh : Hashes 
           (at-found s h l reads.load reads.owned None unkept ∙ (of_root reads.load.root type (reads.type_is ∙ typed)).2 l)
           (record {
             does = record { does = (inl (record { mid = s.core; meets = inl (inr (inr refl), still s.core); told = told; closes = closes }), refl) };
-            moves = record { each = λ n x is. elim (moves.each n x is) [ inl there ↦ inl there | inr came ↦ absurd came.1 ]; environment = moves.environment };
+            moves = none_comes moves;
+            holds = λ w. none_comes moves;
+            answers = tt;
             whole = whole-still moves formed;
           }) refl (owned-mine reads.owned) (record { here = none; others = ready.others }) refl (λ now is. absurd (cc)))
 
