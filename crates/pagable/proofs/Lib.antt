@@ -1,3 +1,4 @@
 pub mod Keeping
 pub mod Driven
 pub mod Running
+mod Failing

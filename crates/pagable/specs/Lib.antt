@@ -1,2 +1,4 @@
+pub mod Cells
 pub mod Driving
 pub mod Paged
+pub mod TypedReferences

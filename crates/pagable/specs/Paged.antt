@@ -12,6 +12,10 @@ pub record PagesOutItem {N E : Type 0} (v : Values N) (s : PagerState N E) (shel
 pub record PagesOutList {N E : Type 0} (v : Values N) (s : PagerState N E) (answer : Result (Unit {0}) PageOutError) (s' : PagerState N E) : Type 0 where
   pub run : ListRun (plain v) (length s.core.list) s (seen_as_failure answer) s'
 
+-- a step of its own was refused
+abbrev pub IsRefusal : PageOutError → Type 0
+IsRefusal why = (e : Error) × (why ≡ PageOutError.Failed e)
+
 -- A reading of the key, and the value that its node holds. A node of which no value can be taken for want of memory, or that holds none, comes back.
 pub data ReadsValue {N T A E : Type 0} (v : Values N) (see : A → T) (held : N → Option T) (s : PagerState N E) (key t : ℕ) : Result A (Error × Option N) → PagerState N E → Type 0 where
   value-is-read : (x : N) (a : A) (s' : PagerState N E) → ReadsOver v s key t (Ok x) s' → held x ≡ Some (see a) → ReadsValue v see held s key t (Ok a) s'

@@ -5,10 +5,12 @@
 //! names its items: to pass on a module of a crate below would have every check above read all that stands in it.
 #![tactic(auto)]
 
+pub mod cells;
 mod events;
 pub mod laws;
 pub mod machine;
 pub mod paging;
+pub mod typed_references;
 mod workers;
 
 /// The numbers of cells and handles, the references that values hold, and what the sorts of these have in common.

@@ -1,7 +1,7 @@
 //! Pins, readings and page-outs of a lent pager. What they do is told as long as the storage is honest afterwards.
 
-ghost use Rattle.std.specs.{Arc.arc_value, Prelude.{IsTrue, ◌≡◌}};
-ghost use Rattle.{pagable.specs.Paged.{PagesOutItem, PagesOutList, ReadsValue}, pagable_loads.specs.Telling.values_at, pagable_pager.specs.View.{state_in, telling}};
+ghost use Rattle.std.specs.{Arc.arc_value, Prelude.{IfErr, IsTrue, ◌≡◌}};
+ghost use Rattle.{pagable.specs.Paged.{IsRefusal, PagesOutItem, PagesOutList, ReadsValue}, pagable_loads.specs.Telling.values_at, pagable_pager.specs.View.{state_in, telling}};
 ghost use Rattle.{pagable_walk.specs.{Over.{answer_of, PagesItem, PagesList}, Slots.written_of, Table.shelf_of}, pagable_world.specs.{Access.{PinsOver, ReadsOver}, World.seen_as}};
 ghost use Rattle.pagable_world.specs.declared.handles.Owner.TheVariants as owners;
 
@@ -144,13 +144,15 @@ fn page_out_pending_by<'a, E: Env<Node: NodeSet<E>>, S: PagableStorage<E>>(
 
 /// Pages out the entries that stand in the list at the call, with all that they refer to, from the last to the first, and stops at the first
 /// failure, which it answers. What is listed meanwhile waits for the next call. An entry whose cell has a key is only
-/// released; one whose page-out fails before it is pinned is listed again, at the end.
+/// released; one whose page-out fails before it is pinned is listed again, at the end. No other worker is there to fail, so the failure is a refusal of its
+/// own, and never AlreadyFailed.
 pub fn page_out_pending<E: Env<Node: NodeSet<E>>, S: PagableStorage<E>>(
     alloc: Global,
     pager: &mut Pager<E, S>,
 ) -> Result<(), PageOutError>
     ensures pages { IsTrue (S.is_honest pager.new.storage) → PagesOutList (values_at E.Node.NodeSet E.Env E.Hash.KeyHash pager.old.environment) (state_in (telling S.stored S.is_closed S.failed) pager.old)
         result (state_in (telling S.stored S.is_closed S.failed) pager.new) }
+    ensures failed { IsTrue (S.is_honest pager.new.storage) → IfErr result IsRefusal }
     ensures honest { IsTrue (S.is_honest pager.new.storage) → IsTrue (S.is_honest pager.old.storage) }
 {
     pager.is_whole();

@@ -1,0 +1,156 @@
+//! Calls on one cell of a lent pager, each made of a few of the pager's own.
+
+ghost use Rattle.std.specs.{Arc.arc_value, Fn.FnOnceReturnsAt, Prelude.{IfErr, IfOk, IsTrue, None, ◌≡◌}};
+ghost use Rattle.{pagable.specs.Cells.{AsksWhether, Follows, InsertsCell, Looks, LooksByPin, OpensCell}, pagable_loads.specs.Telling.values_at};
+ghost use Rattle.{pagable_model.specs.Stored.RefusesFetch, pagable_pager.specs.View.{AsksStorage, core_in, state_in, telling}};
+ghost use Rattle.pagable_traits.specs.References.{loose_kind};
+ghost use Rattle.pagable_world.specs.World.{seen_as};
+
+use crate::paging::pin;
+use either::Either;
+use pagable_codec::{Env, NodeSet, OfNode};
+use pagable_core::PagableStorage;
+use pagable_model::{DataKey, Error, HandleNumber};
+use pagable_pager::Pager;
+use pagable_traits::{ArcErase, PagableArc};
+use std::alloc::Global;
+use std::sync::Arc;
+
+/// Inserts a value as a cell that nothing pins: it waits for page-out. Answers its loose handle.
+///
+/// # Errors
+/// - as `Pager::new_loose`: the value comes back, and nothing changes.
+/// - NumbersSpent, OutOfMemory: the cell is inserted and can't be listed for page-out. Its handle comes back, which `Pager::schedule_for_paging` lists.
+pub fn insert<E: Env<Node: NodeSet<E>>, S: PagableStorage<E>>(
+    alloc: Global,
+    pager: &mut Pager<E, S>,
+    node: E::Node,
+) -> Result<HandleNumber, (Error, Either<E::Node, HandleNumber>)>
+    ensures { InsertsCell (telling S.stored S.is_closed S.failed) (values_at E.Node.NodeSet E.Env E.Hash.KeyHash pager.old.environment) pager.old node result pager.new }
+{
+    let handle = match pager.new_loose(alloc, node) {
+        Ok(handle) => handle,
+        Err(refused) => return Err((refused.0, Either::Left(refused.1))),
+    };
+    match pager.unpin(handle) {
+        Ok(()) => Ok(handle),
+        Err(e) => Err((e, Either::Right(handle))),
+    }
+}
+
+/// Answers a loose handle of the cell whose value has this key and the type `T`: of the one that the cache gives, or of a new one. Reads nothing, and
+/// asks that the key reads as a value of this type.
+///
+/// # Errors
+/// - NumbersSpent, OutOfMemory: nothing changes.
+pub fn cell_of<T: OfNode<E>, E: Env<Node: NodeSet<E>>, S: PagableStorage<E>>(
+    alloc: Global,
+    pager: &mut Pager<E, S>,
+    key: DataKey,
+) -> Result<HandleNumber, Error>
+    ensures { OpensCell (telling S.stored S.is_closed S.failed) pager.old (loose_kind T.TYPE) T.TYPE key result pager.new }
+{
+    let kind = <PagableArc<T> as ArcErase<E>>::kind();
+    match pager.cache_get(kind, key)? {
+        Some(handle) => Ok(handle),
+        None => pager.new_paged_out(alloc, T::TYPE, key),
+    }
+}
+
+/// Tells whether the storage has a blob under a key.
+///
+/// # Errors
+/// - OutOfMemory, Storage: as `Pager::fetch`.
+pub fn contains<E: Env<Node: NodeSet<E>>, S: PagableStorage<E>>(
+    alloc: Global,
+    pager: &mut Pager<E, S>,
+    key: DataKey,
+) -> Result<bool, Error>
+    ensures asks { AsksStorage S.is_honest (telling S.stored S.is_closed S.failed) pager.old (λ w w'. AsksWhether w key result w') pager.new }
+    ensures refused { IfErr result (RefusesFetch key None (S.failed pager.old.storage) (S.failed pager.new.storage)) }
+{
+    match pager.fetch(alloc, key).err() {
+        None => Ok(true),
+        Some(Error::NoData(_)) => Ok(false),
+        Some(e) => Err(e),
+    }
+}
+
+/// Pins the cell of a handle that stands in a value, and so is that value's: clones it, pins the clone, and gives the clone up. Answers the
+/// Pinned handle and the value, shared.
+///
+/// # Errors
+/// - NoSuchHandle, NumbersSpent, OutOfMemory: as `Pager::clone`.
+/// - as `pin`.
+///
+/// Each leaves handles and counts as they were.
+pub fn follow<E: Env<Node: NodeSet<E>>, S: PagableStorage<E>>(
+    alloc: Global,
+    pager: &mut Pager<E, S>,
+    handle: HandleNumber,
+) -> Result<(HandleNumber, Arc<E::Node>), Error>
+    ensures follows { IsTrue (S.is_honest pager.new.storage) → Follows (telling S.stored S.is_closed S.failed) (values_at E.Node.NodeSet E.Env E.Hash.KeyHash) pager.old
+        handle (seen_as (λ a. (a.0, arc_value a.1)) result) pager.new }
+    ensures honest { IsTrue (S.is_honest pager.new.storage) → IsTrue (S.is_honest pager.old.storage) }
+{
+    let clone = pager.clone(handle)?;
+    let pinned = pin(alloc, pager, clone);
+    let _told = pager.release(clone);
+    pinned
+}
+
+// Shows a value that is shared.
+fn show_shared<N, Y, F: FnOnce(&N) -> Y>(show: F, value: &Arc<N>) -> Y
+    requires { F.IsAlwaysCallable show }
+    ensures { FnOnceReturnsAt F.FnOnce show (arc_value value.now) result }
+{
+    show(value.as_ref())
+}
+
+// The same for a handle that pins nothing: by a pin that is let go again.
+fn look_by_pin<E: Env<Node: NodeSet<E>>, S: PagableStorage<E>, Y: Drop, F: FnOnce(&E::Node) -> Y>(
+    alloc: Global,
+    pager: &mut Pager<E, S>,
+    handle: HandleNumber,
+    show: F,
+) -> Result<Y, Error>
+where
+    F: Drop,
+    requires { F.IsAlwaysCallable show }
+    ensures looks { IsTrue (S.is_honest pager.new.storage) → LooksByPin (telling S.stored S.is_closed S.failed) (values_at E.Node.NodeSet E.Env E.Hash.KeyHash) pager.old
+        handle (FnOnceReturnsAt F.FnOnce show) result pager.new }
+    ensures honest { IsTrue (S.is_honest pager.new.storage) → IsTrue (S.is_honest pager.old.storage) }
+{
+    let (pinned, value) = pin(alloc, pager, handle)?;
+    let shown = show_shared(show, &value);
+    let _told = pager.unpin(handle);
+    match pager.release(pinned) {
+        Ok(()) => Ok(shown),
+        Err(e) => Err(e),
+    }
+}
+
+/// Shows the value of a handle's node, reading it where it isn't in memory, and leaves the handle in the mode that it had.
+///
+/// # Errors
+/// - NoSuchHandle: nothing live has this number.
+/// - as `pin`, where the handle pins nothing.
+/// - NumbersSpent, OutOfMemory: the value was shown, and its cell can't be listed for page-out.
+pub fn look<E: Env<Node: NodeSet<E>>, S: PagableStorage<E>, Y: Drop, F: FnOnce(&E::Node) -> Y>(
+    alloc: Global,
+    pager: &mut Pager<E, S>,
+    handle: HandleNumber,
+    show: F,
+) -> Result<Y, Error>
+where
+    F: Drop,
+    requires { F.IsAlwaysCallable show }
+    ensures looks { IsTrue (S.is_honest pager.new.storage) → Looks (telling S.stored S.is_closed S.failed) (values_at E.Node.NodeSet E.Env E.Hash.KeyHash) pager.old
+        handle (FnOnceReturnsAt F.FnOnce show) result pager.new }
+    ensures honest { IsTrue (S.is_honest pager.new.storage) → IsTrue (S.is_honest pager.old.storage) }
+{
+    match pager.value(handle)? {
+        Some(value) => Ok(show(value)),
+        None => look_by_pin(alloc, pager, handle, show),
+    }
+}

@@ -1,0 +1,80 @@
+//! Typed references of a lent pager's handles, for values to hold: when such a value is inserted, the handle becomes the value's.
+
+ghost use Rattle.std.specs.{Arc.arc_value, Prelude.{IfErr, IfOk, ◌≡◌, ◌⊎◌}};
+ghost use Rattle.{pagable.specs.TypedReferences.{IsAt, IsHeldBy, Refers, RefusesHolding, RefusesReference}, pagable_pager.specs.View.{core_in, state_in, telling}};
+ghost use Rattle.pagable_traits.specs.References.{holding, holding_kind, loose, loose_kind};
+
+use pagable_codec::{ArcRef, Env, NodeSet, OfNode};
+use pagable_core::PagableStorage;
+use pagable_model::{Error, HandleNumber, NodeNumber};
+use pagable_pager::Pager;
+use pagable_traits::{ArcErase, HoldingArc, PagableArc};
+use std::alloc::Global;
+
+// The node of a handle, where it is of this type.
+fn node_of_type<E: Env<Node: NodeSet<E>>, S: PagableStorage<E>>(
+    pager: &Pager<E, S>,
+    handle: HandleNumber,
+    node_type: u32,
+) -> Result<NodeNumber, Error>
+    ensures named { IfOk result (IsAt (core_in (telling S.stored S.is_closed S.failed) pager.now) handle node_type) }
+    ensures refused { IfErr result (RefusesReference (core_in (telling S.stored S.is_closed S.failed) pager.now) handle node_type) }
+{
+    let node = pager.node_of(handle)?;
+    match pager.node_live(node) {
+        Some(found) if found == node_type => Ok(node),
+        _ => Err(Error::WrongKind),
+    }
+}
+
+/// Makes the loose reference of a loose handle, as a value of another type holds it.
+///
+/// # Errors
+/// - NoSuchHandle: nothing live has this number.
+/// - WrongKind: the handle's node is of another type.
+pub fn loose<T: OfNode<E>, E: Env<Node: NodeSet<E>>, S: PagableStorage<E>>(
+    pager: &Pager<E, S>,
+    handle: HandleNumber,
+) -> Result<PagableArc<T>, Error>
+    ensures named { IfOk result (λ a. Refers (core_in (telling S.stored S.is_closed S.failed) pager.now) handle T.TYPE (loose_kind T.TYPE) (loose T.TYPE a)) }
+    ensures refused { IfErr result (RefusesReference (core_in (telling S.stored S.is_closed S.failed) pager.now) handle T.TYPE) }
+{
+    let node = node_of_type(pager, handle, T::TYPE)?;
+    let kind = <PagableArc<T> as ArcErase<E>>::kind();
+    match PagableArc::from_reference::<E>(ArcRef { kind, node, handle }) {
+        Some(reference) => Ok(reference),
+        None => unreachable!(),
+    }
+}
+
+/// Makes the reference of a handle that pins its node, with the node's value, as a value holds it: an `Arc` of a Shared handle, or a pin of a Pinned one.
+///
+/// # Errors
+/// - NoSuchHandle: nothing live has this number.
+/// - WrongKind: the handle's node is of another type.
+/// - WrongMode: the handle pins nothing.
+/// - OutOfMemory: the value can't be shared once more.
+pub fn holding<
+    T: OfNode<E> + Drop,
+    E: Env<Node: NodeSet<E>>,
+    S: PagableStorage<E>,
+    const PINS: bool,
+>(alloc: Global, pager: &Pager<E, S>, handle: HandleNumber) -> Result<HoldingArc<T, PINS>, Error>
+    ensures named { IfOk result (λ a. Refers (core_in (telling S.stored S.is_closed S.failed) pager.now) handle T.TYPE (holding_kind T.TYPE PINS) (holding T.TYPE PINS a)) }
+    ensures value { IfOk result (λ a. IsHeldBy (state_in (telling S.stored S.is_closed S.failed) pager.now) handle T.held (arc_value a.value)) }
+    ensures refused { IfErr result (RefusesHolding (state_in (telling S.stored S.is_closed S.failed) pager.now) handle T.TYPE T.held) }
+{
+    let node = node_of_type(pager, handle, T::TYPE)?;
+    let held = match pager.value(handle)? {
+        Some(value) => T::from_node(alloc, value)?,
+        None => return Err(Error::WrongMode),
+    };
+    let Some(value) = held else {
+        return Err(Error::WrongKind);
+    };
+    let kind = <HoldingArc<T, PINS> as ArcErase<E>>::kind();
+    match HoldingArc::from_reference::<E>(ArcRef { kind, node, handle }, value) {
+        Ok(reference) => Ok(reference),
+        Err(_) => unreachable!(),
+    }
+}
