@@ -1,9 +1,10 @@
 //! `vectors FILE..` answers each line of each file with one line, but for comments and lines that only make a pager; of the file `worked.txt` it
-//! runs the rows, and prints a line for each. Before, it says whether sessions and bundles hold. What it has to answer stands in `stdout`, and comes from outside the program.
+//! runs the rows, and prints a line for each. Before, it says whether sessions, bundles and cells hold. What it has to answer stands in `stdout`, and comes from outside the program.
 #![tactic(auto)]
 
 mod bundles;
 mod calls;
+mod cells;
 mod lines;
 mod quick_start;
 mod worked;
@@ -41,10 +42,11 @@ fn answer_each(rt: &HostRuntime, calls: &mut Calls, words: &[String]) -> anyhow:
     Ok(())
 }
 
-/// Says whether sessions and bundles hold, and answers the files of these names, from a new machine on.
+/// Says whether sessions, bundles and cells hold, and answers the files of these names, from a new machine on.
 fn run(rt: &HostRuntime, words: &[String], sessions_hold: bool) -> anyhow::Result<()> {
     println!(rt; "sessions hold: {sessions_hold}")?;
     println!(rt; "bundles hold: {}", bundles::hold(rt.alloc()))?;
+    println!(rt; "cells hold: {}", cells::hold(rt.alloc()))?;
     let mut calls = Calls::new(rt.alloc(), "");
     let done = answer_each(rt, &mut calls, words);
     let_go(calls);

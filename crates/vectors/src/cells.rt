@@ -1,0 +1,85 @@
+//! Cells by one call each: inserted, looked at, referred to by each sort of references, found by their key, and followed.
+
+use crate::calls::let_go;
+use pagable::cells::{cell_of, contains, follow, insert, look};
+use pagable::paging::page_out_pending;
+use pagable::typed_references::{holding, loose};
+use pagable::{DataKey, HandleNumber, InMemoryBlobs, OfNode, PagableStorage, Pager};
+use pagable_rows::linked::bundle::Bundle;
+use pagable_rows::linked::chain::{ArcLink, Link};
+use pagable_rows::linked::{Linked, LinkedNode};
+use std::alloc::Global;
+use std::sync::Arc;
+
+/// The key of a bundle of one link by each sort of references, by weight: 3 for the count of its keys, 1 at each of the places 9, 10 and 11 of its bytes, and at
+/// 12, 28 and 44 the links' keys, which are 1, since a link of nothing weighs nothing.
+const KEY: u128 = 117;
+
+/// The node of a value.
+fn node<T: OfNode<Linked> + Drop>(alloc: Global, value: T) -> Option<LinkedNode> {
+    Some(T::into_node(Arc::new(alloc, value).ok()?))
+}
+
+/// A list of one item.
+fn one<T: Drop>(alloc: Global, item: T) -> Option<Vec<T>> {
+    let mut list = Vec::new(alloc);
+    list.push(item).ok()?;
+    Some(list)
+}
+
+/// A bundle of one link by each sort of references.
+fn bundle<S: PagableStorage<Linked>>(
+    alloc: Global,
+    pager: &mut Pager<Linked, S>,
+) -> Option<Bundle> {
+    let waiting = insert(alloc, pager, node(alloc, Link { next: None })?).ok()?;
+    let pinned = pager
+        .new_pinned(alloc, node(alloc, Link { next: None })?)
+        .ok()?;
+    let shared = pager
+        .new_shared(alloc, node(alloc, ArcLink { next: None })?)
+        .ok()?;
+    Some(Bundle {
+        shared: one(alloc, holding(alloc, pager, shared).ok()?)?,
+        loose: one(alloc, loose(pager, waiting).ok()?)?,
+        pinned: one(alloc, holding(alloc, pager, pinned).ok()?)?,
+    })
+}
+
+/// The handle of a bundle's loose link.
+fn loose_link(node: &LinkedNode) -> Option<HandleNumber> {
+    match node {
+        LinkedNode::Bundle(bundle) => {
+            let link = bundle.as_ref().loose.first()?;
+            Some(link.reference::<Linked>().handle)
+        }
+        _ => None,
+    }
+}
+
+/// Whether a bundle that was paged out is found by its key, and its loose link by the reference in it; and whether each look leaves its cell away and unpinned.
+fn hold_in<S: PagableStorage<Linked>>(alloc: Global, pager: &mut Pager<Linked, S>) -> Option<bool> {
+    let value = bundle(alloc, pager)?;
+    let value = node(alloc, value)?;
+    let_go(insert(alloc, pager, value).ok()?);
+    page_out_pending(alloc, pager).ok()?;
+    let key = DataKey::new(KEY)?;
+    let is_stored = contains(alloc, pager, key).ok()?;
+    let is_other_stored = contains(alloc, pager, DataKey::new(KEY + 1)?).ok()?;
+    let cell = cell_of::<Bundle, _, _>(alloc, pager, key).ok()?;
+    let is_found = look(alloc, pager, cell, |node| loose_link(node).is_some()).ok()?;
+    let is_away = pager.is_paged_out(cell).ok()? && pager.count(cell).ok()? == 0;
+    let (_, bundle) = follow(alloc, pager, cell).ok()?;
+    let link = loose_link(bundle.as_ref())?;
+    let (_, link) = follow(alloc, pager, link).ok()?;
+    let is_link = matches!(link.as_ref(), LinkedNode::Link(_));
+    Some(is_stored && !is_other_stored && is_found && is_away && is_link)
+}
+
+/// The same in a new pager.
+pub fn hold(alloc: Global) -> bool {
+    let mut pager = Pager::new(alloc, InMemoryBlobs::new(alloc), Linked);
+    let answer = hold_in(alloc, &mut pager);
+    let_go(pager);
+    answer == Some(true)
+}
