@@ -11,7 +11,8 @@ no-other (skips i place key h told answer s mid low s' at has takes releases mor
 no-other (pages i place key h answer s mid s' at has entry more) is = no-other more is
 no-other (fails i place h e s s' at has entry) is = cc
 
-pub failed-alone : {N E : Type 0} {v : Values N} {i : ℕ} {s s' : PagerState N E} (r : Result (Unit {0}) PageOutError) → ListRun (plain v) i s (seen_as_failure r) s' → IfErr r IsRefusal
+pub failed-alone : {N E : Type 0} {v : Values N} {i : ℕ} {s s' : PagerState N E} (r : Result (Unit {0}) PageOutError)
+    → ListRun (plain v) i s (seen_as_failure r) s' → IfErr r IsRefusal
 failed-alone (Ok u) run = tt
 failed-alone (Err (PageOutError.Failed e)) run = (e, refl)
 failed-alone (Err PageOutError.AlreadyFailed) run = absurd (no-other run refl)

@@ -31,23 +31,28 @@ module _ {N S E : Type 0} (tells : Telling S) where
 
   -- A cell without a pin. Where the value isn't refused, and its cell alone couldn't be listed, the handle comes back.
   pub data InsertsCell (v : Values N) (old : PagerView N S E) (x : N) : Result HandleNumber (Error × Either N HandleNumber) → PagerView N S E → Type 0 where
-    birth-is-refused : (refused : Error × N) (new : PagerView N S E) → IsBorn v old x (Err refused) new → InsertsCell v old x (Err (refused.0, Either.Left refused.1)) new
+    birth-is-refused : (refused : Error × N) (new : PagerView N S E) → IsBorn v old x (Err refused) new
+        → InsertsCell v old x (Err (refused.0, Either.Left refused.1)) new
     cell-waits : (h : HandleNumber) (mid new : PagerView N S E) → IsBorn v old x (Ok h) mid → Unpins mid h (Ok tt) new → InsertsCell v old x (Ok h) new
     cell-is-unlisted : (h : HandleNumber) (e : Error) (mid new : PagerView N S E) → IsBorn v old x (Ok h) mid → Unpins mid h (Err e) new
         → InsertsCell v old x (Err (e, Either.Right h)) new
 
   -- a handle of the cell that the cache gives under the kind of this number, or of a new one
   pub data OpensCell (old : PagerView N S E) (number t key : ℕ) : Result HandleNumber Error → PagerView N S E → Type 0 where
-    cache-refuses : (kind : Kind) (e : Error) (new : PagerView N S E) → kind.0 ≡ number → Recalls old kind key (Err e) new → OpensCell old number t key (Err e) new
-    cache-gives : (kind : Kind) (h : HandleNumber) (new : PagerView N S E) → kind.0 ≡ number → Recalls old kind key (Ok (Some h)) new → OpensCell old number t key (Ok h) new
+    cache-refuses : (kind : Kind) (e : Error) (new : PagerView N S E) → kind.0 ≡ number → Recalls old kind key (Err e) new
+        → OpensCell old number t key (Err e) new
+    cache-gives : (kind : Kind) (h : HandleNumber) (new : PagerView N S E) → kind.0 ≡ number → Recalls old kind key (Ok (Some h)) new
+        → OpensCell old number t key (Ok h) new
     cell-is-new : (kind : Kind) (r : Result HandleNumber Error) (mid new : PagerView N S E) → kind.0 ≡ number → Recalls old kind key (Ok None) mid
         → Calls OnlyTables tells mid (λ w w'. AwayBirthCall w Owner.Caller t key r w') new → OpensCell old number t key r new
 
   -- a clone of the handle is pinned, and given up
   pub data Follows (says : E → Values N) (old : PagerView N S E) (h : HandleNumber) : Result (HandleNumber × N) Error → PagerView N S E → Type 0 where
-    clone-is-refused : (e : Error) (new : PagerView N S E) → Calls OnlyTables tells old (λ w w'. CloneCall w Owner.Caller h (Err e) w') new → Follows says old h (Err e) new
+    clone-is-refused : (e : Error) (new : PagerView N S E) → Calls OnlyTables tells old (λ w w'. CloneCall w Owner.Caller h (Err e) w') new
+        → Follows says old h (Err e) new
     clone-is-pinned : (c : HandleNumber) (told : Result (Unit {0}) Error) (r : Result (HandleNumber × N) Error) (mid low new : PagerView N S E)
-        → Calls OnlyTables tells old (λ w w'. CloneCall w Owner.Caller h (Ok c) w') mid → Pins says mid c r low → Releases low c told new → Follows says old h r new
+        → Calls OnlyTables tells old (λ w w'. CloneCall w Owner.Caller h (Ok c) w') mid → Pins says mid c r low → Releases low c told new
+        → Follows says old h r new
 
   -- what let a pin go again that a look needed: that of the handle, and the Pinned one that came with it
   pub record LetsGo (old : PagerView N S E) (h k : HandleNumber) (told : Result (Unit {0}) Error) (new : PagerView N S E) : Type 0 where
@@ -57,15 +62,19 @@ module _ {N S E : Type 0} (tells : Telling S) where
     pub releases : Releases mid k told new
 
   -- the value is shown under a pin
-  pub data LooksByPin (says : E → Values N) (old : PagerView N S E) (h : HandleNumber) {Y : Type 0} (Shows : N → Y → Type 0) : Result Y Error → PagerView N S E → Type 0 where
+  pub data LooksByPin (says : E → Values N) (old : PagerView N S E) (h : HandleNumber) {Y : Type 0} (Shows : N → Y → Type 0) : Result Y Error
+      → PagerView N S E → Type 0 where
     pin-is-refused : (e : Error) (new : PagerView N S E) → Pins says old h (Err e) new → LooksByPin says old h Shows (Err e) new
     shows : (x : N) (y : Y) (k : HandleNumber) (mid new : PagerView N S E) → Pins says old h (Ok (k, x)) mid → Shows x y → LetsGo mid h k (Ok tt) new
         → LooksByPin says old h Shows (Ok y) new
-    cell-stays-unlisted : (x : N) (y : Y) (k : HandleNumber) (e : Error) (mid new : PagerView N S E) → Pins says old h (Ok (k, x)) mid → Shows x y → LetsGo mid h k (Err e) new
+    cell-stays-unlisted : (x : N) (y : Y) (k : HandleNumber) (e : Error) (mid new : PagerView N S E) → Pins says old h (Ok (k, x)) mid → Shows x y
+        → LetsGo mid h k (Err e) new
         → LooksByPin says old h Shows (Err e) new
 
   -- A handle that pins its node lends the value; another is pinned for as long as the look.
-  pub data Looks (says : E → Values N) (old : PagerView N S E) (h : HandleNumber) {Y : Type 0} (Shows : N → Y → Type 0) : Result Y Error → PagerView N S E → Type 0 where
+  pub data Looks (says : E → Values N) (old : PagerView N S E) (h : HandleNumber) {Y : Type 0} (Shows : N → Y → Type 0) : Result Y Error → PagerView N S E
+      → Type 0 where
     no-handle : (e : Error) → ValueCall (state_in tells old) h (Err e) → Looks says old h Shows (Err e) old
     lends : (x : N) (y : Y) → ValueCall (state_in tells old) h (Ok (Some x)) → Shows x y → Looks says old h Shows (Ok y) old
-    by-pin : (r : Result Y Error) (new : PagerView N S E) → ValueCall (state_in tells old) h (Ok None) → LooksByPin says old h Shows r new → Looks says old h Shows r new
+    by-pin : (r : Result Y Error) (new : PagerView N S E) → ValueCall (state_in tells old) h (Ok None) → LooksByPin says old h Shows r new
+        → Looks says old h Shows r new

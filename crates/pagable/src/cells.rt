@@ -20,7 +20,8 @@ use std::sync::Arc;
 ///
 /// # Errors
 /// - as `Pager::new_loose`: the value comes back, and nothing changes.
-/// - NumbersSpent, OutOfMemory: the cell is inserted and can't be listed for page-out. Its handle comes back, which `Pager::schedule_for_paging` lists.
+/// - NumbersSpent, OutOfMemory: the cell is inserted and can't be listed for page-out. Its handle comes back, which
+///   `Pager::schedule_for_paging` lists.
 pub fn insert<E: Env<Node: NodeSet<E>>, S: PagableStorage<E>>(
     alloc: Global,
     pager: &mut Pager<E, S>,
@@ -38,8 +39,8 @@ pub fn insert<E: Env<Node: NodeSet<E>>, S: PagableStorage<E>>(
     }
 }
 
-/// Answers a loose handle of the cell whose value has this key and the type `T`: of the one that the cache gives, or of a new one. Reads nothing, and
-/// asks that the key reads as a value of this type.
+/// Answers a loose handle of the cell whose value has this key and the type `T`: of the one that the cache gives, or of
+/// a new one. Reads nothing, and asks that the key reads as a value of this type.
 ///
 /// # Errors
 /// - NumbersSpent, OutOfMemory: nothing changes.
@@ -76,8 +77,8 @@ pub fn contains<E: Env<Node: NodeSet<E>>, S: PagableStorage<E>>(
     }
 }
 
-/// Pins the cell of a handle that stands in a value, and so is that value's: clones it, pins the clone, and gives the clone up. Answers the
-/// Pinned handle and the value, shared.
+/// Pins the cell of a handle that stands in a value, and so is that value's: clones it, pins the clone, and gives the
+/// clone up. Answers the Pinned handle and the value, shared.
 ///
 /// # Errors
 /// - NoSuchHandle, NumbersSpent, OutOfMemory: as `Pager::clone`.
@@ -130,7 +131,8 @@ where
     }
 }
 
-/// Shows the value of a handle's node, reading it where it isn't in memory, and leaves the handle in the mode that it had.
+/// Shows the value of a handle's node, reading it where it isn't in memory, and leaves the handle in the mode that it
+/// had.
 ///
 /// # Errors
 /// - NoSuchHandle: nothing live has this number.

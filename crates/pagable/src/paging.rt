@@ -144,8 +144,8 @@ fn page_out_pending_by<'a, E: Env<Node: NodeSet<E>>, S: PagableStorage<E>>(
 
 /// Pages out the entries that stand in the list at the call, with all that they refer to, from the last to the first, and stops at the first
 /// failure, which it answers. What is listed meanwhile waits for the next call. An entry whose cell has a key is only
-/// released; one whose page-out fails before it is pinned is listed again, at the end. No other worker is there to fail, so the failure is a refusal of its
-/// own, and never AlreadyFailed.
+/// released; one whose page-out fails before it is pinned is listed again, at the end. No other worker is there to fail,
+/// so the failure is a refusal of its own, and never AlreadyFailed.
 pub fn page_out_pending<E: Env<Node: NodeSet<E>>, S: PagableStorage<E>>(
     alloc: Global,
     pager: &mut Pager<E, S>,

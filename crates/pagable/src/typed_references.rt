@@ -1,4 +1,5 @@
-//! Typed references of a lent pager's handles, for values to hold: when such a value is inserted, the handle becomes the value's.
+//! Typed references of a lent pager's handles, for values to hold: when such a value is inserted, the handle becomes
+//! the value's.
 
 ghost use Rattle.std.specs.{Arc.arc_value, Prelude.{IfErr, IfOk, ◌≡◌, ◌⊎◌}};
 ghost use Rattle.{pagable.specs.TypedReferences.{IsAt, IsHeldBy, Refers, RefusesHolding, RefusesReference}, pagable_pager.specs.View.{core_in, state_in, telling}};
@@ -47,7 +48,8 @@ pub fn loose<T: OfNode<E>, E: Env<Node: NodeSet<E>>, S: PagableStorage<E>>(
     }
 }
 
-/// Makes the reference of a handle that pins its node, with the node's value, as a value holds it: an `Arc` of a Shared handle, or a pin of a Pinned one.
+/// Makes the reference of a handle that pins its node, with the node's value, as a value holds it: an `Arc` of a Shared
+/// handle, or a pin of a Pinned one.
 ///
 /// # Errors
 /// - NoSuchHandle: nothing live has this number.

@@ -16,7 +16,8 @@ module _ {N S E : Type 0} {tells : Telling S} where
       (calls (Call.Release k) (Reply.Done told) (state_in tells old) (state_in tells new)
       (record { step = record { does = c.step }; moves = less-moves tells old new c.only; whole = well })) more
 
-  pub shows-same : (says : E → Values N) (p mid freed later q : PagerView N S E) (h k l : HandleNumber) (x y : N) (told : Result (Unit {0}) Error) → WellFormed (says p.environment) (state_in tells p)
+  pub shows-same : (says : E → Values N) (p mid freed later q : PagerView N S E) (h k l : HandleNumber) (x y : N) (told : Result (Unit {0}) Error)
+      → WellFormed (says p.environment) (state_in tells p)
       → IsLawful (says p.environment)
       → PinsOver (says p.environment) (state_in tells p) h (Ok (k, x)) (state_in tells mid)
       → Calls OnlyLess tells mid (λ w w'. ReleaseCall w Owner.Caller k told w') freed → WellFormed (says freed.environment) (state_in tells freed)

@@ -65,8 +65,9 @@ impl<E: Env<Node: NodeSet<E>>, S: PagableStorage<E>> Work<E, S> for PageOut {
     }
 }
 
-/// Pins a loose handle, lets other work be done, and pins the handle again. Both values stand for one tree, whatever the work was, where at first nobody was at
-/// work and all that is done asks what is so. Answers the first value; and the second one, with its Pinned handle.
+/// Pins a loose handle, lets other work be done, and pins the handle again. Both values stand for one tree, whatever the
+/// work was, where at first nobody was at work and all that is done asks what is so. Answers the first value; and the
+/// second one, with its Pinned handle.
 ///
 /// # Errors
 /// - as `pin`, `Pager::release` and the work. What was done until then stays.

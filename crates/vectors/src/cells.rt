@@ -1,4 +1,5 @@
-//! Cells by one call each: inserted, looked at, referred to by each sort of references, found by their key, and followed.
+//! Cells by one call each: inserted, looked at, referred to by each sort of references, found by their key, and
+//! followed.
 
 use crate::calls::let_go;
 use pagable::cells::{cell_of, contains, follow, insert, look};
@@ -11,8 +12,9 @@ use pagable_rows::linked::{Linked, LinkedNode};
 use std::alloc::Global;
 use std::sync::Arc;
 
-/// The key of a bundle of one link by each sort of references, by weight: 3 for the count of its keys, 1 at each of the places 9, 10 and 11 of its bytes, and at
-/// 12, 28 and 44 the links' keys, which are 1, since a link of nothing weighs nothing.
+/// The key of a bundle of one link by each sort of references, by weight: 3 for the count of its keys, 1 at each of the
+/// places 9, 10 and 11 of its bytes, and at 12, 28 and 44 the links' keys, which are 1, since a link of nothing weighs
+/// nothing.
 const KEY: u128 = 117;
 
 /// The node of a value.
@@ -57,7 +59,8 @@ fn loose_link(node: &LinkedNode) -> Option<HandleNumber> {
     }
 }
 
-/// Whether a bundle that was paged out is found by its key, and its loose link by the reference in it; and whether each look leaves its cell away and unpinned.
+/// Whether a bundle that was paged out is found by its key, and its loose link by the reference in it; and whether each
+/// look leaves its cell away and unpinned.
 fn hold_in<S: PagableStorage<Linked>>(alloc: Global, pager: &mut Pager<Linked, S>) -> Option<bool> {
     let value = bundle(alloc, pager)?;
     let value = node(alloc, value)?;
