@@ -13,6 +13,7 @@ use pagable_rows::linked::chain::{ArcLink, Chain, Link};
 use pagable_traits::{Arc, FirstHandle, OfKind, PagableArc, PinnedPagableArc, Storage};
 use pagable_walk::PageOutError;
 use std::alloc::Global;
+use std::process::Abort;
 use std::sync::{Arc as Shared, Wait};
 
 type Cells = CellEnv<Sha256Key>;
@@ -52,16 +53,17 @@ fn bundle_paged_out<R: Wait>(
     }
 }
 
-#[test]
-fn loose_reference_in_a_value_is_followed(rt: HostRuntime) -> Result<(), Error> {
-    let alloc = rt.alloc();
-    let calls = StorageCalls::new(alloc)?;
-    let counting = CountingStorage::new(InMemoryBlobs::new(alloc), calls.clone()?);
-    let storage = PagableStorageHandle::new(alloc, counting, Linked)?;
-    let cell = bundle_paged_out(&rt, alloc, &storage)?;
-    assert!(rt; is_key(cell.key(&rt, &storage)?, 117));
-    assert!(rt; cell.is_paged_out(&rt, &storage)?);
-    let pin = cell.pin_sync(&rt, alloc, &storage)?;
+// The same over a storage that is lent.
+fn loose_reference_in_a_value_is_followed_in<R: Abort + Wait>(
+    rt: &R,
+    alloc: Global,
+    storage: &Handle,
+    calls: &StorageCalls,
+) -> Result<(), Error> {
+    let cell = bundle_paged_out(rt, alloc, storage)?;
+    assert!(rt; is_key(cell.key(rt, storage)?, 117));
+    assert!(rt; cell.is_paged_out(rt, storage)?);
+    let pin = cell.pin_sync(rt, alloc, storage)?;
     assert_eq!(rt; calls.counts().0, 3);
     let bundle = pin.get();
     assert_eq!(rt; bundle.shared.len(), 1);
@@ -70,12 +72,39 @@ fn loose_reference_in_a_value_is_followed(rt: HostRuntime) -> Result<(), Error> 
     assert!(rt; bundle.shared[0].get().next.is_none());
     assert!(rt; bundle.pinned[0].get().next.is_none());
     let link = &bundle.loose[0];
-    assert!(rt; matches!(link.pin_sync(&rt, alloc, &storage), Err(Error::NotYours)));
-    assert!(rt; link.is_paged_out(&rt, &storage)?);
-    let followed = link.follow(&rt, alloc, &storage)?;
+    assert!(rt; matches!(link.pin_sync(rt, alloc, storage), Err(Error::NotYours)));
+    assert!(rt; link.is_paged_out(rt, storage)?);
+    let followed = link.follow(rt, alloc, storage)?;
     assert!(rt; followed.get().next.is_none());
-    assert_eq!(rt; link.count(&rt, &storage)?, 1);
+    assert_eq!(rt; link.count(rt, storage)?, 1);
     assert_eq!(rt; calls.counts().0, 4);
+    Ok(())
+}
+
+#[test]
+fn loose_reference_in_a_value_is_followed(rt: HostRuntime) -> Result<(), Error> {
+    let alloc = rt.alloc();
+    let calls = StorageCalls::new(alloc)?;
+    let counting = CountingStorage::new(InMemoryBlobs::new(alloc), calls.clone()?);
+    let storage = PagableStorageHandle::new(alloc, counting, Linked)?;
+    loose_reference_in_a_value_is_followed_in(&rt, alloc, &storage, calls.as_ref())
+}
+
+// The same over a storage that is lent.
+fn key_is_read_as_a_value_in<R: Abort + Wait>(
+    rt: &R,
+    alloc: Global,
+    storage: &Handle,
+    calls: &StorageCalls,
+) -> Result<(), Error> {
+    let _cell = bundle_paged_out(rt, alloc, storage)?;
+    let key = DataKey::new(117).ok_or(Error::Closed)?;
+    let bundle = storage.deserialize_pagable_data::<R, Bundle>(rt, alloc, key);
+    let bundle = bundle.map_err(|e| e.0)?;
+    assert_eq!(rt; bundle.pinned.len(), 1);
+    assert!(rt; bundle.pinned[0].next.is_none());
+    assert_eq!(rt; bundle.pinned[0].count(rt, storage)?, 1);
+    assert_eq!(rt; calls.counts().0, 3);
     Ok(())
 }
 
@@ -85,15 +114,7 @@ fn key_is_read_as_a_value(rt: HostRuntime) -> Result<(), Error> {
     let calls = StorageCalls::new(alloc)?;
     let counting = CountingStorage::new(InMemoryBlobs::new(alloc), calls.clone()?);
     let storage = PagableStorageHandle::new(alloc, counting, Linked)?;
-    let _cell = bundle_paged_out(&rt, alloc, &storage)?;
-    let key = DataKey::new(117).ok_or(Error::Closed)?;
-    let bundle = storage.deserialize_pagable_data::<HostRuntime, Bundle>(&rt, alloc, key);
-    let bundle = bundle.map_err(|e| e.0)?;
-    assert_eq!(rt; bundle.pinned.len(), 1);
-    assert!(rt; bundle.pinned[0].next.is_none());
-    assert_eq!(rt; bundle.pinned[0].count(&rt, &storage)?, 1);
-    assert_eq!(rt; calls.counts().0, 3);
-    Ok(())
+    key_is_read_as_a_value_in(&rt, alloc, &storage, calls.as_ref())
 }
 
 type CellHandle = PagableStorageHandle<Cells, CountingStorage<InMemoryBlobs<Cells>>>;
@@ -140,36 +161,46 @@ fn counting(
     Ok((storage, calls))
 }
 
+// The same over a storage that is lent.
+fn loose_links_are_read_one_by_one_in<R: Abort + Wait>(
+    rt: &R,
+    alloc: Global,
+    storage: &CellHandle,
+    calls: &StorageCalls,
+) -> Result<(), Error> {
+    let top = chain(rt, alloc, storage, 130, false)?.handle;
+    storage.unpin(rt, top)?;
+    assert!(rt; storage.page_out_pending(rt, alloc).is_ok());
+    assert!(rt;
+        is_key(
+            storage.key(rt, top)?,
+            64774723321446467605344910487651106384
+        )
+    );
+    assert!(rt; storage.is_paged_out(rt, top)?);
+    storage.cache_clear(rt)?;
+    let pin = storage.pin(rt, alloc, top)?;
+    assert_eq!(rt; calls.counts().0, 1);
+    let next = NodeSet::<Cells>::refs(pin.value.as_ref(), alloc)?;
+    assert_eq!(rt; next.len(), 1);
+    let next = next[0].handle;
+    assert_eq!(rt; storage.count(rt, next)?, 0);
+    assert!(rt; storage.is_paged_out(rt, next)?);
+    assert!(rt;
+        is_key(
+            storage.key(rt, next)?,
+            40657111461448115765714812676886398291
+        )
+    );
+    Ok(())
+}
+
 #[test]
 fn loose_links_are_read_one_by_one(rt: HostRuntime) -> Result<(), Error> {
     let alloc = rt.alloc();
     let (storage, calls) = counting(alloc)?;
     let storage = PagableStorageHandle::new(alloc, storage, Cells::new())?;
-    let top = chain(&rt, alloc, &storage, 130, false)?.handle;
-    storage.unpin(&rt, top)?;
-    assert!(rt; storage.page_out_pending(&rt, alloc).is_ok());
-    assert!(rt;
-        is_key(
-            storage.key(&rt, top)?,
-            64774723321446467605344910487651106384
-        )
-    );
-    assert!(rt; storage.is_paged_out(&rt, top)?);
-    storage.cache_clear(&rt)?;
-    let pin = storage.pin(&rt, alloc, top)?;
-    assert_eq!(rt; calls.counts().0, 1);
-    let next = NodeSet::<Cells>::refs(pin.value.as_ref(), alloc)?;
-    assert_eq!(rt; next.len(), 1);
-    let next = next[0].handle;
-    assert_eq!(rt; storage.count(&rt, next)?, 0);
-    assert!(rt; storage.is_paged_out(&rt, next)?);
-    assert!(rt;
-        is_key(
-            storage.key(&rt, next)?,
-            40657111461448115765714812676886398291
-        )
-    );
-    Ok(())
+    loose_links_are_read_one_by_one_in(&rt, alloc, &storage, calls.as_ref())
 }
 
 // Makes a cell of a link with so many shared ones below it, and has it listed.
@@ -186,25 +217,49 @@ fn listed_above<R: Wait>(
     Ok(top)
 }
 
+// The same over a storage that is lent.
+fn shared_links_are_read_to_their_end_in<R: Abort + Wait>(
+    rt: &R,
+    alloc: Global,
+    storage: &CellHandle,
+    calls: &StorageCalls,
+) -> Result<(), Error> {
+    let top = listed_above(rt, alloc, storage, 128)?;
+    assert!(rt; storage.page_out_pending(rt, alloc).is_ok());
+    assert!(rt;
+        is_key(
+            storage.key(rt, top)?,
+            40657111461448115765714812676886398291
+        )
+    );
+    assert!(rt; storage.is_paged_out(rt, top)?);
+    storage.cache_clear(rt)?;
+    let pin = storage.pin(rt, alloc, top)?;
+    assert_eq!(rt; calls.counts().0, 129);
+    assert!(rt; pin.was_unpinned);
+    assert_eq!(rt; storage.count(rt, top)?, 2);
+    Ok(())
+}
+
 #[test]
 fn shared_links_are_read_to_their_end(rt: HostRuntime) -> Result<(), Error> {
     let alloc = rt.alloc();
     let (storage, calls) = counting(alloc)?;
     let storage = PagableStorageHandle::new(alloc, storage, Cells::new())?;
-    let top = listed_above(&rt, alloc, &storage, 128)?;
-    assert!(rt; storage.page_out_pending(&rt, alloc).is_ok());
-    assert!(rt;
-        is_key(
-            storage.key(&rt, top)?,
-            40657111461448115765714812676886398291
-        )
-    );
-    assert!(rt; storage.is_paged_out(&rt, top)?);
-    storage.cache_clear(&rt)?;
-    let pin = storage.pin(&rt, alloc, top)?;
-    assert_eq!(rt; calls.counts().0, 129);
-    assert!(rt; pin.was_unpinned);
-    assert_eq!(rt; storage.count(&rt, top)?, 2);
+    shared_links_are_read_to_their_end_in(&rt, alloc, &storage, calls.as_ref())
+}
+
+// The same over a storage that is lent.
+fn path_of_too_many_links_is_refused_in<R: Abort + Wait>(
+    rt: &R,
+    alloc: Global,
+    storage: &CellHandle,
+) -> Result<(), Error> {
+    let top = listed_above(rt, alloc, storage, 129)?;
+    let refused = storage.page_out_pending(rt, alloc);
+    assert!(rt; refused == Err(PageOutError::Failed(Error::TooDeep)));
+    assert_eq!(rt; storage.pending_paging_count(rt), 1);
+    assert!(rt; storage.key(rt, top)?.is_none());
     Ok(())
 }
 
@@ -213,10 +268,5 @@ fn path_of_too_many_links_is_refused(rt: HostRuntime) -> Result<(), Error> {
     let alloc = rt.alloc();
     let (storage, _calls) = counting(alloc)?;
     let storage = PagableStorageHandle::new(alloc, storage, Cells::new())?;
-    let top = listed_above(&rt, alloc, &storage, 129)?;
-    let refused = storage.page_out_pending(&rt, alloc);
-    assert!(rt; refused == Err(PageOutError::Failed(Error::TooDeep)));
-    assert_eq!(rt; storage.pending_paging_count(&rt), 1);
-    assert!(rt; storage.key(&rt, top)?.is_none());
-    Ok(())
+    path_of_too_many_links_is_refused_in(&rt, alloc, &storage)
 }
