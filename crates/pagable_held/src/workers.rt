@@ -5,11 +5,13 @@ ghost use Rattle.std.specs.Prelude.{◌<◌};
 use crate::counting::{CountingStorage, StorageCalls};
 use crate::paging::item;
 use pagable_codec::ArcRef;
-use pagable_core::{InMemoryBlobs, SerializedData, Sha256Key};
+use pagable_core::{InMemoryBlobs, PagableStorage, SerializedData, Sha256Key};
 use pagable_locked::{Gate, NoGate, PagableStorageHandle, PageOutReport};
-use pagable_model::Error;
+use pagable_model::{DataKey, Error};
+use pagable_rows::FailingStorage;
 use pagable_rows::text::TextEnv;
 use pagable_traits::Arc;
+use pagable_walk::PageOutError;
 use std::alloc::Global;
 use std::sync::atomic::{AtomicU64, Ordering};
 use std::sync::{Arc as Shared, Wait};
@@ -29,10 +31,10 @@ fn counting(alloc: Global) -> Result<(Handle, Shared<StorageCalls>), Error> {
 }
 
 // The texts of the numbers below this one.
-fn texts<R: Wait>(
+fn texts<R: Wait, S: PagableStorage<Texts>>(
     rt: &R,
     alloc: Global,
-    storage: &Handle,
+    storage: &PagableStorageHandle<Texts, S>,
     many: usize,
 ) -> Result<Vec<Arc<String>>, Error> {
     let mut texts = Vec::new(alloc);
@@ -185,5 +187,25 @@ fn workers_meet_within_their_claims(rt: HostRuntime) -> Result<(), Error> {
     assert_eq!(rt; report.claims, 2);
     assert!(rt; report.keys.as_slice().iter().all(|key| key.is_ok()));
     assert_eq!(rt; meeting.missed.load(Ordering::SeqCst), 0);
+    Ok(())
+}
+
+// Whether one answer is the storage's refusal, and the other says that another worker failed.
+fn is_one_failure(answers: &[Result<DataKey, PageOutError>]) -> bool {
+    let own = Err(PageOutError::Failed(Error::Storage(7)));
+    let other = Err(PageOutError::AlreadyFailed);
+    answers == [own, other].as_slice() || answers == [other, own].as_slice()
+}
+
+#[test]
+fn failure_is_told_to_the_other_worker(rt: HostRuntime) -> Result<(), Error> {
+    let alloc = rt.alloc();
+    let failing = FailingStorage::new(InMemoryBlobs::new(alloc), 0);
+    let storage = PagableStorageHandle::new(alloc, failing, Texts::new())?;
+    let texts = texts(&rt, alloc, &storage, 1)?;
+    let items = items(alloc, texts.as_slice(), 2)?;
+    let report = storage.page_out_all(&rt, alloc, items.as_slice(), 2, &NoGate)?;
+    assert!(rt; is_one_failure(report.keys.as_slice()));
+    assert_eq!(rt; report.claims, 1);
     Ok(())
 }
