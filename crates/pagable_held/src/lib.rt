@@ -20,3 +20,5 @@ mod shared_table;
 mod slots;
 #[cfg(test)]
 mod threads;
+#[cfg(test)]
+mod workers;

@@ -2,8 +2,10 @@
 //! written with no lock held.
 #![tactic(auto)]
 
+pub mod gate;
 pub mod in_memory;
 pub mod locked;
+pub mod page_out_all;
 pub mod share;
 pub mod shared_claims;
 pub mod slot;
@@ -11,8 +13,10 @@ pub mod storage_handle;
 pub mod table;
 pub mod typed;
 
+pub use gate::{Gate, NoGate};
 pub use in_memory::InMemoryPagableStorage;
 pub use locked::Locked;
+pub use page_out_all::PageOutReport;
 pub use share::ClaimShare;
 pub use shared_claims::SharedClaims;
 pub use slot::ArcSerSlot;

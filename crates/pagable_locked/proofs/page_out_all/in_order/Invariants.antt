@@ -1,0 +1,11 @@
+use Rattle.pagable_loads.specs.Telling.{values_at}
+use Rattle.std.proofs.Common.{◌≡◌, ◌<◌, ℕ, vec_len, slice_index_or, drop, take}
+use Rattle.pagable_locked.specs.Answers.{AnswersEach, IsAnswerOf, items_of}
+use Rattle.pagable_locked.proofs.page_out_all.in_order.Given as goal
+
+abbrev pub invariant-loop-i : goal.invariant-loop-i
+invariant-loop-i g l = record {
+  count : vec_len l.lists ≡ l.workers;
+  each : (w : ℕ) (d : _) → w < l.workers → AnswersEach (IsAnswerOf g.E.Hash.KeyHash.digest (values_at g.E.Node.NodeSet g.E.Env g.E.Hash.KeyHash)) (items_of l.workers w l.i (drop l.i l.items)) (slice_index_or l.lists.items w d).items;
+  keyed : AnswersEach (IsAnswerOf g.E.Hash.KeyHash.digest (values_at g.E.Node.NodeSet g.E.Env g.E.Hash.KeyHash)) (take l.i l.items) l.keys.items;
+}

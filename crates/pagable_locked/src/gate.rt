@@ -1,0 +1,92 @@
+//! What is called after each claim of a page-out on several threads.
+
+use crate::share::WalkShare;
+use crate::shared_claims::SharedClaims;
+use pagable_codec::{Env, NodeSet};
+use pagable_model::{ArcRef, Error, Identity, WorkerNumber};
+use pagable_walk::{Claims, Found, SlotResult};
+use std::sync::Wait;
+use std::sync::ledger::Ledger;
+
+/// Is called by the workers of a page-out.
+pub trait Gate {
+    /// Is called after each claim, while the worker holds no lock: with the worker's number, from 0 on, and the number
+    /// of its claim, from 1 on.
+    fn at(&self, worker: usize, claim_number: u64);
+}
+
+/// Lets each claim pass.
+#[derive(Drop)]
+pub struct NoGate;
+
+impl Gate for NoGate {
+    fn at(&self, _worker: usize, _claim_number: u64) {}
+}
+
+/// The claims of one worker of several, each of which passes a gate.
+#[derive(Drop)]
+pub struct GatedClaims<'a, R: Wait, E: Env<Node: NodeSet<E>>, L: Ledger, G: Gate> {
+    claims: SharedClaims<'a, R, E, L>,
+    gate: &'a G,
+    worker: usize,
+    claim_count: u64,
+}
+
+impl<'a, R: Wait, E: Env<Node: NodeSet<E>>, L: Ledger, G: Gate> GatedClaims<'a, R, E, L, G> {
+    /// Makes the claims of the worker of this number, which has made none yet. It takes no memory.
+    pub fn new(
+        claims: SharedClaims<'a, R, E, L>,
+        gate: &'a G,
+        worker: usize,
+    ) -> GatedClaims<'a, R, E, L, G> {
+        GatedClaims {
+            claims,
+            gate,
+            worker,
+            claim_count: 0,
+        }
+    }
+
+    /// Gives the worker's part of the total back.
+    pub fn into_share(self) -> WalkShare<L> {
+        let share = self.claims.into_share();
+        WalkShare { share }
+    }
+}
+
+impl<'a, R: Wait, E: Env<Node: NodeSet<E>>, L: Ledger, G: Gate> Claims<E>
+    for GatedClaims<'a, R, E, L, G> {
+    ghost use Rattle.std.specs.Prelude.{None};
+
+    ghost shelf = { λ t. None };
+
+    fn claim_for(
+        &mut self,
+        worker: WorkerNumber,
+        identity: Identity,
+        place: u64,
+    ) -> Result<Found<E>, Error> {
+        let found = self.claims.claim_for(worker, identity, place)?;
+        if matches!(&found, Found::Claimed) {
+            self.claim_count = self.claim_count.saturating_add(1);
+            self.gate.at(self.worker, self.claim_count);
+        }
+        Ok(found)
+    }
+
+    fn forget_wait(&mut self, worker: WorkerNumber) {
+        self.claims.forget_wait(worker);
+    }
+
+    fn note_written(&mut self, identity: Identity, references: Vec<ArcRef>) {
+        self.claims.note_written(identity, references);
+    }
+
+    fn publish(&mut self, found: &SlotResult<E>) {
+        self.claims.publish(found);
+    }
+
+    fn fail_claims(&mut self, worker: WorkerNumber) {
+        self.claims.fail_claims(worker);
+    }
+}

@@ -1,0 +1,276 @@
+//! The page-out of many items by several workers, each on a thread of its own.
+
+ghost use Rattle.std.specs.Prelude.{IfOk, length, slice_index_or, vec_len, ℕ, ◌+◌, ◌<◌, ◌^◌, ◌≡◌};
+ghost use Rattle.{pagable_loads.specs.Telling.values_at, pagable_locked.specs.Answers.{AnswersEach, IsAnswerOf, items_of}};
+
+use crate::gate::{Gate, GatedClaims};
+use crate::share::{ClaimShare, WalkShare};
+use crate::shared_claims::SharedClaims;
+use crate::storage_handle::PagableStorageHandle;
+use crate::table::SlotTable;
+use pagable_codec::{Env, NodeSet};
+use pagable_core::{PagableStorage, SerializedData};
+use pagable_model::{DataKey, Error};
+use pagable_walk::{PageOutError, page_out_item_over};
+use std::alloc::Global;
+use std::collections::VecDeque;
+use std::marker::Brand;
+use std::sync::ledger::{Blank, Ledger};
+use std::sync::{Arc, Wait};
+use std::thread;
+use std::thread::Threads;
+
+/// What a page-out of items answers: the key of each item, or what its page-out was refused by, in the order of the
+/// items; and how many claims all workers made.
+#[derive(Drop)]
+pub struct PageOutReport {
+    pub keys: Vec<Result<DataKey, PageOutError>>,
+    pub claims: u64,
+}
+
+// What a worker begins with.
+#[derive(Drop)]
+struct Job<L: Ledger> {
+    worker: usize,
+    share: WalkShare<L>,
+}
+
+// What a worker ends with: the answers of its items, and its share with its claims.
+#[derive(Drop)]
+struct JobEnd<L: Ledger> {
+    keys: VecDeque<Result<DataKey, PageOutError>>,
+    share: WalkShare<L>,
+}
+
+// What the workers of a page-out share.
+#[derive(Drop)]
+struct Site<'a, E: Env<Node: NodeSet<E>>, S: PagableStorage<E>, L: Ledger, G: Gate> {
+    storage: &'a PagableStorageHandle<E, S>,
+    table: &'a SlotTable<E, L>,
+    gate: &'a G,
+}
+
+// Pages out an item with the claims of a worker.
+fn page_out_one<'a, R: Wait, E: Env<Node: NodeSet<E>>, S: PagableStorage<E>, L: Ledger, G: Gate>(
+    rt: &R,
+    alloc: Global,
+    storage: &PagableStorageHandle<E, S>,
+    claims: &mut GatedClaims<'a, R, E, L, G>,
+    item: &Arc<SerializedData>,
+) -> Result<DataKey, PageOutError>
+    ensures { IsAnswerOf E.Hash.digest (values_at E.Node.NodeSet E.Env E.Hash.KeyHash) item.now result }
+{
+    let shared = match Arc::try_clone(item) {
+        Ok(shared) => shared,
+        Err(e) => return Err(PageOutError::Failed(Error::from(e))),
+    };
+    let mut access = storage.access(rt);
+    page_out_item_over(&mut access, alloc, claims, shared)
+}
+
+// Pages out the items of one worker, one after the other.
+fn page_out_each<'a, R: Wait, E: Env<Node: NodeSet<E>>, S: PagableStorage<E>, L: Ledger, G: Gate>(
+    rt: &R,
+    alloc: Global,
+    storage: &PagableStorageHandle<E, S>,
+    claims: &mut GatedClaims<'a, R, E, L, G>,
+    items: &[Arc<SerializedData>],
+    workers: usize,
+    worker: usize,
+) -> Result<VecDeque<Result<DataKey, PageOutError>>, Error>
+    requires { 0 < workers }
+    ensures answers { IfOk result (λ v. AnswersEach (IsAnswerOf E.Hash.digest (values_at E.Node.NodeSet E.Env E.Hash.KeyHash)) (items_of workers worker 0 items.now) v.items) }
+{
+    let mut keys = VecDeque::new(alloc);
+    for i in 0..items.len() {
+        if i % workers == worker {
+            let key = page_out_one(rt, alloc, storage, claims, &items[i]);
+            keys.push_back(key)?;
+        }
+    }
+    Ok(keys)
+}
+
+// Does a worker's job.
+fn work<'a, R: Wait, E: Env<Node: NodeSet<E>>, S: PagableStorage<E>, L: Ledger, G: Gate>(
+    rt: &R,
+    alloc: Global,
+    site: &Site<'a, E, S, L, G>,
+    items: &[Arc<SerializedData>],
+    workers: usize,
+    job: Job<L>,
+) -> Result<JobEnd<L>, Error>
+    requires { 0 < workers }
+    ensures { IfOk result (λ d. AnswersEach (IsAnswerOf E.Hash.digest (values_at E.Node.NodeSet E.Env E.Hash.KeyHash)) (items_of workers job.worker 0 items.now) d.keys.items) }
+{
+    let Job { worker, share } = job;
+    let claims = SharedClaims::new(rt, alloc, site.table, share);
+    let mut claims = GatedClaims::new(claims, site.gate, worker);
+    let keys = page_out_each(rt, alloc, site.storage, &mut claims, items, workers, worker)?;
+    let share = claims.into_share();
+    Ok(JobEnd { keys, share })
+}
+
+// One job for each worker, with a part of the share.
+fn jobs<L: Ledger>(
+    alloc: Global,
+    workers: usize,
+    all: &mut ClaimShare<L>,
+) -> Result<Vec<Job<L>>, Error>
+    requires { all.old.share.parts ≡ workers + 1 }
+    ensures count { IfOk result (λ v. vec_len v ≡ workers) }
+    ensures parts { IfOk result (λ v. all.new.share.parts ≡ 1) }
+    ensures own { IfOk result (λ v. (i : ℕ) (d : _) → i < workers → (slice_index_or v.items i d).worker ≡ i) }
+{
+    let mut jobs = Vec::new(alloc);
+    for worker in 0..workers {
+        let share = WalkShare::split_off(all);
+        jobs.push(Job { worker, share })?;
+    }
+    Ok(jobs)
+}
+
+// The lists of the workers in their order, and all parts of the share.
+fn gather<E: Env<Node: NodeSet<E>>, L: Ledger>(
+    alloc: Global,
+    items: &[Arc<SerializedData>],
+    workers: usize,
+    ends: Vec<Result<JobEnd<L>, Error>>,
+    all: &mut ClaimShare<L>,
+) -> Result<Vec<VecDeque<Result<DataKey, PageOutError>>>, Error>
+    requires count { vec_len ends ≡ workers }
+    requires each { (i : ℕ) (d : _) → i < workers → IfOk (slice_index_or ends.items i d) (λ x. AnswersEach (IsAnswerOf E.Hash.digest (values_at E.Node.NodeSet E.Env E.Hash.KeyHash)) (items_of workers i 0 items.now) x.keys.items) }
+    ensures count { IfOk result (λ v. vec_len v ≡ workers) }
+    ensures parts { IfOk result (λ v. all.new.share.parts ≡ all.old.share.parts + workers) }
+    ensures each { IfOk result (λ v. (i : ℕ) (d : _) → i < workers → AnswersEach (IsAnswerOf E.Hash.digest (values_at E.Node.NodeSet E.Env E.Hash.KeyHash)) (items_of workers i 0 items.now) (slice_index_or v.items i d).items) }
+{
+    let mut lists = Vec::new(alloc);
+    for end in ends {
+        let JobEnd { keys, share } = end?;
+        let WalkShare { share } = share;
+        all.merge(share);
+        lists.push(keys)?;
+    }
+    Ok(lists)
+}
+
+// The answers of all lists, in the order of the items.
+fn in_order<E: Env<Node: NodeSet<E>>>(
+    alloc: Global,
+    items: &[Arc<SerializedData>],
+    workers: usize,
+    mut lists: Vec<VecDeque<Result<DataKey, PageOutError>>>,
+) -> Result<Vec<Result<DataKey, PageOutError>>, Error>
+    requires some { 0 < workers }
+    requires count { vec_len lists ≡ workers }
+    requires each { (i : ℕ) (d : _) → i < workers → AnswersEach (IsAnswerOf E.Hash.digest (values_at E.Node.NodeSet E.Env E.Hash.KeyHash)) (items_of workers i 0 items.now) (slice_index_or lists.items i d).items }
+    ensures { IfOk result (λ v. AnswersEach (IsAnswerOf E.Hash.digest (values_at E.Node.NodeSet E.Env E.Hash.KeyHash)) items.now v.items) }
+{
+    let mut keys = Vec::new(alloc);
+    for i in 0..items.len() {
+        let Some(key) = lists[i % workers].pop_front() else {
+            unreachable!();
+        };
+        keys.push(key)?;
+    }
+    Ok(keys)
+}
+
+// The report of these answers, with the claims of the whole share.
+fn report<R: Wait, E: Env<Node: NodeSet<E>>, L: Ledger>(
+    rt: &R,
+    table: &SlotTable<E, L>,
+    all: ClaimShare<L>,
+    keys: Vec<Result<DataKey, PageOutError>>,
+) -> PageOutReport
+    requires { all.share.parts ≡ L.parts }
+    ensures keys { result.keys ≡ keys }
+    ensures claims { result.claims ≡ all.share.amount }
+{
+    let mut all = all;
+    let claims = table.claims(rt, &mut all);
+    PageOutReport { keys, claims }
+}
+
+impl<E: Env<Node: NodeSet<E>>, S: PagableStorage<E>> PagableStorageHandle<E, S> {
+    // Pages out all items on a table of its own.
+    fn page_out_on<L, R, G>(
+        &self,
+        rt: &R,
+        alloc: Global,
+        items: &[Arc<SerializedData>],
+        workers: usize,
+        gate: &G,
+        parts: Blank,
+    ) -> Result<PageOutReport, Error>
+    where
+        L: Ledger + Send + Sync,
+        R: Threads + Wait + Sync,
+        G: Gate + Sync,
+        E: Send + Sync,
+        S: Send,
+        E::Node: Send + Sync,
+        E::Hash: Send + Sync,
+        E::CtxKey: Send + Sync,
+        E::CtxValue: Send + Sync,
+        requires name { parts.name ≡ L.name }
+        requires parts { parts.parts ≡ L.parts }
+        requires workers { (0 < workers) × (parts.parts ≡ workers + 1) }
+        ensures { IfOk result (λ r. AnswersEach (IsAnswerOf E.Hash.digest (values_at E.Node.NodeSet E.Env E.Hash.KeyHash)) items.now r.keys.items) }
+    {
+        let (table, mut all) = SlotTable::<E, L>::new(alloc, parts);
+        let jobs = jobs(alloc, workers, &mut all)?;
+        let site = Site {
+            storage: self,
+            table: &table,
+            gate,
+        };
+        let site = &site;
+        let ends = thread::map_vec(
+            rt,
+            jobs,
+            &|job: Job<L>| -> Result<JobEnd<L>, Error>
+                requires { 0 < workers }
+                ensures { IfOk result (λ d. AnswersEach (IsAnswerOf E.Hash.digest (values_at E.Node.NodeSet E.Env E.Hash.KeyHash)) (items_of workers job.worker 0 items.entry.now) d.keys.items) }
+            { work(rt, alloc, site, items, workers, job) },
+        )?;
+        let lists = gather::<E, L>(alloc, items, workers, ends, &mut all)?;
+        let keys = in_order::<E>(alloc, items, workers, lists)?;
+        Ok(report(rt, &table, all, keys))
+    }
+
+    /// Pages out items, with all that they refer to, by this many workers, which claim on one table of their own: item
+    /// i by worker i mod `workers`, each on a thread of its own, or on the caller's where none starts. Answers one key,
+    /// or what its page-out was refused by, for each item, in their order: a key is that of its item's bytes over the
+    /// keys of results that stand below it, one for each of its references. The gate is called after each claim, while
+    /// the worker holds no lock. The items' handles stay the caller's, and have to live until the answer.
+    ///
+    /// # Errors
+    /// - OutOfMemory: the table, the report, or a worker or its list couldn't be made. What was stored, and keys that
+    ///   were set, stay.
+    pub fn page_out_all<R, G>(
+        &self,
+        rt: &R,
+        alloc: Global,
+        items: &[Arc<SerializedData>],
+        workers: usize,
+        gate: &G,
+    ) -> Result<PageOutReport, Error>
+    where
+        R: Threads + Wait + Sync,
+        G: Gate + Sync,
+        E: Send + Sync,
+        S: Send,
+        E::Node: Send + Sync,
+        E::Hash: Send + Sync,
+        E::CtxKey: Send + Sync,
+        E::CtxValue: Send + Sync,
+        requires { 0 < workers }
+        ensures { IfOk result (λ r. AnswersEach (IsAnswerOf E.Hash.digest (values_at E.Node.NodeSet E.Env E.Hash.KeyHash)) items.now r.keys.items) }
+    {
+        // A worker beyond the items would have none.
+        let workers = workers.min(items.len().max(1));
+        let parts = Blank::new(workers as u64 + 1);
+        self.page_out_on::<Brand, R, G>(rt, alloc, items, workers, gate, parts)
+    }
+}
