@@ -75,7 +75,7 @@ pub mod storage {
 
     /// The handle of a storage that threads share, and what the references to its values ask of it.
     pub mod handle {
-        pub use pagable_locked::PagableStorageHandle;
+        pub use pagable_locked::{Gate, NoGate, PagableStorageHandle, PageOutReport};
         pub use pagable_traits::Storage;
     }
 
@@ -158,8 +158,8 @@ pub use pagable_core::{
 };
 pub use pagable_loads::{Access, WorkerAccess, pin_over, read_over};
 pub use pagable_locked::{
-    ArcSerSlot, ClaimShare, InMemoryPagableStorage, Locked, PagableStorageHandle, SharedClaims,
-    SlotTable, TableGuard,
+    ArcSerSlot, ClaimShare, Gate, InMemoryPagableStorage, Locked, NoGate, PagableStorageHandle,
+    PageOutReport, SharedClaims, SlotTable, TableGuard,
 };
 pub use pagable_pager::{ArcCell, DeserializedArcCache, Lent, Pager};
 pub use pagable_traits::{FirstHandle, NewPin};
