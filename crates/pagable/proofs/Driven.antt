@@ -2,7 +2,7 @@
 use Rattle.pagable.specs.{Driving.{IsWalkKept, IsIn, shelf_at, IsBegun}, declared.workers.{Held.Held, Walk.Walk}, Paged.{value-is-read, node-comes-back, reading-is-refused}}
 use Rattle.pagable.specs.Driving.{IsOnTable, Given, kept_at, holding, Answer, ByNumber, Serves, plainly, plain_reply, Forgets, machine_of, IsPrepared, Kept, ReadsFor, rest_after}
 use Rattle.pagable.{specs.Driving.{IsServing, Stepped, IsTaken, Holding, Makes, KeepsOne, readings_in, IsKept}, proofs.Keeping.{Leaves, call-leaves, at-one, nothing-done, Served, as-made}}
-use Rattle.pagable.proofs.Keeping.{event-passes, kept-one, makes-with, one-serves, like, still-kept, are-these, kept-on, as-before, makes, not-same, same-work, leaves-so, by-call, refused}
+use Rattle.pagable.proofs.Keeping.{event-passes, kept-one, held-anyhow, makes-with, one-serves, like, still-kept, are-these, kept-on, as-before, makes, not-same, same-work, leaves-so, by-call, refused}
 use Rattle.{pagable_laws.proofs.Goes.updated-at, pagable_world.specs.{LoadCalls.{LoadCloses, DropCall}, declared.{calls.{Call.Call, Reply.Reply}, handles.Owner.Owner, events.EventReply.EventReply}}}
 use Rattle.pagable_world.specs.{declared.{events.{LoadReply.LoadReply, TableNumber.TableNumber, Event.Event, LoadAnswer.LoadAnswer}, answers.Beginning.Beginning}, World.{Reading, one_more, Alike}}
 use Rattle.pagable_world.specs.{World.{OpenLoad, Written, of_item, of_key, Frame, of_entry, Seen, Last, Core, Root, Values, SameShelf}, Plain.{updated, or_else}}
@@ -72,7 +72,7 @@ module _ {X XN XH XK XV : Type 0} {g : Environments X XN XH XK XV} {gh : Hashes 
         refused = tt;
       })
       (record { each = λ n y is. elim (step.moves.each n y is) [ inl there ↦ inl there | inr (none, came) ↦ inr (none, (reading, at, came)) ]; environment = step.moves.environment })
-      tt
+      (step.holds was) tt
       (kept-one serving.readings on l.0 x keeps new)
 
 -- what stands at a place of a list with one item more
@@ -118,6 +118,7 @@ module _ {X XN XH XK XV : Type 0} {g : Environments X XN XH XK XV} {gh : Hashes 
       → Happens m (world_of (machine_of s h)) event (EventReply.WorkerMade (Ok n)) (world_of (machine_of s' with_walk)))
       → Moves (λ q x. ⊥) s s' → Makes m s h event (EventReply.WorkerMade (Ok n)) s' with_walk
   worker-made core a event none happens moves = makes-with m s s' {h' = with_walk} formed event (EventReply.WorkerMade (Ok n)) (happens (starts-so core a))
+      (record { each = λ q x is. elim (moves.each q x is) [ inl there ↦ inl there | inr came ↦ absurd came.1 ]; environment = moves.environment })
       (record { each = λ q x is. elim (moves.each q x is) [ inl there ↦ inl there | inr came ↦ absurd came.1 ]; environment = moves.environment }) tt
       (one-serves {h' = with_walk} serving was.whole.handles n.0 k keeps (omega arith) (kept-on serving.readings on (λ l own is. inl is))
       (λ q other. event-passes m q (world_of (machine_of s h)) (world_of (machine_of s' with_walk)) was.whole event (EventReply.WorkerMade (Ok n)) (none q) (happens (starts-so core a))
@@ -172,7 +173,7 @@ module _ {X XN XH XK XV : Type 0} {g : Environments X XN XH XK XV} {gh : Hashes 
   start-made through r serves formed =
       let w = whole-still serves.moves formed in
       as-made (by-call m s s' h h.readings serving was w _ _ serves.step (record { still = λ l load is. refl; only = λ l own is. is }) (Event.LoadStart through) (EventReply.Started r) (λ q. refl)
-      (λ readings. record { step = serves.step.does; readings = readings; work = same-work m s s' h h.readings serving was w }) serves.moves tt)
+      (λ readings. record { step = serves.step.does; readings = readings; work = same-work m s s' h h.readings serving was w }) serves.moves (held-anyhow serves.moves) tt)
 
   module _ (kept' : ByNumber Own) where
     abbrev kept : ByNumber Own
@@ -186,7 +187,7 @@ module _ {X XN XH XK XV : Type 0} {g : Environments X XN XH XK XV} {gh : Hashes 
     call-made call reply serves formed f =
         let w = whole-still serves.moves formed in
         as-made (by-call m s s' h (kept_at kept') serving was w _ _ serves.step f (Event.Call call) (EventReply.CallReply (plain_reply reply)) (λ q. refl)
-        (λ readings. record { step = serves.step; readings = readings; work = same-work m s s' h (kept_at kept') serving was w }) serves.moves tt)
+        (λ readings. record { step = serves.step; readings = readings; work = same-work m s s' h (kept_at kept') serving was w }) serves.moves (held-anyhow serves.moves) tt)
 
     -- a load of a key has begun
     pub key-made : (key t : ℕ) (l : LoadNumber) (k : ℕ) (own : Own) → Serves (v old.environment) tells old (Call.LoadKey key) (Reply.Begun (Ok (Beginning.Load l k))) new
@@ -215,7 +216,7 @@ module _ {X XN XH XK XV : Type 0} {g : Environments X XN XH XK XV} {gh : Hashes 
               (λ q open_load is_open. at-one reading_of l.0 (Some own) (Some (fresh l t)) (readings_in h.readings s.core) keeps (ap Some is) q (as-before serving.readings on q open_load is_open));
           refused = tt;
           work = same-work m s s' h (kept_at kept') serving was w;
-        }) serves.moves tt
+        }) serves.moves (held-anyhow serves.moves) tt
         (kept-one serving.readings on l.0 (Some own) keeps (λ other same. subst (λ x. IsKept s'.core l.0 x) (same_some _ _ same) new_one)))
 
     -- or none begins, and the pager is as it was
@@ -297,7 +298,7 @@ module _ {X XN XH XK XV : Type 0} {g : Environments X XN XH XK XV} {gh : Hashes 
         );
         refused = tt;
       })
-      (record { each = λ n x is. inl is; environment = refl }) tt serving.readings))
+      (record { each = λ n x is. inl is; environment = refl }) (record { each = λ n x is. inl is; environment = refl }) tt serving.readings))
 
   module _ (walks' : ByNumber (Walk X XN XH XK XV g gh go gq gp gn)) (t : TableNumber) where
     abbrev left : Held X XN XH XK XV g gh go gq gp gn

@@ -7,7 +7,7 @@ use Rattle.{pagable_loads.specs.declared.reading.Reading.Reading as Own, pagable
 use Rattle.{pagable_pager.specs.View.{Telling, core_in, state_in}, pagable_tables.proofs.Worlds.still, pagable_walk.specs.{Both.both, Turns.{IsOfKind, LeavesFit, TaskFits}}}
 use Rattle.pagable_walk.specs.declared.{lent_table.LentTable.LentTable, tasks.{Task.Task, Turn.Turn}}
 use Rattle.pagable_world.specs.{Access.{Called, Told}, Calls.{CloseCall, is_listed, shut}, Cascade.fallen, Events.{CallStep, Does, Ends, Happens, ReadingsAre, Stays, WorkStays}, Kinds.is_owner}
-use Rattle.pagable_world.specs.{Kinds.owner_worker, Order.step_of, Pager.{EventBrings, HandlesAreWhole, IsMachineWhole, IsReadingWhole, IsWalkingWhole, IsWhole, Moves, OwnersAreThere, PagerState}}
+use Rattle.pagable_world.specs.{Kinds.owner_worker, Order.step_of, Pager.{EventBrings, EventHolds, HandlesAreWhole, IsMachineWhole, IsReadingWhole, IsWalkingWhole, IsWhole, Moves, OwnersAreThere, PagerState}}
 use Rattle.pagable_world.specs.{Pager.{ReplyWrites, WellFormed, world_of}, Plain.{SameAt, if_there, one, times, updated}, World.{Alike, Cell, Core, OpenLoad, Reading, Seen, Values, Walking, World}}
 use Rattle.{pagable_world.specs.declared.{calls.{Call.Call, Reply.Reply}, events.{Event.Event, EventReply.EventReply, WorkerAnswer.WorkerAnswer}, handles.Owner.Owner}, std.proofs.Common.{Bool, List, None}}
 use Rattle.std.proofs.Common.{Option, Some, [], ap, arith, false, inl, inr, length, refl, rules, subst, sym, true, ℕ, ◌<◌, ◌==◌, ◌∙◌, ◌≡◌, ◌≢◌, ◌≤◌, ◌⊎◌}
@@ -209,12 +209,16 @@ machine-whole {X} {g} v s h formed serving = record {
     of-walk : (n : ℕ) (walking : Walking) → option_map walking_of (h.walks n) ≡ Some walking → IsWalkingWhole s.core (work_of h s.core) n walking
     of-walk n walking is = let k = serving.walks n in grind (arith, nat_tests, same_some, serving.walks, k)
 
+-- where nothing has to be held
+pub held-anyhow : {N E : Type 0} {s s' : PagerState N E} {comes : ℕ → N → Type 0} → Moves comes s s' → Moves (λ n x. Unit {0}) s s'
+held-anyhow moves = record { each = λ n x is. elim (moves.each n x is) [ inl there ↦ inl there | inr (none, came) ↦ inr (none, tt) ]; environment = moves.environment }
+
 -- what is done to a pager, and what is kept afterwards
 pub makes-with : {X XN XH XK XV : Type 0} {g : Environments X XN XH XK XV} {gh : Hashes XH} {go : Orders XK} {gq : Equalities XK} {gp : PartialOrders XK} {gn : Nodes XN X XN XH XK XV} {N B W E : Type 0} (m : Seen N B W) (s s' : PagerState N E) {h h' : Holding g gh go gq gp gn} → WellFormed m.values s' → (event : Event N B W) (reply : EventReply N B W)
     → Happens m (world_of (machine_of s h)) event reply (world_of (machine_of s' h')) → Moves (EventBrings m.values (world_of (machine_of s h)) event) s s'
-    → ReplyWrites m s reply → IsServing s'.core h' → Makes m s h event reply s' h'
-makes-with m s s' {h} {h'} formed event reply happens moves writes now =
-    record { does = record { step = record { happens = happens }; moves = moves; writes = writes; whole = machine-whole m.values s' h' formed now }; serving = now }
+    → Moves (λ n x. EventHolds m.values s event x) s s' → ReplyWrites m s reply → IsServing s'.core h' → Makes m s h event reply s' h'
+makes-with m s s' {h} {h'} formed event reply happens moves holds writes now =
+    record { does = record { step = record { happens = happens }; moves = moves; holds = holds; writes = writes; whole = machine-whole m.values s' h' formed now }; serving = now }
 
 -- of one worker this is kept from now on
 pub one-serves : {X XN XH XK XV : Type 0} {g : Environments X XN XH XK XV} {gh : Hashes XH} {go : Orders XK} {gq : Equalities XK} {gp : PartialOrders XK} {gn : Nodes XN X XN XH XK XV} {w w' : Core} {h h' : Holding g gh go gq gp gn} → IsServing w h → HandlesAreWhole w → (v : ℕ) (k : Walk X XN XH XK XV g gh go gq gp gn) → KeepsOne h.walks v (Some k) h'.walks
@@ -233,8 +237,9 @@ one-serves {X} {g} {w} {w'} {h} {h'} serving whole v k keeps more readings passe
 module _ {X XN XH XK XV : Type 0} {g : Environments X XN XH XK XV} {gh : Hashes XH} {go : Orders XK} {gq : Equalities XK} {gp : PartialOrders XK} {gn : Nodes XN X XN XH XK XV} {N B W E : Type 0} (m : Seen N B W) (s s' : PagerState N E) {h h' : Holding g gh go gq gp gn} (serving : IsServing s.core h) (was : WellFormed m.values s)
     (formed : WellFormed m.values s') (more : length h.tables ≤ length h'.tables) (walks : (v : ℕ) → h'.walks v ≡ h.walks v) (on : Leaves Owner.Caller s.core.workers s.core s'.core) where
   pub makes : (event : Event N B W) (reply : EventReply N B W) → ((v : ℕ) → step_of v event reply ≡ []) → Happens m (world_of (machine_of s h)) event reply (world_of (machine_of s' h'))
-      → Moves (EventBrings m.values (world_of (machine_of s h)) event) s s' → ReplyWrites m s reply → AllKept s'.core h'.readings → Makes m s h event reply s' h'
-  makes event reply none happens moves writes now = makes-with m s s' formed event reply happens moves writes (record {
+      → Moves (EventBrings m.values (world_of (machine_of s h)) event) s s' → Moves (λ n x. EventHolds m.values s event x) s s' → ReplyWrites m s reply → AllKept s'.core h'.readings
+      → Makes m s h event reply s' h'
+  makes event reply none happens moves holds writes now = makes-with m s s' formed event reply happens moves holds writes (record {
     readings = now;
     walks = λ v k is.
         let passes = event-passes m v (world_of (machine_of s h)) (world_of (machine_of s' h')) was.whole event reply (none v) happens
@@ -255,12 +260,12 @@ module _ {X XN XH XK XV : Type 0} {g : Environments X XN XH XK XV} {gh : Hashes 
   pub by-call : (call : Call N B) (answer : Reply N B) → CallStep m s.core Owner.Caller call answer s'.core → Forgets s'.core h.readings kept' → (event : Event N B W) (reply : EventReply N B W)
       → ((v : ℕ) → step_of v event reply ≡ [])
       → (ReadingsAre (readings_in h.readings s.core) (world_of (machine_of s' served)) → Happens m (world_of (machine_of s h)) event reply (world_of (machine_of s' served)))
-      → Moves (EventBrings m.values (world_of (machine_of s h)) event) s s' → ReplyWrites m s reply → Makes m s h event reply s' served
-  by-call call answer step f event reply none happens moves writes =
+      → Moves (EventBrings m.values (world_of (machine_of s h)) event) s s' → Moves (λ n x. EventHolds m.values s event x) s s' → ReplyWrites m s reply → Makes m s h event reply s' served
+  by-call call answer step f event reply none happens moves holds writes =
       let on = call-leaves s.core s'.core m call answer step.does in
       makes m s s' {h' = served} serving was formed (omega arith) (λ v. refl) on event reply none
       (happens (are-these s'.core kept' (readings_in h.readings s.core) (λ l load is. ap (option_map reading_of) (f.still l load is) ∙ as-before serving.readings on l load is)))
-      moves writes (kept-on serving.readings on (λ l own is. inl (f.only l own is)))
+      moves holds writes (kept-on serving.readings on (λ l own is. inl (f.only l own is)))
 
 module _ {X XN XH XK XV : Type 0} {g : Environments X XN XH XK XV} {gh : Hashes XH} {go : Orders XK} {gq : Equalities XK} {gp : PartialOrders XK} {gn : Nodes XN X XN XH XK XV} {N B W E : Type 0} (m : Seen N B W) {s s' : PagerState N E} {h h' : Holding g gh go gq gp gn} (serving : IsServing s.core h) (was : WellFormed m.values s)
     (done : Called m.values (λ w'. Alike s.core w') s s') (readings : (l : ℕ) → h'.readings l ≡ h.readings l) (tables : h'.tables ≡ h.tables) (walks : (v : ℕ) → h'.walks v ≡ h.walks v) where
@@ -276,6 +281,7 @@ module _ {X XN XH XK XV : Type 0} {g : Environments X XN XH XK XV} {gh : Hashes 
       → ReplyWrites m s reply → Makes m s h event reply s' h'
   refused event reply none happens writes =
       makes m s s' serving was done.whole (let e : length h'.tables ≡ length h.tables = ap length tables in omega (arith, e)) walks on event reply none (happens stays)
+      (record { each = λ n x is. elim (done.moves.each n x is) [ inl there ↦ inl there | inr came ↦ absurd came.1 ]; environment = done.moves.environment })
       (record { each = λ n x is. elim (done.moves.each n x is) [ inl there ↦ inl there | inr came ↦ absurd came.1 ]; environment = done.moves.environment }) writes
       (kept-on serving.readings on (λ l own is. inl (sym (readings l) ∙ is)))
 

@@ -134,7 +134,7 @@ module _ {X XN XH XK XV : Type 0} {g : Environments X XN XH XK XV} {gh : Hashes 
         each = λ q x is. elim (done.does.moves.each q x is)
             [ inl there ↦ inl there | inr (none, came) ↦ inr (none, (walking_of k, ap (option_map walking_of) kept, subst (λ (list : List Todo). TodoBrings v s.core list q x) (sym todo-is) came)) ];
         environment = done.does.moves.environment;
-      }) done.does.writes
+      }) done.does.holds done.does.writes
       (one-serves {h' = after} serving was.whole.handles n.0 k' keeps (subst (λ last. length h.tables ≤ last) (sym len) (omega arith))
       (kept-on serving.readings leaves (λ l own is. inl is))
       (λ q other. event-passes m q (world_of (machine_of s h)) (world_of (machine_of s' after)) was.whole (Event.WorkerStep n) (EventReply.WorkerMoved (Ok told))

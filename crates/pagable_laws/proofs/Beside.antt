@@ -1,11 +1,11 @@
 -- What values hold beside their references stays what it is, since the nodes of these keep their values.
-use Rattle.pagable_laws.{proofs.{Goes.good, Taking.row-pins}, specs.HeldLaws.{CallersBringHeld, HeldByCallersLaw, HeldLaw, OperationBringsHeld, PinnedLaw, ReadHoldsLaw}}
+use Rattle.pagable_laws.{proofs.{Goes.good, Taking.row-pins}, specs.HeldLaws.{CallersBringHeld, HeldByCallersLaw, HeldByMomentsLaw, HeldLaw, MomentBringsHeld, MomentsBringHeld, OperationBringsHeld, PinnedLaw, ReadHoldsLaw}}
 use Rattle.pagable_laws.proofs.Words.{Among, ArcRef, IsReference, Mode, None, Option, Owner, PagerState, Some, Values, WellFormed, ap, arith, inl, inr, is_eager, is_pinning, is_some, nat_tests, pins, refl, sym, true, ℕ, ◌<◌, ◌∙◌, ◌≡◌}
-use Rattle.pagable_laws.proofs.Words.{Core, Error, HandleNumber, List, LoadAnswer, Ok, Reading, Result, Seen, Todo, Took, WorkerAnswer, Written, subst}
+use Rattle.pagable_laws.proofs.Words.{[], ◌∷◌, Core, Error, Event, EventReply, HandleNumber, List, LoadAnswer, Ok, Reading, Result, Seen, Todo, Took, WorkerAnswer, Written, subst}
 use Rattle.pagable_laws.specs.CallerLaws.{Operation, Operations, calls, goes-on, is-done, pages-item, pages-list, pins as pins-by, reads-key}
 use Rattle.pagable_world.specs.Access.{AccessState, Called, EntryRun, IfReads, ItemRun, ListRun, LoadRun, PinRun, ReadRun, WorkerRun, entry-is-refused, entry-is-walked, fails, item-is-walked, load-ends, load-fails, load-goes-on}
 use Rattle.pagable_world.specs.Access.{load-is-refused, load-pins, load-reads, no-entry-worker, no-more, no-worker, pages, pin-is-refused, pins-at-once, reading-fails, reading-is-refused, skips, worker-ends, worker-goes-on}
-use Rattle.pagable_world.specs.{Kinds.fits_mode, Pager.{HoldsItsNodes, HoldsItsValues, HoldsNode, HoldsPinned, Moves}, Plain.NodeNumber}
+use Rattle.pagable_world.specs.{Kinds.fits_mode, Pager.{HoldsItsNodes, HoldsItsValues, HoldsNode, HoldsPinned, MachineState, Moves}, Plain.NodeNumber, Runs.{AreMoments, Does, Moment, state_after}}
 
 -- a reference that is read together with its value stands for a handle that pins
 eager-pins : (kind : ℕ) (mode : Mode) → is_eager kind ≡ true → fits_mode kind mode ≡ true → is_pinning mode ≡ true
@@ -63,8 +63,11 @@ module _ {N E : Type 0} (v : Values N) where
   comes-held : {s s' : PagerState N E} → WellFormed v s' → Moves (λ n x. HoldsItsNodes v s x) s s' → Held v s → Held v s'
   comes-held well moves h = record { well = well; held = held_law E v _ _ well moves h.held }
 
+  nothing-comes : {comes : ℕ → N → Type 0} {s s' : PagerState N E} → ((n : ℕ) (x : N) → comes n x → ⊥) → WellFormed v s' → Moves comes s s' → Held v s → Held v s'
+  nothing-comes none well moves h = comes-held well (record { each = λ n x is. elim (moves.each n x is) [ inl was ↦ inl was | inr came ↦ absurd (none n x came.1) ]; environment = moves.environment }) h
+
   called-held : {does : Core → Type 0} {s s' : PagerState N E} → Called v does s s' → Held v s → Held v s'
-  called-held c h = comes-held c.whole (record { each = λ n x is. elim (c.moves.each n x is) [ inl was ↦ inl was | inr came ↦ absurd came.1 ]; environment = c.moves.environment }) h
+  called-held c h = nothing-comes (λ n x came. came) c.whole c.moves h
 
   load-held : {me : Owner} {reading : Reading} {s s' : PagerState N E} {answer : LoadAnswer N} → LoadRun v me reading s answer s' → Held v s → Held v s'
   load-held (load-ends reading answer s s' step) h = comes-held step.whole (step.holds h.well) h
@@ -129,3 +132,25 @@ read_holds_law E v s s' key t x run = by run refl
     by (load-reads y l mid last starts more) is = let same : y ≡ x = cc in subst (HoldsPinned v s') same (load-reads-held v more)
     by (reading-is-refused e last c) is = absurd cc
     by (reading-fails e l mid last starts more) is = absurd cc
+
+-- ---- along the moments of a machine
+
+module _ {N E B W : Type 0} (m : Seen N B W) where
+  moment-held : (s s' : MachineState N E) (event : Event N B W) (reply : EventReply N B W) → Does m s event reply s' → MomentBringsHeld m.values s.pager event s'.pager → Held m.values s.pager → Held m.values s'.pager
+  moment-held s s' (Event.Call call) reply d brings h =
+      comes-held m.values d.whole.pager (record { each = λ n x is. elim (d.moves.each n x is) [ inl was ↦ inl was | inr (none, came) ↦ inr (none, brings n x came is) ]; environment = d.moves.environment }) h
+  moment-held s s' (Event.LoadStep l) reply d brings h = comes-held m.values d.whole.pager d.holds h
+  moment-held s s' (Event.WorkerStep k) reply d brings h = comes-held m.values d.whole.pager d.holds h
+  moment-held s s' (Event.LoadStart through) reply d brings h = nothing-comes m.values (λ n x came. came) d.whole.pager d.moves h
+  moment-held s s' (Event.LoadKey key t) reply d brings h = nothing-comes m.values (λ n x came. came) d.whole.pager d.moves h
+  moment-held s s' Event.TableNew reply d brings h = nothing-comes m.values (λ n x came. came) d.whole.pager d.moves h
+  moment-held s s' (Event.WorkerItem t item) reply d brings h = nothing-comes m.values (λ n x came. came) d.whole.pager d.moves h
+  moment-held s s' (Event.WorkerListed t i) reply d brings h = nothing-comes m.values (λ n x came. came) d.whole.pager d.moves h
+
+  moments-held : (s : MachineState N E) (moments : List (Moment N E B W)) → AreMoments m s moments → MomentsBringHeld m.values s moments → Held m.values s.pager → HoldsItsValues m.values (state_after s moments).pager
+  unfolding state_after
+  moments-held s [] chain brings h = h.held
+  moments-held s (x ∷ xs) (does, chain) (own, brings) h = moments-held x.after xs chain brings (moment-held s x.after x.event x.reply does own h)
+
+pub held_by_moments_law : {N B W : Type 0} (E : Type 0) (m : Seen N B W) → HeldByMomentsLaw E m
+held_by_moments_law E m s moments whole chain brings held = moments-held m s moments chain brings (record { well = whole.pager; held = held })

@@ -9,9 +9,9 @@ use Rattle.pagable_laws.{proofs.Words.{◌<◌, ◌==◌, ◌∙◌, ◌∷◌, 
 use Rattle.{pagable_model.specs.{Blob.preimage, Form.nothing-form, Keyed.throughout-alone, Trees.{none-followed, rest_of}}, pagable_world.specs.Calls.{CountCall, IsNext, UnpinCall, row_of, with_key}}
 use Rattle.pagable_world.specs.{Calls.with_mode, Cascade.{Falls, IsLeast, MustList, fallen, is_keyed, loses_value, nobody, owned_outside}, Events.{Ends, ReadingsAre, WorkStays, no_shelf, reading_at}}
 use Rattle.pagable_world.specs.{Events.steps_after, Kinds.{is_at, is_loose, is_pin, is_share, is_shared, sharing}, LoadCalls.{BeginCall, EndCall, Installs, LazyCall}, Loads.ReadingDoes}
-use Rattle.pagable_world.specs.{Loads.answers_from, Pager.{EventBrings, IsCellOf, IsHandleBefore, IsIdle, IsReadingWhole, MayOwnLoad, ReadingBrings, ReplyWrites, StandsFor, TookWrites}}
+use Rattle.pagable_world.specs.{Loads.answers_from, Pager.{EventBrings, EventHolds, HoldsItsNodes, IsCellOf, Moves, IsHandleBefore, IsIdle, IsReadingWhole, MayOwnLoad, ReadingBrings, ReplyWrites, StandsFor, TookWrites}}
 use Rattle.pagable_world.specs.{Refusals.named_fault, Runs.{Does, HoldsSettled, IsPremised, ReadsAsType, TakesWell, TodoAsksWell}, Workers.{claim_fault, fresh, is_counted, is_workers, is_workers_at}}
-use Rattle.{pagable_world.specs.{Plain.is_loose_kind, Workers.without_worker, World.{HasForm, Root, SameShelf, digest, is_here, of_key, to_publish, type_at}}, std.proofs.{Common.All, lemmas.Bool.agree_below}}
+use Rattle.{pagable_world.specs.{Plain.{is_eager, is_loose_kind}, Workers.without_worker, World.{HasForm, Root, SameShelf, digest, is_here, of_key, to_publish, type_at}}, std.proofs.{Common.All, lemmas.Bool.agree_below}}
 use Rattle.std.{proofs.lemmas.{Bool.agree_below_at, List.Kept.AllPairs-cons}, specs.{List.{AllByRecursion as Each, AllPairs}, Prelude.{IfSome, is_none, nat_le, nat_lt}}}
 use Rattle.pagable_laws.specs.TwoLevels as two
 use Rattle.pagable_model.specs.Meaning as meanings
@@ -147,6 +147,11 @@ abbrev pub NumberFits : Core → List (Option Sample) → ℕ → Type 0
 NumberFits w vs n = ((is_some (w.cells n) && not (nat_lt 0 n && nat_le n w.last.node)) ≡ false) × (is_some (w.cells n) ≡ nat_lt 0 (held n w.rows))
     × (is_some (value_at vs n) ≡ (is_some (w.cells n) && is_here w n)) × ValueFits w n (value_at vs n) × IfSome (w.loads n) (LoadFits w n)
 
+-- it refers to nothing that is read together with it
+abbrev pub IsLoose : Sample → Type 0
+IsLoose None = Unit {0}
+IsLoose (Some r) = is_eager r.kind.0 ≡ false
+
 -- all that is asked of a pager with few of each: of its handles, of it as a whole, and of each number
 pub record Stands (w : Core) (vs : List (Option Sample)) : Type 0 where
   pub short : nat_le (length vs) 4 ≡ true
@@ -154,6 +159,7 @@ pub record Stands (w : Core) (vs : List (Option Sample)) : Type 0 where
   pub stands_open : w.closed ≡ false
   pub room : (nat_le w.last.handle 9 ≡ true) × (nat_le w.last.node 3 ≡ true) × (nat_le w.last.load 3 ≡ true) × (nat_le (length w.rows) w.places.handles ≡ true)
   pub workers : (w.workers 0 ≡ false) × ((w.workers 1 && not (nat_le 1 w.last.worker)) ≡ false)
+  pub loose : Each (λ (o : Option Sample). IfSome o IsLoose) vs
   pub third : IfSome (type_at w 3) (λ t. t ≡ 1) × IfSome (w.cache 4 8) (λ n. nat_le n w.last.node ≡ true)
 
 pub record Passes (w : Core) (vs : List (Option Sample)) : Type 0 where
@@ -164,6 +170,23 @@ pub record Passes (w : Core) (vs : List (Option Sample)) : Type 0 where
 past-end : (vs : List (Option Sample)) (n : ℕ) → length vs ≤ n → value_at vs n ≡ None
 past-end (x ∷ xs) (suc n) few = past-end xs n (omega arith)
 past-end x0 x1 few = grind (arith, nat_tests)
+
+loose-at : (vs : List (Option Sample)) (n : ℕ) (x : Sample) → Each (λ (o : Option Sample). IfSome o IsLoose) vs → value_at vs n ≡ Some x → IsLoose x
+loose-at (o ∷ os) zero x (own, rest) is = of-some IsLoose own is
+loose-at (o ∷ os) (suc n) x (own, rest) is = loose-at os n x rest is
+loose-at x0 x1 x2 x3 x4 = grind (arith, nat_tests)
+
+-- so there is nothing that it would have to hold
+loose-holds : (s : PagerState Sample (Unit {0})) (event : Event Sample Blob Written) (x : Sample) → IsLoose x → EventHolds sample s event x
+loose-holds s event x loose = by event
+  where
+    nothing-eager : HoldsItsNodes sample s x
+    nothing-eager r among eager = grind (arith, nat_tests, each-among)
+
+    by : (event : Event Sample Blob Written) → EventHolds sample s event x
+    by (Event.LoadStep l) = nothing-eager
+    by (Event.WorkerStep k) = nothing-eager
+    by event = tt
 
 module _ (w : Core) (vs : List (Option Sample)) (few : Few w) (p : Passes w vs) where
   number : (n : ℕ) → NumberFits w vs n
@@ -310,7 +333,9 @@ does : (s : MachineState two.Sample (Unit {0})) (event : Event two.Sample Blob W
 does s event reply w vs shelf walking reading happens come writes (few, p) walks reads =
     let whole : IsMachineWhole two.sample (two.machine w vs (two.work_of shelf walking reading)) =
     record { pager = whole-so w vs few p; readings = grind (arith, nat_tests); walkings = grind (arith, nat_tests); all_there = grind (arith, nat_tests) } in
-    search whole
+    let holds : Moves (λ n x. EventHolds two.sample s.pager event x) s.pager (two.machine w vs (two.work_of shelf walking reading)).pager =
+    record { each = λ n x is. elim (come n x is) [ inl was ↦ inl was | inr (none, came) ↦ inr (none, loose-holds s.pager event x (loose-at vs n x p.stands.loose is)) ]; environment = refl } in
+    search (whole, holds)
 
 asked : (s : MachineState two.Sample (Unit {0})) (x : two.Happening) → KeepsOpen x.event → ((trees : ℕ → Tree) → IsWellAsked two.sample s trees x.event x.reply) → (trees : ℕ → Tree)
     → IsPremised two.sample s trees x.event x.reply x.after

@@ -89,6 +89,7 @@ module _ {N E B W : Type 0} (m : Seen N B W) where
       };
     };
     moves = record { each = λ q x is. inl is; environment = refl };
+    holds = record { each = λ q x is. inl is; environment = refl };
     writes = tt;
     whole = rest-whole s (with-table work shelf) (with-table-rests work shelf rests) well nobody;
   }
@@ -137,6 +138,7 @@ module _ {N E B W : Type 0} (m : Seen N B W) where
         record {
           step = record { happens = happens };
           moves = record { each = λ q x is. elim (c.moves.each q x is) [ inl was ↦ inl was | inr came ↦ absurd came.1 ]; environment = c.moves.environment };
+          holds = record { each = λ q x is. elim (c.moves.each q x is) [ inl was ↦ inl was | inr came ↦ absurd came.1 ]; environment = c.moves.environment };
           writes = writes;
           whole = is-whole _ (first_todo task) 0 None c.whole (works-alone n core mid c.step (starts.next ∙ ap (λ k. k + 1) (sym last)) nobody);
         }
@@ -210,6 +212,7 @@ module _ {N E B W : Type 0} (m : Seen N B W) where
               each = λ q x is. elim (w.moves.each q x is) [ inl was ↦ inl was | inr (none, came) ↦ inr (none, (now, at, came)) ];
               environment = w.moves.environment;
             };
+            holds = w.holds;
             writes = w.writes;
             whole = is-whole s' next (steps_after count (is_counted todo step)) (answer_after todo step) w.whole alone';
           },
@@ -398,6 +401,7 @@ module _ {N E B W : Type 0} (m : Seen N B W) where
       };
     };
     moves = c.moves;
+    holds = record { each = λ q x is. elim (c.moves.each q x is) [ inl was ↦ inl was | inr (none, came) ↦ inr (none, tt) ]; environment = c.moves.environment };
     writes = tt;
     whole = rest-whole m s' work rests c.whole nobody;
   }

@@ -3,7 +3,7 @@
 
 ghost use Rattle.pagable_world.specs.{Access.{PinLaw, ReadLaw}, Headline.HeadlineLaw, OneWorker.{KeyIsShallow, OneIdentityLaw}, Plain.Types, World.{Frame, Seen}};
 ghost use Rattle.pagable_laws.specs.DeepLaws.{ClaimIsDeep, DepthIsHeight, DepthIsTold, HoldsAlong, LoadIsDeep, LoadIsFaultless, SoundLaw};
-ghost use Rattle.pagable_laws.specs.{FallLaws.{FallLaws, ChainsJoin, NewIsWhole, NextIsOne, ReadingFills}, HeldLaws.{HeldByCallersLaw, HeldLaw, PinnedLaw, ReadHoldsLaw}, CallerLaws.{CallerLaw, PinnedAgainLaw}, PageOutLaws.{ItemLaw, ListLaw}, TwoLevels.TwoLevelsMeetTheHeadline};
+ghost use Rattle.pagable_laws.specs.{FallLaws.{FallLaws, ChainsJoin, NewIsWhole, NextIsOne, ReadingFills}, HeldLaws.{HeldByCallersLaw, HeldByMomentsLaw, HeldLaw, PinnedLaw, ReadHoldsLaw}, CallerLaws.{CallerLaw, PinnedAgainLaw}, PageOutLaws.{ItemLaw, ListLaw}, TwoLevels.TwoLevelsMeetTheHeadline};
 
 /// How values of this type are seen, with blobs B and what is written W: any values, so that a law is one of all.
 pub trait SeenAs<B, W>: Sized {
@@ -69,11 +69,13 @@ pub fn loads<N: SeenAs<B, W>, B, W, E>()
 /// - Each value in memory holds the values of its references' nodes, as long as each value that comes does when it comes, whatever step is made.
 /// - A value that holds what the handles of its references pin, as one does that was decoded with them, holds the values of their nodes, where nothing is to be said against the references.
 /// - Along any calls, pins, readings and page-outs each value in memory holds the values of its references' nodes, as long as each that a caller's call brings does: what loads bring does.
+/// - So it does along any chain of a machine's events, however loads and workers take turns.
 /// - The value that a reading of a key gives holds what the handles of its references pin, which are the caller's then.
 pub fn held_values<N: SeenAs<B, W>, B, W, E>()
     ensures stays { HeldLaw E N.seen.values }
     ensures decoded { PinnedLaw E N.seen.values }
     ensures along_calls { HeldByCallersLaw E N.seen }
+    ensures along_events { HeldByMomentsLaw E N.seen }
     ensures read { ReadHoldsLaw E N.seen.values }
 {}
 

@@ -193,6 +193,12 @@ EventBrings v u (Event.LoadStep l) n x = (reading : Reading) × (reading_at u l 
 EventBrings v u (Event.WorkerStep k) n x = (walking : Walking) × (u.work.walkings k.0 ≡ Some walking) × TodoBrings v u.core walking.todo n x
 EventBrings v u event n x = ⊥
 
+-- what a load's or a worker's step brings holds its nodes' values; for what a call brings its caller answers
+abbrev pub EventHolds : {N E B W : Type 0} → Values N → PagerState N E → Event N B W → N → Type 0
+EventHolds v s (Event.LoadStep l) x = HoldsItsNodes v s x
+EventHolds v s (Event.WorkerStep k) x = HoldsItsNodes v s x
+EventHolds v s event x = Unit {0}
+
 -- what was written is a form of the node's value, with exactly its references
 pub record IsWrittenOf {N E : Type 0} (v : Values N) (s : PagerState N E) (n : ℕ) (written : Written) : Type 0 where
   pub x : N

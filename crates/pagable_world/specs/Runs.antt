@@ -1,7 +1,7 @@
 -- Chains of moments: what events do to a machine, one after another; trees along them; and what these ask of values and callers, by name. That the storage gives back what was stored, loses
 -- nothing and keeps no two blobs under one key is asked nowhere here: these are laws of every storage, so they stand in the steps.
 use Rattle.std.specs.Prelude.{[], List, map, None, Ok, Option, Some, ℕ, ◌∷◌, ◌≡◌}
-use Rattle.{pagable_model.specs.Canonical.IsReadableType, pagable_world.specs.{Events.{reading_at, Step}, Kinds.{any_mode, is_loose}, Loads.{need_of, needs_lazy}, Pager.{EventBrings, IsCellOf}}}
+use Rattle.{pagable_model.specs.Canonical.IsReadableType, pagable_world.specs.{Events.{reading_at, Step}, Kinds.{any_mode, is_loose}, Loads.{need_of, needs_lazy}, Pager.{EventBrings, EventHolds, IsCellOf}}}
 use Rattle.pagable_world.specs.{Pager.{IsMachineWhole, MachineState, Moves, PagerState, ReplyWrites, SameTrees, StandsFor, ValueStands, world_of}, Plain.{Among, Call, Event, EventReply, HandleRow}}
 use Rattle.pagable_world.specs.{Plain.{Kind, LoadAnswer, Owner, ReadsTree, Reply, Tree, type_of}, Refusals.Owns, World.{Frame, IsSettled, Reading, Seen, to_load, to_write, Todo, Values, Walking}}
 
@@ -82,6 +82,7 @@ pub record Moment (N E B W : Type 0) : Type 0 where
 pub record Does {N E B W : Type 0} (m : Seen N B W) (s : MachineState N E) (event : Event N B W) (reply : EventReply N B W) (s' : MachineState N E) : Type 0 where
   pub step : Step m (world_of s) event reply (world_of s')
   pub moves : Moves (EventBrings m.values (world_of s) event) s.pager s'.pager
+  pub holds : Moves (λ n x. EventHolds m.values s.pager event x) s.pager s'.pager
   pub writes : ReplyWrites m s.pager reply
   pub whole : IsMachineWhole m.values s'
 
