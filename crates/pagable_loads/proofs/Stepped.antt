@@ -1,7 +1,7 @@
 -- What a load needs next, what the calls of its steps did, and whole pins and readings.
 use Rattle.{either.specs.declared.Either.Either, pagable_core.specs.{Context.at_front, Data.blob_of}, pagable_loads.specs.{Decoding.{IsReadAs, Needs}, Frames.{IsLoadOf, frame_of}}}
 use Rattle.pagable_loads.specs.{Frames.{frames_of, onto, reading_of}, Got.{AreLater, AreStandIns, Lends, LendsEach, answer_at, lent_at, stand_in}, Starting.{PinsFirst, Shares, SharesPinned, StartsPin, TakesBack, Unpins}}
-use Rattle.pagable_loads.specs.{Stepping.{Drops, HasGone, IsSameLoad, Met, Runs, Tries}, Telling.{Acting, Acts, ActsThen, AdoptsValue, AsksFor, Brings, IsMade, TakesLazily, Tells}}
+use Rattle.pagable_loads.specs.{Stepping.{Drops, HasGone, IsSameLoad, Met, Runs, RunsOrGoes, Tries}, Telling.{Acting, Acts, ActsThen, AdoptsValue, AsksFor, Brings, IsMade, TakesLazily, Tells}}
 use Rattle.{pagable_loads.specs.declared.{reading.{Frame.Frame as Held, Need.Need, Reading.Reading as Own}, access.PinStart.PinStart}, pagable_model.specs.Blob.Blob}
 use Rattle.pagable_model.specs.{Deep.longest_path, Meaning.Meaning, Reading.{Rest, read_typed}, Shape.Shape, Standing.{Answer, GivesSome, Standing, handles_at, rest_at}}
 use Rattle.{pagable_model.specs.declared.{error.Error.Error, numbers.{ArcRef.ArcRef, HandleNumber.HandleNumber, Kind.Kind, LoadNumber.LoadNumber}}, pagable_world.specs.Access.{Called, IsUnpinnedBack}}
@@ -399,6 +399,15 @@ module _ {N E : Type 0} (v : Values N) (me : Owner) where
 
     pub ends_so : (answer : LoadAnswer N) (frames : List Frame) → Tries v me now m (Ok (Some answer)) frames t → Runs v me own s answer t
     ends_so answer frames step = first_of (grind (arith, common_steps, nat_tests), grind (arith, nat_tests, load-ends), search (rules, load-ends))
+
+    pub goes_or_ends : (next : Own) (frames : List Frame) (answer : Option (LoadAnswer N)) → IsSameLoad now next (one_more now.steps) → frames ≡ frames_of next.top next.below.items
+        → Tries v me now m (Ok answer) frames t → RunsOrGoes v me own next s answer t
+    goes_or_ends next frames None is_same is step = went_on next frames is_same is step
+    goes_or_ends next frames (Some answer) is_same is step = ends_so answer frames step
+
+-- so far there was no step
+pub none_gone : {N E : Type 0} {v : Values N} {me : Owner} (own : Own) (s : PagerState N E) → HasGone v me own own s s
+none_gone own s = record { open_still = λ o. o; then = λ o answer u run. run }
 
 pub ruleset driving = (nat_tests, acts_then, went_on, ends_so)
 

@@ -150,7 +150,7 @@ pub record GoesFor {N : Type 0} (need : Need N) (answer : Option (LoadAnswer N))
 pub record Follows (was_read : Bool) (new : List Frame) (rows rows' : List (List ArcRef)) : Type 0 where
   pub follows : (types : Types) (old : List Frame) → FramesGo was_read old new → AllAhead types old rows → AllAhead types new rows'
 
--- a step that gets a reference ends nothing
-abbrev pub goes_on_with : {N : Type 0} → Result ArcRef Error → Result (Option (LoadAnswer N)) Error
-goes_on_with (Ok r) = Ok None
+-- a step that gets a reference, or the root's blob, ends nothing
+abbrev pub goes_on_with : {N X : Type 0} → Result X Error → Result (Option (LoadAnswer N)) Error
+goes_on_with (Ok x) = Ok None
 goes_on_with (Err e) = Err e

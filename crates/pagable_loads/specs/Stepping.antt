@@ -1,5 +1,5 @@
 -- What a load's step does, up to its refusal and with it, in the words of the world.
-use Rattle.std.specs.Prelude.{IfErr, IfOk, List, Option, Result, [], vec_capacity, vec_len, ℕ, ◌<◌, ◌∷◌, ◌≡◌}
+use Rattle.std.specs.Prelude.{IfErr, IfOk, List, None, Option, Result, Some, [], vec_capacity, vec_len, ℕ, ◌<◌, ◌∷◌, ◌≡◌}
 use Rattle.pagable_world.specs.{Access.{Called, ReadingStep, LoadRun}, Loads.Meets, World.{Reading, Values, Frame}, LoadCalls.DropCall, Pager.{HoldsItsNodes, PagerState, ReadingBrings, Moves, WellFormed}}
 use Rattle.{pagable_world.specs.declared.{handles.Owner.Owner, events.LoadAnswer.LoadAnswer}, pagable_model.specs.declared.{numbers.LoadNumber.LoadNumber, error.Error.Error}}
 use Rattle.pagable_loads.specs.{declared.reading.{Reading.Reading as Own, Frame.Frame as Held}, Frames.{frames_of, reading_of, frame_of, onto, IsLoadOf}}
@@ -47,3 +47,8 @@ pub record Runs {N E : Type 0} (v : Values N) (me : Owner) (own : Own) (s : Page
 pub record HasGone {N E : Type 0} (v : Values N) (me : Owner) (own now : Own) (s t : PagerState N E) : Type 0 where
   pub open_still : IsLoadOf s.core me own → IsLoadOf t.core me now
   pub then : IsLoadOf s.core me own → (answer : LoadAnswer N) (u : PagerState N E) → LoadRun v me (reading_of now) t answer u → LoadRun v me (reading_of own) s answer u
+
+-- all steps up to what ended it, or some while there is more
+abbrev pub RunsOrGoes : {N E : Type 0} → Values N → Owner → Own → Own → PagerState N E → Option (LoadAnswer N) → PagerState N E → Type 0
+RunsOrGoes v me own now s (Some answer) t = Runs v me own s answer t
+RunsOrGoes v me own now s None t = HasGone v me own now s t

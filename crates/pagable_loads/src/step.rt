@@ -1,8 +1,8 @@
 //! A load's steps, over an access to a pager, and a load that is driven to its end. And whole operations over an access: a pin, with the load that it may need, and the reading of a key.
 
-ghost use Rattle.std.specs.{Arc.arc_value, Prelude.{[], IfNone, IfOk, IsSome, length, Ok, true, ◌<◌, ◌≡◌}};
+ghost use Rattle.std.specs.{Arc.arc_value, Prelude.{[], IfNone, IfOk, IfSome, IsSome, length, Ok, Some, true, ◌<◌, ◌≡◌}};
 ghost use Rattle.pagable_loads.specs.{Decoding.{AllAhead, FramesGo, goes_on_with, GoesFor, GotMore, IfValue, Needs, rows_of}, Ending.LeadsOn, Frames.{frames_of, reading_of}, Starting.{PinsFirst, SharesPinned, Unpins}, Stepping.Drops};
-ghost use Rattle.{pagable_loads.specs.{Stepping.{IsSameLoad, Runs, Tries}, Telling.{Acts, Tells, values_at}}, pagable_world.specs.{Access.{PinsOver, ReadsOver}, declared.handles.Owner.Owner}};
+ghost use Rattle.{pagable_loads.specs.{Stepping.{IsSameLoad, Runs, RunsOrGoes, Tries}, Telling.{Acts, Tells, values_at}}, pagable_world.specs.{Access.{PinsOver, ReadsOver}, declared.handles.Owner.Owner}};
 ghost use Rattle.pagable_world.specs.{Loads.{need_of, needs_lazy, ReadsNode, ReadsRoot}, Pager.HoldsPinned, World.{one_more, seen_as}};
 
 use crate::access::{Access, PinStart};
@@ -161,6 +161,23 @@ impl Reading {
         self.top = None;
     }
 
+    // Ends the load where nothing is left to get, by a step that isn't counted yet; else meets what it needs.
+    fn end_or_meet<E: Env<Node: NodeSet<E>>, A: Access<E>>(
+        &mut self,
+        access: &mut A,
+        alloc: Global,
+    ) -> Result<Option<LoadAnswer<E::Node>>, Error>
+        ensures acts { Acts A.told A.acting access.old access.new
+            (λ a s t. Tries (values_at E.Node.NodeSet E.Env E.Hash.KeyHash a.environment) a.me self.old s result (frames_of self.new.top self.new.below.items) t) }
+        ensures leads { LeadsOn self.old.for_cell (frames_of self.old.top self.old.below.items) (frames_of self.new.top self.new.below.items) result }
+        ensures same { IsSameLoad self.old self.new self.old.steps }
+    {
+        match self.next::<E, A>(access, alloc) {
+            Need::End(value) => self.finish(access, alloc, value),
+            need => self.meet(access, alloc, need),
+        }
+    }
+
     /// Makes the load's next step: one call of the access, and before that what was read of its innermost blob, with the values of its references, which are
     /// shared for it. Answers what ended the load, or None while there is more. A step that is refused gives the load up, with all that it owns. That the load
     /// is open, and is the one that this reading began with, is what the clause asks of a state that is told.
@@ -174,8 +191,7 @@ impl Reading {
         ensures leads { LeadsOn self.old.for_cell (frames_of self.old.top self.old.below.items) (frames_of self.new.top self.new.below.items) (Ok result) }
         ensures same { IsSameLoad self.old self.new (one_more self.old.steps) }
     {
-        let need = self.next::<E, A>(access, alloc);
-        match self.meet(access, alloc, need) {
+        match self.end_or_meet(access, alloc) {
             Ok(answer) => {
                 self.steps = self.steps.saturating_add(1);
                 answer
@@ -186,6 +202,84 @@ impl Reading {
                 Some(LoadAnswer::Refused(e))
             }
         }
+    }
+
+    // Gets the blob of the load's own key, by a step that isn't counted yet.
+    fn get_root<E: Env<Node: NodeSet<E>>, A: Access<E>>(
+        &mut self,
+        access: &mut A,
+        alloc: Global,
+    ) -> Result<(), Error>
+        requires none { frames_of self.old.top self.old.below.items ≡ [] }
+        ensures acts { Acts A.told A.acting access.old access.new
+            (λ a s t. Tries (values_at E.Node.NodeSet E.Env E.Hash.KeyHash a.environment) a.me self.old s (goes_on_with result) (frames_of self.new.top self.new.below.items) t) }
+        ensures same { IsSameLoad self.old self.new self.old.steps }
+    {
+        match access.load_root(alloc, self.load) {
+            Ok(root) => {
+                self.put_root(alloc, root);
+                Ok(())
+            }
+            Err(e) => Err(e),
+        }
+    }
+
+    // Makes the step that gets the root's blob.
+    #[tactic(auto, using(crate::proofs::Stepped::giving_up))]
+    fn step_root<E: Env<Node: NodeSet<E>>, A: Access<E>>(
+        &mut self,
+        access: &mut A,
+        alloc: Global,
+    ) -> Option<LoadAnswer<E::Node>>
+        requires none { frames_of self.old.top self.old.below.items ≡ [] }
+        ensures acts { Acts A.told A.acting access.old access.new
+            (λ a s t. Tries (values_at E.Node.NodeSet E.Env E.Hash.KeyHash a.environment) a.me self.old s (Ok result) (frames_of self.new.top self.new.below.items) t) }
+        ensures ends { IfSome result (λ answer. LeadsOn self.old.for_cell [] [] (Ok (Some answer))) }
+        ensures same { IsSameLoad self.old self.new (one_more self.old.steps) }
+    {
+        match self.get_root::<E, A>(access, alloc) {
+            Ok(()) => {
+                self.steps = self.steps.saturating_add(1);
+                None
+            }
+            Err(e) => {
+                self.give_up(access);
+                self.steps = self.steps.saturating_add(1);
+                Some(LoadAnswer::Refused(e))
+            }
+        }
+    }
+
+    // Whether the innermost blob refers to something.
+    fn has_references(&self) -> bool {
+        match &self.top {
+            Some(top) => !top.blob.as_ref().arcs.is_empty(),
+            None => false,
+        }
+    }
+
+    // Makes the first steps of a load that has just begun: the one that gets its root's blob, and where that refers to
+    // nothing the one that ends it. Answers what ended it, or None while there is more.
+    fn run_first<E: Env<Node: NodeSet<E>>, A: Access<E>>(
+        &mut self,
+        access: &mut A,
+        alloc: Global,
+    ) -> Option<LoadAnswer<E::Node>>
+        ensures acts { Acts A.told A.acting access.old access.new
+            (λ a s t. RunsOrGoes (values_at E.Node.NodeSet E.Env E.Hash.KeyHash a.environment) a.me self.old self.new s result t) }
+        ensures ends { IfSome result (λ answer. LeadsOn self.old.for_cell [] [] (Ok (Some answer))) }
+        ensures sort { self.new.for_cell ≡ self.old.for_cell }
+    {
+        if self.top.is_some() {
+            return None;
+        }
+        if let Some(answer) = self.step_root(access, alloc) {
+            return Some(answer);
+        }
+        if self.has_references() {
+            return None;
+        }
+        self.step(access, alloc)
     }
 
     // Makes the load's next step, as `step` does, and reads the innermost blob for it only where what is ahead doesn't tell what is needed.
@@ -230,6 +324,9 @@ impl Reading {
         ensures acts { Acts A.told A.acting access.old access.new (λ a s t. Runs (values_at E.Node.NodeSet E.Env E.Hash.KeyHash a.environment) a.me self.old s result t) }
         ensures ends { LeadsOn self.old.for_cell [] [] (Ok (Some result)) }
     {
+        if let Some(answer) = self.run_first(access, alloc) {
+            return answer;
+        }
         let mut ahead = Ahead::new(alloc);
         loop {
             if let Some(answer) = self.step_on(access, alloc, &mut ahead) {
