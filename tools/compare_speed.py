@@ -11,7 +11,8 @@ unit and the processor level of the programs here (x86-64-v2): with the processo
 The values of the first five rows come from tools/speed_sums.py; both sides fail where they write another form than they read. Each row runs 9 times, or as
 often as `--rounds` tells, by all three programs in turn, each time in a process of its own; its time is the least of all. The peak of memory is that of such
 a process, by GNU time. A row whose time grows with the square of its count has at most 4,000 or as many as `--square` tells. `--rows` runs these
-alone, and `--print` prints the table in place of writing it.
+alone, and `--print` prints the table in place of writing it; `--rows shared` stands for those of a storage that threads share, whose keys and claims have
+to be the same on both sides.
 """
 import argparse
 import datetime
@@ -32,6 +33,8 @@ BEGIN, END = "<!-- table -->", "<!-- end of the table -->"
 TUNED = {"CARGO_PROFILE_RELEASE_LTO": "fat", "CARGO_PROFILE_RELEASE_CODEGEN_UNITS": "1", "RUSTFLAGS": "-C target-cpu=x86-64-v2"}
 VALUES = {"numbers": 1_000_000, "bytes": 1_000_000, "texts": 200_000, "maps": 400, "ordered": 100_000}
 SIZES = [1_000, 10_000, 100_000, 1_000_000]
+# Rows of a storage that threads share, with their counts: behind the slash stands how many threads there are.
+SHARED = {"locked_calls": 100_000, "locked_cells": 10_000, "worker_items": 20_000, "worker_trees": 300, "worker_texts": 100_000}
 # Each row with its counts; a tree's count is that of its levels.
 ROWS = [
     *((row, count) for row, count in VALUES.items()),
@@ -49,11 +52,12 @@ ROWS = [
     ("loads", 16_000),
     ("fronts", 100_000),
     ("backwards", 20_000),
+    *((f"{row}/{threads}", count) for row, count in SHARED.items() for threads in (1, 2, 4)),
 ]
 SQUARES = {"loads"}
 # What the original has no call for.
 OURS = {"loads", "fronts", "backwards"}
-CALLS = {"calls", "falls", "loads", "fronts"}
+CALLS = {"calls", "falls", "loads", "fronts", *(f"locked_calls/{threads}" for threads in (1, 2, 4))}
 
 
 def ran(*words):
@@ -81,13 +85,15 @@ def built_original(original, work, is_soft):
 
 
 def once(call):
-    """The seconds of each part of one run and its peak in KiB; None where it fails, as where the stack isn't deep enough. GNU time stands between, since a
-    child's peak counts the memory of whoever forked it."""
+    """The seconds of each part of one run, its peak in KiB, and the sum of its keys where it tells one; None where it fails, as where the stack isn't deep
+    enough. GNU time stands between, since a child's peak counts the memory of whoever forked it."""
     run = subprocess.run(["env", "time", "-f", "%M", *map(str, call)], text=True, capture_output=True)
     if run.returncode:
         return None
     _, _, *parts = run.stdout.split()
-    return dict(zip(parts[::2], map(float, parts[1::2]))), int(run.stderr.split()[-1])
+    told = dict(zip(parts[::2], parts[1::2]))
+    total = told.pop("sum", None)
+    return {part: float(seconds) for part, seconds in told.items()}, int(run.stderr.split()[-1]), total
 
 
 def measured(programs, forms, row, count, rounds):
@@ -102,6 +108,8 @@ def measured(programs, forms, row, count, rounds):
         for call, mine in zip(calls, runs):
             if None not in mine:
                 mine.append(once(call))
+    if len({one[2] for mine in runs for one in mine if one}) > 1:
+        sys.exit(f"{row}: the programs make different keys or claims")
     least = lambda those: ({part: min(one[0][part] for one in those) for part in those[0][0]}, min(one[1] for one in those))
     best = [None if None in mine else least(mine) for mine in runs]
     return best + [None] * (len(programs) - len(best))
@@ -147,6 +155,8 @@ def main():
     forms.mkdir(exist_ok=True)
     ran(sys.executable, TOP / "tools" / "speed_sums.py", forms)
     wanted = words.rows.split(",") if words.rows else [row for row, _ in ROWS]
+    if "shared" in wanted:
+        wanted += [row for row, _ in ROWS if "/" in row]
     results = {}
     for row, full in ROWS:
         if row in wanted:

@@ -10,7 +10,8 @@ use std::time::{Duration, Instant};
 use dashmap::DashMap;
 use indexmap::IndexMap;
 use pagable::context::{PagableDeserializerImpl, PagableSerializerImpl};
-use pagable::oracle_access::{Mode, set_mode};
+use pagable::arc_erase::ArcEraseDyn;
+use pagable::oracle_access::{Mode, key, set_mode};
 use pagable::storage::handle::PagableStorageHandle;
 use pagable::storage::in_memory::InMemoryPagableStorage;
 use pagable::storage::support::SerializerForPaging;
@@ -19,6 +20,9 @@ use pagable::{PagableArc, PinnedPagableArc};
 
 /// The parts of a row, with the time that each took.
 type Parts = Vec<(&'static str, Duration)>;
+
+/// What is paged out as items: their bytes and references.
+type Items = Vec<(Vec<u8>, Vec<Box<dyn ArcEraseDyn>>)>;
 
 /// What is made, and how long that took.
 fn timed<T>(make: impl FnOnce() -> T) -> (T, Duration) {
@@ -183,6 +187,99 @@ impl Filling {
     }
 }
 
+/// The numbers from 0 on, dealt out to so many threads.
+fn dealt<T>(threads: usize, list: Vec<T>) -> Vec<Vec<T>> {
+    let mut hands: Vec<Vec<T>> = (0..threads).map(|_| Vec::new()).collect();
+    for (place, one) in list.into_iter().enumerate() {
+        hands[place % threads].push(one);
+    }
+    hands
+}
+
+/// What each thread makes of its hand, all at once. A pin asks for the runtime.
+fn at_once<T: Send, R: Send>(hands: Vec<T>, work: impl Fn(T) -> R + Sync) -> Vec<R> {
+    let (work, runtime) = (&work, &tokio::runtime::Handle::current());
+    let inside = |hand| move || {
+        let _inside = runtime.enter();
+        work(hand)
+    };
+    std::thread::scope(|scope| {
+        let threads: Vec<_> = hands.into_iter().map(|hand| scope.spawn(inside(hand))).collect();
+        threads.into_iter().map(|thread| thread.join().unwrap()).collect()
+    })
+}
+
+impl Filling {
+    /// Each thread clones its cells' handles, has the clones let their pins go, pins them, and lets pins and clones go.
+    fn locked_calls(&self, count: usize, threads: usize) -> Parts {
+        let text = |number| self.cell(format!("the text of cell number {number}"));
+        let cells = dealt(threads, (0..count).map(text).collect());
+        let (clones, clone) = timed(|| at_once(cells.iter().collect(), |own: &Vec<PagableArc<String>>| own.to_vec()));
+        let (_, unpin) = timed(|| at_once(clones.iter().collect(), |own: &Vec<PagableArc<String>>| own.iter().for_each(PagableArc::unpin)));
+        let pinned = |own: &Vec<PagableArc<String>>| own.iter().map(|cell| cell.pin_sync().unwrap()).collect::<Vec<_>>();
+        let (pins, pin) = timed(|| at_once(clones.iter().collect(), pinned));
+        let held: Vec<_> = pins.into_iter().zip(clones).collect();
+        let (_, release) = timed(|| at_once(held, drop));
+        vec![("clone", clone), ("unpin", unpin), ("pin", pin), ("release", release)]
+    }
+
+    /// One thread pages out the list, since the call takes the storage for itself, and then each pins its own cells.
+    fn locked_cells(&mut self, count: usize, threads: usize) -> (Parts, u128) {
+        let text = |number| self.listed(format!("the text of cell number {number}"));
+        let cells = dealt(threads, (0..count).map(text).collect());
+        let (_, out) = timed(|| self.storage.page_out_pending());
+        let pinned = |own: &Vec<PagableArc<String>>| own.iter().map(|cell| cell.pin_sync().unwrap()).collect::<Vec<_>>();
+        let (_pins, back) = timed(|| at_once(cells.iter().collect(), pinned));
+        let keys = cells.iter().flatten().map(|cell| key(cell));
+        (vec![("out", out), ("in", back)], keys.map(|key| key.unwrap().0).fold(0, u128::wrapping_add))
+    }
+
+    fn written<T: PagableSerialize>(&self, items: Vec<T>) -> Items {
+        let store = self.storage.handle();
+        let written = |item: T| {
+            let mut serializer = SerializerForPaging::new(store.session_context());
+            item.pagable_serialize(&mut serializer).unwrap();
+            serializer.finish()
+        };
+        items.into_iter().map(written).collect()
+    }
+
+    /// Workers page out items on one table, item i by worker i modulo how many they are. The claims are the slots of the table.
+    fn by_workers(&self, items: Items, workers: usize) -> (Parts, u128) {
+        let store = self.storage.handle();
+        let context = store.session_context();
+        let table = DashMap::new();
+        let paged_out = |(data, arcs)| store.page_out_item(data, arcs, &table, context).unwrap_or_else(|_| panic!("an item isn't paged out"));
+        let hands = dealt(workers, items);
+        let (keys, out) = timed(|| at_once(hands, |hand: Items| hand.into_iter().map(paged_out).collect::<Vec<_>>()));
+        let sum = keys.iter().flatten().map(|key| key.0).fold(table.len() as u128, u128::wrapping_add);
+        (vec![("out", out)], sum)
+    }
+
+    /// So many trees of 319 nodes, each of which an item refers to.
+    fn roots(&self, count: usize) -> Vec<Vec<Arc<Node>>> {
+        let node = |shared, name| Arc::new(Node { shared, names: vec![name], ..Node::default() });
+        (0..count).map(|number| vec![tree(number, 10, 6, node)]).collect()
+    }
+}
+
+/// A row once, by so many threads, and the sum of what it came to.
+fn once_by(row: &str, count: usize, threads: usize) -> (Parts, Option<u128>) {
+    let mut filling = Filling::new();
+    let (parts, sum) = match row {
+        "locked_calls" => return (filling.locked_calls(count, threads), None),
+        "locked_cells" => filling.locked_cells(count, threads),
+        "worker_items" => filling.by_workers(filling.written(filling.drawn_items(count)), threads),
+        "worker_trees" => filling.by_workers(filling.written(filling.roots(count)), threads),
+        "worker_texts" => {
+            let items = filling.texts(count).chunks(100).map(<[_]>::to_vec).collect();
+            filling.by_workers(filling.written(items), threads)
+        }
+        _ => panic!("no such row: {row}"),
+    };
+    (parts, Some(sum))
+}
+
 /// A chain of shared nodes that is let go. Its drops call each other, so that it gets a stack of its own.
 fn falls(count: usize) -> Parts {
     let run = move || {
@@ -195,8 +292,15 @@ fn falls(count: usize) -> Parts {
     std::thread::Builder::new().stack_size(4 << 30).spawn(run).unwrap().join().unwrap()
 }
 
-/// A row once.
-fn once(row: &str, count: usize, form: &[u8]) -> Parts {
+/// A row once. `NAME/THREADS` is the row NAME by so many threads.
+fn once(row: &str, count: usize, form: &[u8]) -> (Parts, Option<u128>) {
+    match row.split_once('/') {
+        Some((name, threads)) => once_by(name, count, threads.parse().unwrap()),
+        None => (once_alone(row, count, form), None),
+    }
+}
+
+fn once_alone(row: &str, count: usize, form: &[u8]) -> Parts {
     let mut filling = Filling::new();
     match row {
         "numbers" => codec::<Vec<u64>>(form),
@@ -246,12 +350,13 @@ fn main() {
     };
     let form = file.first().map(|file| std::fs::read(file).unwrap()).unwrap_or_default();
     let count = count.parse().unwrap();
-    let mut parts = once(row, count, &form);
+    let (mut parts, sum) = once(row, count, &form);
     for _ in 1..runs.parse::<u64>().unwrap() {
-        for (part, again) in parts.iter_mut().zip(once(row, count, &form)) {
+        for (part, again) in parts.iter_mut().zip(once(row, count, &form).0) {
             part.1 = part.1.min(again.1);
         }
     }
-    let told: Vec<String> = parts.iter().map(|(name, least)| format!("{name} {:.6}", least.as_secs_f64())).collect();
+    let mut told: Vec<String> = parts.iter().map(|(name, least)| format!("{name} {:.6}", least.as_secs_f64())).collect();
+    told.extend(sum.map(|sum| format!("sum {sum}")));
     println!("{row} {count} {}", told.join(" "));
 }

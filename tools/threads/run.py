@@ -2,10 +2,17 @@
 """Runs the tests of a pager that threads share, and says how many passed; its status is 0 where all did.
 
     tools/threads/run.py
+    tools/threads/run.py --wrong [NAME..]       # tries the wrong bodies of wrong.edits, or these
 
-They run unproved, by `rt try`, in a copy of the repository's crates, as modules of `pagable_held`: a proof of a test says
-no more than that it ends, and these tests would take as long to prove as the calls that they run. The files are named
-X.rattle, since the gate stops at a file X.rt that it doesn't check.
+They run unproved, by `rt try`, in a copy of the repository's crates, as modules of `pagable_held`: a proof of a test
+says no more than that it ends, and these tests would take as long to prove as the calls that they run. The files are
+named X.rattle, since the gate stops at a file X.rt that it doesn't check.
+
+A wrong body is one that no contract refuses, and that a test has to find. In wrong.edits a line 'NAME: TEXT' stands
+under the line 'file: PATH' of its file, as in tools/wrong_bodies: for '⟦OLD ⇒ NEW⟧' the file has OLD, and gets NEW; a
+line 'and: TEXT' does more of the same edit. Under it a line 'test: MODULE::TEST' stands for each test that has to fail.
+These tests alone run, on a copy with that edit; of each edit is told 'found', or why it isn't, and the last line is
+'N found, M not'; the status is 1 where one isn't.
 """
 import pathlib
 import re
@@ -17,32 +24,130 @@ import tempfile
 HERE = pathlib.Path(__file__).resolve().parent
 TOP = HERE.parent.parent
 CRATE = pathlib.Path("crates") / "pagable_held"
-RESULT = re.compile(r"^test result: ok\. (\d+) passed; 0 failed; 0 ignored", re.MULTILINE)
+# What the tests use beside what the crate does.
+USES = " pagable_examples indexmap smallvec"
+RESULT = re.compile(r"^test result: (ok|FAILED)\. (\d+) passed; (\d+) failed; 0 ignored", re.MULTILINE)
+CHANGE = re.compile(r"⟦(.*?) ⇒ (.*?)⟧")
+TEST = re.compile(r"#\[test\]\nfn (\w+)")
 
 
-def copied(folder):
-    """The crates in this folder, with the tests among them; how many there are."""
+def used(names):
+    """The modules of these names, and those that they use."""
+    found, left = set(), list(names)
+    while left:
+        name = left.pop()
+        if name not in found and (HERE / f"{name}.rattle").exists():
+            found.add(name)
+            text = (HERE / f"{name}.rattle").read_text(encoding="utf-8")
+            left += re.findall(r"^use crate::(\w+)", text, re.MULTILINE)
+    return sorted(found)
+
+
+def any_of(module, tests):
+    """Whether one of these tests stands in the module."""
+    return any(test.startswith(f"{module}::") for test in tests)
+
+
+def copied(folder, tests=None):
+    """The crates in this folder, with all tests among them, or these, as MODULE::TEST; how many tests there are."""
     shutil.copytree(TOP / "crates", folder / "crates", ignore=shutil.ignore_patterns("out"))
-    for name in ("HANDLES", "crates.txt"):
-        shutil.copy(TOP / name, folder / name)
+    shutil.copy(TOP / "HANDLES", folder / "HANDLES")
+    crates = (TOP / "crates.txt").read_text(encoding="utf-8")
+    (folder / "crates.txt").write_text(re.sub(rf"(?m)^{CRATE.name} .*", rf"\g<0>{USES}", crates), encoding="utf-8")
     subprocess.run(["git", "init", "-q"], cwd=folder, check=True)
     source = folder / CRATE / "src"
-    modules = sorted(HERE.glob("*.rattle"))
+    modules = used(file.stem for file in HERE.glob("*.rattle") if tests is None or any_of(file.stem, tests))
     for module in modules:
-        shutil.copy(module, source / f"{module.stem}.rt")
+        text = (HERE / f"{module}.rattle").read_text(encoding="utf-8")
+        for name in TEST.findall(text) if tests is not None else ():
+            if f"{module}::{name}" not in tests:
+                text = text.replace(f"#[test]\nfn {name}", f"fn {name}")
+        (source / f"{module}.rt").write_text(text, encoding="utf-8")
+    if "values" in modules:
+        specs = folder / CRATE / "specs"
+        specs.mkdir()
+        shutil.copy(HERE / "Values.antt", specs / "Values.antt")
+        (specs / "Lib.antt").write_text("pub mod Values\n", encoding="utf-8")
     with open(source / "lib.rt", "a", encoding="utf-8") as root:
-        root.writelines(f"#[cfg(test)]\nmod {module.stem};\n" for module in modules)
+        root.writelines(f"#[cfg(test)]\nmod {module};\n" for module in modules)
     return sum(file.read_text(encoding="utf-8").count("#[test]\n") for file in source.glob("*.rt"))
 
 
+def ran(folder):
+    """What the run of the tests in this folder says."""
+    run = subprocess.run(["rt", "try", "--test"], cwd=folder / CRATE, text=True, capture_output=True)
+    return run.stdout + run.stderr
+
+
+class Edit:
+    """A wrong body: its name, of each line the file, the old text and the new one, and the tests that find it."""
+
+    def __init__(self, name):
+        self.name, self.pairs, self.tests = name, [], []
+
+    def apply(self, folder):
+        """Makes the edit in this folder; answers why it can't, or None."""
+        for file, old, new in self.pairs:
+            text = (folder / file).read_text(encoding="utf-8")
+            if text.count(old) != 1:
+                return f"an old text stands {text.count(old)} times in {file}"
+            (folder / file).write_text(text.replace(old, new), encoding="utf-8")
+        return None
+
+
+def edits():
+    """The wrong bodies."""
+    found = []
+    for line in (HERE / "wrong.edits").read_text(encoding="utf-8").splitlines():
+        word, _, text = line.partition(": ")
+        if word == "file":
+            file = text
+        elif word == "test":
+            found[-1].tests.append(text)
+        else:
+            if word != "and":
+                found.append(Edit(word))
+            found[-1].pairs.append((file, CHANGE.sub(r"\1", text), CHANGE.sub(r"\2", text)))
+    return found
+
+
+def told(edit):
+    """What is told of an edit: 'found' where each of its tests fails."""
+    with tempfile.TemporaryDirectory() as folder:
+        folder = pathlib.Path(folder)
+        copied(folder, edit.tests)
+        if why := edit.apply(folder):
+            return why
+        said = ran(folder)
+    result = RESULT.search(said)
+    if not result:
+        return f"no tests ran: {said[-2000:]}"
+    passed = [test for test in edit.tests if not re.search(rf"{test} \.\.\. FAILED", said)]
+    return f"passed: {' '.join(passed)}" if passed else "found"
+
+
+def try_wrong(names):
+    """Tries the wrong bodies of these names, or all; answers whether each was found."""
+    chosen = [edit for edit in edits() if not names or edit.name in names]
+    verdicts = []
+    for edit in chosen:
+        verdicts.append(told(edit))
+        print(f"{edit.name}: {verdicts[-1]}", flush=True)
+    found = verdicts.count("found")
+    print(f"{found} found, {len(verdicts) - found} not")
+    return found == len(verdicts)
+
+
 def main():
+    if sys.argv[1:2] == ["--wrong"]:
+        sys.exit(0 if try_wrong(sys.argv[2:]) else 1)
     with tempfile.TemporaryDirectory() as folder:
         folder = pathlib.Path(folder)
         count = copied(folder)
-        run = subprocess.run(["rt", "try", "--test"], cwd=folder / CRATE, text=True, capture_output=True)
-    said = RESULT.search(run.stdout + run.stderr)
-    if run.returncode or not said or int(said[1]) != count:
-        sys.exit(f"{run.stdout}{run.stderr}tests of threads: not all of {count} passed")
+        said = ran(folder)
+    result = RESULT.search(said)
+    if not result or (result[1], int(result[2])) != ("ok", count):
+        sys.exit(f"{said}tests of threads: not all of {count} passed")
     print(f"tests of threads: {count} passed")
 
 
