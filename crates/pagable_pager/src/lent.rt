@@ -3,6 +3,7 @@
 
 ghost use Rattle.std.specs.Prelude.{IfErr, IfOk, true, ◌≡◌};
 ghost use Rattle.{pagable_loads.specs.Telling.values_at, pagable_pager.specs.View.{Calls, OnlyLess, OnlyTables, core_in, is_at_work, state_in, telling}};
+ghost use Rattle.pagable_tables.specs.Sound.{is_sound};
 ghost use Rattle.pagable_world.specs.{Calls.{ClearCall, OfferCall, RecallCall}, Pager.WellFormed, World.seen_as};
 
 use crate::pager::Pager;
@@ -75,6 +76,15 @@ impl<'a, E: Env<Node: NodeSet<E>>, S: PagableStorage<E>> Lent<'a, E, S> {
             }
             _ => Err(Error::NotYours),
         }
+    }
+}
+
+impl<'a, E: Env<Node: NodeSet<E>>, S: PagableStorage<E>> Lent<'a, E, S> {
+    /// Computes whether all that the pager keeps is in step, as `Pager::is_sound`.
+    pub fn is_sound(&self) -> bool
+        ensures { result ≡ is_sound self.now.pager.now.tables self.now.pager.now.values }
+    {
+        self.pager.is_sound()
     }
 }
 

@@ -1,7 +1,7 @@
 //! The pager: values in memory, in step with tables of who holds them, over a storage of blobs; and loads, by steps.
 
 ghost use Rattle.std.specs.{Arc.arc_value, Option.option_map, Prelude.{IfErr, IfNone, IfOk, IsTrue, None, OnOk, Option, Some, false, nat_lt, true, ℕ, ◌≡◌}};
-ghost use Rattle.{pagable_core.specs.Data.blob_of, pagable_loads.specs.{Starting.Shares, Telling.values_at}, pagable_model.specs.{Blob.{Blob, key_of}, Stored.{RefusesFetch, RefusesFlush, RefusesStore}}, pagable_tables.specs.{Core.root_in, Ready.AsksKnown}};
+ghost use Rattle.{pagable_core.specs.Data.blob_of, pagable_loads.specs.{Starting.Shares, Telling.values_at}, pagable_model.specs.{Blob.{Blob, key_of}, Stored.{RefusesFetch, RefusesFlush, RefusesStore}}, pagable_tables.specs.{Core.root_in, Ready.AsksKnown, Sound.is_sound}};
 ghost use Rattle.pagable_pager.specs.View.{AsksStorage, Calls, FewerValues, FitsWant, KeepsWorkers, OnlyTables, ReadsAs, SameValues, core_in, given_as, is_at_work, state_in, telling, type_of_root};
 ghost use Rattle.pagable_world.specs.{Calls.{CloseCall, FetchCall, FlushCall, StoreCall}, LoadCalls.{AskCall, BeginCall, BeginKeyCall, LazyCall}, Pager.{IsNew, ValueCall, WellFormed}};
 ghost use Rattle.pagable_world.specs.{Refusals.load_fault, World.{greatest, seen_as}};
@@ -17,7 +17,7 @@ use pagable_core::{PagableData, PagableStorage, SessionOf, Setting};
 use pagable_model::{DataKey, Error, HandleNumber, Kind, LoadNumber, WorkerNumber};
 use pagable_tables::number_table::NumberTable;
 use pagable_tables::tables::{LoadRoot, Tables};
-use pagable_tables::{giving, loading, lookups, tables};
+use pagable_tables::{giving, loading, lookups, sound, tables};
 use pagable_world::handles::Owner;
 use pagable_world::{Beginning, Want};
 use std::alloc::Global;
@@ -167,6 +167,15 @@ impl<E: Env<Node: NodeSet<E>>, S: PagableStorage<E>> Pager<E, S> {
         ensures { WellFormed (values_at E.Node.NodeSet E.Env E.Hash.KeyHash self.now.environment) (state_in (telling S.stored S.is_closed S.failed) self.now) }
     {
         let _tables = &self.tables;
+    }
+
+    /// Computes whether all that the pager keeps is in step, for tests to ask: each live handle has a node and an owner that has it once, each node counts its handles and has
+    /// its value exactly while one pins it or it has no key, each value owns the handles by which it refers, and list and cache name what was given. It takes time for each
+    /// pair of a node and a handle.
+    pub fn is_sound(&self) -> bool
+        ensures { result ≡ is_sound self.now.tables self.now.values }
+    {
+        sound::is_sound(&self.tables, &self.values)
     }
 
     /// The blob under a key. Refused with NoData, OutOfMemory and Storage, as the storage refuses it.

@@ -2,3 +2,4 @@ pub mod Rows
 pub mod Falling
 pub mod Core
 pub mod Ready
+pub mod Sound

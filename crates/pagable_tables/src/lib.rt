@@ -9,4 +9,5 @@ pub mod loading;
 pub mod lookups;
 pub mod making;
 pub mod number_table;
+pub mod sound;
 pub mod tables;
