@@ -96,7 +96,8 @@ pub mod storage {
         pub use pagable_core::{PagableStorage, Setting};
         pub use pagable_loads::{Access, WorkerAccess, pin_over, read_over};
         pub use pagable_locked::{
-            ArcSerSlot, ClaimShare, Locked, SharedClaims, SlotTable, TableGuard,
+            ArcSerSlot, ClaimShare, Gate, Locked, NoGate, PageOutReport, SharedClaims, SlotTable,
+            TableGuard,
         };
         pub use pagable_pager::{DeserializedArcCache, Lent};
         pub use pagable_walk::{

@@ -56,6 +56,11 @@ impl<E: Env<Node: NodeSet<E>>> InMemoryPagableStorage<E> {
         self.handle.pending_paging_count(rt)
     }
 
+    /// Computes whether all that it keeps is in step, as the handle's call of this name.
+    pub fn is_sound<R: Wait>(&self, rt: &R) -> bool {
+        self.handle.is_sound(rt)
+    }
+
     /// Pages out the list, as the handle's call of this name; refused as that.
     pub fn page_out_pending<R: Wait>(&self, rt: &R, alloc: Global) -> Result<(), PageOutError> {
         self.handle.page_out_pending(rt, alloc)

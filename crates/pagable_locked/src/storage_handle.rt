@@ -212,6 +212,12 @@ impl<E: Env<Node: NodeSet<E>>, S: PagableStorage<E>> PagableStorageHandle<E, S> 
         self.inner.pager.lock(rt).pending()
     }
 
+    /// Computes whether all that the pager keeps is in step, for tests to ask once threads have run, as
+    /// `Pager::is_sound`. It holds the lock meanwhile, and takes time for each pair of a node and a handle.
+    pub fn is_sound<R: Wait>(&self, rt: &R) -> bool {
+        self.inner.pager.lock(rt).is_sound()
+    }
+
     /// Pages out what an item refers to, and then the item itself, on a table that others may page out on too: answers
     /// its key, which is that of its bytes over the keys of results that stand below it, one for each of its references.
     /// What another thread is paging out is waited for. The item's handles stay the caller's, and have to live until

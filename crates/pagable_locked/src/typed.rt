@@ -4,7 +4,7 @@ use crate::storage_handle::PagableStorageHandle;
 use pagable_codec::{Env, NodeSet};
 use pagable_core::PagableStorage;
 use pagable_loads::pin_with_state_over;
-use pagable_model::{Error, HandleNumber, NodeNumber, OptionalDataKey};
+use pagable_model::{DataKey, Error, HandleNumber, NodeNumber, OptionalDataKey};
 use pagable_traits::{FirstHandle, NewPin, Storage};
 use std::alloc::Global;
 use std::sync::Wait;
@@ -31,6 +31,18 @@ impl<E: Env<Node: NodeSet<E>>, S: PagableStorage<E>> Storage<E> for PagableStora
             Ok(handle) => Ok((pager.node_of(handle)?, handle)),
             Err((e, _node)) => Err(e),
         }
+    }
+
+    fn new_paged_out<R: Wait>(
+        &self,
+        rt: &R,
+        alloc: Global,
+        node_type: u32,
+        key: DataKey,
+    ) -> Result<(NodeNumber, HandleNumber), Error> {
+        let mut pager = self.inner.pager.lock(rt);
+        let handle = pager.new_paged_out(alloc, node_type, key)?;
+        Ok((pager.node_of(handle)?, handle))
     }
 
     fn clone_handle<R: Wait>(&self, rt: &R, handle: HandleNumber) -> Result<HandleNumber, Error> {
@@ -71,6 +83,15 @@ impl<E: Env<Node: NodeSet<E>>, S: PagableStorage<E>> Storage<E> for PagableStora
 
     fn key<R: Wait>(&self, rt: &R, handle: HandleNumber) -> Result<OptionalDataKey, Error> {
         self.inner.pager.lock(rt).key(handle)
+    }
+
+    fn set_data_key<R: Wait>(
+        &self,
+        rt: &R,
+        handle: HandleNumber,
+        key: DataKey,
+    ) -> Result<(), Error> {
+        self.inner.pager.lock(rt).set_data_key(handle, key)
     }
 
     fn is_paged_out<R: Wait>(&self, rt: &R, handle: HandleNumber) -> Result<bool, Error> {

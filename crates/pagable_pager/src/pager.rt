@@ -169,9 +169,10 @@ impl<E: Env<Node: NodeSet<E>>, S: PagableStorage<E>> Pager<E, S> {
         let _tables = &self.tables;
     }
 
-    /// Computes whether all that the pager keeps is in step, for tests to ask: each live handle has a node and an owner that has it once, each node counts its handles and has
-    /// its value exactly while one pins it or it has no key, each value owns the handles by which it refers, and list and cache name what was given. It takes time for each
-    /// pair of a node and a handle.
+    /// Computes whether all that the pager keeps is in step, for tests to ask: each live handle has a node and an owner
+    /// that has it once, each node counts its handles and has its value exactly while one pins it or it has no key, each
+    /// value owns the handles by which it refers, and list and cache name what was given. It takes time for each pair of
+    /// a node and a handle.
     pub fn is_sound(&self) -> bool
         ensures { result ≡ is_sound self.now.tables self.now.values }
     {

@@ -41,7 +41,8 @@ abbrev pub agree : Bool → Bool → Bool
 agree true b = b
 agree false b = not b
 
--- A node counts its handles, those that pin it among them, and has one; its value is in memory exactly while one pins it or it has no key; and where one is Shared, all are, and it has no key.
+-- A node counts its handles, those that pin it among them, and has one; its value is in memory exactly while one pins it or it has no key; and where one is
+-- Shared, all are, and it has no key.
 unfoldable pub are_counts_sound : List Place → ℕ → Bool → Counts → Bool
 are_counts_sound places n here c =
     ((c.pins == count_by (pins_node n) places && c.holds == count_by (at_node n) places) && (nat_le 1 c.holds && not c.is_falling))
@@ -61,10 +62,12 @@ unfoldable pub are_nodes_sound : {X : Type 0} → Tables → NumberTable X → �
 are_nodes_sound t values zero = true
 are_nodes_sound t values (suc n) = is_node_sound t (suc n) (is_some (row_by values (suc n))) (counts_at t.holdings.nodes (suc n)) && are_nodes_sound t values n
 
--- What the cache knows under a kind is a node that was given, and while it lives it has the kind's type, and Shared handles exactly if the kind is that of shared nodes.
+-- What the cache knows under a kind is a node that was given, and while it lives it has the kind's type, and Shared handles exactly if the kind is that of
+-- shared nodes.
 abbrev pub is_known_soundly : Tables → ℕ → ℕ → Option Counts → Bool
 is_known_soundly t kind n None = nat_le n t.last_node
-is_known_soundly t kind n (Some c) = nat_le n t.last_node && (c.node_type == type_of kind && agree (nat_le 1 (count_by (shares_node n) t.holdings.handles.places.items)) (is_shared_kind kind))
+is_known_soundly t kind n (Some c) = nat_le n t.last_node
+    && (c.node_type == type_of kind && agree (nat_le 1 (count_by (shares_node n) t.holdings.handles.places.items)) (is_shared_kind kind))
 
 abbrev pub is_entry_sound : Tables → (ℕ × ℕ) × NodeNumber → Bool
 is_entry_sound t e = is_known_soundly t e.0.0 e.1.0 (counts_at t.holdings.nodes e.1.0)

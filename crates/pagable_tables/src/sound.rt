@@ -239,9 +239,10 @@ fn is_cache_sound(t: &Tables) -> bool
         .all(|(known, node)| is_known_soundly(t, Kind(known.0), *node))
 }
 
-/// Computes whether handles, nodes and their counts, list, cache, loads, workers and values are in step: each live handle has a
-/// node and an owner that has it once, each node counts its handles and has its value exactly while one pins it or it has
-/// no key, and each value owns the handles by which it refers. It takes time for each pair of a node and a handle.
+/// Computes whether handles, nodes and their counts, list, cache, loads, workers and values are in step: each live
+/// handle has a node and an owner that has it once, each node counts its handles and has its value exactly while one
+/// pins it or it has no key, each value owns the handles by which it refers, and the cache knows what was given. It takes
+/// time for each pair of a node and a handle.
 #[tactic(auto, unfolding(crate::specs::Sound::is_sound))]
 pub fn is_sound<N: Drop>(t: &Tables, values: &Arcs<N>) -> bool
     ensures { result ≡ is_sound t.now values.now }

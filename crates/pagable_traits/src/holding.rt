@@ -2,7 +2,7 @@
 
 ghost use Rattle.std.specs.{Arc.arc_value, Prelude.{IfErr, IfOk, IfSome, nat_eq, ◌≡◌, ◌≢◌}};
 ghost use Rattle.pagable_model.specs.Shape.{reference as reference_shape};
-ghost use Rattle.pagable_traits.specs.{Beside.holding_beside, Meanings.exactly, References.{holding, holding_kind, holding_means, reads_unlent, reference_has_one_form, unlent}};
+ghost use Rattle.pagable_traits.specs.{Beside.holding_beside, Erased.IsToldAt, Meanings.exactly, References.{holding, holding_kind, holding_means, reads_unlent, reference_has_one_form, unlent}};
 
 use crate::plain::{read_reference, write_reference};
 use crate::storage::{FirstHandle, has_gone};
@@ -110,6 +110,7 @@ impl<T, const PINS: bool> HoldingArc<T, PINS> {
     where
         T: OfNode<E> + Drop,
         ensures holds { IfOk result (λ a. arc_value a.value ≡ arc_value value) }
+        ensures told { IfOk result (λ a. IsToldAt T.held (S.told storage.now) a.handle.0 (arc_value value)) }
         ensures back { IfErr result (λ r. arc_value r.1 ≡ arc_value value) }
     {
         let inserted = match Shared::try_clone(&value) {
@@ -138,6 +139,7 @@ impl<T, const PINS: bool> HoldingArc<T, PINS> {
     where
         T: Drop,
         ensures value { IfOk result (λ a. arc_value a.value ≡ arc_value self.now.value) }
+        ensures told { IfOk result (λ a. IfSome (S.told storage.now) (λ at. at a.handle.0 ≡ at self.now.handle.0)) }
         ensures node { IfOk result (λ a. a.node ≡ self.now.node) }
     {
         let value = Shared::try_clone(&self.value)?;

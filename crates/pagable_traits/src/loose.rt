@@ -1,7 +1,7 @@
 //! Loose references.
 
-ghost use Rattle.std.specs.{Arc.arc_value, Prelude.{IfErr, IfNone, IfOk, IfSome, Some, nat_eq, option_and_then, ◌≡◌, ◌≢◌}};
-ghost use Rattle.{pagable_model.specs.Shape.reference as reference_shape, pagable_traits.specs.{Meanings.exactly, References.{loose, loose_kind, loose_means, reference_has_one_form}}};
+ghost use Rattle.std.specs.{Arc.arc_value, Prelude.{IfErr, IfNone, IfOk, IfSome, nat_eq, ◌≡◌, ◌≢◌}};
+ghost use Rattle.{pagable_model.specs.Shape.reference as reference_shape, pagable_traits.specs.{Erased.IsToldAt, Meanings.exactly, References.{loose, loose_kind, loose_means, reference_has_one_form}}};
 
 use crate::plain::write_reference;
 use crate::storage::{FirstHandle, NewPin, has_gone};
@@ -12,7 +12,7 @@ use pagable_codec::{
     ArcRef, Env, HandleNumber, Kind, NodeNumber, OfNode, PagableDeserializer, PagableSerializer,
 };
 use pagable_flavors::Error;
-use pagable_model::OptionalDataKey;
+use pagable_model::{DataKey, OptionalDataKey};
 use std::alloc::Global;
 use std::marker::PhantomData;
 use std::sync::{Arc, Wait};
@@ -87,6 +87,7 @@ impl<T> PagableArc<T> {
     ) -> Result<PagableArc<T>, (Error, Arc<T>)>
     where
         T: OfNode<E> + Drop,
+        ensures told { IfOk result (λ a. IsToldAt T.held (S.told storage.now) a.handle.0 (arc_value value)) }
         ensures back { IfErr result (λ r. arc_value r.1 ≡ arc_value value) }
     {
         let inserted = match Arc::try_clone(&value) {
@@ -99,6 +100,25 @@ impl<T> PagableArc<T> {
         }
     }
 
+    /// Makes a cell whose value has this key and the type `T`, and answers its first reference, which pins nothing. It
+    /// reads nothing, and asks that the key reads as a value of this type.
+    ///
+    /// # Errors
+    /// - as `Storage::new_paged_out`.
+    pub fn new_paged_out<E: Env, R: Wait, S: Storage<E>>(
+        rt: &R,
+        alloc: Global,
+        key: DataKey,
+        storage: &S,
+    ) -> Result<PagableArc<T>, Error>
+    where
+        T: OfNode<E>,
+        ensures opens { IfOk result (λ a. S.opens storage.now T.TYPE key (a.node, a.handle)) }
+    {
+        let (node, handle) = storage.new_paged_out(rt, alloc, T::TYPE, key)?;
+        Ok(PagableArc::of(node, handle))
+    }
+
     /// Makes one more of the same mode: it pins as this does.
     ///
     /// # Errors
@@ -109,6 +129,7 @@ impl<T> PagableArc<T> {
         storage: &S,
     ) -> Result<PagableArc<T>, Error>
         ensures node { IfOk result (λ a. a.node ≡ self.now.node) }
+        ensures told { IfOk result (λ a. IfSome (S.told storage.now) (λ at. at a.handle.0 ≡ at self.now.handle.0)) }
     {
         let handle = storage.clone_handle(rt, self.handle)?;
         Ok(PagableArc::of(self.node, handle))
@@ -131,7 +152,7 @@ impl<T> PagableArc<T> {
     ) -> Result<PinnedPagableArc<T>, Error>
     where
         T: OfNode<E> + Drop,
-        ensures value { IfOk result (λ p. IfSome (S.told storage.now) (λ at. option_and_then T.held (at self.now.handle.0) ≡ Some (arc_value p.value))) }
+        ensures value { IfOk result (λ p. IsToldAt T.held (S.told storage.now) self.now.handle.0 (arc_value p.value)) }
         ensures node { IfOk result (λ p. p.node ≡ self.now.node) }
     {
         let pin = storage.pin(rt, alloc, self.handle)?;
@@ -165,6 +186,7 @@ impl<T> PagableArc<T> {
     ) -> Result<PinnedPagableArc<T>, Error>
     where
         T: OfNode<E> + Drop,
+        ensures value { IfOk result (λ p. IsToldAt T.held (S.told storage.now) self.now.handle.0 (arc_value p.value)) }
         ensures node { IfOk result (λ p. p.node ≡ self.now.node) }
     {
         let clone = self.clone(rt, storage)?;
@@ -179,6 +201,18 @@ impl<T> PagableArc<T> {
     /// - as `Storage::unpin`.
     pub fn unpin<E: Env, R: Wait, S: Storage<E>>(&self, rt: &R, storage: &S) -> Result<(), Error> {
         storage.unpin(rt, self.handle)
+    }
+
+    /// Sets the key of its cell, as `Storage::set_data_key`; refused as that.
+    pub(crate) fn set_key<E: Env, R: Wait, S: Storage<E>>(
+        &self,
+        rt: &R,
+        key: DataKey,
+        storage: &S,
+    ) -> Result<(), Error>
+        ensures sets { S.sets storage.now self.now.handle key result }
+    {
+        storage.set_data_key(rt, self.handle, key)
     }
 
     /// Gives it up.
@@ -215,7 +249,9 @@ impl<T> PagableArc<T> {
         &self,
         rt: &R,
         storage: &S,
-    ) -> Result<OptionalDataKey, Error> {
+    ) -> Result<OptionalDataKey, Error>
+        ensures answers { S.keys storage.now self.now.handle result }
+    {
         storage.key(rt, self.handle)
     }
 

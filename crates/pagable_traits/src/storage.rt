@@ -1,10 +1,11 @@
 //! What makes, pins and gives up the handles of typed references: a pager behind a lock, or one that is lent.
 
-ghost use Rattle.std.specs.{Arc.arc_value, Prelude.{IfOk, IfSome, Option, Some, ℕ, ◌≡◌}};
+ghost use Rattle.std.specs.{Arc.arc_value, Prelude.{IfOk, IfSome, Option, Result, Some, ℕ, ◌≡◌}};
+ghost use Rattle.pagable_model.specs.declared.{data_key.OptionalDataKey.OptionalDataKey as Key, error.Error.Error as Refusal, numbers.{HandleNumber.HandleNumber as Handle, NodeNumber.NodeNumber as Node}};
 
 use pagable_codec::{Env, HandleNumber, NodeNumber};
 use pagable_flavors::Error;
-use pagable_model::OptionalDataKey;
+use pagable_model::{DataKey, OptionalDataKey};
 use std::alloc::Global;
 use std::sync::{Arc, Wait};
 
@@ -33,6 +34,14 @@ pub trait Storage<E: Env> {
     // the value of each handle's node, if that is told
     ghost told: { Self → Option (ℕ → Option E.Node) };
 
+    // what is answered for the key of a handle's cell, and for setting it to one; and which cells of a type and a key
+    // are made
+    ghost keys: { Self → Handle → Result Key Refusal → Type 0 } = { λ s h r. Unit {0} };
+
+    ghost sets: { Self → Handle → ℕ → Result (Unit {0}) Refusal → Type 0 } = { λ s h k r. Unit {0} };
+
+    ghost opens: { Self → ℕ → ℕ → Node × Handle → Type 0 } = { λ s t k r. Unit {0} };
+
     /// Inserts a node, with its first handle, which is the caller's as the handles in the value were.
     ///
     /// # Errors
@@ -46,13 +55,29 @@ pub trait Storage<E: Env> {
         alloc: Global,
         node: E::Node,
         first: FirstHandle,
-    ) -> Result<(NodeNumber, HandleNumber), Error>;
+    ) -> Result<(NodeNumber, HandleNumber), Error>
+        ensures value { IfOk result (λ r. IfSome (told self.now) (λ at. at r.1.0 ≡ Some node)) };
+
+    /// Makes a cell that has a key and no value, with an unpinned loose handle of the caller's. It reads nothing, and
+    /// asks that the key reads as a value of this type.
+    ///
+    /// # Errors
+    /// - NumbersSpent, OutOfMemory: nothing changes.
+    fn new_paged_out<R: Wait>(
+        &self,
+        rt: &R,
+        alloc: Global,
+        node_type: u32,
+        key: DataKey,
+    ) -> Result<(NodeNumber, HandleNumber), Error>
+        ensures opens { IfOk result (opens self.now node_type key) };
 
     /// Makes one more handle of a handle's node, in the same mode.
     ///
     /// # Errors
     /// - NoSuchHandle, NumbersSpent, OutOfMemory: nothing changes.
-    fn clone_handle<R: Wait>(&self, rt: &R, handle: HandleNumber) -> Result<HandleNumber, Error>;
+    fn clone_handle<R: Wait>(&self, rt: &R, handle: HandleNumber) -> Result<HandleNumber, Error>
+        ensures value { IfOk result (λ r. IfSome (told self.now) (λ at. at r.0 ≡ at handle.0)) };
 
     /// Pins the cell of the caller's loose handle, reading its value where it isn't in memory.
     ///
@@ -99,7 +124,17 @@ pub trait Storage<E: Env> {
     ///
     /// # Errors
     /// - NoSuchHandle.
-    fn key<R: Wait>(&self, rt: &R, handle: HandleNumber) -> Result<OptionalDataKey, Error>;
+    fn key<R: Wait>(&self, rt: &R, handle: HandleNumber) -> Result<OptionalDataKey, Error>
+        ensures answers { keys self.now handle result };
+
+    /// Sets the key of a handle's cell; where nothing pins the cell, its value goes. A Pinned or a Shared handle
+    /// changes nothing. It asks that the key reads as the cell's value in the storage.
+    ///
+    /// # Errors
+    /// - NoSuchHandle, NotYours: nothing changes.
+    /// - NumbersSpent, OutOfMemory: a cell couldn't be listed; the key is set all the same.
+    fn set_data_key<R: Wait>(&self, rt: &R, handle: HandleNumber, key: DataKey) -> Result<(), Error>
+        ensures answers { sets self.now handle key result };
 
     /// Tells whether a handle's cell has its value in the storage alone.
     ///

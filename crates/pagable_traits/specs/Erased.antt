@@ -1,0 +1,50 @@
+-- What references of all sorts answer of the values that they refer to, and of the keys of their cells.
+use Rattle.std.specs.Prelude.{Bool, Err, IfSome, Ok, Option, Result, Some, false, option_and_then, true, ℕ, ◌≡◌}
+use Rattle.pagable_model.specs.{Meaning.Meaning, Shape.Shape, Writing.{Refused, WritesSome}, declared.{data_key.OptionalDataKey.OptionalDataKey, error.Error.Error, numbers.ArcRef.ArcRef}}
+use Rattle.pagable_traits.specs.Clauses.{Piece}
+
+-- the value is that of the handle's node, where the storage tells what its handles name
+abbrev pub IsToldAt : {N T : Type 0} → (N → Option T) → Option (ℕ → Option N) → ℕ → T → Type 0
+IsToldAt held told handle x = IfSome told (λ at. option_and_then held (at handle) ≡ Some x)
+
+-- whether a cell without a value in the storage has to be paged out: it has no key
+abbrev pub needs_by : Result OptionalDataKey Error → Result Bool Error
+needs_by (Ok OptionalDataKey.None) = Ok true
+needs_by (Ok (OptionalDataKey.Some key)) = Ok false
+needs_by (Err e) = Err e
+
+-- what the storage has answered for the key of the handle's cell is turned so
+pub record NeedsByKey (answers : Result OptionalDataKey Error → Type 0) (result : Result Bool Error) : Type 0 where
+  pub key : Result OptionalDataKey Error
+  pub answered : answers key
+  pub needs : result ≡ needs_by key
+
+-- a reference that has a key of its own asks its storage, and another never needs it
+abbrev pub NeedsPagingOut : Bool → (Result OptionalDataKey Error → Type 0) → Result Bool Error → Type 0
+NeedsPagingOut true answers result = NeedsByKey answers result
+NeedsPagingOut false answers result = result ≡ Ok false
+
+-- a reference that has a key of its own sets it in its storage, and another does nothing
+abbrev pub SetsKey : Bool → (Result (Unit {0}) Error → Type 0) → Result (Unit {0}) Error → Type 0
+SetsKey true sets result = sets result
+SetsKey false sets result = result ≡ Ok tt
+
+-- why the value that a reference holds is refused, or one that had to be pinned first
+abbrev pub LacksInner : {X : Type 0} → Bool → (X → Type 0) → (X → Error → Type 0) → Error → Type 0
+LacksInner true IsInner lacks e = Unit {0}
+LacksInner {X} false IsInner lacks e = (x : X) × IsInner x × lacks x e
+
+abbrev pub inner_causes : Bool → (Error → Type 0) → Error → Type 0
+inner_causes true causes e = Unit {0}
+inner_causes false causes e = causes e
+
+-- a form of the value that a reference refers to
+abbrev pub inner : {X : Type 0} → Bool → (X → Type 0) → (X → Meaning ArcRef → Type 0) → Shape → Piece
+inner {X} pages IsInner means shape = record {
+  wrote = λ n old new. (x : X) × IsInner x × WritesSome (means x) n shape old new;
+  lacks = λ n e. LacksInner pages IsInner (λ x. Refused (means x) n shape) e;
+}
+
+-- any cause
+abbrev pub any_cause : Error → Type 0
+any_cause e = Unit {0}
