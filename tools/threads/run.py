@@ -2,7 +2,7 @@
 """Runs the tests of a pager that threads share, and says how many passed; its status is 0 where all did.
 
     tools/threads/run.py
-    tools/threads/run.py --wrong [NAME..]       # tries the wrong bodies of wrong.edits, or these
+    tools/threads/run.py --wrong [NAME+..]      # tries the wrong bodies of wrong.edits, or these
 
 They run unproved, by `rt try`, in a copy of the repository's crates, as modules of `pagable_held`: a proof of a test
 says no more than that it ends, and these tests would take as long to prove as the calls that they run. The files are
@@ -11,8 +11,9 @@ named X.rattle, since the gate stops at a file X.rt that it doesn't check.
 A wrong body is one that no contract refuses, and that a test has to find. In wrong.edits a line 'NAME: TEXT' stands
 under the line 'file: PATH' of its file, as in tools/wrong_bodies: for '⟦OLD ⇒ NEW⟧' the file has OLD, and gets NEW; a
 line 'and: TEXT' does more of the same edit. Under it a line 'test: MODULE::TEST' stands for each test that has to fail.
-These tests alone run, on a copy with that edit; of each edit is told 'found', or why it isn't, and the last line is
-'N found, M not'; the status is 1 where one isn't.
+Their modules alone run, on a copy with that edit, or with several whose names are joined by '+', where none bears on
+another's tests: that saves minutes. Of each edit is told 'found', or why it isn't, and the last line is 'N found, M
+not'; the status is 1 where one isn't.
 """
 import pathlib
 import re
@@ -28,7 +29,6 @@ CRATE = pathlib.Path("crates") / "pagable_held"
 USES = " pagable_examples indexmap smallvec"
 RESULT = re.compile(r"^test result: (ok|FAILED)\. (\d+) passed; (\d+) failed; 0 ignored", re.MULTILINE)
 CHANGE = re.compile(r"⟦(.*?) ⇒ (.*?)⟧")
-TEST = re.compile(r"#\[test\]\nfn (\w+)")
 
 
 def used(names):
@@ -49,7 +49,7 @@ def any_of(module, tests):
 
 
 def copied(folder, tests=None):
-    """The crates in this folder, with all tests among them, or these, as MODULE::TEST; how many tests there are."""
+    """The crates in this folder, with all modules of tests or those of these tests; how many tests there are."""
     shutil.copytree(TOP / "crates", folder / "crates", ignore=shutil.ignore_patterns("out"))
     shutil.copy(TOP / "HANDLES", folder / "HANDLES")
     crates = (TOP / "crates.txt").read_text(encoding="utf-8")
@@ -58,11 +58,7 @@ def copied(folder, tests=None):
     source = folder / CRATE / "src"
     modules = used(file.stem for file in HERE.glob("*.rattle") if tests is None or any_of(file.stem, tests))
     for module in modules:
-        text = (HERE / f"{module}.rattle").read_text(encoding="utf-8")
-        for name in TEST.findall(text) if tests is not None else ():
-            if f"{module}::{name}" not in tests:
-                text = text.replace(f"#[test]\nfn {name}", f"fn {name}")
-        (source / f"{module}.rt").write_text(text, encoding="utf-8")
+        shutil.copy(HERE / f"{module}.rattle", source / f"{module}.rt")
     if "values" in modules:
         specs = folder / CRATE / "specs"
         specs.mkdir()
@@ -111,28 +107,31 @@ def edits():
     return found
 
 
-def told(edit):
-    """What is told of an edit: 'found' where each of its tests fails."""
+def told(together):
+    """What is told of each of these edits, which are tried together: 'found' where each of its tests fails."""
     with tempfile.TemporaryDirectory() as folder:
         folder = pathlib.Path(folder)
-        copied(folder, edit.tests)
-        if why := edit.apply(folder):
-            return why
+        copied(folder, {test for edit in together for test in edit.tests})
+        for edit in together:
+            if why := edit.apply(folder):
+                return [f"{edit.name}: {why}" for _ in together]
         said = ran(folder)
-    result = RESULT.search(said)
-    if not result:
-        return f"no tests ran: {said[-2000:]}"
-    passed = [test for test in edit.tests if not re.search(rf"{test} \.\.\. FAILED", said)]
-    return f"passed: {' '.join(passed)}" if passed else "found"
+    if not RESULT.search(said):
+        return [f"no tests ran: {said[-1000:]}" for _ in together]
+    passed = [[test for test in edit.tests if not re.search(rf"{test} \.\.\. FAILED", said)] for edit in together]
+    return [f"passed: {' '.join(tests)}" if tests else "found" for tests in passed]
 
 
-def try_wrong(names):
+def try_wrong(groups):
     """Tries the wrong bodies of these names, or all; answers whether each was found."""
-    chosen = [edit for edit in edits() if not names or edit.name in names]
+    every = edits()
+    named = [[edit for edit in every if edit.name in group.split("+")] for group in groups]
+    chosen = named or [[edit] for edit in every]
     verdicts = []
-    for edit in chosen:
-        verdicts.append(told(edit))
-        print(f"{edit.name}: {verdicts[-1]}", flush=True)
+    for together in chosen:
+        for edit, verdict in zip(together, told(together)):
+            verdicts.append(verdict)
+            print(f"{edit.name}: {verdict}", flush=True)
     found = verdicts.count("found")
     print(f"{found} found, {len(verdicts) - found} not")
     return found == len(verdicts)
