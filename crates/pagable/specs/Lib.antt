@@ -1,4 +1,5 @@
 pub mod Cells
 pub mod Driving
+pub mod PageOuts
 pub mod Paged
 pub mod TypedReferences

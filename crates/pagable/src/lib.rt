@@ -5,6 +5,7 @@
 //! names its items: to pass on a module of a crate below would have every check above read all that stands in it.
 #![tactic(auto)]
 
+pub mod cell_page_out;
 pub mod cells;
 mod events;
 pub mod laws;

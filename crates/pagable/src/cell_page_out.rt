@@ -1,0 +1,129 @@
+//! The page-out of one cell of a lent pager.
+
+ghost use Rattle.std.specs.Prelude.{IsTrue, ◌≡◌};
+ghost use Rattle.{pagable.specs.PageOuts.{ListsClone, PagesLast, PagesLastEntry, PagesOutCell, PagesOutClone}, pagable_loads.specs.Telling.values_at, pagable_pager.specs.View.{state_in, telling}};
+ghost use Rattle.pagable_walk.specs.Over.{PagesEntryIfThere};
+ghost use Rattle.pagable_world.specs.declared.handles.Owner.TheVariants as owners;
+
+use pagable_codec::{Env, NodeSet};
+use pagable_core::PagableStorage;
+use pagable_model::{DataKey, Error, HandleNumber, OptionalDataKey};
+use pagable_pager::{Lent, Pager};
+use pagable_walk::{LentTable, PageOutError, page_out_entry};
+use std::alloc::Global;
+
+fn entry_by<'a, E: Env<Node: NodeSet<E>>, S: PagableStorage<E>>(
+    lent: &mut Lent<'a, E, S>,
+    alloc: Global,
+    place: usize,
+) -> Result<Option<DataKey>, PageOutError>
+    requires caller { lent.old.me ≡ owners.Caller }
+    ensures pages { IsTrue (S.is_honest lent.new.pager.now.storage) → PagesEntryIfThere (values_at E.Node.NodeSet E.Env E.Hash.KeyHash lent.old.pager.now.environment) place result
+        (state_in (telling S.stored S.is_closed S.failed) lent.old.pager.now) (state_in (telling S.stored S.is_closed S.failed) lent.new.pager.now) }
+    ensures honest { IsTrue (S.is_honest lent.new.pager.now.storage) → IsTrue (S.is_honest lent.old.pager.now.storage) }
+    ensures lender { lent.new.pager.ghost_name ≡ lent.old.pager.ghost_name }
+{
+    let mut table = LentTable::new(alloc);
+    page_out_entry(lent, alloc, &mut table, place)
+}
+
+// Pages out the last entry of the list. None where the list is empty, as once the storage is closed.
+fn last_entry<E: Env<Node: NodeSet<E>>, S: PagableStorage<E>>(
+    alloc: Global,
+    pager: &mut Pager<E, S>,
+) -> Result<Option<DataKey>, PageOutError>
+    ensures pages { IsTrue (S.is_honest pager.new.storage) → PagesLastEntry (values_at E.Node.NodeSet E.Env E.Hash.KeyHash pager.old.environment)
+        (state_in (telling S.stored S.is_closed S.failed) pager.old) result (state_in (telling S.stored S.is_closed S.failed) pager.new) }
+    ensures honest { IsTrue (S.is_honest pager.new.storage) → IsTrue (S.is_honest pager.old.storage) }
+{
+    let pending = pager.pending();
+    if pending == 0 {
+        return Ok(None);
+    }
+    let mut lent = Lent::new(pager);
+    entry_by(&mut lent, alloc, pending - 1)
+}
+
+// Pages it out, and answers its key.
+fn last_key<E: Env<Node: NodeSet<E>>, S: PagableStorage<E>>(
+    alloc: Global,
+    pager: &mut Pager<E, S>,
+) -> Result<DataKey, PageOutError>
+    ensures pages { IsTrue (S.is_honest pager.new.storage) → PagesLast (values_at E.Node.NodeSet E.Env E.Hash.KeyHash pager.old.environment)
+        (state_in (telling S.stored S.is_closed S.failed) pager.old) result (state_in (telling S.stored S.is_closed S.failed) pager.new) }
+    ensures honest { IsTrue (S.is_honest pager.new.storage) → IsTrue (S.is_honest pager.old.storage) }
+{
+    match last_entry(alloc, pager) {
+        Ok(Some(key)) => Ok(key),
+        Ok(None) => Err(PageOutError::Failed(Error::Closed)),
+        Err(why) => Err(why),
+    }
+}
+
+// Lists an unpinned clone of the handle; where that is refused, the clone is given up.
+fn list_clone<E: Env<Node: NodeSet<E>>, S: PagableStorage<E>>(
+    pager: &mut Pager<E, S>,
+    handle: HandleNumber,
+) -> Result<(), Error>
+    ensures { ListsClone (telling S.stored S.is_closed S.failed) pager.old handle result pager.new }
+{
+    let clone = pager.clone(handle)?;
+    let _loosened = pager.into_pagable(clone);
+    match pager.unpin(clone) {
+        Ok(()) => {}
+        Err(e) => {
+            let _told = pager.release(clone);
+            return Err(e);
+        }
+    }
+    match pager.schedule_for_paging(clone) {
+        Ok(()) => Ok(()),
+        Err(e) => {
+            let _told = pager.release(clone);
+            Err(e)
+        }
+    }
+}
+
+// Pages out a cell that has no key.
+fn page_out_clone<E: Env<Node: NodeSet<E>>, S: PagableStorage<E>>(
+    alloc: Global,
+    pager: &mut Pager<E, S>,
+    handle: HandleNumber,
+) -> Result<DataKey, PageOutError>
+    ensures pages { IsTrue (S.is_honest pager.new.storage) → PagesOutClone (telling S.stored S.is_closed S.failed) (values_at E.Node.NodeSet E.Env E.Hash.KeyHash) pager.old
+        handle result pager.new }
+    ensures honest { IsTrue (S.is_honest pager.new.storage) → IsTrue (S.is_honest pager.old.storage) }
+{
+    match list_clone(pager, handle) {
+        Ok(()) => last_key(alloc, pager),
+        Err(e) => Err(PageOutError::Failed(e)),
+    }
+}
+
+/// Pages out the cell of a handle of any mode but Shared, listed or not, with all that it refers to, and answers its
+/// key; of a cell that has a key already, that. The value leaves memory only where nothing pins it.
+///
+/// # Errors
+/// - NoSuchHandle: nothing live has this number.
+/// - WrongMode: the handle is Shared.
+/// - Closed: the storage was closed.
+/// - as `page_out_pending` at this cell, which then may wait in the list.
+pub fn page_out<E: Env<Node: NodeSet<E>>, S: PagableStorage<E>>(
+    alloc: Global,
+    pager: &mut Pager<E, S>,
+    handle: HandleNumber,
+) -> Result<DataKey, PageOutError>
+    ensures pages { IsTrue (S.is_honest pager.new.storage) → PagesOutCell (telling S.stored S.is_closed S.failed) (values_at E.Node.NodeSet E.Env E.Hash.KeyHash) pager.old
+        handle result pager.new }
+    ensures honest { IsTrue (S.is_honest pager.new.storage) → IsTrue (S.is_honest pager.old.storage) }
+{
+    let keyed = match pager.key(handle) {
+        Ok(keyed) => keyed,
+        Err(e) => return Err(PageOutError::Failed(e)),
+    };
+    match keyed {
+        OptionalDataKey::Some(key) => Ok(key),
+        OptionalDataKey::None => page_out_clone(alloc, pager, handle),
+    }
+}
