@@ -3,11 +3,13 @@
 
 pub mod access;
 pub mod ahead;
+pub mod cell_reading;
 pub mod decoding;
 pub mod reading;
 pub mod step;
 
 pub use access::{Access, PinStart, Taken, WorkerAccess};
+pub use cell_reading::{BegunPin, CellReading, begin_reading};
 pub use decoding::{Decoded, GotReferences, decode};
 pub use reading::{Frame, Need, Reading};
 pub use step::{pin_over, pin_with_state_over, read_over};
