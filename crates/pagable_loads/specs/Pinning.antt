@@ -1,7 +1,7 @@
 -- A pin that goes on in parts.
 use Rattle.std.specs.Prelude.{Err, IfErr, IfOk, Ok, Result, [], ◌∷◌}
 use Rattle.{pagable_model.specs.{Blob.Blob, declared.{error.Error.Error, numbers.HandleNumber.HandleNumber}}, pagable_world.specs.{Access.LoadRun, Loads.root_frame, Pager.PagerState, World.{Reading, Values}}}
-use Rattle.pagable_loads.specs.{Frames.{IsLoadOf, reading_of}, declared.{access.PinStart.PinStart, cell_reading.BegunPin.BegunPin, reading.Reading.Reading as Own}}
+use Rattle.pagable_loads.specs.{Frames.{IsLoadOf, reading_of}, declared.{access.PinStart.PinStart, pinning.BegunPin.BegunPin, reading.Reading.Reading as Own}}
 use Rattle.pagable_world.specs.declared.{events.LoadAnswer.LoadAnswer, handles.Owner.Owner}
 
 -- how the pin began, by the numbers alone

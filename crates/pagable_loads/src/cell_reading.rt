@@ -1,57 +1,37 @@
-//! A pin of a loose handle that goes on in parts: how it begins, and the reading of its cell, whose root's blob is fetched apart from it.
+//! The reading of a cell, up to the blob of its root.
 
-ghost use Rattle.std.specs.{Arc.arc_value, Prelude.{true, ◌≡◌}};
-ghost use Rattle.{pagable_core.specs.Data.blob_of, pagable_model.specs.Blob.key_of, pagable_world.specs.{Access.Called, Workers.fresh}};
-ghost use Rattle.pagable_loads.specs.{Frames.reading_of, Pinning.{PinsFrom, start_of}, Starting.StartsPin, Telling.{Acts, values_at}};
+ghost use Rattle.std.specs.Prelude.{true, ◌≡◌};
+ghost use Rattle.{pagable_loads.specs.Frames.reading_of, pagable_world.specs.Workers.fresh};
 
-use crate::access::{Access, PinStart};
 use crate::reading::Reading;
-use pagable_codec::{Env, NodeSet};
-use pagable_core::PagableData;
-use pagable_model::{DataKey, Error, HandleNumber, LoadNumber};
-use pagable_world::LoadAnswer;
+use pagable_model::{DataKey, LoadNumber};
 use std::alloc::Global;
-use std::sync::Arc;
 
 /// The reading of a cell, of which no blob has come yet. Its load is open.
 #[derive(Drop)]
 pub struct CellReading {
-    reading: Reading,
+    pub(crate) reading: Reading,
     ghost of_cell: { reading.for_cell ≡ true },
     ghost begun: { reading_of reading ≡ fresh reading.load reading.node_type },
 }
 
-/// How a pin of a loose handle begins.
-#[derive(Drop)]
-pub enum BegunPin {
-    /// The value is in memory: the new Pinned handle, and whether the loose one pinned nothing before.
-    Pinned(HandleNumber, bool),
-    /// The value is in the storage alone, and has to be read.
-    Reading(CellReading),
-}
-
-/// Begins a pin of a loose handle: pins its cell where the value is in memory, and else begins the reading of it.
-///
-/// # Errors
-/// - as `Access::begin_pin`: nothing is left of it.
-pub fn begin_reading<E: Env<Node: NodeSet<E>>, A: Access<E>>(
-    access: &mut A,
-    alloc: Global,
-    handle: HandleNumber,
-) -> Result<BegunPin, Error>
-    ensures { Acts A.told A.acting access.old access.new (λ a s t.
-        Called (values_at E.Node.NodeSet E.Env E.Hash.KeyHash a.environment) (λ w'. StartsPin s.core a.me handle (start_of result) w') s t) }
-{
-    match access.begin_pin(handle)? {
-        PinStart::Pinned(pinned, was_unpinned) => Ok(BegunPin::Pinned(pinned, was_unpinned)),
-        PinStart::Load(load, key, node_type) => {
-            let reading = Reading::new(alloc, load, key, node_type, true);
-            Ok(BegunPin::Reading(CellReading { reading }))
+impl CellReading {
+    /// Makes the reading of a load that has just begun, of a root of this key and type.
+    pub(crate) fn new(
+        alloc: Global,
+        load: LoadNumber,
+        key: DataKey,
+        node_type: u32,
+    ) -> CellReading
+        ensures load { result.reading.load ≡ load }
+        ensures key { result.reading.key ≡ key }
+        ensures node_type { result.reading.node_type ≡ node_type }
+    {
+        CellReading {
+            reading: Reading::new(alloc, load, key, node_type, true),
         }
     }
-}
 
-impl CellReading {
     /// Tells the key of the root's blob.
     pub fn key(&self) -> DataKey
         ensures { result ≡ self.now.reading.key }
@@ -64,29 +44,5 @@ impl CellReading {
         ensures { result ≡ self.now.reading.load }
     {
         self.reading.load
-    }
-
-    /// Reads the cell's value from the root's blob, with all that it refers to and that is read together with it, and ends the load with a pin of the
-    /// cell. The blob has to be the one under the reading's key.
-    ///
-    /// # Errors
-    /// - as the steps of a load: the load is given up, with all that it owns.
-    pub fn read<E: Env<Node: NodeSet<E>>, A: Access<E>>(
-        self,
-        access: &mut A,
-        alloc: Global,
-        blob: Arc<PagableData>,
-    ) -> Result<HandleNumber, Error>
-        requires named { key_of E.Hash.digest (blob_of (arc_value blob)) ≡ self.reading.key }
-        ensures { Acts A.told A.acting access.old access.new (λ a s t.
-            PinsFrom (values_at E.Node.NodeSet E.Env E.Hash.KeyHash a.environment) a.me self.reading (blob_of (arc_value blob)) s result t) }
-    {
-        let mut reading = self.reading;
-        reading.put_root(alloc, blob);
-        match reading.run(access, alloc) {
-            LoadAnswer::Pinned(pinned) => Ok(pinned),
-            LoadAnswer::Refused(e) => Err(e),
-            LoadAnswer::Read(_) => unreachable!(),
-        }
     }
 }
