@@ -51,7 +51,8 @@ pub mod pagable_arc {
     pub use pagable_model::{LoadNumber, WorkerNumber};
     pub use pagable_pager::{ArcCell, DeserializedArcCache, Pager};
     pub use pagable_traits::{
-        Arc, FirstHandle, HoldingArc, NewPin, PagableArc, PinnedPagableArc, PinnedPagableArcBorrow,
+        Arc, FirstHandle, HoldingArc, NewPin, PagableArc, PinFuture, PinStage, PinnedPagableArc,
+        PinnedPagableArcBorrow,
     };
     pub use pagable_world::handles::Owner;
     pub use pagable_world::{
@@ -76,8 +77,10 @@ pub mod storage {
 
     /// The handle of a storage that threads share, and what the references to its values ask of it.
     pub mod handle {
-        pub use pagable_locked::{Gate, NoGate, PagableStorageHandle, PageOutReport};
-        pub use pagable_traits::Storage;
+        pub use pagable_locked::{
+            Gate, HandlePin, NoGate, PagableStorageHandle, PageOutReport,
+        };
+        pub use pagable_traits::{Polls, Storage};
     }
 
     /// A store in memory, and a storage over it that threads share.

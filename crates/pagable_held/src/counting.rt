@@ -1,5 +1,6 @@
 //! A storage that counts its calls, also for who has no hold of it any more.
 
+use futures::task::{Context, Poll};
 use pagable_core::{PagableData, PagableStorage};
 use pagable_model::{DataKey, Error};
 use pagable_traits::Env;
@@ -33,7 +34,7 @@ impl StorageCalls {
     }
 }
 
-/// A storage over another one, which counts fetches and stores.
+/// A storage over another one, which counts fetches and stores; a fetch that is polled counts once it is ready.
 #[derive(Drop)]
 pub struct CountingStorage<S> {
     inner: S,
@@ -65,6 +66,19 @@ impl<E: Env, S: PagableStorage<E>> PagableStorage<E> for CountingStorage<S> {
     ) -> Result<Arc<PagableData>, Error> {
         self.calls.fetches.fetch_add(1, Ordering::SeqCst);
         self.inner.fetch_data_blocking(alloc, key)
+    }
+
+    fn fetch_data(
+        &mut self,
+        cx: &mut Context<'_>,
+        alloc: Global,
+        key: DataKey,
+    ) -> Poll<Result<Arc<PagableData>, Error>> {
+        let polled = self.inner.fetch_data(cx, alloc, key);
+        if let Poll::Ready(_) = &polled {
+            self.calls.fetches.fetch_add(1, Ordering::SeqCst);
+        }
+        polled
     }
 
     fn store_data(&mut self, alloc: Global, blob: PagableData) -> Result<DataKey, Error> {

@@ -1,3 +1,4 @@
 mod Foreseen
 pub mod Stepped
 mod Pinned
+mod Rooted

@@ -6,3 +6,4 @@ pub mod Stepping
 pub mod Working
 pub mod Ending
 pub mod Starting
+pub mod Pinning

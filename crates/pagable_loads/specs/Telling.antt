@@ -2,7 +2,7 @@
 use Rattle.std.specs.Prelude.{Err, IfOk, IfSome, List, Ok, Option, Result, Some, ℕ, ◌≡◌}
 use Rattle.{either.specs.declared.Either.Either, pagable_codec.specs.declared.{env.Env.Ghosts as Environments, hash.KeyHash.Ghosts as Hashes, nodes.NodeSet.Ghosts as Nodes}}
 use Rattle.pagable_model.specs.{Blob.Blob, declared.{error.Error.Error, numbers.{ArcRef.ArcRef, HandleNumber.HandleNumber, Kind.Kind, LoadNumber.LoadNumber, WorkerNumber.WorkerNumber}}}
-use Rattle.pagable_world.specs.{Access.Told, LoadCalls.{AdoptCall, AskCall, Given, LazyCall, from_cache, from_store}, Pager.{Moves, PagerState, WellFormed}, World.{Core, Values, row_at, seen_as}}
+use Rattle.pagable_world.specs.{Access.Told, LoadCalls.{AdoptCall, AskCall, Given, LazyCall, from_cache, from_store}, Loads.ReadsRoot, Pager.{Moves, PagerState, WellFormed}, World.{Core, Reading, Values, row_at, seen_as}}
 use Rattle.pagable_world.specs.declared.{calls.Want.Want, handles.{HandleRow.HandleRow, Owner.Owner}}
 
 -- whose calls they are, the environment of the values, and what was borrowed for changing
@@ -55,6 +55,12 @@ pub record IsMade (w : Core) (kind : Kind) (r : ArcRef) : Type 0 where
   pub row : HandleRow
   pub live : row_at w r.handle ≡ Some row
   pub is : r ≡ record { kind = kind; node = row.node; handle = row.number }
+
+-- the load's root was read as this value
+pub record IsReadBy {N : Type 0} (v : Values N) (l : LoadNumber) (x : N) : Type 0 where
+  pub reading : Reading
+  pub of_load : reading.load ≡ l
+  pub root : ReadsRoot v reading x
 
 abbrev pub handle_of : {X : Type 0} → Result ArcRef X → Result HandleNumber X
 handle_of (Ok r) = Ok r.handle

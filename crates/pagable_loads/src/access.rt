@@ -3,7 +3,7 @@
 
 ghost use Rattle.std.specs.{Arc.arc_value, Prelude.{IfErr, IfNone, IfOk, IfSome, length, Option, ◌≡◌, ◌≤◌}};
 ghost use Rattle.{pagable_core.specs.Data.blob_of, pagable_loads.specs.{Starting.{Shares, StartsPin}, Telling.{Acting, Acts, ActsThen, AdoptsValue, as_caller, as_worker, AsksFor, Brings}}};
-ghost use Rattle.{pagable_loads.specs.{Telling.{TakesLazily, Tells, values_at}, Working.{fault_in, RefusesEntry, StartsEntry, TakesReference}}, pagable_model.specs.Blob.key_of};
+ghost use Rattle.{pagable_loads.specs.{Telling.{IsReadBy, TakesLazily, Tells, values_at}, Working.{fault_in, RefusesEntry, StartsEntry, TakesReference}}, pagable_model.specs.Blob.key_of};
 ghost use Rattle.{pagable_model.specs.declared.numbers.HandleNumber.HandleNumber as Handle, pagable_world.specs.{Access.{Called, EntryHas, WorkerStarts}, Calls.ReleaseCall}};
 ghost use Rattle.pagable_world.specs.{Calls.{ScheduleCall, SetKeyCall, StoreCall, TakeCall, UnpinCall}, Cascade.FallsAnyhow, declared.calls.Want.Want, LoadCalls.{AskCall, BeginKeyCall}};
 ghost use Rattle.pagable_world.specs.{LoadCalls.{DropCall, EndCall, from_store, HandOverCall}, Pager.{IsCellOf, IsNewNode, PagerState}, Workers.{claim_fault, is_workers_at, WorkerEnds}, World.Alike};
@@ -114,7 +114,7 @@ pub trait Access<E: Env<Node: NodeSet<E>>> {
     ) -> Result<ArcRef, (Error, E::Node)>
         ensures { Acts told acting self.old self.new (λ a s t. Brings (values_at E.Node.NodeSet E.Env E.Hash.KeyHash a.environment) (λ w'. AdoptsValue s.core a.me load kind key node (E.Node.type_of node) (E.Node.refs_of node) result w') (λ n x. (x ≡ node) × IsNewNode s.core n) s t) };
 
-    /// A load of a cell ends with a pin of it, the value in memory. A refusal that leaves the load open gives the value back; where the caller's handle is gone or
+    /// A load of a cell ends with a pin of it, the value in memory. It is asked that the value is what the load's root was read as, whether or not the access tells its state. A refusal that leaves the load open gives the value back; where the caller's handle is gone or
     /// another's, the load is closed. Refused with NoSuchHandle, NotYours, WrongMode, WrongKind, NumbersSpent and OutOfMemory.
     fn load_end(
         &mut self,
@@ -122,6 +122,7 @@ pub trait Access<E: Env<Node: NodeSet<E>>> {
         load: LoadNumber,
         value: E::Node,
     ) -> Result<HandleNumber, (Error, Option<E::Node>)>
+        requires { IsReadBy (values_at E.Node.NodeSet E.Env E.Hash.KeyHash (acting self.old).environment) load value }
         ensures { Acts told acting self.old self.new (λ a s t. Brings (values_at E.Node.NodeSet E.Env E.Hash.KeyHash a.environment) (λ w'. EndCall s.core a.me load value (E.Node.type_of value) (E.Node.refs_of value) result w') (λ n x. (x ≡ value) × IsCellOf s.core load n) s t) };
 
     /// A load of a key hands the named handles over, gives up the rest and is closed. Refused with NoSuchHandle, NotYours and WrongMode; then nothing changes.

@@ -3,11 +3,15 @@
 
 pub mod access;
 pub mod ahead;
+pub mod cell_reading;
 pub mod decoding;
+pub mod pinning;
 pub mod reading;
 pub mod step;
 
 pub use access::{Access, PinStart, Taken, WorkerAccess};
+pub use cell_reading::CellReading;
 pub use decoding::{Decoded, GotReferences, decode};
+pub use pinning::{BegunPin, begin_reading};
 pub use reading::{Frame, Need, Reading};
 pub use step::{pin_over, pin_with_state_over, read_over};

@@ -3,6 +3,7 @@
 #![tactic(auto)]
 
 pub mod gate;
+pub mod handle_pin;
 pub mod in_memory;
 pub mod locked;
 pub mod page_out_all;
@@ -14,6 +15,7 @@ pub mod table;
 pub mod typed;
 
 pub use gate::{Gate, NoGate};
+pub use handle_pin::HandlePin;
 pub use in_memory::InMemoryPagableStorage;
 pub use locked::Locked;
 pub use page_out_all::PageOutReport;

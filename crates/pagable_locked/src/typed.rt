@@ -1,5 +1,6 @@
 //! The calls of typed handles on a storage that threads share.
 
+use crate::handle_pin::HandlePin;
 use crate::storage_handle::PagableStorageHandle;
 use pagable_codec::{Env, NodeSet};
 use pagable_core::PagableStorage;
@@ -11,6 +12,8 @@ use std::sync::Wait;
 
 impl<E: Env<Node: NodeSet<E>>, S: PagableStorage<E>> Storage<E> for PagableStorageHandle<E, S> {
     ghost use Rattle.std.specs.Prelude.{None};
+
+    type Pin = HandlePin<E, S>;
 
     ghost told = { λ s. None };
 
@@ -62,6 +65,10 @@ impl<E: Env<Node: NodeSet<E>>, S: PagableStorage<E>> Storage<E> for PagableStora
             value,
             was_unpinned,
         })
+    }
+
+    fn polled_pin(&self, handle: HandleNumber) -> Result<HandlePin<E, S>, Error> {
+        Ok(HandlePin::new(self.clone()?, handle))
     }
 
     fn unpin<R: Wait>(&self, rt: &R, handle: HandleNumber) -> Result<(), Error> {

@@ -19,6 +19,7 @@ use Rattle.{pagable_world.specs.{Events.{IsEntry, reading_of_load}, Workers.RowI
 use Rattle.std.proofs.Common.{Ok, Option, Result, Some, [], ap, arith, false, if◌then◌else◌, inl, inr, nat_eq, not, refl, rules, subst, sym, true, ℕ, ◌&&◌, ◌++◌, ◌+◌, ◌<◌, ◌==◌, ◌∙◌, ◌∷◌, ◌≡◌, ◌≤◌}
 use Rattle.std.{proofs.lemmas.{Bool.{Decides.nat_tests, cases_Bool, cases_eq, false_from_ne_true}, Option.slice_get_within}, specs.{Arc.arc_value, Prelude.{IfErr, IfOk}}}
 use Rattle.{pagable_tables.specs.Rows.row_by, std.specs.Prelude.{IsSome, IsTrue, OnErr, OnOk, is_some, nat_lt, ◌⊎◌}}
+use Rattle.{futures.specs.{Poll.IfReady, declared.task.Poll.Poll}, pagable_pager.specs.Polling.PollCall}
 use Rattle.pagable_world.specs.Pager as pager
 
 -- the plain world is whole, whatever is stored, if nothing is listed or known once the storage is closed
@@ -168,6 +169,11 @@ module _ {N S E : Type 0} {tells : Telling S} {says : E → Values N} {p : Pager
 
 pub fetch-call : {X : Type 0} (see : X → Blob) (w w' : Core) (key : ℕ) (r : Result X Error) → Asked w w' → IfOk r (λ x. w.stored key ≡ Some (see x)) → IfErr r (RefusesFetch key (w.stored key) w.failures w'.failures) → FetchCall w key (seen_as see r) w'
 fetch-call see w w' key r asks found only = grind (arith, nat_tests)
+
+pub poll-call : {X : Type 0} (see : X → Blob) (w w' : Core) (key : ℕ) (p : Poll (Result X Error)) → Asked w w' → IfReady p (λ r. IfOk r (λ x. w.stored key ≡ Some (see x)))
+    → IfReady p (λ r. IfErr r (RefusesFetch key (w.stored key) w.failures w'.failures)) → PollCall see w key p w'
+poll-call see w w' key (Poll.Ready r) asks found only = record { asked = asks; fetched = fetch-call see w w' key r asks found only }
+poll-call see w w' key Poll.Pending asks found only = record { asked = asks; fetched = tt }
 
 -- ---- what comes with a value: a node, what a load has read, and the value of a load's cell
 

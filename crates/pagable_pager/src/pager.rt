@@ -1,6 +1,7 @@
 //! The pager: values in memory, in step with tables of who holds them, over a storage of blobs; and loads, by steps.
 
 ghost use Rattle.std.specs.{Arc.arc_value, Option.option_map, Prelude.{IfErr, IfNone, IfOk, IsTrue, None, OnOk, Option, Some, false, nat_lt, true, ℕ, ◌≡◌}};
+ghost use Rattle.{futures.specs.{Poll.{IfReady, OnPending}, Task.{IsArmed, Keeps}}, pagable_pager.specs.Polling.PollCall};
 ghost use Rattle.{pagable_core.specs.Data.blob_of, pagable_loads.specs.{Starting.Shares, Telling.values_at}, pagable_model.specs.{Blob.{Blob, key_of}, Stored.{RefusesFetch, RefusesFlush, RefusesStore}}, pagable_tables.specs.{Core.root_in, Ready.AsksKnown, Sound.is_sound}};
 ghost use Rattle.pagable_pager.specs.View.{AsksStorage, Calls, FewerValues, FitsWant, KeepsWorkers, OnlyTables, ReadsAs, SameValues, core_in, given_as, is_at_work, state_in, telling, type_of_root};
 ghost use Rattle.pagable_world.specs.{Calls.{CloseCall, FetchCall, FlushCall, StoreCall}, LoadCalls.{AskCall, BeginCall, BeginKeyCall, LazyCall}, Pager.{IsNew, ValueCall, WellFormed}};
@@ -12,6 +13,7 @@ pub mod handles;
 
 use crate::setting::PagerSetting;
 use either::Either;
+use futures::task::{Context, Poll};
 use pagable_codec::{Env, NodeSet};
 use pagable_core::{PagableData, PagableStorage, SessionOf, Setting};
 use pagable_model::{DataKey, Error, HandleNumber, Kind, LoadNumber, WorkerNumber};
@@ -186,6 +188,25 @@ impl<E: Env<Node: NodeSet<E>>, S: PagableStorage<E>> Pager<E, S> {
         ensures refused { IfErr result (RefusesFetch key None (S.failed self.old.storage) (S.failed self.new.storage)) }
     {
         self.storage.fetch_data_blocking(alloc, key)
+    }
+
+    /// Polls the fetch of the blob under a key. While it is pending, the storage has left a waker in `cx`, and nothing but the count of failures has changed.
+    ///
+    /// # Errors
+    /// - NoData, OutOfMemory, Storage: as the storage refuses it.
+    pub fn poll_fetch(
+        &mut self,
+        cx: &mut Context<'_>,
+        alloc: Global,
+        key: DataKey,
+    ) -> Poll<Result<Arc<PagableData>, Error>>
+        ensures asks { AsksStorage S.is_honest (telling S.stored S.is_closed S.failed) self.old (λ w w'. PollCall (λ d. blob_of (arc_value d)) w key result w') self.new }
+        ensures named { IfReady result (λ r. IfOk r (λ found. key_of E.Hash.digest (blob_of (arc_value found)) ≡ key)) }
+        ensures refused { IfReady result (λ r. IfErr r (RefusesFetch key None (S.failed self.old.storage) (S.failed self.new.storage))) }
+        ensures armed { OnPending result (IsArmed cx.new) }
+        ensures kept { Keeps cx.old cx.new }
+    {
+        self.storage.fetch_data(cx, alloc, key)
     }
 
     /// Stores a blob, and answers its key. Refused with OutOfMemory, Storage, KeyTaken and Closed, as the storage refuses it.

@@ -1,5 +1,6 @@
 -- The refusals of a storage that fails once, and of one that passes those of its memory on.
 use Rattle.{pagable_rows.specs.Failing.failures_of, pagable_model.specs.{Blob.Blob, Stored.{HasFailed, RefusesFetch, RefusesStore, RefusesFlush}, declared.error.Error.Error}}
+use Rattle.futures.specs.{Poll.IfReady, declared.task.Poll.Poll}
 use Rattle.std.{proofs.{Common.{◌≡◌, ◌+◌, ◌-◌, ◌^◌, ◌<◌, ℕ, Bool, true, false, min, arith, Option, Result, Ok, Err, inl, inr}, lemmas.Bool.cases_lt}, specs.{Int.from_bool, Prelude.IfErr}}
 
 -- counts that are cut off at the greatest
@@ -18,6 +19,11 @@ module _ {X : Type 0} (failed : Bool) (before after : ℕ) where
       → IfErr r (RefusesFetch key found (failures_of failed before) (failures_of failed after))
   fetch_refused x0 key found h = grind (arith, passed-on)
 
+  pub poll_refused : (p : Poll (Result X Error)) (key : ℕ) (found : Option Blob) → IfReady p (λ r. IfErr r (RefusesFetch key found before after))
+      → IfReady p (λ r. IfErr r (RefusesFetch key found (failures_of failed before) (failures_of failed after)))
+  poll_refused (Poll.Ready r) key found h = fetch_refused r key found h
+  poll_refused Poll.Pending key found h = tt
+
   pub store_refused : (r : Result X Error) (blob : Blob) (found : Option Blob) (closed : Bool) → IfErr r (RefusesStore blob found closed before after)
       → IfErr r (RefusesStore blob found closed (failures_of failed before) (failures_of failed after))
   store_refused x0 blob found closed h = grind (arith, passed-on)
@@ -30,7 +36,7 @@ module _ {X : Type 0} (failed : Bool) (before after : ℕ) where
   pub flush_refused : (r : Result X Error) → IfErr r (RefusesFlush before after) → IfErr r (RefusesFlush (failures_of failed before) (failures_of failed after))
   flush_refused x0 h = grind (arith, passed-on)
 
-pub ruleset refusing = (own_failure, fetch_refused, store_refused, store_may_refuse, flush_refused)
+pub ruleset refusing = (own_failure, fetch_refused, poll_refused, store_refused, store_may_refuse, flush_refused)
 
 -- what memory refuses, which never fails, beside failures that were counted before
 never : (c : ℕ) → HasFailed 0 0 → HasFailed c c

@@ -3,14 +3,15 @@
 ghost use Rattle.std.specs.Prelude.{◌≡◌, true, false};
 ghost use Rattle.pagable_rows.specs.Failing.{failures_of};
 
+use futures::task::{Context, Poll};
 use pagable_core::{InMemoryBlobs, PagableData, PagableStorage};
 use pagable_flavors::{DataKey, Error};
 use pagable_traits::Env;
 use std::alloc::Global;
 use std::sync::Arc;
 
-/// A storage of which one call fails, as another storage is called: `fetch_data_blocking`, `store_data` and `flush`
-/// count as calls.
+/// A storage of which one call fails, as another storage is called: `fetch_data_blocking`, each poll of `fetch_data`,
+/// `store_data` and `flush` count as calls.
 #[derive(Drop)]
 pub struct FailingStorage<S> {
     inner: S,
@@ -67,6 +68,19 @@ impl<E: Env, S: PagableStorage<E>> PagableStorage<E> for FailingStorage<S> {
             return Err(Error::Storage(7));
         }
         self.inner.fetch_data_blocking(alloc, key)
+    }
+
+    #[tactic(auto, using(crate::proofs::Refusing::refusing))]
+    fn fetch_data(
+        &mut self,
+        cx: &mut Context<'_>,
+        alloc: Global,
+        key: DataKey,
+    ) -> Poll<Result<Arc<PagableData>, Error>> {
+        if self.fails_now() {
+            return Poll::Ready(Err(Error::Storage(7)));
+        }
+        self.inner.fetch_data(cx, alloc, key)
     }
 
     #[tactic(auto, using(crate::proofs::Refusing::refusing))]
@@ -187,6 +201,15 @@ impl<E: Env> PagableStorage<E> for DoubtfulBlobs<E> {
         }
         self.is_honest = false;
         Ok(Arc::new(alloc, empty)?)
+    }
+
+    fn fetch_data(
+        &mut self,
+        _cx: &mut Context<'_>,
+        alloc: Global,
+        key: DataKey,
+    ) -> Poll<Result<Arc<PagableData>, Error>> {
+        Poll::Ready(self.fetch_data_blocking(alloc, key))
     }
 
     #[tactic(auto, using(crate::proofs::Refusing::unfailing))]

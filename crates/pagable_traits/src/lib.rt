@@ -11,6 +11,7 @@ pub mod laws;
 pub mod loose;
 pub mod one_form;
 pub mod plain;
+pub mod polled;
 pub mod refers;
 pub mod saved_regex;
 pub mod static_value;
@@ -32,6 +33,7 @@ pub use pagable_codec::{
     SessionValue, WorkerNumber,
 };
 pub use plain::{OfKind, read_reference, write_reference};
+pub use polled::{PinFuture, PinStage, Polls};
 pub use refers::{Refers, references_of};
 pub use saved_regex::SavedRegex;
 pub use static_value::{

@@ -1,9 +1,11 @@
 //! Loose references.
 
-ghost use Rattle.std.specs.{Arc.arc_value, Prelude.{IfErr, IfNone, IfOk, IfSome, nat_eq, ◌≡◌, ◌≢◌}};
+ghost use Rattle.std.specs.{Arc.arc_value, Prelude.{IfErr, IfNone, IfOk, IfSome, Some, nat_eq, option_and_then, ◌≡◌, ◌≢◌}};
+ghost use Rattle.pagable_traits.specs.declared.polled.PinStage.{PinStage};
 ghost use Rattle.{pagable_model.specs.Shape.reference as reference_shape, pagable_traits.specs.{Erased.IsToldAt, Meanings.exactly, References.{loose, loose_kind, loose_means, reference_has_one_form}}};
 
 use crate::plain::write_reference;
+use crate::polled::PinFuture;
 use crate::storage::{FirstHandle, NewPin, has_gone};
 use crate::{
     Canonical, Carried, OneMeaning, PagableDeserialize, PagableSerialize, PinnedPagableArc, Storage,
@@ -171,6 +173,18 @@ impl<T> PagableArc<T> {
         }
         let _told = storage.release(rt, handle);
         Err(refused)
+    }
+
+    /// Makes a pin of its cell that is polled, for a reference of the caller's. It begins with its first poll.
+    ///
+    /// # Errors
+    /// - OutOfMemory: the storage is shared too often already.
+    pub fn pin<E: Env, S: Storage<E>>(&self, storage: &S) -> Result<PinFuture<T, S::Pin>, Error>
+        ensures node { IfOk result (λ p. p.node ≡ self.now.node) }
+        ensures begins { IfOk result (λ p. S.Pin.stage p.pin ≡ PinStage.Begin) }
+    {
+        let pin = storage.polled_pin(self.handle)?;
+        Ok(PinFuture::new(self.node, pin))
     }
 
     /// Pins the cell of a reference that stands in a value, whose handle is that value's: clones it, pins the clone, and

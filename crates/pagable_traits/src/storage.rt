@@ -1,8 +1,10 @@
 //! What makes, pins and gives up the handles of typed references: a pager behind a lock, or one that is lent.
 
+ghost use Rattle.pagable_traits.specs.declared.polled.PinStage.{PinStage};
 ghost use Rattle.std.specs.{Arc.arc_value, Prelude.{IfOk, IfSome, Option, Result, Some, ℕ, ◌≡◌}};
 ghost use Rattle.pagable_model.specs.declared.{data_key.OptionalDataKey.OptionalDataKey as Key, error.Error.Error as Refusal, numbers.{HandleNumber.HandleNumber as Handle, NodeNumber.NodeNumber as Node}};
 
+use crate::polled::Polls;
 use pagable_codec::{Env, HandleNumber, NodeNumber};
 use pagable_flavors::Error;
 use pagable_model::{DataKey, OptionalDataKey};
@@ -31,6 +33,9 @@ pub struct NewPin<N> {
 /// Keeps the nodes of typed references behind numbers: each call of a `PagableArc`, a `PinnedPagableArc` or an `Arc` on its
 /// storage goes by one of these. Where it tells what its handles name, a pin answers that.
 pub trait Storage<E: Env> {
+    /// Its pin that is polled.
+    type Pin: Polls<E>;
+
     // the value of each handle's node, if that is told
     ghost told: { Self → Option (ℕ → Option E.Node) };
 
@@ -93,6 +98,13 @@ pub trait Storage<E: Env> {
         handle: HandleNumber,
     ) -> Result<NewPin<E::Node>, Error>
         ensures value { IfOk result (λ p. IfSome (told self.now) (λ at. at handle.0 ≡ Some (arc_value p.value))) };
+
+    /// Makes a pin of the cell of the caller's loose handle that is polled. It begins with its first poll.
+    ///
+    /// # Errors
+    /// - OutOfMemory: the storage is shared too often already.
+    fn polled_pin(&self, handle: HandleNumber) -> Result<Self::Pin, Error>
+        ensures { IfOk result (λ p. Pin.stage p ≡ PinStage.Begin) };
 
     /// Has the caller's loose handle let its pin go.
     ///

@@ -5,6 +5,7 @@ ghost use Rattle.{pagable_core.specs.Data.{blob_of, stored_in}, pagable_model.sp
 
 use crate::storage::data::PagableData;
 use crate::storage::traits::PagableStorage;
+use futures::task::{Context, Poll};
 use pagable_codec::Env;
 use pagable_flavors::{DataKey, Error};
 use std::alloc::Global;
@@ -95,6 +96,15 @@ impl<E: Env> PagableStorage<E> for InMemoryBlobs<E> {
             None => Err(Error::NoData(key)),
             Some(found) => Ok(found.clone()?),
         }
+    }
+
+    fn fetch_data(
+        &mut self,
+        _cx: &mut Context<'_>,
+        alloc: Global,
+        key: DataKey,
+    ) -> Poll<Result<Arc<PagableData>, Error>> {
+        Poll::Ready(self.fetch_data_blocking(alloc, key))
     }
 
     #[tactic(auto, using(crate::proofs::Adding::adding))]

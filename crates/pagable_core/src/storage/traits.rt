@@ -1,9 +1,10 @@
 //! What a storage of blobs offers.
 
 ghost use Rattle.std.specs.{Arc.arc_value, Prelude.{◌≡◌, ◌≤◌, ◌↔◌, ℕ, Bool, true, false, IsTrue, Option, Some, None, OnOk, OnErr, IfOk, IfErr}};
-ghost use Rattle.{pagable_core.specs.Data.blob_of, pagable_model.specs.{Blob.{Blob, key_of}, Stored.{Adds, Keeps, RefusesFetch, RefusesStore, RefusesFlush}}};
+ghost use Rattle.{futures.specs.{Poll.{IfReady, OnPending}, Task.{IsArmed, Keeps as KeepsPoll}}, pagable_core.specs.Data.blob_of, pagable_model.specs.{Blob.{Blob, key_of}, Stored.{Adds, Keeps, RefusesFetch, RefusesStore, RefusesFlush}}};
 
 use crate::storage::data::PagableData;
+use futures::task::{Context, Poll};
 use pagable_codec::Env;
 use pagable_flavors::{DataKey, Error};
 use std::alloc::Global;
@@ -42,6 +43,29 @@ pub trait PagableStorage<E: Env>: Sized {
         ensures honest { IsTrue (is_honest self.new) → IsTrue (is_honest self.old) }
         ensures open { is_closed self.new ≡ is_closed self.old }
         ensures later { failed self.old ≤ failed self.new };
+
+    /// Polls the fetch of the blob under a key. Where it is ready, it answers as `fetch_data_blocking`; it may always be. While it is
+    /// pending, it has left a waker in `cx`, which whoever ends the wait wakes, and the fetch is asked for again by the next poll.
+    /// Nothing but the count of failures has changed then.
+    ///
+    /// # Errors
+    /// - NoData, OutOfMemory, Storage: as of `fetch_data_blocking`.
+    fn fetch_data(
+        &mut self,
+        cx: &mut Context<'_>,
+        alloc: Global,
+        key: DataKey,
+    ) -> Poll<Result<Arc<PagableData>, Error>>
+        ensures ok { IsTrue (is_honest self.new) → IfReady result (λ r. IfOk r (λ found. stored self.old key ≡ Some (blob_of (arc_value found)))) }
+        ensures named { IfReady result (λ r. IfOk r (λ found. key_of E.Hash.digest (blob_of (arc_value found)) ≡ key)) }
+        ensures refused { IfReady result (λ r. IfErr r (RefusesFetch key None (failed self.old) (failed self.new))) }
+        ensures only { IsTrue (is_honest self.new) → IfReady result (λ r. IfErr r (RefusesFetch key (stored self.old key) (failed self.old) (failed self.new))) }
+        ensures same { IsTrue (is_honest self.new) → (stored self.new ≡ stored self.old) × (flushed self.new ≡ flushed self.old) }
+        ensures honest { IsTrue (is_honest self.new) → IsTrue (is_honest self.old) }
+        ensures open { is_closed self.new ≡ is_closed self.old }
+        ensures later { failed self.old ≤ failed self.new }
+        ensures armed { OnPending result (IsArmed cx.new) }
+        ensures kept { KeepsPoll cx.old cx.new };
 
     /// Adds a blob under its key, and answers the key. Where the blob stands there already, nothing changes. It is
     /// refused with KeyTaken only where another blob stands there, with Closed only after `close`, with OutOfMemory,

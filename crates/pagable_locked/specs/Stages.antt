@@ -1,0 +1,7 @@
+-- Where a polled pin stands.
+use Rattle.{pagable_locked.specs.declared.handle_pin.PinState.PinState, pagable_traits.specs.declared.polled.PinStage.PinStage}
+
+abbrev pub stage_of : PinState → PinStage
+stage_of PinState.Begin = PinStage.Begin
+stage_of (PinState.Fetch reading) = PinStage.Fetch
+stage_of PinState.Ended = PinStage.Ended

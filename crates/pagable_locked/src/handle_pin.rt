@@ -1,0 +1,163 @@
+//! A pin on a storage that threads share, which is polled: its lock is free between two polls, and while its value is read.
+
+ghost use Rattle.std.specs.{Arc.arc_value, Prelude.{Err, IfOk, ◌≡◌}};
+ghost use Rattle.futures.specs.{Poll.{IfReady, OnPending}, Task.{IsArmed, Keeps}};
+ghost use Rattle.{pagable_core.specs.Data.blob_of, pagable_model.specs.Blob.key_of};
+
+use crate::storage_handle::PagableStorageHandle;
+use futures::task::{Context, Poll};
+use pagable_codec::{Env, NodeSet};
+use pagable_core::{PagableData, PagableStorage};
+use pagable_loads::{Access, BegunPin, CellReading, begin_reading};
+use pagable_model::{DataKey, Error, HandleNumber};
+use pagable_traits::{NewPin, PinStage, Polls};
+use std::alloc::Global;
+use std::mem::replace;
+use std::sync::{Arc, Wait};
+
+/// How far a polled pin is.
+#[derive(Drop)]
+enum PinState {
+    Begin,
+    // The fetch of the root's blob is polled next.
+    Fetch(CellReading),
+    Ended,
+}
+
+/// A pin of a cell, by one of its loose handles, which is polled. Each call of the pager takes the lock for itself alone.
+#[derive(Drop)]
+pub struct HandlePin<E: Env<Node: NodeSet<E>>, S: PagableStorage<E>> {
+    storage: PagableStorageHandle<E, S>,
+    handle: HandleNumber,
+    state: PinState,
+}
+
+impl<E: Env<Node: NodeSet<E>>, S: PagableStorage<E>> HandlePin<E, S> {
+    /// Makes a pin that hasn't begun.
+    pub(crate) fn new(storage: PagableStorageHandle<E, S>, handle: HandleNumber) -> HandlePin<E, S>
+        ensures { result.state ≡ PinState.Begin }
+    {
+        HandlePin {
+            storage,
+            handle,
+            state: PinState::Begin,
+        }
+    }
+
+    // The reading of the cell, if it has to be read; and else the pin.
+    fn begin<R: Wait>(&self, rt: &R, alloc: Global) -> Result<BegunPin, Error> {
+        let mut access = self.storage.access(rt);
+        begin_reading(&mut access, alloc, self.handle)
+    }
+
+    fn poll_blob<R: Wait>(
+        &self,
+        rt: &R,
+        alloc: Global,
+        cx: &mut Context<'_>,
+        key: DataKey,
+    ) -> Poll<Result<Arc<PagableData>, Error>>
+        ensures named { IfReady result (λ r. IfOk r (λ found. key_of E.Hash.digest (blob_of (arc_value found)) ≡ key)) }
+        ensures armed { OnPending result (IsArmed cx.new) }
+        ensures kept { Keeps cx.old cx.new }
+    {
+        self.storage.inner.pager.lock(rt).poll_fetch(cx, alloc, key)
+    }
+
+    // Reads the cell's value from its root's blob, and pins the cell.
+    fn read<R: Wait>(
+        &self,
+        rt: &R,
+        alloc: Global,
+        reading: CellReading,
+        blob: Arc<PagableData>,
+    ) -> Result<NewPin<E::Node>, Error>
+        requires named { key_of E.Hash.digest (blob_of (arc_value blob)) ≡ reading.reading.key }
+    {
+        let mut access = self.storage.access(rt);
+        let pinned = reading.read(&mut access, alloc, blob)?;
+        self.share(rt, pinned, true)
+    }
+
+    // The value of a new pin, which is taken back where the value can't be shared.
+    fn share<R: Wait>(
+        &self,
+        rt: &R,
+        pinned: HandleNumber,
+        was_unpinned: bool,
+    ) -> Result<NewPin<E::Node>, Error> {
+        let refused = match self.storage.access(rt).share(pinned) {
+            Ok(Some(value)) => {
+                return Ok(NewPin {
+                    handle: pinned,
+                    value,
+                    was_unpinned,
+                });
+            }
+            Ok(None) => Error::NoSuchHandle,
+            Err(e) => e,
+        };
+        self.undo(rt, pinned, was_unpinned);
+        Err(refused)
+    }
+
+    // Takes a pin back.
+    fn undo<R: Wait>(&self, rt: &R, pinned: HandleNumber, was_unpinned: bool) {
+        let mut access = self.storage.access(rt);
+        if was_unpinned {
+            let _told = access.unpin(self.handle);
+        }
+        let _told = access.release(pinned);
+    }
+
+    // Gives a load up.
+    fn give_up<R: Wait>(&self, rt: &R, reading: &CellReading) {
+        let _told = self.storage.access(rt).load_drop(reading.load());
+    }
+}
+
+impl<E: Env<Node: NodeSet<E>>, S: PagableStorage<E>> Polls<E> for HandlePin<E, S> {
+    ghost use Rattle.pagable_locked.specs.Stages.{stage_of};
+
+    ghost stage = { λ p. stage_of p.state };
+
+    fn poll<R: Wait>(
+        &mut self,
+        rt: &R,
+        alloc: Global,
+        cx: &mut Context<'_>,
+    ) -> Poll<Result<NewPin<E::Node>, Error>> {
+        let reading = match replace(&mut self.state, PinState::Ended) {
+            PinState::Begin => match self.begin(rt, alloc) {
+                Ok(BegunPin::Reading(reading)) => reading,
+                Ok(BegunPin::Pinned(pinned, was_unpinned)) => {
+                    return Poll::Ready(self.share(rt, pinned, was_unpinned));
+                }
+                Err(e) => return Poll::Ready(Err(e)),
+            },
+            PinState::Fetch(reading) => reading,
+            PinState::Ended => return Poll::Ready(Err(Error::NoSuchHandle)),
+        };
+        match self.poll_blob(rt, alloc, cx, reading.key()) {
+            Poll::Pending => {
+                self.state = PinState::Fetch(reading);
+                Poll::Pending
+            }
+            Poll::Ready(Ok(blob)) => Poll::Ready(self.read(rt, alloc, reading, blob)),
+            Poll::Ready(Err(e)) => {
+                self.give_up(rt, &reading);
+                Poll::Ready(Err(e))
+            }
+        }
+    }
+
+    fn take_back<R: Wait>(&self, rt: &R, pinned: HandleNumber, was_unpinned: bool) {
+        self.undo(rt, pinned, was_unpinned);
+    }
+
+    fn cancel<R: Wait>(&mut self, rt: &R) {
+        if let PinState::Fetch(reading) = replace(&mut self.state, PinState::Ended) {
+            self.give_up(rt, &reading);
+        }
+    }
+}

@@ -1,0 +1,11 @@
+use Rattle.{pagable_core.specs.Data.blob_of, pagable_pager.proofs.Keeping.{asked, asks-it, kept-so, poll-call}, std.specs.Arc.arc_value}
+
+pub invariant_of-self : Rattle.pagable_pager.proofs.pager.Pager.poll_fetch.Goals.invariant_of-self
+invariant_of-self g c = let e = c.fetch_data.ensures in kept-so c.self.invariant c.fetch_data.new.self e.open e.later
+
+pub returns-clause-asks : Rattle.pagable_pager.proofs.pager.Pager.poll_fetch.Goals.returns-clause-asks
+returns-clause-asks g c =
+    let e = c.fetch_data.ensures in
+    let s = c.fetch_data.new.self in
+    rw (← c.self.view_is) (asks-it c.self.invariant s e.open e.later
+    (λ h. poll-call (λ d. blob_of (arc_value d)) _ _ c.args.key c.fetch_data.result (asked c.self.invariant s e.open e.later (e.same h).0) (e.ok h) (e.only h)) e.honest)
