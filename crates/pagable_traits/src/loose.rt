@@ -1,6 +1,6 @@
 //! Loose references.
 
-ghost use Rattle.std.specs.{Arc.arc_value, Prelude.{IfErr, IfNone, IfOk, IfSome, Some, nat_eq, option_and_then, ◌≡◌, ◌≢◌}};
+ghost use Rattle.std.specs.{Arc.arc_value, Prelude.{IfErr, IfNone, IfOk, IfSome, nat_eq, ◌≡◌, ◌≢◌}};
 ghost use Rattle.pagable_traits.specs.declared.polled.PinStage.{PinStage};
 ghost use Rattle.{pagable_model.specs.Shape.reference as reference_shape, pagable_traits.specs.{Erased.IsToldAt, Meanings.exactly, References.{loose, loose_kind, loose_means, reference_has_one_form}}};
 
