@@ -10,3 +10,4 @@ pub mod Told
 pub mod Calls
 pub mod Newer
 pub mod Installed
+pub mod Raising

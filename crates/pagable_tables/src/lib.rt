@@ -8,5 +8,6 @@ pub mod holdings;
 pub mod loading;
 pub mod lookups;
 pub mod making;
+pub mod noting;
 pub mod number_table;
 pub mod tables;
