@@ -1,7 +1,7 @@
 #!/usr/bin/env python3
 """Builds the rows of tools/speed and the same rows on the original crate, times them in turn, and writes the table of docs/PROOFS.md.
 
-    tools/compare_speed.py ORIGINAL WORK [--rounds N] [--square N] [--rows ROW,..] [--print]
+    tools/compare_speed.py ORIGINAL WORK [--rounds N] [--rows ROW,..] [--print]
 
 ORIGINAL is a cargo workspace that has the Rust crate `pagable` 0.4.2 as a member, with a module `oracle_access` whose `set_mode` puts SHA-256 in BLAKE3's
 place. It is copied into the folder WORK, with tools/original_speed.rs as one of its examples, and built by cargo twice, each time with LTO, one codegen
@@ -10,9 +10,8 @@ unit and the processor level of the programs here (x86-64-v2): with the processo
 
 The values of the first five rows come from tools/speed_sums.py; both sides fail where they write another form than they read. Each row runs 9 times, or as
 often as `--rounds` tells, by all three programs in turn, each time in a process of its own; its time is the least of all. The peak of memory is that of such
-a process, by GNU time. A row whose time grows with the square of its count has at most 4,000 or as many as `--square` tells. `--rows` runs these
-alone, and `--print` prints the table in place of writing it; `--rows shared` stands for those of a storage that threads share, whose keys and claims have
-to be the same on both sides.
+a process, by GNU time. `--rows` runs these alone, and `--print` prints the table in place of writing it; `--rows shared` stands
+for those of a storage that threads share, whose keys and claims have to be the same on both sides.
 """
 import argparse
 import datetime
@@ -54,7 +53,6 @@ ROWS = [
     ("backwards", 20_000),
     *((f"{row}/{threads}", count) for row, count in SHARED.items() for threads in (1, 2, 4)),
 ]
-SQUARES = {"loads"}
 # What the original has no call for.
 OURS = {"loads", "fronts", "backwards"}
 CALLS = {"calls", "falls", "loads", "fronts", *(f"locked_calls/{threads}" for threads in (1, 2, 4))}
@@ -136,11 +134,10 @@ def machine():
 
 
 def asked():
-    parser = argparse.ArgumentParser(usage="compare_speed.py ORIGINAL WORK [--rounds N] [--square N] [--rows ROW,..] [--print]")
+    parser = argparse.ArgumentParser(usage="compare_speed.py ORIGINAL WORK [--rounds N] [--rows ROW,..] [--print]")
     parser.add_argument("original")
     parser.add_argument("work")
     parser.add_argument("--rounds", type=int, default=9)
-    parser.add_argument("--square", type=int, default=4_000)
     parser.add_argument("--rows")
     parser.add_argument("--print", action="store_true")
     return parser.parse_args()
@@ -158,9 +155,8 @@ def main():
     if "shared" in wanted:
         wanted += [row for row, _ in ROWS if "/" in row]
     results = {}
-    for row, full in ROWS:
+    for row, count in ROWS:
         if row in wanted:
-            count = min(full, words.square) if row in SQUARES else full
             results[row, count] = measured(programs, forms, row, count, words.rounds)
     table = "\n".join([machine(), "", *lines(results)])
     if words.print:

@@ -82,21 +82,21 @@ pub ruleset working = (nat_tests, one-more-works)
 -- ---- what loads own is what they owned, or has come since: while loads and workers come and go
 
 -- the open loads are ones that were open, and what a worker got besides is in its reach
-pub later-by : {t t' : Tables} → AreLater t → t.holdings.last_handle ≤ t'.holdings.last_handle → ((l : ℕ) (load : LoadRow) → load_at t'.loads l ≡ Some load → load_at t.loads l ≡ Some load) → IsNoLess t.workers t'.workers
+pub later-by : {t t' : Tables} → AreLater t → t.holdings.last_handle ≤ t'.holdings.last_handle → t'.noted ≡ t.noted → ((l : ℕ) (load : LoadRow) → load_at t'.loads l ≡ Some load → load_at t.loads l ≡ Some load) → IsNoLess t.workers t'.workers
     → ((l q : ℕ) → owned (Owner.Load (record { 0 = l })) q (plain_of t').rows ≡ true → (owned (Owner.Load (record { 0 = l })) q (plain_of t).rows ≡ true) ⊎ (t.holdings.last_handle < q))
     → ((v q : ℕ) → owned (owner_worker v) q (plain_of t').rows ≡ true → (owned (owner_worker v) q (plain_of t).rows ≡ true) ⊎ (t.holdings.last_handle < q) ⊎ InReach (reach_at t'.workers v) q) → AreLater t'
-later-by {t} {t'} later last loads less own work =
+later-by {t} {t'} later last noted loads less own work =
     let wider : (v q : ℕ) → owned (owner_worker v) q (plain_of t).rows ≡ true → InReach (reach_at t'.workers v) q = λ v q had. less.wider v q (later.reach v q had) in
-    grind (arith, nat_tests, later.given, later.since, later.begun, later.loads, less.before, wider, loads, own, work)
+    grind (arith, nat_tests, later.given, later.since, later.begun, later.loads, later.noted, later.until, noted, less.before, wider, loads, own, work)
 
 pub still-reaches : {S : Type 0} {workers workers' : IndexMap ℕ Reach S} → workers' ≡ workers → IsNoLess workers workers'
 still-reaches {S} {workers} {workers'} same = subst (λ u. IsNoLess workers u) (sym same) (record { wider = λ v q in-reach. in-reach; before = λ v. omega arith })
 
-pub later-less : {t t' : Tables} → AreLater t → OnlyNewer (plain_of t) (plain_of t') → ((l : ℕ) (load : LoadRow) → load_at t'.loads l ≡ Some load → load_at t.loads l ≡ Some load) → IsNoLess t.workers t'.workers → AreLater t'
-later-less later newer loads less = grind (arith, nat_tests, later-by)
+pub later-less : {t t' : Tables} → AreLater t → OnlyNewer (plain_of t) (plain_of t') → t'.noted ≡ t.noted → ((l : ℕ) (load : LoadRow) → load_at t'.loads l ≡ Some load → load_at t.loads l ≡ Some load) → IsNoLess t.workers t'.workers → AreLater t'
+later-less later newer noted loads less = grind (arith, nat_tests, later-by)
 
-pub later-on : {t t' : Tables} → AreLater t → OnlyNewer (plain_of t) (plain_of t') → t'.loads ≡ t.loads → t'.workers ≡ t.workers → AreLater t'
-later-on later newer loads same = later-less later newer (λ l load is. ap (λ m. load_at m l) (sym loads) ∙ is) (still-reaches same)
+pub later-on : {t t' : Tables} → AreLater t → OnlyNewer (plain_of t) (plain_of t') → t'.loads ≡ t.loads → t'.workers ≡ t.workers → t'.noted ≡ t.noted → AreLater t'
+later-on later newer loads same noted = later-less later newer noted (λ l load is. ap (λ m. load_at m l) (sym loads) ∙ is) (still-reaches same)
 
 pub closed-still : (at at' : ℕ → Option LoadRow) (m : ℕ) → at' m ≡ None → ((q : ℕ) → q ≢ m → at' q ≡ at q) → (l : ℕ) (load : LoadRow) → at' l ≡ Some load → at l ≡ Some load
 closed-still at at' m gone others l load is = grind (arith, nat_tests)
@@ -105,12 +105,12 @@ none-owned : (w : Core) (o : Owner) (q : ℕ) → ((h : HandleRow) → Among w.r
 none-owned w o q nobody own = let (row, e, is) = there-is (is_owned_by o) (find_row q w.rows) own in nobody row (found-among q w.rows row e).0 (owner-same o row.owner is)
 
 pub later-opened : {t t' : Tables} → pager.IsWhole (plain_of t) → AreLater t → OnlyNewer (plain_of t) (plain_of t') → (m : ℕ) (row : LoadRow) → load_at t.loads m ≡ None → load_at t'.loads m ≡ Some row → row.since ≡ t.holdings.last_handle
-    → ((q : ℕ) → q ≢ m → load_at t'.loads q ≡ load_at t.loads q) → t'.workers ≡ t.workers → AreLater t'
-later-opened {t} {t'} whole later newer m row none here since others same =
+    → ((q : ℕ) → q ≢ m → load_at t'.loads q ≡ load_at t.loads q) → t'.workers ≡ t.workers → t'.noted ≡ t.noted → AreLater t'
+later-opened {t} {t'} whole later newer m row none here since others same noted =
     let new-owns : (q : ℕ) → owned (Owner.Load (record { 0 = m })) q (plain_of t).rows ≡ true → ⊥ = λ q own.
     none-owned (plain_of t) (Owner.Load (record { 0 = m })) q (λ h among of. absurd (let a = whole.owners_there.loads h (record { 0 = m }) among of in
     let b : is_some ((plain_of t).loads m) ≡ false = ap (λ o. is_some (option_map load_in o)) none in cc)) own in
-    grind (arith, nat_tests, cases_eq, here, since, others, later.given, later.since, later.begun, later.reach, later.loads, newer.last, newer.kept, new-owns)
+    grind (arith, nat_tests, cases_eq, here, since, others, later.given, later.since, later.begun, later.reach, later.loads, later.noted, later.until, noted, newer.last, newer.kept, new-owns)
 
 pub later-begun : {t t' : Tables} → pager.IsWhole (plain_of t) → AreLater t → t' ≡ record t { workers = t'.workers; last_worker = t'.last_worker } → (v : ℕ) → v ≡ t.last_worker + 1
     → reach_at t'.workers v ≡ record { since = t.holdings.last_handle; beside = 0 } → ((u : ℕ) → u ≢ v → reach_at t'.workers u ≡ reach_at t.workers u) → AreLater t'
@@ -119,7 +119,7 @@ later-begun {t} {t'} whole later same v new here others =
     let working : (m : ℕ) (o : Owner) → is_owner (owner_worker m) o ≡ true → pager.MayOwnLoad (plain_of t) o → (plain_of t).workers m ≡ true = λ m o owns may. grind (arith, nat_tests) in
     let nobody : (q : ℕ) → owned (owner_worker v) q (plain_of t).rows ≡ true → ⊥ =
     λ q own. none-owned (plain_of t) (owner_worker v) q (λ h among of. at-rest v refl (whole.owners_there.workers h v among of)) own in
-    subst AreLater (sym same) (grind (arith, nat_tests, cases_eq, here, others, nobody, later.given, later.since, later.begun, later.reach, later.loads))
+    subst AreLater (sym same) (grind (arith, nat_tests, cases_eq, here, others, nobody, later.given, later.since, later.begun, later.reach, later.loads, later.noted, later.until))
 
 -- ---- handles that come to a worker
 
@@ -132,11 +132,11 @@ module _ (t : Tables) (later : AreLater t) (s : ℕ → Bool) (me : Owner) (othe
 
   -- a load of the same owner hands handles of its own to it and is closed: they came after the worker began
   pub later-handed : {t' : Tables} (l : LoadNumber) (row : LoadRow) → load_at t.loads l.0 ≡ Some row → is_owner me row.owner ≡ true → ((q : ℕ) → s q ≡ true → is_owned_in (plain_of t) (Owner.Load l) q ≡ true)
-      → IsNewer rows (plain_of t').rows t.holdings.last_handle t'.holdings.last_handle → ((m : ℕ) (load : LoadRow) → load_at t'.loads m ≡ Some load → load_at t.loads m ≡ Some load) → t'.workers ≡ t.workers → AreLater t'
-  later-handed {t'} l row here mine its newer loads same =
+      → IsNewer rows (plain_of t').rows t.holdings.last_handle t'.holdings.last_handle → ((m : ℕ) (load : LoadRow) → load_at t'.loads m ≡ Some load → load_at t.loads m ≡ Some load) → t'.workers ≡ t.workers → t'.noted ≡ t.noted → AreLater t'
+  later-handed {t'} l row here mine its newer loads same noted =
       let after : (v q : ℕ) → is_owner (owner_worker v) me ≡ true → s q ≡ true → InReach (reach_at t'.workers v) q = λ v q is gone. subst (λ u. InReach (reach_at u v) q) (sym same)
       (grind (arith, nat_tests, later.since l.0 row q here (its q gone), later.loads v l.0 row here (ap (is_owner (owner_worker v)) (owner-same me row.owner mine) ∙ is), owner-same)) in
-      later-by later newer.last loads (still-reaches same) (λ m q own. elim (newer.kept (Owner.Load (record { 0 = m })) q refl own) [ inl had ↦ inl (load-kept m q had) | inr past ↦ inr past ])
+      later-by later newer.last noted loads (still-reaches same) (λ m q own. elim (newer.kept (Owner.Load (record { 0 = m })) q refl own) [ inl had ↦ inl (load-kept m q had) | inr past ↦ inr past ])
       (λ (v q : ℕ) (own : owned (owner_worker v) q (plain_of t').rows ≡ true). let k = newer.kept (owner_worker v) q refl own in let a = after v q in let b = worker-kept v q in grind (arith, nat_tests))
 
 -- ---- a handle that comes stays, while others that are given go with all that follows
@@ -277,7 +277,7 @@ module _ (before u w : Core) (lists : Bool) (giving : Giving) (shut : giving ≡
       (λ r e. none r (within r (let p : passes r ≡ true = grind (arith, nat_tests) in p)) (let l : n < r = grind (arith, nat_tests) in l)) f in
       regiven before u (λ q. past n q || q == n) (past (n - 1)) lists new (gives (past n) narrowed) (λ r e. grind (arith, nat_tests)) (λ r e. grind (arith, nat_tests, cases_eq r n))
 
-none-passes : (test : HandleRow → Bool) (q : ℕ) (ss : List Place) → ((k : ℕ) (d : Place) → k < length ss → (get_or ss k d).row.number.0 ≡ q → (get_or ss k d).is_live ≡ true → test (get_or ss k d).row ≡ false)
+pub none-passes : (test : HandleRow → Bool) (q : ℕ) (ss : List Place) → ((k : ℕ) (d : Place) → k < length ss → (get_or ss k d).row.number.0 ≡ q → (get_or ss k d).is_live ≡ true → test (get_or ss k d).row ≡ false)
     → passes_in test (live ss) q ≡ false
 none-passes test q [] h = passes-none test q
 none-passes test q (s ∷ ss) h = let rest = none-passes test q ss (λ k d lt e. h (suc k) d (omega arith) e) in let first = h 0 s (omega arith) in grind (arith, nat_tests, passes-here)
@@ -337,8 +337,8 @@ module _ {old new : Tables} {step : Core → Core → Type 0} where
 
   -- loads and workers are those that were
   pub does-so : Each old step new → IsFalling new.holdings [] owns_nothing → (step (plain_of old) (plain_of new) → Goes (plain_of old) (plain_of new)) → new.loads ≡ old.loads
-      → new.workers ≡ old.workers → Does old step new
-  does-so does steady goes loads workers = does-by does steady (λ plain. (goes plain).whole) (λ plain later. later-on later (goes plain).newer loads workers)
+      → new.workers ≡ old.workers → new.noted ≡ old.noted → Does old step new
+  does-so does steady goes loads workers noted = does-by does steady (λ plain. (goes plain).whole) (λ plain later. later-on later (goes plain).newer loads workers noted)
 
 pub nothing-does : {t : Tables} {step : Core → Core → Type 0} → IsWhole t → Each t step t → Does t step t
 nothing-does whole does = record { does = does; whole = whole; later = λ later. later }
@@ -363,8 +363,8 @@ module _ {lists : Bool} {old new : Tables} {step : Core → Core → Type 0} (do
   lazily-by whole later = let plain = does (λ key. None) (not lists) 0 (closed-is (not lists) lists refl) in record { does = does; whole = whole-so steady (whole plain); later = later plain }
 
   pub lazily-so : (step (listing lists old) (listing lists new) → Goes (listing lists old) (listing lists new)) → new.loads ≡ old.loads → new.workers ≡ old.workers
-      → Does old (λ w w'. lists ≡ not w.closed → step w w') new
-  lazily-so goes loads workers = lazily-by (λ plain. (goes plain).whole) (λ plain later. later-on later (goes plain).newer loads workers)
+      → new.noted ≡ old.noted → Does old (λ w w'. lists ≡ not w.closed → step w w') new
+  lazily-so goes loads workers noted = lazily-by (λ plain. (goes plain).whole) (λ plain later. later-on later (goes plain).newer loads workers noted)
 
 -- and values go
 pub sheds-with : {X : Type 0} {lists : Bool} {old new : Tables} {values values' : NumberTable X} {step : Core → Core → Type 0} → Does old (λ w w'. lists ≡ not w.closed → step w w') new
@@ -388,4 +388,4 @@ widens-does t h nodes cache whole e counts refs work known = does-so (λ stored 
       worked = work-told nodes (live t.holdings.handles.places.items) (live h.places.items) e.rows
           (work-more (live t.holdings.handles.places.items) t.holdings.nodes nodes (λ n. rw (work n) (omega arith)) whole.steady.worked);
     })
-    (λ room. alike-goes whole.core (room-alike room)) refl refl
+    (λ room. alike-goes whole.core (room-alike room)) refl refl refl

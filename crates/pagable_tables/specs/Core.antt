@@ -2,7 +2,7 @@
 use Rattle.std.specs.VecDeque.{deque_capacity}
 use Rattle.std.specs.{Option.option_map, Prelude.{Bool, IfErr, IfOk, IsSome, List, None, Option, Result, Some, [], false, get_or, if◌then◌else◌, is_some, length, not, slice_get, suc, true}}
 use Rattle.std.specs.Prelude.{vec_capacity, zero, ℕ, ◌&&◌, ◌+◌, ◌<◌, ◌==◌, ◌||◌, ◌∷◌, ◌≡◌, ◌≤◌, ◌⊎◌}
-use Rattle.{indexmap.specs.IndexMap.IndexMap, pagable_model.specs.declared.{error.Error.Error, numbers.{ArcRef.ArcRef, HandleNumber.HandleNumber, NodeNumber.NodeNumber}}}
+use Rattle.{indexmap.specs.IndexMap.IndexMap, pagable_model.specs.declared.{error.Error.Error, numbers.{ArcRef.ArcRef, HandleNumber.HandleNumber, LoadNumber.LoadNumber, NodeNumber.NodeNumber}}}
 use Rattle.{pagable_model.specs.declared.numbers.WorkerNumber.WorkerNumber, pagable_world.specs.{Calls.{IsNext, next_node, with_handle, with_mode, with_node}, Events.{with_entry_taken, with_worker}}}
 use Rattle.pagable_world.specs.{Kinds.{find_row, is_owner, is_shared, owner_worker}, LoadCalls.is_owned_in, Plain.{Among, Blob, if_there}, Refusals.{AreHandlesFull, Refused, WorkerFault, spent}}
 use Rattle.pagable_world.specs.{Workers.is_load_of, World.{Alike, Core, HasRoom, OpenLoad, Root, greatest, of_cell, of_key}, declared.{handles.{HandleRow.HandleRow, Owner.Owner}, rows.Mode.Mode}}
@@ -131,6 +131,38 @@ pub record AreLater (t : Tables) : Type 0 where
   pub begun : (v : ℕ) → (reach_at t.workers v).since ≤ t.holdings.last_handle
   pub reach : (v q : ℕ) → is_owned_in (plain_of t) (owner_worker v) q ≡ true → InReach (reach_at t.workers v) q
   pub loads : (v l : ℕ) (load : LoadRow) → load_at t.loads l ≡ Some load → is_owner (owner_worker v) load.owner ≡ true → (reach_at t.workers v).since ≤ load.since
+  -- of the handles up to a number each open load's row tells the last one that it owns
+  pub noted : t.noted ≤ t.holdings.last_handle
+  pub until : (l : ℕ) (load : LoadRow) (q : ℕ) → load_at t.loads l ≡ Some load → is_owned_in (plain_of t) (Owner.Load (record { 0 = l })) q ≡ true → q ≤ t.noted → q ≤ load.last
+
+-- all handles that a load owns have numbers up to this one; and above one
+abbrev pub IsOwnedUpTo : Tables → LoadNumber → ℕ → Type 0
+IsOwnedUpTo t l until = (q : ℕ) → is_owned_in (plain_of t) (Owner.Load l) q ≡ true → q ≤ until
+
+abbrev pub IsOwnedAbove : Tables → LoadNumber → ℕ → Type 0
+IsOwnedAbove t l since = (q : ℕ) → is_owned_in (plain_of t) (Owner.Load l) q ≡ true → since < q
+
+-- of the handles above a number, in so many places, the rows of the loads tell the last that each owns
+abbrev pub AreTold : {S : Type 0} → IndexMap ℕ LoadRow S → List Place → (number count : ℕ) → Type 0
+AreTold loads places number count = (l : LoadNumber) (row : LoadRow) (k : ℕ) (d : Place) → load_at loads l.0 ≡ Some row → k < count → number < (get_or places k d).row.number.0
+    → (get_or places k d).row.owner ≡ Owner.Load l → (get_or places k d).row.number.0 ≤ row.last
+
+-- the row of a load tells of the same load, and perhaps of a greater last handle
+abbrev pub Raised : Option LoadRow → Option LoadRow → Type 0
+Raised None None = Unit {0}
+Raised None (Some new) = ⊥
+Raised (Some old) None = ⊥
+Raised (Some old) (Some new) = (new ≡ record old { last = new.last }) × (old.last ≤ new.last)
+
+abbrev pub AreRaised : {S : Type 0} → IndexMap ℕ LoadRow S → IndexMap ℕ LoadRow S → Type 0
+AreRaised old new = (l : ℕ) → Raised (load_at old l) (load_at new l)
+
+-- the rows of loads tell more, and all else is as it was
+pub record Notes (old new : Tables) : Type 0 where
+  pub same : new ≡ record old { loads = new.loads; noted = new.noted }
+  pub rows : AreRaised old.loads new.loads
+  pub whole : IsWhole new
+  pub later : AreLater new
 
 -- ---- what a call of the tables does: its step in the plain world, and what it keeps
 

@@ -3,12 +3,12 @@
 
 ghost use Rattle.pagable_model.specs.declared.numbers.{LoadNumber.LoadNumber, NodeNumber.NodeNumber, WorkerNumber.WorkerNumber};
 ghost use Rattle.{pagable_tables.specs.Rows.row_by, pagable_tables.specs.Core.{AreLater, BeginsWorker, Does, DoesShed, InReach, IsLast}};
-ghost use Rattle.pagable_tables.specs.{Core.{IsNoLess, IsWhole, LoadsAre, MayHold, TakesWorker, core_of, gives_row, left_load, passes_in, plain_of}, Falling.{AreAtWork, AreSound, IsFalling}};
+ghost use Rattle.pagable_tables.specs.{Core.{IsNoLess, IsOwnedAbove, IsOwnedUpTo, IsWhole, LoadsAre, MayHold, TakesWorker, core_of, gives_row, load_in, left_load, passes_in, plain_of}, Falling.{AreAtWork, AreSound, IsFalling}};
 ghost use Rattle.pagable_tables.specs.Falling.{Sheds, SoFar, alive, counts_at, holds_in, is_valued, is_worker, live, load_at, owns_nothing, reach_at, refs_at};
 ghost use Rattle.pagable_tables.specs.{Falling.{with_tables, work_at, worker_at}, declared.giving.Giving.Giving};
 ghost use Rattle.pagable_world.specs.{Calls.{CloseCall, ReleaseCall, ScheduleCall, SetKeyCall, TakeCall, UnpinCall, moved}, Cascade.{Falls, FallsAnyhow, nobody, only_handle}, Kinds.{find_row, held, is_owner, owner_worker}};
 ghost use Rattle.pagable_world.specs.{LoadCalls.{DropCall, HandOverCall, hand_over_fault, is_owned_in, numbers_of}, Plain.{Blob, is_in, updated}, Workers.{WorkerEnds, is_workers_at}, World.Core};
-ghost use Rattle.{pagable_world.specs.{Pager.IsHandleBefore, declared.handles.Owner.{Owner}}, std.specs.List.AllPairs};
+ghost use Rattle.{pagable_world.specs.{Pager.IsHandleBefore, Refusals.OwnsLoad, declared.handles.Owner.{Owner}}, std.specs.List.AllPairs};
 ghost use Rattle.std.specs.Prelude.{Bool, IfNone, IfOk, IfSome, List, None, Ok, Option, Some, [], false, is_some, length, not, slice_get, true, ℕ, ◌&&◌, ◌+◌, ◌<◌, ◌==◌, ◌||◌, ◌≡◌, ◌≤◌};
 
 use crate::handles::{self, Handles};
@@ -16,6 +16,7 @@ use crate::holdings::{Holdings, fall, give_up, shed, top_after};
 use crate::loading::load_row;
 use crate::lookups::{cell_fault, earlier, is_loose_mode, is_unpinned, load_fault, named_fault};
 use crate::making::{add_work, is_owner, is_worker, own};
+use crate::noting::last_of;
 use crate::tables::{self, Arcs, HandleAt, LoadRow, Loads, Nodes, Reach, Tables, Workers};
 use pagable_model::{DataKey, Error, HandleNumber, LoadNumber, NodeNumber, WorkerNumber};
 use pagable_world::Mode;
@@ -125,7 +126,14 @@ fn last_given(
     }
 }
 
-/// All these handles, which are in this reach, are given up, from the last to the first, with all that goes with them. It is refused as `fall` is.
+/// From which place on numbers are likely to be above `until`: where no number is missing behind it.
+fn first_guess(handles: &Handles, last: u64, until: u64) -> usize {
+    let behind = last.saturating_sub(until) as usize;
+    handles.places.len().saturating_sub(behind)
+}
+
+/// All these handles, which are in this reach and of numbers up to `until`, are given up, from the last to the first, with
+/// all that goes with them. It is refused as `fall` is.
 #[tactic(auto, using(crate::proofs::Next::shedding))]
 pub fn give_all<N: Drop>(
     t: &mut Holdings,
@@ -133,18 +141,19 @@ pub fn give_all<N: Drop>(
     loads: &Loads,
     giving: Giving,
     reach: Reach,
+    until: u64,
     lists: bool,
 ) -> Result<(), Error>
     requires steady { IsFalling t.old [] owns_nothing }
     requires listed { giving ≡ Giving.Listed → (lists ≡ false) × (t.old.list.items ≡ []) }
     ensures steady { IsFalling t.new [] owns_nothing }
     ensures falls { (before u w : Core) → LoadsAre loads.now w → SoFar before u nobody lists (record t.old { unlisted = None }) → length (live t.old.handles.places.items) ≤ length u.rows
-        → ((q : ℕ) → passes_in (gives_row w giving) u.rows q ≡ true → InReach reach q × (q ≤ t.old.last_handle)) → Falls before u (passes_in (gives_row w giving) u.rows) result (with_tables u t.new) }
+        → ((q : ℕ) → passes_in (gives_row w giving) u.rows q ≡ true → InReach reach q × (q ≤ until)) → Falls before u (passes_in (gives_row w giving) u.rows) result (with_tables u t.new) }
     ensures sheds { Sheds (counts_at t.old.nodes) (row_by values.old) (counts_at t.new.nodes) (row_by values.new) }
 {
     t.unlisted = None;
-    let mut left = t.last_handle;
-    let mut guess = t.handles.places.len();
+    let mut left = until;
+    let mut guess = first_guess(&t.handles, t.last_handle, until);
     while let Some(at) = last_given(&t.handles, &t.nodes, loads, giving, reach, left, guess) {
         left = at.row.number.0 - 1;
         guess = at.place;
@@ -166,7 +175,16 @@ pub fn close<N: Drop>(t: &mut Tables, values: &mut Arcs<N>)
     let giving = Giving::Listed;
     let since = 0;
     let reach = Reach { since, beside: 0 };
-    let _ = give_all(&mut t.holdings, values, &t.loads, giving, reach, false);
+    let until = t.holdings.last_handle;
+    let _ = give_all(
+        &mut t.holdings,
+        values,
+        &t.loads,
+        giving,
+        reach,
+        until,
+        false,
+    );
 }
 
 /// The handle of this number is given up, if the load owns it, with all that goes with it.
@@ -190,6 +208,38 @@ pub fn give_next<N: Drop>(
     }
 }
 
+/// An open load of this row is given up, with all that it owns, which has numbers up to `until`.
+fn drop_up_to<N: Drop>(
+    t: &mut Tables,
+    values: &mut Arcs<N>,
+    me: Owner,
+    load: LoadNumber,
+    row: LoadRow,
+    until: u64,
+    lists: bool,
+) -> Result<(), Error>
+    requires whole { IsWhole t.old }
+    requires own { (stored : ℕ → Option Blob) (closed : Bool) (failures : ℕ)
+        → OwnsLoad (core_of t.old stored closed failures) me load (load_in row) }
+    requires above { IsOwnedAbove t.old load row.since }
+    requires up_to { IsOwnedUpTo t.old load until }
+    ensures { DoesShed lists t.old values.old (λ w w'. DropCall w me load result w') t.new values.new }
+{
+    tables::close(&mut t.loads, load.0);
+    let since = row.since;
+    let giving = Giving::Load(load);
+    let reach = Reach { since, beside: 0 };
+    give_all(
+        &mut t.holdings,
+        values,
+        &t.loads,
+        giving,
+        reach,
+        until,
+        lists,
+    )
+}
+
 /// An open load is given up, with all that it owns. NoSuchHandle where none is open, NotYours where another began it. NumbersSpent or OutOfMemory where a cell that had to be listed isn't.
 pub fn load_drop<N: Drop>(
     t: &mut Tables,
@@ -203,11 +253,8 @@ pub fn load_drop<N: Drop>(
     ensures { DoesShed lists t.old values.old (λ w w'. DropCall w me load result w') t.new values.new }
 {
     let row = load_row(t, me, load)?;
-    tables::close(&mut t.loads, load.0);
-    let since = row.since;
-    let giving = Giving::Load(load);
-    let reach = Reach { since, beside: 0 };
-    give_all(&mut t.holdings, values, &t.loads, giving, reach, lists)
+    let until = last_of(t, load, row.since);
+    drop_up_to(t, values, me, load, row, until, lists)
 }
 
 /// Why a load of a key can't hand over the handles that are named, if it can't.
@@ -259,6 +306,42 @@ fn all_may_work(handles: &Handles, nodes: &mut Nodes, named: &[HandleNumber], me
     }
 }
 
+/// A load of a key, of which nothing stands against that, hands over the handles that are named, gives up the rest, which has
+/// numbers up to `until`, and is closed.
+fn take_up_to<N: Drop>(
+    t: &mut Tables,
+    values: &mut Arcs<N>,
+    me: Owner,
+    load: LoadNumber,
+    named: &[HandleNumber],
+    until: u64,
+    lists: bool,
+)
+    requires whole { IsWhole t.old }
+    requires later { AreLater t.old }
+    requires free { (stored : ℕ → Option Blob) (closed : Bool) (failures : ℕ)
+        → hand_over_fault (core_of t.old stored closed failures) me load named.now ≡ None }
+    requires up_to { IsOwnedUpTo t.old load until }
+    ensures { DoesShed lists t.old values.old (λ w w'. HandOverCall w me load named.now (Ok tt) w') t.new values.new }
+{
+    let row = tables::load_of(&t.loads, load.0).unwrap();
+    tables::close(&mut t.loads, load.0);
+    all_may_work(&t.holdings.handles, &mut t.holdings.nodes, named, me);
+    handles::hand_each(&mut t.holdings.handles, named, me);
+    let since = row.since;
+    let giving = Giving::Load(load);
+    let reach = Reach { since, beside: 0 };
+    let _ = give_all(
+        &mut t.holdings,
+        values,
+        &t.loads,
+        giving,
+        reach,
+        until,
+        lists,
+    );
+}
+
 /// A load of a key hands over the handles that are named, gives up the rest and is closed. NoSuchHandle where no load is open or a named handle isn't live;
 /// NotYours where another began the load or owns a named handle, or one is named twice; WrongMode where it is a load of a cell.
 pub fn load_take<N: Drop>(
@@ -277,13 +360,8 @@ pub fn load_take<N: Drop>(
         return Err(e);
     }
     let row = tables::load_of(&t.loads, load.0).unwrap();
-    tables::close(&mut t.loads, load.0);
-    all_may_work(&t.holdings.handles, &mut t.holdings.nodes, named, me);
-    handles::hand_each(&mut t.holdings.handles, named, me);
-    let since = row.since;
-    let giving = Giving::Load(load);
-    let reach = Reach { since, beside: 0 };
-    let _ = give_all(&mut t.holdings, values, &t.loads, giving, reach, lists);
+    let until = last_of(t, load, row.since);
+    take_up_to(t, values, me, load, named, until, lists);
     Ok(())
 }
 
@@ -435,7 +513,16 @@ pub fn release_node<N: Drop>(
 {
     let giving = Giving::AtNode(worker, node);
     let reach = reach_of(&t.workers, worker);
-    let _ = give_all(&mut t.holdings, values, &t.loads, giving, reach, lists);
+    let until = t.holdings.last_handle;
+    let _ = give_all(
+        &mut t.holdings,
+        values,
+        &t.loads,
+        giving,
+        reach,
+        until,
+        lists,
+    );
 }
 
 /// The worker's loads aren't open any more.
@@ -458,7 +545,16 @@ pub fn worker_end<N: Drop>(t: &mut Tables, values: &mut Arcs<N>, worker: WorkerN
 {
     let giving = Giving::Worker(worker);
     let reach = reach_of(&t.workers, worker);
-    let _ = give_all(&mut t.holdings, values, &t.loads, giving, reach, lists);
+    let until = t.holdings.last_handle;
+    let _ = give_all(
+        &mut t.holdings,
+        values,
+        &t.loads,
+        giving,
+        reach,
+        until,
+        lists,
+    );
     close_loads(&mut t.loads, worker);
     tables::close(&mut t.workers, worker.0);
 }

@@ -8,6 +8,7 @@ pub mod holdings;
 pub mod loading;
 pub mod lookups;
 pub mod making;
+pub mod noting;
 pub mod number_table;
 pub mod sound;
 pub mod tables;

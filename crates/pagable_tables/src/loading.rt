@@ -1,11 +1,11 @@
 //! Loads that begin, of a key or a cell, and whose an open load is; what a load reads becomes nodes; and loads of cells that end with a value.
 
-ghost use Rattle.pagable_tables.specs.{Falling.{IsFalling, Sheds, SoFar, coming, counts_at, has_value, key_in, live, load_at, owns_nothing, refs_at, with_tables, work_at}, Ready.{AsksKnown, HasPlace}};
+ghost use Rattle.pagable_tables.specs.{Falling.{IsFalling, Sheds, SoFar, coming, counts_at, has_value, key_in, live, load_at, owns_nothing, refs_at, room, with_tables, work_at}, Ready.{AsksKnown, HasPlace}};
 ghost use Rattle.pagable_world.specs.{Cascade.nobody, Kinds.{is_pinning, is_shared, mode_of, owner_value}, LoadCalls.{Adopts, BeginCall, BeginKeyCall, Installs, LazyCall, adopt_fault, adopted}};
 ghost use Rattle.pagable_world.specs.{LoadCalls.{end_fault, first_key, is_owned_in, root_fault}, Pager.MayOwnLoad, Plain.{Blob, if_there, is_loose_kind}, Refusals.{OwnsLoad, Refused, load_fault}};
 ghost use Rattle.pagable_world.specs.{Refusals.references_fault, World.{Alike, Core, OpenLoad, usable}, declared.{handles.Owner.Owner, rows.Mode.Mode}};
 ghost use Rattle.std.specs.Prelude.{Bool, IfErr, IfNone, IfOk, IfSome, IsSome, None, OnOk, Option, Some, [], false, length, not, true, ℕ, ◌<◌, ◌≡◌, ◌≢◌, ◌≤◌, ◌⊎◌};
-ghost use Rattle.{indexmap.specs.IndexMap.spare, pagable_tables.specs.Rows.row_by, pagable_tables.specs.{Core.{AreLater, Does, IsReady, IsWhole, MayHold, OnlyRoom, core_of, load_in, plain_of}, Falling.{AreSound, Becomes}}};
+ghost use Rattle.{indexmap.specs.IndexMap.spare, pagable_tables.specs.Rows.row_by, pagable_tables.specs.{Core.{AreLater, Does, IsOwnedAbove, IsOwnedUpTo, IsReady, IsWhole, MayHold, OnlyRoom, core_of, load_in, plain_of}, Falling.{AreSound, Becomes}}};
 ghost use Rattle.{pagable_tables.specs.Ready.{IsReady as IsEndReady, ShedsBeside, Unends, early_fault}, pagable_world.specs.{Calls.{IsNext, birth_fault, is_named_by, moved}, Cascade.FallsAnyhow}};
 ghost use Rattle.pagable_world.specs.declared.handles.Owner.TheVariants as owners;
 
@@ -17,6 +17,7 @@ use crate::lookups::{
     mode_of, references_fault,
 };
 use crate::making::{add, bear, is_owner, make, own, pin_here};
+use crate::noting::last_of;
 use crate::tables::{self, Arcs, LoadRoot, LoadRow, Reach, Tables};
 use pagable_model::{ArcRef, DataKey, Error, HandleNumber, Kind, LoadNumber, NodeNumber};
 use pagable_world::handles::{HandleRow, Owner};
@@ -63,6 +64,7 @@ pub fn load_begin(t: &mut Tables, me: Owner, handle: HandleNumber) -> Result<Beg
         key,
         root: LoadRoot::Cell(at.row.node, counts.unwrap().node_type, at.row.number),
         since: t.holdings.last_handle,
+        last: t.holdings.last_handle,
     };
     tables::open(&mut t.loads, load.0, row)?;
     let mode = Mode::LooseUnpinned;
@@ -108,6 +110,7 @@ pub fn load_key(t: &mut Tables, me: Owner, key: DataKey) -> Result<Beginning, Er
         key,
         root: LoadRoot::Key,
         since: t.holdings.last_handle,
+        last: t.holdings.last_handle,
     };
     tables::open(&mut t.loads, load, row)?;
     t.last_load = load;
@@ -419,6 +422,47 @@ fn join(t: &mut Holdings, node: NodeNumber, references: Vec<ArcRef>, comes: bool
     }
 }
 
+/// A load of a cell ends as by `install`, where what it owns has numbers up to `until`.
+fn install_up_to<N: Drop>(
+    t: &mut Tables,
+    values: &mut Arcs<N>,
+    me: Owner,
+    load: LoadNumber,
+    node_type: u32,
+    references: Vec<ArcRef>,
+    ending: Ending,
+    until: u64,
+    lists: bool,
+) -> HandleNumber
+    requires whole { IsWhole t.old }
+    requires ready { (stored : ℕ → Option Blob) (closed : Bool) (failures : ℕ) → IsEndReady (core_of t.old stored closed failures) me load node_type references.items ending }
+    requires place { 1 ≤ room t.old.holdings.handles }
+    requires above { IsOwnedAbove t.old load ending.load.since }
+    requires up_to { IsOwnedUpTo t.old load until }
+    ensures does { Does t.old (λ w w'. lists ≡ not w.closed → Installs w me load ending.row.node ending.row.number result references.items w') t.new }
+    ensures sheds { ShedsBeside ending.row.node (counts_at t.old.holdings.nodes) (row_by values.old) (counts_at t.new.holdings.nodes) (row_by values.new) }
+{
+    let Ok(handle) = pin_here(t, me, ending.row) else {
+        unreachable!();
+    };
+    let node = ending.row.node;
+    join(&mut t.holdings, node, references, ending.is_away);
+    tables::close(&mut t.loads, load.0);
+    let since = ending.load.since;
+    let giving = Giving::Load(load);
+    let reach = Reach { since, beside: 0 };
+    let _ = give_all(
+        &mut t.holdings,
+        values,
+        &t.loads,
+        giving,
+        reach,
+        until,
+        lists,
+    );
+    handle
+}
+
 /// A load of a cell ends: the handle by which it was begun is pinned, a Pinned one is made, and the load gives up what it still owns. Where the cell has no value, the value's references
 /// come to it with their handles before; the value itself stands among the values already.
 pub fn install<N: Drop>(
@@ -438,15 +482,8 @@ pub fn install<N: Drop>(
     ensures does { Does t.old (λ w w'. lists ≡ not w.closed → Installs w me load ending.row.node ending.row.number result references.items w') t.new }
     ensures sheds { ShedsBeside ending.row.node (counts_at t.old.holdings.nodes) (row_by values.old) (counts_at t.new.holdings.nodes) (row_by values.new) }
 {
-    let Ok(handle) = pin_here(t, me, ending.row) else {
-        unreachable!();
-    };
-    let node = ending.row.node;
-    join(&mut t.holdings, node, references, ending.is_away);
-    tables::close(&mut t.loads, load.0);
-    let since = ending.load.since;
-    let giving = Giving::Load(load);
-    let reach = Reach { since, beside: 0 };
-    let _ = give_all(&mut t.holdings, values, &t.loads, giving, reach, lists);
-    handle
+    let until = last_of(t, load, ending.load.since);
+    install_up_to(
+        t, values, me, load, node_type, references, ending, until, lists,
+    )
 }

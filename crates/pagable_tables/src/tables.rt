@@ -84,6 +84,8 @@ pub struct LoadRow {
     pub root: LoadRoot,
     /// The last handle that was given before it began: all that it owns have greater numbers.
     pub since: u64,
+    /// Of the handles up to `Tables::noted` it owns none of a greater number.
+    pub last: u64,
 }
 
 /// Which handles a worker may have: those of numbers above `since`, and that of number `beside`, 0 where it is none.
@@ -133,6 +135,8 @@ pub struct Tables {
     pub last_node: u64,
     pub last_load: u64,
     pub last_worker: u64,
+    /// Up to which number of a handle the rows of loads tell the last one that each owns.
+    pub noted: u64,
 }
 
 /// Tables without a node. They take no memory.
@@ -166,6 +170,7 @@ pub fn new(alloc: Global) -> Tables
         last_node: 0,
         last_load: 0,
         last_worker: 0,
+        noted: 0,
     }
 }
 

@@ -26,4 +26,4 @@ pub returns-clause-whole : goal.returns-clause-whole
 returns-clause-whole g c = whole-so c.give_all.ensures.steady (close-whole (Ok tt) c.requires.whole.core (returns-clause-closed g c (λ key. None) false 0 0 (omega arith)))
 
 pub returns-clause-later : goal.returns-clause-later
-returns-clause-later g c later = later-on later (newer-falls (returns-clause-closed g c (λ key. None) false 0 0 (omega arith)).falls.falls) refl refl
+returns-clause-later g c later = later-on later (newer-falls (returns-clause-closed g c (λ key. None) false 0 0 (omega arith)).falls.falls) refl refl refl

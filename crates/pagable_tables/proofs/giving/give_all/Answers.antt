@@ -7,7 +7,7 @@ loop-at-init g c = (
   aside c.args.t.now None [] owns_nothing c.requires.steady,
   omega arith,
   λ before u w loads f few between.
-      regiven before u nobody (past_of u w c.args.giving c.args.t.now.last_handle) c.args.lists _ f (λ r e. let up = between r in grind (arith, nat_tests)) (λ r e. absurd (cc)),
+      regiven before u nobody (past_of u w c.args.giving c.args.until) c.args.lists _ f (λ r e. let up = between r in grind (arith, nat_tests)) (λ r e. absurd (cc)),
   sheds-still c.args.t.now _ c.requires.steady,
   λ none. refl,
 )

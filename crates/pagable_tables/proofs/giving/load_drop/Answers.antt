@@ -1,23 +1,17 @@
-use Rattle.pagable_tables.proofs.{Calls.{closes, owned-in}, Fitting.begun-less, Newer.{closed-still, does-as, later-less, lazily-by, listing, loads-anew, nothing-shed, owned-given, sheds-with}}
-use Rattle.pagable_tables.proofs.{Newer.{still-reaches, updated-by}, Told.{newer-falls, roomy-whole, stays-on}, Words.{LoadCloses, None, Owner, arith, core_of, inl, inr, is_owned_in, load_at}}
-use Rattle.pagable_tables.proofs.{Words.{load_in, option_map, plain_of, refl, with_tables, without_load}, Worlds.{failed, still}}
+use Rattle.pagable_tables.proofs.{Newer.nothing-shed, Raising.{above-noted, core-same, noted-shed}, Words.{Core, inl, load_in, refl, subst, sym}, Worlds.{failed, still}}
+use Rattle.pagable_world.specs.Refusals.{OwnsLoad}
 
 pub returns-in_err-row : Rattle.pagable_tables.proofs.giving.load_drop.Goals.returns-in_err-row
 returns-in_err-row g c = rw (failed c.from_residual.result c.from_residual.ensures.1) (nothing-shed c.requires.whole (λ stored closed failures e. record { does = inl (record { e = c.in_err-row.field-0.0; why = c.in_err-row.ensures.fault stored closed failures; told = refl; stays = still _ }) }))
 
+pub drop_up_to-requires-clause-own : Rattle.pagable_tables.proofs.giving.load_drop.Goals.drop_up_to-requires-clause-own
+drop_up_to-requires-clause-own g c stored closed failures =
+    let n = c.last_of-until.ensures.notes in
+    subst (λ (w : Core). OwnsLoad w c.args.me c.args.load (load_in c.in_ok-row.row)) (sym (core-same c.args.t.now c.last_of-until.new.t n.same n.rows stored closed failures)) (c.in_ok-row.ensures.own stored closed failures)
+
+pub drop_up_to-requires-clause-above : Rattle.pagable_tables.proofs.giving.load_drop.Goals.drop_up_to-requires-clause-above
+drop_up_to-requires-clause-above g c =
+    above-noted c.args.load c.in_ok-row.row.since c.last_of-until.ensures.notes (λ q own. c.requires.later.since c.args.load.0 c.in_ok-row.row q c.in_ok-row.ensures.row own)
+
 pub returns : Rattle.pagable_tables.proofs.giving.load_drop.Goals.returns
-returns g c =
-    let t = c.args.t.now in
-    let l = c.args.load in
-    sheds-with (does-as (lazily-by {lists = c.args.lists} {old = t} {new = record t { holdings = c.give_all.new.t; loads = c.close.new.rows }} {step = λ w w'. LoadCloses w l c.give_all.result w'}
-    (λ stored closed failures e.
-    let w = core_of t stored closed failures in
-    let u = without_load w l in
-    let falls = c.give_all.ensures.falls w u (record u { loads = λ m. option_map load_in (load_at c.close.new.rows m) }) (λ m. refl)
-    (begun-less t u.loads w.workers stored closed c.args.lists failures c.requires.whole e) (omega arith)
-    (λ q own. let after = c.requires.later.since l.0 c.in_ok-row.row q c.in_ok-row.ensures.row own in ((omega arith, inl after), owned-given (plain_of t) (Owner.Load l) q c.requires.whole.core.handles own)) in
-    loads-anew w u (with_tables u c.give_all.new.t) (is_owned_in w (Owner.Load l)) c.give_all.result _
-    (updated-by (option_map load_in) (load_at t.loads) (load_at c.close.new.rows) l.0 None c.close.ensures.gone c.close.ensures.others) falls)
-    c.give_all.ensures.steady (let w = listing c.args.lists t in closes {u = w} l (is_owned_in w (Owner.Load l)) (roomy-whole c.requires.whole.core) (stays-on w) (owned-in c.requires.whole.core l))
-    (λ fell later. later-less later (newer-falls fell) (closed-still (load_at t.loads) (load_at c.close.new.rows) l.0 c.close.ensures.gone c.close.ensures.others) (still-reaches refl)))
-    (λ stored closed failures fell e. record { does = inr (load_in c.in_ok-row.row, c.in_ok-row.ensures.own stored closed failures, fell e) })) c.give_all.ensures.sheds
+returns g c = noted-shed c.last_of-until.ensures.notes c.drop_up_to.ensures

@@ -10,5 +10,5 @@ returns g c =
     let row = c.in_ok-at.at.row in
     sheds-with (does-as (lazily-so {lists = c.args.lists} {step = λ w w'. Falls w w (only_handle c.args.handle) c.give_back.result w'}
     (λ stored closed failures e. rw c.in_ok-at.ensures.number at (c.give_back.ensures.falls _ _ (begun-whole c.args.t.now stored closed c.args.lists failures c.requires.whole e) (omega arith)))
-    c.give_back.ensures.steady (lone-falling c.requires.whole.core) refl refl)
+    c.give_back.ensures.steady (lone-falling c.requires.whole.core) refl refl refl)
     (λ stored closed failures fell e. record { does = inr (row, record { live = c.in_ok-at.ensures.found; own = owner-same c.args.me row.owner c.in_ok-at.ensures.owner; as_asked = refl }, fell e) })) c.give_back.ensures.sheds

@@ -16,4 +16,4 @@ returns g c =
           ));
     })
     c.give_all.ensures.steady
-    (λ falls. lone-falling c.requires.whole.core falls.falls) refl refl) c.give_all.ensures.sheds
+    (λ falls. lone-falling c.requires.whole.core falls.falls) refl refl refl) c.give_all.ensures.sheds

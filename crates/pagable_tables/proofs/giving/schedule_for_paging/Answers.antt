@@ -18,7 +18,7 @@ returns-then-not-lists g c =
     let own : Owns w c.args.me c.args.handle is_unpinned row =
     record { live = c.in_ok-at.ensures.found; own = owner-same c.args.me row.owner c.in_ok-at.ensures.owner; as_asked = search rules } in
     record { moves = (row, own, inr (closed-is c.args.lists closed e ∙ ap not c.if-not-lists.true, record { told = c.give_back.result; falls = falls })); refused = tt })
-    c.give_back.ensures.steady (schedule-goes c.args.me c.args.handle c.requires.whole.core c.requires.holder) refl refl)
+    c.give_back.ensures.steady (schedule-goes c.args.me c.args.handle c.requires.whole.core c.requires.holder) refl refl refl)
     c.give_back.ensures.sheds
 
 pub returns : goal.returns
@@ -33,7 +33,7 @@ returns g c =
     sheds-with (lazily-so {lists = c.args.lists} {old = t} {new = new} {step = λ w w'. ScheduleCall w c.args.me c.args.handle (Ok tt) w'}
     (λ stored closed failures e.
     grind (arith, nat_tests, owner-same, closed-is, alike, c.in_ok-at.ensures.found, c.in_ok-at.ensures.owner, c.if-not-lists.false, c.hand_over.ensures.becomes.rows, c.in_ok-at.ensures.number))
-    steady (schedule-goes c.args.me c.args.handle c.requires.whole.core c.requires.holder) refl refl)
+    steady (schedule-goes c.args.me c.args.handle c.requires.whole.core c.requires.holder) refl refl refl)
     (sheds-still c.args.t.now.holdings _ c.requires.whole.steady)
 
 pub returns-in_err-reserve : goal.returns-in_err-reserve
@@ -45,4 +45,4 @@ returns-in_err-reserve g c =
     rw (failed c.from_residual-in_err-reserve.result c.from_residual-in_err-reserve.ensures.1) (sheds-with
     (lazily-so {lists = c.args.lists} {old = t} {new = new} {step = λ w w'. ScheduleCall w c.args.me c.args.handle (Err Error.OutOfMemory) w'}
     (λ stored closed failures e1. grind (arith, nat_tests, closed-is, alike, c.in_ok-at.ensures.found, c.in_ok-at.ensures.owner, c.if-not-lists.false, e.items, e.full, e.capacity))
-    (record { sound = w.sound; next = w.next; fits = w.fits; worked = w.worked }) (λ call. alike-goes c.requires.whole.core call.refused.stays) refl refl) (sheds-still t.holdings _ w))
+    (record { sound = w.sound; next = w.next; fits = w.fits; worked = w.worked }) (λ call. alike-goes c.requires.whole.core call.refused.stays) refl refl refl) (sheds-still t.holdings _ w))

@@ -38,6 +38,6 @@ returns g c =
     let own = owner-same c.args.me row.owner c.in_ok-at.ensures.owner in
     sheds-with (does-as (lazily-so {lists = c.args.lists} {step = λ w w'. Falls w (with_key w row.node c.args.key) nobody c.fall.result w'}
     (λ stored closed failures e. c.fall.ensures.falls _ _ nobody (keyed-on t stored closed c.args.lists failures c.requires.whole e row.node c.args.key _ refl cells))
-    c.fall.ensures.steady (λ fell. falling fell stands) refl refl)
+    c.fall.ensures.steady (λ fell. falling fell stands) refl refl refl)
     (λ stored closed failures fell e. record { does = inr (row, record { live = c.in_ok-at.ensures.found; own = own; as_asked = refl }, inr (loose, fell e)) }))
     (stays-first (λ m. grind (arith, nat_tests, cases_eq m row.node.0, here, is, c.set_counts.ensures.others m)) c.fall.ensures.sheds)

@@ -58,7 +58,7 @@ returns c =
       later = λ other later.
           (let row = found-among h.0 (live t.handles.places.items) c.in-Some-look.at.row c.in-Some-look.ensures.found in
           let numbered : 0 < h.0 = (let n = w.core.handles.numbered c.in-Some-look.at.row row.0 in let a = n.0 in let is = row.1 in omega arith) in
-          later-by later (omega arith) (λ l load is. is) c.reach_to.ensures.less (λ l q own. inl (load-kept u later (only_handle h) c.args.me other _ given l q own))
+          later-by later (omega arith) refl (λ l load is. is) c.reach_to.ensures.less (λ l q own. inl (load-kept u later (only_handle h) c.args.me other _ given l q own))
           (λ v q own. elim (worker-kept u later (only_handle h) c.args.me other _ given v q own) [
             | inl had ↦ inl had
             | inr (mine, is) ↦ inr (inr (subst (λ n. InReach (reach_at c.reach_to.new.workers v) n) (grind (arith, nat_tests)) (c.reach_to.ensures.here v numbered mine)))

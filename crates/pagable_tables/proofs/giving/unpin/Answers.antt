@@ -52,5 +52,5 @@ returns-in-LoosePinned g c =
     sheds-with (does-as (lazily-so {lists = c.args.lists} {step = λ w w'. Falls w (with_mode w c.args.handle Mode.LooseUnpinned) nobody c.fall.result w'}
     (λ stored closed failures e.
     rw c.in_ok-at.ensures.number at (c.fall.ensures.falls _ _ nobody (lowered-on t stored closed c.args.lists failures c.requires.whole e row c.give_up.new.t up)))
-    c.fall.ensures.steady (λ fell. falling fell turns) refl refl)
+    c.fall.ensures.steady (λ fell. falling fell turns) refl refl refl)
     (λ stored closed failures fell e. record { does = inr (row, record { live = c.in_ok-at.ensures.found; own = own; as_asked = ap is_loose c.in-LoosePinned.is }, inr (c.in-LoosePinned.is, fell e)) })) (stays-first up.values c.fall.ensures.sheds)

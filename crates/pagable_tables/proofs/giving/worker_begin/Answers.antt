@@ -4,7 +4,7 @@ use Rattle.pagable_tables.proofs.{Words.{refl, ◌+◌}, Worlds.{failed, same-ca
 pub returns-in_err-open-clause-does : Rattle.pagable_tables.proofs.giving.worker_begin.Goals.returns-in_err-open-clause-does
 returns-in_err-open-clause-does c = rw (failed c.from_residual.result c.from_residual.ensures.1)
     (does-by (λ stored closed failures. grind (arith, nat_tests, same-cache, c.in_err-open.ensures.err)) c.requires.steady (λ begun. settles (roomy-whole c.requires.core) begun.refused.1)
-    (λ begun later. later-less later (newer-alike begun.refused.1) (λ l load is. is) (record { wider = λ v q in-reach. grind (arith, nat_tests, c.in_err-open.ensures.err); before = λ v. grind (arith, nat_tests, c.in_err-open.ensures.err) })))
+    (λ begun later. later-less later (newer-alike begun.refused.1) refl (λ l load is. is) (record { wider = λ v q in-reach. grind (arith, nat_tests, c.in_err-open.ensures.err); before = λ v. grind (arith, nat_tests, c.in_err-open.ensures.err) })))
 
 pub returns-clause-does : Rattle.pagable_tables.proofs.giving.worker_begin.Goals.returns-clause-does
 returns-clause-does c = does-by (λ stored closed failures. grind (arith, nat_tests, same-cache, one-more-works, c.in_ok-open.ensures.here, c.in_ok-open.ensures.others)) c.requires.steady

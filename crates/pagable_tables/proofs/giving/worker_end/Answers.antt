@@ -18,6 +18,6 @@ returns g c =
     let loads = loads-anew w u (with_tables u h) (is_workers w v) r w'.loads (λ l. let left = c.close_loads.ensures l in grind (arith, nat_tests)) falls in
     record { told = r; falls = subst (λ s. Falls w u (is_workers w v) r (record (with_tables u h) { loads = w'.loads; workers = s })) (λ i q. updated-by is_some (worker_at t.workers) (worker_at c.close.new.rows) v None c.close.ensures.gone c.close.ensures.others q i) loads })
     c.give_all.ensures.steady (worker-end-whole v c.requires.whole.core)
-    (λ ends later. later-less later (newer-falls ends.falls) (λ l load is. let left : left_load v (load_at t.loads l) ≡ Some load = sym (c.close_loads.ensures l) ∙ is in grind (arith, nat_tests))
+    (λ ends later. later-less later (newer-falls ends.falls) refl (λ l load is. let left : left_load v (load_at t.loads l) ≡ Some load = sym (c.close_loads.ensures l) ∙ is in grind (arith, nat_tests))
     (grind (arith, nat_tests, cases_eq, c.close.ensures.gone, c.close.ensures.others))))
     c.give_all.ensures.sheds

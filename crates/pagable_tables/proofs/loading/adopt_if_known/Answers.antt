@@ -53,7 +53,7 @@ returns g c =
       kept = tt;
       refused = λ stored closed failures. tt;
       whole = whole-so c.give_named.ensures.steady went.whole;
-      later = later-on (made.later c.requires.later) went.newer refl refl;
+      later = later-on (made.later c.requires.later) went.newer refl refl refl;
       sheds = stays-first (λ n. c.in_ok-handle.ensures.values n (λ eq pins. ap (λ k. has_value (counts_at t.holdings.nodes k)) eq ∙ valued)) c.give_named.ensures.sheds;
     }
 

@@ -32,5 +32,5 @@ returns c =
       does = λ stored closed failures. let n = (born.does stored closed failures).next in (record { above = n.above; is_left = n.is_left }, new stored closed failures);
       whole = whole-so born.whole.steady (settles (adopted-whole (core_of t (λ key. None) (not c.args.lists) 0) r.whole.core c.args.load c.args.kind c.args.key (key_in c.args.own_key) rs r.holder r.fit
           r.ready.node_left r.ready.handle_left unkeyed) (new (λ key. None) (not c.args.lists) 0 (closed-is (not c.args.lists) c.args.lists refl)));
-      later = λ later. let l = born.later later in record { given = l.given; since = l.since; begun = l.begun; reach = l.reach; loads = l.loads };
+      later = λ later. let l = born.later later in record { given = l.given; since = l.since; begun = l.begun; reach = l.reach; loads = l.loads; noted = l.noted; until = l.until };
     }

@@ -22,7 +22,7 @@ returns-in_err-open c = rw (failed c.from_residual-in_err-open.result c.from_res
     (λ stored closed failures. unbegun c.args.me c.args.handle c.in_ok-at.at.row c.in_ok-at.ensures.found c.in_ok-at.ensures.owner (search rules) (search rules) (omega arith) (omega arith)
     (grind (arith, nat_tests, same-cache, c.in_err-open.ensures.err)))
     c.requires.whole.steady (λ begins. settles (roomy-whole c.requires.whole.core) begins.refused.stays)
-    (λ begins later. later-less later (newer-alike begins.refused.stays) (λ l load is. sym (c.in_err-open.ensures.err l) ∙ is) (still-reaches refl)))
+    (λ begins later. later-less later (newer-alike begins.refused.stays) refl (λ l load is. sym (c.in_err-open.ensures.err l) ∙ is) (still-reaches refl)))
 
 pub returns-in-Err : goal.returns-in-Err
 returns-in-Err c =
@@ -35,7 +35,7 @@ returns-in-Err c =
     unbegun c.args.me c.args.handle c.in_ok-at.at.row c.in_ok-at.ensures.found c.in_ok-at.ensures.owner (search rules) (search rules) (omega arith) left
     (grind (arith, nat_tests, c.requires.whole.core.loads.numbered, c.in_ok-open.ensures.others, c.close.ensures.gone, c.close.ensures.others)))
     c.add.ensures.steady (λ begins. settles (roomy-whole c.requires.whole.core) begins.refused.stays)
-    (λ begins later. later-less later (newer-alike begins.refused.stays)
+    (λ begins later. later-less later (newer-alike begins.refused.stays) refl
     (closed-still (load_at t.loads) (load_at c.close.new.rows) (t.last_load + 1) c.close.ensures.gone (λ q other. c.close.ensures.others q other ∙ c.in_ok-open.ensures.others q other)) (still-reaches refl)))
 
 pub returns : goal.returns
@@ -58,4 +58,4 @@ returns c =
     c.add.ensures.steady (begin-whole c.args.me c.args.handle c.requires.whole.core c.requires.owner)
     (λ begins later. let n = newer-then (newer-handle (plain_of t) begins.begins.0.node Mode.LooseUnpinned (Owner.Load (record { 0 = l }))) (newer-alike begins.begins.2.4.2) in
     later-opened c.requires.whole.core later n l _ (grind (arith, nat_tests))
-    c.in_ok-open.ensures.here refl c.in_ok-open.ensures.others refl)
+    c.in_ok-open.ensures.here refl c.in_ok-open.ensures.others refl refl)

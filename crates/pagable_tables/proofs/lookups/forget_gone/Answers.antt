@@ -20,5 +20,5 @@ returns-clause-does c =
     record {
       does = forgets;
       whole = whole-so c.requires.steady (told-whole (plain_of t1) c.requires.core refl (λ n. refl) refl plain.cache.only (λ l. refl) (λ v. refl) refl);
-      later = λ later. record { given = later.given; since = later.since; begun = later.begun; reach = later.reach; loads = later.loads };
+      later = λ later. record { given = later.given; since = later.since; begun = later.begun; reach = later.reach; loads = later.loads; noted = later.noted; until = later.until };
     }

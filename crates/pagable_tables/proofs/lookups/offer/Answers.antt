@@ -46,7 +46,7 @@ returns g c =
       sheds = λ there.
           stays-first (λ n. c.in_ok-known.ensures.values n (λ eq pins. ap (λ k. has_value (counts_at t.holdings.nodes k)) eq
           ∙ there node.0 (sym (c.in-Some.ensures (λ key. None) false 0)) (ap is_pinning (sym c.mode_of.ensures) ∙ pins))) c.give_back.ensures.sheds;
-      later = λ later. later-on (made.later later) went.newer refl refl;
+      later = λ later. later-on (made.later later) went.newer refl refl refl;
     }
 
 pub forget_gone-requires : goal.forget_gone-requires

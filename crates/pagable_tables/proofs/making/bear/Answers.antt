@@ -37,4 +37,4 @@ returns-clause-does c =
       fits = rows-told (counts_at c.put.new.self) (refs_at c.put.new.self) _ _ t.top rows fits;
       worked = work-told c.put.new.self (given ++ x ∷ []) (live c.push.new.handles.places.items) rows worked;
     })
-    (bears-goes me c.args.node_type c.args.key rs c.args.mode _ w.core c.requires.holder c.requires.fit c.requires.ready.node_left (elim c.requires.bare [ inl none ↦ λ is. ap (λ k. has_key (key_in k)) none | inr so ↦ λ is. absurd (let a = so.0 in cc) ])) refl refl
+    (bears-goes me c.args.node_type c.args.key rs c.args.mode _ w.core c.requires.holder c.requires.fit c.requires.ready.node_left (elim c.requires.bare [ inl none ↦ λ is. ap (λ k. has_key (key_in k)) none | inr so ↦ λ is. absurd (let a = so.0 in cc) ])) refl refl refl

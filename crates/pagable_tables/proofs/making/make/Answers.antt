@@ -8,4 +8,4 @@ add-requires-clause-live c =
 
 pub returns-clause-does : Rattle.pagable_tables.proofs.making.make.Goals.returns-clause-does
 returns-clause-does c = does-so (λ stored closed failures. c.add.ensures.made (core_of c.args.t.now stored closed failures)) c.add.ensures.steady
-    (makes-goes c.args.node c.args.mode c.args.me c.add.result c.requires.whole.core c.requires.suits c.requires.holder) refl refl
+    (makes-goes c.args.node c.args.mode c.args.me c.add.result c.requires.whole.core c.requires.suits c.requires.holder) refl refl refl

@@ -8,4 +8,4 @@ returns c =
       whole = told-whole (plain_of (record c.args.t.now { cache = c.clear.new.self })) c.requires.core a.rows a.cells a.list
           (λ kind key n is. let f = a.cache.only kind key n is in absurd (cc)) a.loads a.workers a.last;
       newer = newer-alike a;
-    }) refl refl
+    }) refl refl refl

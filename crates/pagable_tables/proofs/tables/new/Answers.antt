@@ -6,11 +6,11 @@ nothing-whole : (t : Tables) → t.holdings.handles.dead ≡ 0 → t.holdings.ha
     → (t.holdings.top ≡ 0) × (t.holdings.last_handle ≡ 0) × (t.last_node ≡ 0) × (t.last_load ≡ 0) → IsWhole t
 nothing-whole t dead rows found list cache loads workers last = grind (arith, nat_tests)
 
-nothing-later : (t : Tables) → live t.holdings.handles.places.items ≡ [] → ((l : ℕ) → load_at t.loads l ≡ None) → ((v : ℕ) → worker_at t.workers v ≡ None) → AreLater t
-nothing-later t none loads workers = grind (arith, nat_tests, passes-none)
+nothing-later : (t : Tables) → live t.holdings.handles.places.items ≡ [] → ((l : ℕ) → load_at t.loads l ≡ None) → ((v : ℕ) → worker_at t.workers v ≡ None) → t.noted ≡ 0 → AreLater t
+nothing-later t none loads workers noted = grind (arith, nat_tests, passes-none)
 
 pub returns-clause-later : Rattle.pagable_tables.proofs.tables.new.Goals.returns-clause-later
-returns-clause-later c = nothing-later _ (ap live c.new.ensures.items) (λ l. rw c.new-5.ensures.empty refl) (λ v. rw c.new-6.ensures.empty refl)
+returns-clause-later c = nothing-later _ (ap live c.new.ensures.items) (λ l. rw c.new-5.ensures.empty refl) (λ v. rw c.new-6.ensures.empty refl) refl
 
 pub returns-clause-whole : Rattle.pagable_tables.proofs.tables.new.Goals.returns-clause-whole
 returns-clause-whole c =

@@ -13,7 +13,7 @@ grown t u w e items capacity = does-so (λ stored closed failures. grind (arith,
       fits = rows-told _ _ _ _ t.holdings.top e.rows w.steady.fits;
       worked = work-told t.holdings.nodes (live t.holdings.handles.places.items) (live u.handles.places.items) e.rows w.steady.worked;
     })
-    (alike-goes w.core) refl refl
+    (alike-goes w.core) refl refl refl
 
 pub returns-in_err-reserve : goal.returns-in_err-reserve
 returns-in_err-reserve c = rw (failed c.from_residual.result c.from_residual.ensures.1)
