@@ -505,7 +505,9 @@ class Machine:
         return self.worker(table, item=item)
 
     def listed(self, table, place):
-        need(place < self.pending(), NO_SUCH_HANDLE)
+        need(0 < table <= len(self.tables) and place < self.pending(), NO_SUCH_HANDLE)
+        # A kind is a number of 32 bits.
+        need(3 * self.handles[self.list[place]].cell.node_type + 1 < 2**32, WRONG_KIND)
         number = self.worker(table, entry=self.list[place])
         self.handles[self.list.pop(place)].owner = self.workers[-1]
         return number

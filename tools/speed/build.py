@@ -21,10 +21,10 @@ TOP = HERE.parent.parent
 USES = "speed: pagable pagable_rows pagable_examples anyhow indexmap\n"
 # What `rt try` adds: bytes put into new variables, and calls of its checks.
 ADDED = re.compile(r"^ *call void @(?:llvm\.memset\.p0\.i64\(ptr %\S+, i8 -86,|\"rattle-llvm-checks::).*\n", re.MULTILINE)
-FAST = ["-O3", "-Xclang", "-fmerge-functions", "-mllvm", "-mergefunc-use-aliases", "-fno-vectorize", "-fno-slp-vectorize"]
+FAST = ["-Xclang", "-fmerge-functions", "-mllvm", "-mergefunc-use-aliases", "-fno-vectorize", "-fno-slp-vectorize"]
 
 
-def compiled(kit, words):
+def compiled(kit, level, words):
     """Compiles for `rt try`, in the folder in which it calls the compiler."""
     clang = ["clang", *[word for word in words if word != "-fsanitize=address"]]
     real = kit / "toolchain" / "bin" / "clang"
@@ -36,7 +36,7 @@ def compiled(kit, words):
     code = code.replace('"target-cpu"="x86-64"', '"target-cpu"="x86-64-v2"')
     pathlib.Path("module.ll").write_text(code)
     clang[clang.index(module)] = "module.ll"
-    fast = [new for word in clang for new in (FAST if word == "-O0" else [word.replace("-march=x86-64", "-march=x86-64-v2")])]
+    fast = [new for word in clang for new in ([level, *FAST] if word == "-O0" else [word.replace("-march=x86-64", "-march=x86-64-v2")])]
     return subprocess.run(fast, executable=real).returncode
 
 
@@ -50,7 +50,7 @@ def linked(kit, work, words):
     return status
 
 
-def kit_in(work):
+def kit_in(work, level):
     """A folder like the kit's, whose compiler and linker are this script."""
     kit = pathlib.Path(shutil.which("rt")).resolve().parent.parent
     folder = work / "kit"
@@ -68,28 +68,39 @@ def kit_in(work):
     for name in ("clang", "ld.lld"):
         tool = folder / "toolchain" / "bin" / name
         tool.unlink()
-        tool.write_text(f'#!/bin/sh\nexec "{sys.executable}" "{HERE / "build.py"}" --{name} "{kit}" "{work}" "$@"\n')
+        words = f'"{sys.executable}" "{HERE / "build.py"}" --{name} "{kit}" "{work}" {level}'
+        tool.write_text(f'#!/bin/sh\nexec {words} "$@"\n')
         tool.chmod(0o755)
     return folder
 
 
 def built(work, repository=TOP):
-    """Builds the program, and gives its path."""
+    """Builds the program of this folder, and gives its path."""
+    return compiled_in(work, source_in(work, repository, HERE, USES))
+
+
+def source_in(work, repository, folder, uses):
+    """Copies the crates of a repository, with the program of a folder, which uses these crates: where its files stand."""
     work.mkdir(parents=True, exist_ok=True)
     copy = work / "repository"
     shutil.rmtree(copy, ignore_errors=True)
     shutil.copytree(repository / "crates", copy / "crates", ignore=shutil.ignore_patterns("out"))
     shutil.copy(repository / "HANDLES", copy / "HANDLES")
-    (copy / "crates.txt").write_text((repository / "crates.txt").read_text() + USES)
+    (copy / "crates.txt").write_text((repository / "crates.txt").read_text() + uses)
     subprocess.run(["git", "init", "-q"], cwd=copy, check=True)
-    source = copy / "crates" / "speed" / "src"
+    source = copy / "crates" / uses.partition(":")[0] / "src"
     source.mkdir(parents=True)
-    for file in HERE.glob("*.rattle"):
+    for file in folder.glob("*.rattle"):
         shutil.copy(file, source / f"{file.stem}.rt")
+    return source
+
+
+def compiled_in(work, source, level="-O3"):
+    """Compiles the program of a crate by `rt try`, at this level of optimisation."""
     program = work / "speed"
     program.unlink(missing_ok=True)
     # (without words the program only says how it is called)
-    tried = [kit_in(work) / "bin" / "rt", "try", "--steps", "1", "--seconds", "5"]
+    tried = [kit_in(work, level) / "bin" / "rt", "try", "--steps", "1", "--seconds", "5"]
     said = subprocess.run(tried, cwd=source.parent, stdin=subprocess.DEVNULL, text=True, capture_output=True)
     if not program.exists():
         sys.exit(f"{said.stdout}{said.stderr}")
@@ -98,9 +109,9 @@ def built(work, repository=TOP):
 
 def main():
     if sys.argv[1] == "--clang":
-        sys.exit(compiled(pathlib.Path(sys.argv[2]), sys.argv[4:]))
+        sys.exit(compiled(pathlib.Path(sys.argv[2]), sys.argv[4], sys.argv[5:]))
     if sys.argv[1] == "--ld.lld":
-        sys.exit(linked(pathlib.Path(sys.argv[2]), pathlib.Path(sys.argv[3]), sys.argv[4:]))
+        sys.exit(linked(pathlib.Path(sys.argv[2]), pathlib.Path(sys.argv[3]), sys.argv[5:]))
     print(built(*[pathlib.Path(word).resolve() for word in sys.argv[1:]]))
 
 

@@ -1,0 +1,223 @@
+"""Values of carried types, read and written again by their rules: short and slow, written from the rules of the wire
+format and not from
+the crates, to be held against them by fuzz.py. A type is spelled as rows spell it."""
+
+import re
+
+UNEXPECTED_END, BAD_VARINT, BAD_BOOL, BAD_UTF8, BAD_CHAR, TOO_LONG, TOO_DEEP = range(1, 8)
+JSON_CASE, JSON_NUMBER, BAD_DURATION = range(8, 11)
+DEEPEST = 128
+# Of a number of so many bits: how many bytes there are at most, and how large the last of so many may be.
+WIDTHS = {16: (3, 3), 32: (5, 15), 64: (10, 1), 128: (19, 3)}
+
+
+class Refused(Exception):
+    """A refusal, by its number."""
+
+
+def need(is_so, number):
+    if not is_so:
+        raise Refused(number)
+
+
+class Bytes:
+    """Bytes that are read from the front, and the levels that are left."""
+
+    def __init__(self, data):
+        self.data, self.place, self.levels = data, 0, DEEPEST
+
+    def take(self, count):
+        need(len(self.data) - self.place >= count, UNEXPECTED_END)
+        self.place += count
+        return self.data[self.place - count:self.place]
+
+    def varint(self, bits):
+        longest, greatest = WIDTHS[bits]
+        front = self.data[self.place:self.place + longest]
+        length = next((place for place, byte in enumerate(front, 1) if byte < 128), None)
+        need(length is not None or len(front) == longest, UNEXPECTED_END)
+        need(length is not None and (length < longest or front[-1] <= greatest), BAD_VARINT)
+        return sum((byte & 127) << 7 * place for place, byte in enumerate(self.take(length)))
+
+    def length(self):
+        length = self.varint(64)
+        need(length < 2**32, TOO_LONG)
+        return length
+
+    def bool(self):
+        byte = self.take(1)[0]
+        need(byte <= 1, BAD_BOOL)
+        return byte == 1
+
+    def text(self):
+        try:
+            return self.take(self.length()).decode()
+        except UnicodeDecodeError:
+            raise Refused(BAD_UTF8) from None
+
+
+def written_varint(number):
+    return bytes([number]) if number < 128 else bytes([number % 128 + 128]) + written_varint(number // 128)
+
+
+def written_text(text):
+    return written_varint(len(text.encode())) + text.encode()
+
+
+def number(name):
+    """How a number of this type is read, and written again."""
+    bits = 64 if name == "usize" else int(name[1:])
+    if bits == 8:
+        return lambda b: b.take(1)
+    return lambda b: written_varint(b.varint(bits))
+
+
+def counted(name):
+    """A list, an array or a set of lists' items: how it is read and written again."""
+    item = reader(name)
+
+    def read(b):
+        items = [item(b) for _ in range(b.length())]
+        return written_varint(len(items)) + b"".join(items)
+
+    return read
+
+
+def parts(name):
+    """The types that stand between the outermost commas."""
+    found, depth = [""], 0
+    for letter in name:
+        depth += letter in "<([" 
+        depth -= letter in ">)]"
+        if letter == "," and depth == 0:
+            found.append("")
+        else:
+            found[-1] += letter
+    return found
+
+
+def sequence(names):
+    read = [reader(name) for name in names]
+    return lambda b: b"".join(part(b) for part in read)
+
+
+def optional(name):
+    item = reader(name)
+    return lambda b: b"\1" + item(b) if b.bool() else b"\0"
+
+
+def result(first, second):
+    first, second = reader(first), reader(second)
+    return lambda b: b"\1" + first(b) if b.bool() else b"\0" + second(b)
+
+
+def character(b):
+    text = b.text()
+    need(len(text) == 1, BAD_CHAR)
+    return written_text(text)
+
+
+def duration(b):
+    seconds, nanoseconds = b.varint(64), b.varint(32)
+    seconds += nanoseconds // 10**9
+    need(seconds < 2**64, BAD_DURATION)
+    return written_varint(seconds) + written_varint(nanoseconds % 10**9)
+
+
+def ordered_map(name, is_sorted):
+    """A map: of a key that comes twice the later value stands, at the key's first place. Where keys are sorted they
+    are numbers of one byte."""
+    first, second = (reader(part) for part in parts(name))
+
+    def read(b):
+        pairs = {}
+        for _ in range(b.length()):
+            key = first(b)
+            pairs[key] = second(b)
+        keys = sorted(pairs) if is_sorted else pairs
+        return written_varint(len(pairs)) + b"".join(key + pairs[key] for key in keys)
+
+    return read
+
+
+def json(b):
+    case = b.varint(64)
+    need(case <= 5, JSON_CASE)
+    front = written_varint(case)
+    if case == 1:
+        return front + (b"\1" if b.bool() else b"\0")
+    if case == 2:
+        need(not b.bool(), JSON_NUMBER)
+        return front + b"\0" + written_varint(b.varint(64))
+    if case == 3:
+        return front + written_text(b.text())
+    return front + (json_items(b, case == 5) if case > 3 else b"")
+
+
+def json_items(b, is_object):
+    """The items of an array, or the members of an object in the order of their keys' bytes: one level below."""
+    count = b.length()
+    need(b.levels > 0, TOO_DEEP)
+    b.levels -= 1
+    if is_object:
+        members = {}
+        for _ in range(count):
+            key = b.text()
+            members[key.encode()] = json(b)
+        items = [written_varint(len(key)) + key + members[key] for key in sorted(members)]
+    else:
+        items = [json(b) for _ in range(count)]
+    b.levels += 1
+    return written_varint(len(items)) + b"".join(items)
+
+
+def string(b):
+    return written_text(b.text())
+
+
+SIMPLE = {
+    "bool": lambda b: b"\1" if b.bool() else b"\0", "char": character, "String": string, "Box<str>": string, "PathBuf": string,
+    "Duration": duration, "()": lambda b: b"", "Json": json,
+}
+
+
+def reader(name):
+    """How a value of this type is read from bytes: what is written of it."""
+    if name in SIMPLE:
+        return SIMPLE[name]
+    if re.fullmatch(r"[ui]\d+|usize", name):
+        return number(name)
+    if found := re.fullmatch(r"\[(\w+);(\d+)\]", name):
+        return sequence([found[1]] * int(found[2]))
+    if found := re.fullmatch(r"\((.*)\)", name):
+        return sequence(parts(found[1]))
+    word, _, inner = name.partition("<")
+    inner = inner.removesuffix(">")
+    of = {
+        "Vec": counted, "Option": optional, "OnceLock": optional, "Box": reader,
+        "Result": lambda names: result(*parts(names)),
+        "BTreeMap": lambda names: ordered_map(names, True),
+        "IndexMap": lambda names: ordered_map(names, False),
+        "SmallVec": lambda names: counted(names[1:].partition(";")[0]),
+    }
+    return of[word](inner)
+
+
+# Types of which rows can ask, and which stand here.
+TYPES = (
+    "u8 u16 u32 u64 u128 usize i8 i16 i32 i64 i128 bool char String Box<str> PathBuf Duration () Json Option<u8>"
+    " Option<Option<i32>> Box<u16> Result<String,String> (bool,String) (u8,u16,i32) (u8,String,Vec<u64>,Option<i8>)"
+    " (u128,i128,char,bool,()) Vec<u8> Vec<i32> Vec<u64> Vec<String> [u16;2] [String;3] SmallVec<[String;4]> BTreeMap<u8,u8>"
+    " IndexMap<String,u8> IndexMap<String,u32> OnceLock<u16>"
+).split()
+
+
+def answer(name, data):
+    """What comes of an input, as rows tell it, but for what a value shows."""
+    source = Bytes(data)
+    try:
+        written = reader(name)(source)
+    except Refused as refusal:
+        return f"refused {refusal.args[0]}"
+    taken = data[:source.place]
+    return f"ok {len(taken)}" + ("" if written == taken else " " + (written.hex() or "-"))
