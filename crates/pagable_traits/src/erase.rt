@@ -125,26 +125,6 @@ pub trait ArcErase<E: Env>: Sized {
             (inner is_paged (refers_to self.now (S.told storage.now)) Self.Value.Carried.means.of
             (Self.Value.Carried.shape (W.environment serializer.old)))
             (inner_causes is_paged Self.Value.PagableSerialize.write_causes.are) serializer.old serializer.new result };
-
-    /// Reads a value, as a node of its type is read, inserts it into the storage as a new node, and answers the first
-    /// reference to it.
-    ///
-    /// # Errors
-    /// - as `NodeSet::read`, and OutOfMemory where the value can't be shared.
-    /// - as `Storage::insert`. The value goes; the handles in it are the caller's.
-    fn deserialize_inner<R: Wait, S: Storage<E>, D: PagableDeserializer<E>>(
-        rt: &R,
-        alloc: Global,
-        storage: &S,
-        deserializer: &mut D,
-    ) -> Result<Self, Error>
-    where
-        E::Node: NodeSet<E>,
-        Self::Value: Drop,
-        ensures { Reads E.Env D.PagableDeserializer any_cause
-            (λ a m. (x : Self.Value) × refers_to a (S.told storage.now) x × ((n : E.Node) × (Self.Value.held n ≡ Some x) × E.Node.means n m))
-            (λ c. read_typed c (E.Node.shape_of (D.environment deserializer.old) Self.Value.TYPE))
-            deserializer.old deserializer.new result };
 }
 
 /// A sort of references without the type of its values.
@@ -285,30 +265,6 @@ impl<E: Env, T: OfNode<E>> ArcErase<E> for PagableArc<T> {
             Err(e) => Err(e),
         }
     }
-
-    fn deserialize_inner<R: Wait, S: Storage<E>, D: PagableDeserializer<E>>(
-        rt: &R,
-        alloc: Global,
-        storage: &S,
-        deserializer: &mut D,
-    ) -> Result<Self, Error>
-    where
-        E::Node: NodeSet<E>,
-        T: Drop,
-        ensures { Reads E.Env D.PagableDeserializer any_cause
-            (λ a m. (x : T) × IsToldAt T.held (S.told storage.now) a.handle.0 x × ((n : E.Node) × (T.held n ≡ Some x) × E.Node.means n m))
-            (λ c. read_typed c (E.Node.shape_of (D.environment deserializer.old) T.TYPE))
-            deserializer.old deserializer.new result }
-    {
-        let value = match read_held::<E, T, D>(alloc, deserializer) {
-            Ok(value) => value,
-            Err(e) => return Err(e),
-        };
-        match PagableArc::new(rt, alloc, value, storage) {
-            Ok(reference) => Ok(reference),
-            Err((e, _value)) => Err(e),
-        }
-    }
 }
 
 impl<E: Env, T: OfNode<E>, const PINS: bool> ArcErase<E> for HoldingArc<T, PINS> {
@@ -392,30 +348,6 @@ impl<E: Env, T: OfNode<E>, const PINS: bool> ArcErase<E> for HoldingArc<T, PINS>
     {
         self.get().pagable_serialize(serializer)
     }
-
-    fn deserialize_inner<R: Wait, S: Storage<E>, D: PagableDeserializer<E>>(
-        rt: &R,
-        alloc: Global,
-        storage: &S,
-        deserializer: &mut D,
-    ) -> Result<Self, Error>
-    where
-        E::Node: NodeSet<E>,
-        T: Drop,
-        ensures { Reads E.Env D.PagableDeserializer any_cause
-            (λ a m. (x : T) × (x ≡ arc_value a.value) × ((n : E.Node) × (T.held n ≡ Some x) × E.Node.means n m))
-            (λ c. read_typed c (E.Node.shape_of (D.environment deserializer.old) T.TYPE))
-            deserializer.old deserializer.new result }
-    {
-        let value = match read_held::<E, T, D>(alloc, deserializer) {
-            Ok(value) => value,
-            Err(e) => return Err(e),
-        };
-        match HoldingArc::new(rt, alloc, value, storage) {
-            Ok(reference) => Ok(reference),
-            Err((e, _value)) => Err(e),
-        }
-    }
 }
 
 // Reads a node of the type, and takes its value.
@@ -435,6 +367,75 @@ fn read_held<E: Env<Node: NodeSet<E>>, T: OfNode<E> + Drop, D: PagableDeserializ
         Ok(Some(value)) => Ok(value),
         Ok(None) => Err(Error::WrongKind),
         Err(e) => Err(e),
+    }
+}
+
+// What a trait's method can't have is a bound on the environment's nodes, so that each sort has this call by itself.
+
+impl<T> PagableArc<T> {
+    /// Reads a value, as a node of its type is read, inserts it into the storage as a new node, and answers the first
+    /// reference to it.
+    ///
+    /// # Errors
+    /// - as `NodeSet::read`, and OutOfMemory where the value can't be shared.
+    /// - as `Storage::insert`. The value goes; the handles in it are the caller's.
+    pub fn deserialize_inner<
+        E: Env<Node: NodeSet<E>>,
+        R: Wait,
+        S: Storage<E>,
+        D: PagableDeserializer<E>,
+    >(rt: &R, alloc: Global, storage: &S, deserializer: &mut D) -> Result<PagableArc<T>, Error>
+    where
+        T: OfNode<E> + Drop,
+        ensures { Reads E.Env D.PagableDeserializer any_cause
+            (λ a m. (x : T) × IsToldAt T.held (S.told storage.now) a.handle.0 x × ((n : E.Node) × (T.held n ≡ Some x) × E.Node.means n m))
+            (λ c. read_typed c (E.Node.shape_of (D.environment deserializer.old) T.TYPE))
+            deserializer.old deserializer.new result }
+    {
+        let value = match read_held::<E, T, D>(alloc, deserializer) {
+            Ok(value) => value,
+            Err(e) => return Err(e),
+        };
+        match PagableArc::new(rt, alloc, value, storage) {
+            Ok(reference) => Ok(reference),
+            Err((e, _value)) => Err(e),
+        }
+    }
+}
+
+impl<T, const PINS: bool> HoldingArc<T, PINS> {
+    /// Reads a value, as a node of its type is read, inserts it into the storage as a new node, and answers the first
+    /// reference to it.
+    ///
+    /// # Errors
+    /// - as `NodeSet::read`, and OutOfMemory where the value can't be shared.
+    /// - as `Storage::insert`. The value goes; the handles in it are the caller's.
+    pub fn deserialize_inner<
+        E: Env<Node: NodeSet<E>>,
+        R: Wait,
+        S: Storage<E>,
+        D: PagableDeserializer<E>,
+    >(
+        rt: &R,
+        alloc: Global,
+        storage: &S,
+        deserializer: &mut D,
+    ) -> Result<HoldingArc<T, PINS>, Error>
+    where
+        T: OfNode<E> + Drop,
+        ensures { Reads E.Env D.PagableDeserializer any_cause
+            (λ a m. (x : T) × (x ≡ arc_value a.value) × ((n : E.Node) × (T.held n ≡ Some x) × E.Node.means n m))
+            (λ c. read_typed c (E.Node.shape_of (D.environment deserializer.old) T.TYPE))
+            deserializer.old deserializer.new result }
+    {
+        let value = match read_held::<E, T, D>(alloc, deserializer) {
+            Ok(value) => value,
+            Err(e) => return Err(e),
+        };
+        match HoldingArc::new(rt, alloc, value, storage) {
+            Ok(reference) => Ok(reference),
+            Err((e, _value)) => Err(e),
+        }
     }
 }
 
