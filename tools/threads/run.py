@@ -69,6 +69,15 @@ def copied(folder, tests=None):
     return sum(file.read_text(encoding="utf-8").count("#[test]\n") for file in source.glob("*.rt"))
 
 
+def check_sums():
+    """Stops where a number that sums.py works out isn't what the tests want."""
+    wanted = "".join(file.read_text(encoding="utf-8") for file in HERE.glob("*.rattle"))
+    worked_out = subprocess.run([sys.executable, HERE / "sums.py"], check=True, text=True, capture_output=True).stdout
+    missing = [number for number in re.findall(r"\d{20,}", worked_out) if number not in wanted]
+    if missing:
+        sys.exit(f"tests of threads: no test wants {' '.join(missing)}")
+
+
 def ran(folder):
     """What the run of the tests in this folder says."""
     run = subprocess.run(["rt", "try", "--test"], cwd=folder / CRATE, text=True, capture_output=True)
@@ -140,6 +149,7 @@ def try_wrong(groups):
 def main():
     if sys.argv[1:2] == ["--wrong"]:
         sys.exit(0 if try_wrong(sys.argv[2:]) else 1)
+    check_sums()
     with tempfile.TemporaryDirectory() as folder:
         folder = pathlib.Path(folder)
         count = copied(folder)

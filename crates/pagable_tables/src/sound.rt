@@ -4,7 +4,8 @@
 ghost use Rattle.pagable_tables.specs.{Falling.{counts_at, refs_at}, Rows.row_by, Sound.{agree, are_counts_sound, are_handles_sound, are_nodes_sound, are_places_sound, are_references_owned, at_node, is_cache_sound}};
 ghost use Rattle.pagable_tables.specs.Sound.{is_had, is_known_soundly, is_list_sound, is_node_sound, is_owned_once, is_row_sound, is_sound, pins_node, shares_node};
 ghost use Rattle.{pagable_model.specs.declared.numbers.{ArcRef.ArcRef as Reference, HandleNumber.HandleNumber as Number}, pagable_tables.specs.declared.tables.Place.Place as Row};
-ghost use Rattle.{pagable_world.specs.Kinds.{is_shared}, std.specs.Prelude.{count_by, is_some, not, ◌==◌, ◌≡◌}};
+ghost use Rattle.pagable_world.specs.Kinds.{is_shared};
+ghost use Rattle.std.specs.Prelude.{count_by, is_some, not, ◌==◌, ◌≡◌};
 
 use crate::holdings::pins;
 use crate::lookups::is_unpinned;
