@@ -20,6 +20,7 @@ sys.dont_write_bytecode = True
 sys.path[:0] = [str(HERE.parent / "speed"), str(HERE)]
 import build  # noqa: E402
 import hostile  # noqa: E402
+import middle  # noqa: E402
 import pagectl  # noqa: E402
 import rows  # noqa: E402
 import shared  # noqa: E402
@@ -33,13 +34,20 @@ USES = (
     " pagable_codec pagable_core anyhow either hex indexmap serde_json\n"
 )
 # (a test's own calls, in the copy alone)
-COUNTERS = {"pagable_pager/src/pager.rt": "Pager", "pagable/src/machine.rt": "Machine"}
+COUNTERS = {
+    "pagable_pager/src/pager.rt": "Pager",
+    "pagable/src/machine.rt": "Machine",
+    "pagable_locked/src/storage_handle.rt": "PagableStorageHandle",
+}
 
 
 def add_counters(crates):
-    """Lets the numbers that were given last be seen and set, in a copy of the crates."""
-    for name, file in zip(COUNTERS.values(), COUNTERS):
-        body = (HERE / f"counters_of_{name.lower()}.txt").read_text(encoding="utf-8")
+    """Lets the numbers that were given last be seen and set, in a copy of the crates, and tells whether all is in step, where
+    the pager has a call for that."""
+    pager = (crates / "pagable_pager/src/pager.rt").read_text(encoding="utf-8")
+    sound = "self.is_sound()" if "pub fn is_sound(&self)" in pager else "true"
+    for file, name in COUNTERS.items():
+        body = (HERE / f"counters_of_{name.lower()}.txt").read_text(encoding="utf-8").replace("SOUND", sound)
         with open(crates / file, "a", encoding="utf-8") as module:
             module.write(f"\nimpl<E: Env<Node: NodeSet<E>>, S: PagableStorage<E>> {name}<E, S> {{\n{body}}}\n")
 
@@ -111,6 +119,7 @@ def scripts(program, library, tally):
     pagectl.each_request(program, library, tally)
     pagectl.each_reading_and_writing(program, library, tally)
     pagectl.hostile(program, library, tally)
+    middle.rows(Server([program], library), tally)
     answer = Server([program], library).ask("room")
     if answer != "count 11 true true; pending 1 false":
         tally.fault("rows of room", f"`{answer}`")
