@@ -154,5 +154,6 @@ def machines_in(file):
         if word == "machine":
             rows.append((f"machine {len(rows) + 1}", storage, []))
         elif line and not line.startswith("#"):
-            rows[-1][2].append((line, None))
+            asked, _, wanted = line.partition(" -> ")
+            rows[-1][2].append((asked, wanted or None))
     return [row_of(*row) for row in rows]

@@ -20,6 +20,7 @@ sys.dont_write_bytecode = True
 sys.path[:0] = [str(HERE.parent / "speed"), str(HERE)]
 import build  # noqa: E402
 import hostile  # noqa: E402
+import middle  # noqa: E402
 import pagectl  # noqa: E402
 import rows  # noqa: E402
 import shared  # noqa: E402
@@ -38,7 +39,7 @@ COUNTERS = {"pagable_pager/src/pager.rt": "Pager", "pagable/src/machine.rt": "Ma
 
 def add_counters(crates):
     """Lets the numbers that were given last be seen and set, in a copy of the crates."""
-    for name, file in zip(COUNTERS.values(), COUNTERS):
+    for file, name in COUNTERS.items():
         body = (HERE / f"counters_of_{name.lower()}.txt").read_text(encoding="utf-8")
         with open(crates / file, "a", encoding="utf-8") as module:
             module.write(f"\nimpl<E: Env<Node: NodeSet<E>>, S: PagableStorage<E>> {name}<E, S> {{\n{body}}}\n")
@@ -111,6 +112,7 @@ def scripts(program, library, tally):
     pagectl.each_request(program, library, tally)
     pagectl.each_reading_and_writing(program, library, tally)
     pagectl.hostile(program, library, tally)
+    middle.rows(Server([program], library), tally)
     answer = Server([program], library).ask("room")
     if answer != "count 11 true true; pending 1 false":
         tally.fault("rows of room", f"`{answer}`")
