@@ -76,9 +76,7 @@ pub mod storage {
 
     /// The handle of a storage that threads share, and what the references to its values ask of it.
     pub mod handle {
-        pub use pagable_locked::{
-            Gate, HandlePin, NoGate, PagableStorageHandle, PageOutReport,
-        };
+        pub use pagable_locked::{Gate, HandlePin, NoGate, PagableStorageHandle, PageOutReport};
         pub use pagable_traits::{Polls, Storage};
     }
 

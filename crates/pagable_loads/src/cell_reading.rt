@@ -17,12 +17,7 @@ pub struct CellReading {
 
 impl CellReading {
     /// Makes the reading of a load that has just begun, of a root of this key and type.
-    pub(crate) fn new(
-        alloc: Global,
-        load: LoadNumber,
-        key: DataKey,
-        node_type: u32,
-    ) -> CellReading
+    pub(crate) fn new(alloc: Global, load: LoadNumber, key: DataKey, node_type: u32) -> CellReading
         ensures load { result.reading.load ≡ load }
         ensures key { result.reading.key ≡ key }
         ensures node_type { result.reading.node_type ≡ node_type }
