@@ -1,4 +1,5 @@
-//! A pin of a loose handle that goes on in parts: how it begins, and the reading of its cell, whose root's blob is fetched apart from it.
+//! A pin of a loose handle that goes on in parts: how it begins, and the reading of its cell, whose root's blob is
+//! fetched apart from it.
 
 ghost use Rattle.std.specs.{Arc.arc_value, Prelude.◌≡◌};
 ghost use Rattle.{pagable_core.specs.Data.blob_of, pagable_model.specs.Blob.key_of, pagable_world.specs.Access.Called};
@@ -44,8 +45,8 @@ pub fn begin_reading<E: Env<Node: NodeSet<E>>, A: Access<E>>(
 }
 
 impl CellReading {
-    /// Reads the cell's value from the root's blob, with all that it refers to and that is read together with it, and ends the load with a pin of the
-    /// cell. The blob has to be the one under the reading's key.
+    /// Reads the cell's value from the root's blob, with all that it refers to and that is read together with it, and
+    /// ends the load with a pin of the cell. The blob has to be the one under the reading's key.
     ///
     /// # Errors
     /// - as the steps of a load: the load is given up, with all that it owns.

@@ -1,4 +1,5 @@
-//! A pin on a storage that threads share, which is polled: its lock is free between two polls, and while its value is read.
+//! A pin on a storage that threads share, which is polled: its lock is free between two polls, and while its value is
+//! read.
 
 ghost use Rattle.std.specs.{Arc.arc_value, Prelude.{Err, IfOk, ◌≡◌}};
 ghost use Rattle.futures.specs.{Poll.{IfReady, OnPending}, Task.{IsArmed, Keeps}};

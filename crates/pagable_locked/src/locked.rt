@@ -144,10 +144,10 @@ impl<'a, R: Wait, E: Env<Node: NodeSet<E>>, S: PagableStorage<E>> Access<E>
         value: E::Node,
     ) -> Result<HandleNumber, (Error, Option<E::Node>)> {
         let mut pager = self.pager.lock(self.rt);
-        match Lent::for_owner(&mut *pager, self.me) {
-            Ok(mut lent) => lent.load_end(alloc, load, value),
-            Err(e) => Err((e, Some(value))),
+        if let Err(e) = Lent::for_owner(&mut *pager, self.me) {
+            return Err((e, Some(value)));
         }
+        pager.load_end_by(self.me, alloc, load, value)
     }
 
     fn load_take(&mut self, load: LoadNumber, named: &[HandleNumber]) -> Result<(), Error> {

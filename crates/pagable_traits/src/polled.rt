@@ -23,13 +23,16 @@ pub enum PinStage {
     Ended,
 }
 
-/// A pin of a loose handle that is polled. A storage has one such type (`Storage::Pin`). One that is dropped before it has ended
-/// leaves its load open, with all that the load owns.
+/// A pin of a loose handle that is polled. A storage has one such type (`Storage::Pin`). One that is dropped before it
+/// has ended leaves its load open, with all that the load owns.
 pub trait Polls<E: Env>: Sized {
+    ghost use Rattle.pagable_traits.specs.declared.polled.PinStage.{PinStage};
+
     ghost stage: { Self → PinStage };
 
-    /// Polls it: begins it, polls the fetch of its root's blob, and once that is ready reads the value and pins the cell. Nested blobs
-    /// come by the blocking fetch. It is pending only where the storage's fetch is, which has left a waker in `cx`.
+    /// Polls it: begins it, polls the fetch of its root's blob, and once that is ready reads the value and pins the
+    /// cell. Nested blobs come by the blocking fetch. It is pending only where the storage's fetch is, which has left
+    /// a waker in `cx`.
     ///
     /// # Errors
     /// - as `Storage::pin`, and what is refused leaves handles and counts as they were.
@@ -53,7 +56,8 @@ pub trait Polls<E: Env>: Sized {
         ensures { stage self.new ≡ PinStage.Ended };
 }
 
-/// A pin of a `PagableArc` that is polled. One that is dropped without `cancel` leaves its load open, with all that the load owns.
+/// A pin of a `PagableArc` that is polled. One that is dropped without `cancel` leaves its load open, with all that the
+/// load owns.
 #[derive(Drop)]
 pub struct PinFuture<T, P> {
     node: NodeNumber,
@@ -73,8 +77,8 @@ impl<T, P> PinFuture<T, P> {
         }
     }
 
-    /// Polls it. It is pending only where the storage's fetch of the cell's blob is, which has left a waker in `cx`; the next poll goes on
-    /// from there. Between two polls it holds no lock.
+    /// Polls it. It is pending only where the storage's fetch of the cell's blob is, which has left a waker in `cx`; the
+    /// next poll goes on from there. Between two polls it holds no lock.
     ///
     /// # Errors
     /// - as `PagableArc::pin_sync`: handles and counts are as they were.

@@ -104,7 +104,7 @@ pub trait Storage<E: Env> {
     /// # Errors
     /// - OutOfMemory: the storage is shared too often already.
     fn polled_pin(&self, handle: HandleNumber) -> Result<Self::Pin, Error>
-        ensures { IfOk result (λ p. Pin.stage p ≡ PinStage.Begin) };
+        ensures { IfOk result (λ p. Self.Pin.stage p ≡ PinStage.Begin) };
 
     /// Has the caller's loose handle let its pin go.
     ///

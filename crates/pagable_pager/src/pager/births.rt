@@ -230,7 +230,9 @@ impl<E: Env<Node: NodeSet<E>>, S: PagableStorage<E>> Pager<E, S> {
         self.load_end_by(Owner::Caller, alloc, load, value)
     }
 
-    pub(crate) fn load_end_by(
+    /// Ends a load of an owner's, as `load_end` does one of the caller's; refused as that. An access behind a lock can't tell this pager's environment, so it asks
+    /// of its own that the value was read, and ends its loads by this call.
+    pub fn load_end_by(
         &mut self,
         me: Owner,
         alloc: Global,
