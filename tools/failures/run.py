@@ -66,11 +66,10 @@ def built(work):
     return build.compiled_in(work, source, "-O1"), library
 
 
-def rows_of_events(program, library, tally):
+def rows_of_events(server, tally):
     """The rows of events, each undisturbed first."""
     values, worked_rows = rows.worked()
     every = worked_rows + rows.listed_in(HERE / "rows.txt")
-    server = Server([program], library)
     for row in every:
         try:
             sweeps.singly(server, row, tally)
@@ -85,9 +84,8 @@ def rows_of_events(program, library, tally):
     hostile.cut_blobs(server, tally, every)
 
 
-def rows_of_threads(program, library, tally):
+def rows_of_threads(server, tally):
     """The rows of calls on a storage that threads share."""
-    server = Server([program], library)
     for row in shared.rows_in(HERE / "shared.txt"):
         try:
             after = shared.each_request(server, tally, row)
@@ -96,10 +94,8 @@ def rows_of_threads(program, library, tally):
             tally.fault(f"shared, {row[0]}, undisturbed", why)
 
 
-def calls_that_refuse(program, library, tally):
-    """The lists of calls that stand in `vectors`, and those of this folder, of whose refusals alone something is
-    wanted."""
-    server = Server([program], library)
+def calls_that_refuse(server, tally):
+    """The lists of calls that stand in `vectors`, and those of this folder, of whose refusals alone something is wanted."""
     for file in (rows.DATA / "calls.txt", rows.DATA / "loads.txt", rows.DATA / "workers.txt", HERE / "refusals.txt"):
         for row in rows.machines_in(file):
             try:
@@ -108,14 +104,27 @@ def calls_that_refuse(program, library, tally):
                 tally.fault(f"{file.name}, {row.name}", why)
 
 
-def scripts(program, library, tally):
+def rows_of_their_own(server, tally):
+    """Rows that stand in the code, and those of room."""
+    middle.rows(server, tally)
+    answer = server.ask("room")
+    if answer != "count 11 true true; pending 1 false":
+        tally.fault("rows of room", f"`{answer}`")
+
+
+SECTIONS = (rows_of_events, calls_that_refuse, rows_of_threads, rows_of_their_own)
+
+
+def tried(program, library):
+    """Tries all: what came of it."""
+    tally = sweeps.Tally()
+    with Server([program], library) as server:
+        for section in SECTIONS:
+            section(server, tally)
     pagectl.each_request(program, library, tally)
     pagectl.each_reading_and_writing(program, library, tally)
     pagectl.hostile(program, library, tally)
-    middle.rows(Server([program], library), tally)
-    answer = Server([program], library).ask("room")
-    if answer != "count 11 true true; pending 1 false":
-        tally.fault("rows of room", f"`{answer}`")
+    return tally
 
 
 def told(tally):
@@ -133,11 +142,8 @@ def main(words):
     if not shutil.which("cc"):
         print("failures: there is no C compiler, so no request was refused")
         return
-    tally = sweeps.Tally()
     with tempfile.TemporaryDirectory() as folder:
-        program, library = built(pathlib.Path(words[0] if words else folder).resolve())
-        for section in (rows_of_events, calls_that_refuse, rows_of_threads, scripts):
-            section(program, library, tally)
+        tally = tried(*built(pathlib.Path(words[0] if words else folder).resolve()))
     if not told(tally):
         sys.exit("failures: not all came out as it has to")
 
