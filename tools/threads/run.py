@@ -62,7 +62,7 @@ def copied(folder, tests=None):
     if "values" in modules:
         specs = folder / CRATE / "specs"
         specs.mkdir()
-        shutil.copy(HERE / "Values.antt", specs / "Values.antt")
+        shutil.copy(HERE / "values.specs", specs / "Values.antt")
         (specs / "Lib.antt").write_text("pub mod Values\n", encoding="utf-8")
     with open(source / "lib.rt", "a", encoding="utf-8") as root:
         root.writelines(f"#[cfg(test)]\nmod {module};\n" for module in modules)
