@@ -11,3 +11,4 @@ pub mod Calls
 pub mod Newer
 pub mod Installed
 pub mod Raising
+pub mod AtOnce

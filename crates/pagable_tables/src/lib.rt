@@ -5,6 +5,7 @@
 pub mod giving;
 pub mod handles;
 pub mod holdings;
+pub mod leaf;
 pub mod loading;
 pub mod lookups;
 pub mod making;

@@ -1,0 +1,69 @@
+//! Cells that are read at once, from blobs that refer to nothing: what a load leaves that begins, fetches and ends,
+//! without its row and its handle.
+
+ghost use Rattle.pagable_tables.specs.{Core.{AreLater, Does, IsWhole, core_of, plain_of}, Falling.{counts_at, has_value, room}, Ready.{IsLeaf, PinsLeaf, has_come, with_numbers}};
+ghost use Rattle.{pagable_world.specs.{Pager.MayOwnLoad, Plain.{Blob}, World.{greatest}}, std.specs.Prelude.{Bool, IfSome, Option, ℕ, ◌+◌, ◌<◌, ◌≡◌, ◌≤◌}};
+
+use crate::lookups::is_loose_mode;
+use crate::making::{own, pin_here};
+use crate::tables::{self, Tables};
+use pagable_model::{DataKey, HandleNumber};
+use pagable_world::handles::{HandleRow, Owner};
+
+/// A cell whose value is away, with the handle that is to be pinned.
+#[derive(Clone, Copy)]
+pub struct Leaf {
+    pub row: HandleRow,
+    pub key: DataKey,
+    pub node_type: u32,
+}
+
+/// The cell of an own loose handle, if its value is away and numbers are left for a load, its handle and a pin.
+pub fn find(t: &Tables, me: Owner, handle: HandleNumber) -> Option<Leaf>
+    requires { IsWhole t.now }
+    ensures { (stored : ℕ → Option Blob) (closed : Bool) (failures : ℕ) → IfSome result (IsLeaf (core_of t.now stored closed failures) me) }
+{
+    let at = own(t, me, handle).ok()?;
+    let counts = tables::counts_of(&t.holdings.nodes, at.row.node.0)?;
+    if !is_loose_mode(at.row.mode) || counts.pins > 0 {
+        return None;
+    }
+    if t.last_load == u64::MAX || t.holdings.last_handle >= u64::MAX - 1 {
+        return None;
+    }
+    Some(Leaf {
+        row: at.row,
+        key: DataKey::new(counts.key)?,
+        node_type: counts.node_type,
+    })
+}
+
+/// The numbers of a load and of its handle are taken.
+pub fn take_numbers(t: &mut Tables)
+    requires whole { IsWhole t.old }
+    requires load_left { t.old.last_load < greatest }
+    requires handle_left { t.old.holdings.last_handle < greatest }
+    ensures does { Does t.old (λ w w'. w' ≡ with_numbers w) t.new }
+    ensures same { t.new ≡ record t.old { holdings = record t.old.holdings { last_handle = t.old.holdings.last_handle + 1 }; last_load = t.old.last_load + 1 } }
+{
+    t.last_load += 1;
+    t.holdings.last_handle += 1;
+}
+
+/// The cell is pinned, as by a load that begins and ends with a value that refers to nothing. The value itself stands among the values already.
+pub fn pin(t: &mut Tables, me: Owner, leaf: Leaf) -> HandleNumber
+    requires whole { IsWhole t.old }
+    requires leaf { IsLeaf (plain_of t.old) me leaf }
+    requires may { MayOwnLoad (plain_of t.old) me }
+    requires place { 1 ≤ room t.old.holdings.handles }
+    ensures pins { (stored : ℕ → Option Blob) (closed : Bool) (failures : ℕ) → PinsLeaf (core_of t.old stored closed failures) me leaf.row leaf.key leaf.node_type result (core_of t.new stored closed failures) }
+    ensures come { (n : ℕ) → has_value (counts_at t.new.holdings.nodes n) ≡ has_come (counts_at t.old.holdings.nodes) leaf.row.node n }
+    ensures whole { IsWhole t.new }
+    ensures later { AreLater t.old → AreLater t.new }
+{
+    take_numbers(t);
+    let Ok(handle) = pin_here(t, me, leaf.row) else {
+        unreachable!();
+    };
+    handle
+}
