@@ -1,0 +1,44 @@
+-- What an open finds.
+use Rattle.std.proofs.Common.{◌≡◌, ◌∙◌, ◌≤◌, Bool, true, false, IsTrue, List, [], ◌∷◌, map, take, refl, sym, ap, subst, true≢false, arith}
+use Rattle.sqlite_value.specs.Order.{Row}
+use Rattle.sqlite_trees.specs.{Objects.catalog_tree, View.{IsClean, IsShaped, View, doubt}, declared.store.Shape.Shape}
+use Rattle.sqlite_trees.specs.declared.store.Shape.TheVariants as shape
+use Rattle.pagable_file.specs.{Rows.{blob_tree, root_tree}, Blobs.{Finds, IsIdle, IsSettled, Made, is_sure}}
+use Rattle.pagable_file.proofs.Settling.{sure_clean, sure_from, sure_open}
+
+-- a tree that isn't there has no rows
+pub absent : (s : Shape) (rows : List Row) → s ≡ shape.Absent → IsShaped s rows → rows ≡ []
+absent s rows is h = subst (λ x. IsShaped x rows) is h
+
+pub none_listed : (rows : List Row) → map (take 5) rows ≡ [] → rows ≡ []
+none_listed [] h = refl
+none_listed (r ∷ rows) h = absurd (cc)
+
+pub made_is_found : (old new : View) → IsIdle old → (IsClean new → Made old new) → doubt old.is_clean ≤ doubt new.is_clean
+    → (old.is_broken ≡ false → IsShaped (old.shape blob_tree) (old.trees blob_tree) × IsShaped (old.shape root_tree) (old.trees root_tree)) → old.shape blob_tree ≡ shape.Absent → old.shape root_tree ≡ shape.Absent → Finds old new
+made_is_found old new idle made falls shaped no_blobs no_roots =
+    let was : (IsClean new → IsClean old) = λ h. omega (arith, falls, h) in
+    let opened : (IsTrue (is_sure new) → IsTrue old.is_open) = λ h. subst (λ b. IsTrue b) (made (sure_clean new h)).is_open (sure_open new h) in
+    record {
+      settled = λ h. (made (sure_clean new h)).settled;
+      sure = λ h. sure_from old (was (sure_clean new h)) (opened h);
+      blobs_are = λ h.
+        let here = idle (was (sure_clean new h)) (opened h) in
+        (made (sure_clean new h)).no_blobs_there ∙ sym (absent (old.shape blob_tree) (old.trees blob_tree) no_blobs (shaped here.0).0) ∙ ap (λ t. t blob_tree) here.1.0;
+      roots_are = λ h.
+        let here = idle (was (sure_clean new h)) (opened h) in
+        (made (sure_clean new h)).no_roots_there ∙ sym (absent (old.shape root_tree) (old.trees root_tree) no_roots (shaped here.0).1) ∙ ap (λ t. t root_tree) here.1.0;
+    }
+
+pub there_is_found : (v : View) → IsIdle v → (v.is_broken ≡ false → v.trees catalog_tree ≡ v.committed catalog_tree → v.shape ≡ v.committed_shape)
+    → (IsClean v → IsTrue v.is_numbered) → v.shape blob_tree ≡ shape.Table → v.shape root_tree ≡ shape.Table → Finds v v
+there_is_found v idle unaltered numbered blobs roots = record {
+  settled = λ h.
+    let here = idle (sure_clean v h) (sure_open v h) in
+    record { blobs = blobs; roots = roots; shapes = unaltered here.0 (ap (λ t. t catalog_tree) here.1.0); idle = λ _. (here.0, here.1.0); numbered = numbered (sure_clean v h); unmarked = here.1.1 };
+  sure = λ h. h;
+  blobs_are = λ h. refl;
+  roots_are = λ h. refl;
+}
+
+pub ruleset opening = (none_listed, made_is_found, there_is_found)
