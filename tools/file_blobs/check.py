@@ -68,13 +68,13 @@ def kills(program, folder, rounds):
 
 
 def full_disk(program, folder):
-    """Lets no file grow past 100 kB."""
+    """Lets no file grow past 400 kB."""
     file = folder / "full.blobs"
     run(program, file, "fill", 20, 300, 5)
 
     def limit():
         signal.signal(signal.SIGXFSZ, signal.SIG_IGN)
-        resource.setrlimit(resource.RLIMIT_FSIZE, (100_000, 100_000))
+        resource.setrlimit(resource.RLIMIT_FSIZE, (400_000, 400_000))
 
     filled = run(program, file, "fill", 10_000, 300, 5, preexec_fn=limit)
     if "error: the disk" not in filled.stdout:

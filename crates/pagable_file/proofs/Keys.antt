@@ -1,5 +1,5 @@
 -- Keys as bytes, and back.
-use Rattle.std.proofs.Common.{◌≡◌, ◌∙◌, ℕ, suc, zero, ◌+◌, ◌*◌, ◌-◌, ◌/◌, ◌%◌, ◌^◌, ◌<◌, ◌≤◌, ◌++◌, ◌∷◌, [], List, length, take, drop, Bool, true, false, Option, Some, None, refl, sym, ap, arith, append_assoc, append-nil, length-append}
+use Rattle.std.proofs.Common.{◌≡◌, ◌∙◌, ℕ, suc, zero, ◌+◌, ◌*◌, ◌-◌, ◌/◌, ◌%◌, ◌^◌, ◌<◌, ◌≤◌, ◌++◌, ◌∷◌, [], List, length, take, drop, get_or, Bool, true, false, Option, Some, None, refl, sym, ap, arith, append_assoc, append-nil, length-append}
 use Rattle.std.{proofs.{Math.Nat.{div-div-eq-div-mul, mod-add-div, mul-add, mul_assoc, mul_comm, pow-suc}, lemmas.{List.{take_more, flat_map_more}, Bool.Decides.nat_tests}}, specs.{Int.{byte_at, byte_worth, sum_through, to_le_bytes, from_le_bytes, w128}, List.{AllByRecursion as Each, flat_map}, Prelude.{◌==◌, option_map, if◌then◌else◌}}}
 use Rattle.pagable_file.specs.Rows.{CanBeKey, key_in, keys_from, keys_in, with_key}
 
@@ -62,3 +62,20 @@ pub more_behind : (front bytes : List ℕ) → 0 < length bytes → joined front
 unfolding keys_from
 more_behind front [] h = absurd (omega arith)
 more_behind front (b ∷ bytes) h = refl
+
+pub is_zero : (n : ℕ) (b : Bool) → b ≡ (n == 0) → b ≡ true → n ≡ 0
+is_zero n b h g = grind (arith, nat_tests)
+
+pub not_zero : (n : ℕ) (b : Bool) → b ≡ (n == 0) → b ≡ false → 0 < n
+not_zero n b h g = grind (arith, nat_tests)
+
+-- one key more
+pub continues : (f : ℕ → List ℕ) (keys : List ℕ) (i key : ℕ) (front more : List ℕ) → i < length keys → key ≡ get_or keys i key → more ≡ f key → (front ++ flat_map f (take i keys)) ++ more ≡ front ++ flat_map f (take (i + 1) keys)
+continues f keys i key front more h is e = rw (e, take_more keys i key h, ← is) (flat_map_more f front (take i keys) key)
+
+each_more : (keys : List ℕ) (key : ℕ) → Each CanBeKey keys → CanBeKey key → Each CanBeKey (keys ++ key ∷ [])
+each_more [] key all here = (here, tt)
+each_more (k ∷ keys) key all here = (all.0, each_more keys key all.1 here)
+
+pub more_fit : (keys : List ℕ) (i key : ℕ) → i < length keys → key ≡ get_or keys i key → CanBeKey key → Each CanBeKey (take i keys) → Each CanBeKey (take (i + 1) keys)
+more_fit keys i key h is here all = rw (take_more keys i key h, ← is) (each_more (take i keys) key all here)

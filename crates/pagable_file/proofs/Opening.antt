@@ -1,10 +1,11 @@
 -- What an open finds.
-use Rattle.std.proofs.Common.{◌≡◌, ◌∙◌, ◌≤◌, Bool, true, false, IsTrue, List, [], ◌∷◌, map, take, refl, sym, ap, subst, true≢false, arith}
+use Rattle.std.proofs.Common.{◌≡◌, ◌∙◌, ◌≤◌, Bool, true, false, not, IsTrue, List, [], ◌∷◌, map, take, refl, sym, ap, subst, true≢false, arith}
 use Rattle.sqlite_value.specs.Order.{Row}
 use Rattle.sqlite_trees.specs.{Objects.catalog_tree, View.{IsClean, IsShaped, View, doubt}, declared.store.Shape.Shape}
 use Rattle.sqlite_trees.specs.declared.store.Shape.TheVariants as shape
-use Rattle.pagable_file.specs.{Rows.{blob_tree, root_tree}, Blobs.{Finds, IsIdle, IsSettled, Made, is_sure}}
-use Rattle.pagable_file.proofs.Settling.{sure_clean, sure_from, sure_open}
+use Rattle.pagable_file.specs.{Rows.{blob_tree, root_tree}, Blobs.{Finds, IsIdle, IsSettled, Made, Settled, is_sure}}
+use Rattle.pagable_file.proofs.Settling.{in_use, sure_clean, sure_from, sure_open}
+use Rattle.sqlite.specs.Steps.{IsFresh}
 
 -- a tree that isn't there has no rows
 pub absent : (s : Shape) (rows : List Row) → s ≡ shape.Absent → IsShaped s rows → rows ≡ []
@@ -24,10 +25,10 @@ made_is_found old new idle made falls shaped no_blobs no_roots =
       sure = λ h. sure_from old (was (sure_clean new h)) (opened h);
       blobs_are = λ h.
         let here = idle (was (sure_clean new h)) (opened h) in
-        (made (sure_clean new h)).no_blobs_there ∙ sym (absent (old.shape blob_tree) (old.trees blob_tree) no_blobs (shaped here.0).0) ∙ ap (λ t. t blob_tree) here.1.0;
+        (made (sure_clean new h)).no_blobs_there ∙ sym (absent (old.shape blob_tree) (old.trees blob_tree) no_blobs (shaped here.0).0) ∙ ap (λ t. t blob_tree) here.1;
       roots_are = λ h.
         let here = idle (was (sure_clean new h)) (opened h) in
-        (made (sure_clean new h)).no_roots_there ∙ sym (absent (old.shape root_tree) (old.trees root_tree) no_roots (shaped here.0).1) ∙ ap (λ t. t root_tree) here.1.0;
+        (made (sure_clean new h)).no_roots_there ∙ sym (absent (old.shape root_tree) (old.trees root_tree) no_roots (shaped here.0).1) ∙ ap (λ t. t root_tree) here.1;
     }
 
 pub there_is_found : (v : View) → IsIdle v → (v.is_broken ≡ false → v.trees catalog_tree ≡ v.committed catalog_tree → v.shape ≡ v.committed_shape)
@@ -35,10 +36,22 @@ pub there_is_found : (v : View) → IsIdle v → (v.is_broken ≡ false → v.tr
 there_is_found v idle unaltered numbered blobs roots = record {
   settled = λ h.
     let here = idle (sure_clean v h) (sure_open v h) in
-    record { blobs = blobs; roots = roots; shapes = unaltered here.0 (ap (λ t. t catalog_tree) here.1.0); idle = λ _. (here.0, here.1.0); numbered = numbered (sure_clean v h); unmarked = here.1.1 };
+    record { blobs = blobs; roots = roots; shapes = unaltered here.0 (ap (λ t. t catalog_tree) here.1); idle = λ _. (here.0, here.1); numbered = numbered (sure_clean v h); unmarked = here.2 };
   sure = λ h. h;
   blobs_are = λ h. refl;
   roots_are = λ h. refl;
 }
+
+-- what an open asks of a store that is handed on
+pub fresh_store : (v : View) → Settled v → (v.is_open ≡ false → IsTrue v.is_broken) → (IsClean v → v.is_broken ≡ false) → IsClean v → IsFresh v
+fresh_store v was shut sound clean =
+    let sure = in_use v shut (sound clean) clean in
+    let it = was sure in
+    let here = it.idle (sure_open v sure) in
+    record { sound = here.0; numbered = it.numbered; clean = here.1; unmarked = it.unmarked }
+
+pub from_not : (b : Bool) → not b ≡ false → IsTrue b
+from_not true h = refl
+from_not false h = absurd (true≢false h)
 
 pub ruleset opening = (none_listed, made_is_found, there_is_found)

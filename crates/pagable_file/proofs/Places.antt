@@ -65,7 +65,7 @@ module _ {A : Type 0} (row : ℤ → A → Row) (placed : (p : ℤ) (it : A) →
   pub row_at-put_all : (id : ℤ) (es : List (ℤ × A)) → IsDistinct int_eq (keys_of es) → (rows : List Row) → row_at (put_all row es rows) id ≡ over row id (lookup (int_eq id) es) (row_at rows id)
   unfolding put_all IsDistinct
   row_at-put_all id [] once rows = refl
-  row_at-put_all id (e ∷ es) once rows = go (int_eq id e.0) refl
+  row_at-put_all id (e ∷ es) once rows = go (int_eq id e.0) refl (row_at-put_all id es once.1 (put_row (row e.0 e.1) rows))
     where
       next : List Row
       next = put_row (row e.0 e.1) rows
@@ -73,22 +73,12 @@ module _ {A : Type 0} (row : ℤ → A → Row) (placed : (p : ℤ) (it : A) →
       here : row_at next id ≡ (if int_eq e.0 id then Some (row e.0 e.1) else row_at rows id)
       here = row_at-put (row e.0 e.1) e.0 (placed e.0 e.1) id rows
 
-      rest : row_at (put_all row es next) id ≡ over row id (lookup (int_eq id) es) (row_at next id)
-      rest = row_at-put_all id es once.1 next
-
-      go : (b : Bool) → int_eq id e.0 ≡ b → row_at (put_all row es next) id ≡ over row id (lookup (int_eq id) (e ∷ es)) (row_at rows id)
-      go true h =
+      go : (b : Bool) → int_eq id e.0 ≡ b → row_at (put_all row es next) id ≡ over row id (lookup (int_eq id) es) (row_at next id) → row_at (put_all row es next) id ≡ over row id (lookup (int_eq id) (e ∷ es)) (row_at rows id)
+      go true h rest =
           let same : id ≡ e.0 = (signed_Decides id e.0).0 h in
           let none = not_again id e.0 es same once.0 in
           rest ∙ rw (none, here, swapped id e.0 true h, h, same) refl
-      go false h = rest ∙ rw (here, swapped id e.0 false h, h) refl
-
-  -- one entry more
-  pub put_more : (es : List (ℤ × A)) (i : ℕ) (p : ℤ) (it : A) (rows : List Row) → slice_get es i ≡ Some (p, it) → put_all row (take (i + 1) es) rows ≡ put_row (row p it) (put_all row (take i es) rows)
-  unfolding put_all
-  put_more [] i p it rows h = absurd (cc)
-  put_more (e ∷ es) zero p it rows h = let same : e ≡ (p, it) = cc in rw same refl
-  put_more (e ∷ es) (suc i) p it rows h = put_more es i p it (put_row (row e.0 e.1) rows) h
+      go false h rest = rest ∙ rw (here, swapped id e.0 false h, h) refl
 
 pub row_reads : (id : ℤ) (key : ℕ) (blob : Blob) → CanBeKey key → Each CanBeKey blob.keys → (q : ℕ) → blob_in q (blob_row id key blob) ≡ (if key == q then Some blob else None)
 unfolding blob_in
@@ -105,11 +95,11 @@ root_reads id name key h q = rw (bytes_back key h) refl
 
 found_fits : {A : Type 0} (P : A → Type 0) (p : ℤ) (es : List (ℤ × A)) (it : A) → Each (λ e. P e.1) es → lookup (int_eq p) es ≡ Some it → P it
 found_fits P p [] it all is = absurd (cc)
-found_fits P p (e ∷ es) it all is = go (int_eq p e.0) refl
+found_fits P p (e ∷ es) it all is = go (int_eq p e.0) refl (found_fits P p es it all.1)
   where
-    go : (b : Bool) → int_eq p e.0 ≡ b → P it
-    go true h = let same : Some e.1 ≡ Some it = rw h at is in let one : e.1 ≡ it = cc in subst P one all.0
-    go false h = found_fits P p es it all.1 (rw h at is)
+    go : (b : Bool) → int_eq p e.0 ≡ b → (lookup (int_eq p) es ≡ Some it → P it) → P it
+    go true h more = let same : Some e.1 ≡ Some it = rw h at is in let one : e.1 ≡ it = cc in subst P one all.0
+    go false h more = more (rw h at is)
 
 -- once all that waits is put, the tables have what was stored
 pub all_stored : (waiting : Waiting) (rows : List Row) → IsDistinct int_eq (keys_of waiting.entries) → Each (λ e. Fits e.1) waiting.entries

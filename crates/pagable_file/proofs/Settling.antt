@@ -1,6 +1,6 @@
 -- What the calls of a store leave between two calls of a file of blobs.
-use Rattle.std.proofs.Common.{◌≡◌, ◌∙◌, ℕ, ℤ, ◌≤◌, Bool, true, false, List, IsTrue, refl, sym, ap, subst, arith}
-use Rattle.std.specs.Prelude.{◌&&◌, Option, Some, None, if◌then◌else◌, slice_get}
+use Rattle.std.proofs.Common.{◌≡◌, ◌∙◌, ℕ, ℤ, ◌≤◌, Bool, true, false, List, IsTrue, Result, Ok, Err, refl, sym, ap, subst, arith}
+use Rattle.std.specs.Prelude.{◌&&◌, OnErr, OnOk, Option, Some, None, if◌then◌else◌, slice_get}
 use Rattle.sqlite_value.specs.Order.{Row}
 use Rattle.sqlite_trees.proofs.Doubt.{clean_of, no_doubt}
 use Rattle.sqlite_trees.specs.{Tree.with_tree, View.{View, doubt, IsClean, IsFailure, IsRolledBack, KeepsCommitted, OnlyWrites, SetsTree, Commits, Finds, as_committed}, declared.error.StoreError.StoreError}
@@ -209,6 +209,20 @@ pub looked : (old new : View) (table : ℕ) (id : ℤ) (row : Row) (found : Bool
 looked old new table id row found was stays finds h =
     let same = shown_is_committed old was (stays.sure h) in
     ap (λ (t : ℕ → List Row). row_at (t table) id) (sym same) ∙ found_row (old.trees table) id row found (finds (sure_clean new h))
+
+pub on_saved : (r : Result (Unit {0}) StoreError) (old mid new : View) (blobs roots : List Row) → (IsClean mid → Wrote old mid blobs roots) → OnOk r (IsClean new → Commits mid new) → doubt old.is_clean ≤ doubt mid.is_clean
+    → doubt mid.is_clean ≤ doubt new.is_clean → OnOk r (Saved old new blobs roots)
+on_saved (Ok x) old mid new blobs roots wrote commits first second = saved old mid new blobs roots wrote commits first second
+on_saved (Err e) old mid new blobs roots wrote commits first second = tt
+
+pub on_rolled_back : (r : Result (Unit {0}) StoreError) (old mid new : View) → (IsClean mid → KeepsCommitted old mid) → OnErr r (IsRolledBack mid new) → doubt old.is_clean ≤ doubt mid.is_clean
+    → doubt mid.is_clean ≤ doubt new.is_clean → OnErr r (StaysPut old new)
+on_rolled_back (Ok x) old mid new kept back first second = tt
+on_rolled_back (Err e) old mid new kept back first second = rolled_back old mid new kept back first second
+
+-- a checkpoint changes nothing, or shuts the file
+pub checkpointed : (old new : View) → (IsTrue new.is_open → new ≡ old) → Settled old → Settled new
+checkpointed old new same was sure = let e = same (sure_open new sure) in subst IsSettled (sym e) (was (subst (λ (v : View). IsTrue (is_sure v)) e sure))
 
 pub ruleset reading = (fell_back, in_use, looked, read_only, stays_self, rolled_back, shown_is_committed, only_keeps, keeps_then)
 

@@ -80,6 +80,8 @@ pub record IsSettled (v : View) : Type 0 where
   pub roots : v.shape root_tree ≡ Table
   pub shapes : v.shape ≡ v.committed_shape
   pub idle : IsTrue v.is_open → (v.is_broken ≡ false) × (v.trees ≡ v.committed)
+  pub numbered : IsTrue v.is_numbered
+  pub unmarked : v.marks ≡ []
 
 abbrev pub Settled : View → Type 0
 Settled v = IsTrue (is_sure v) → IsSettled v

@@ -68,6 +68,7 @@ impl<E: Env, S: Alter + Drop> FileBlobs<E, S> {
     ///
     /// # Errors
     /// As [`OpenError`] names them, with nothing changed.
+    #[tactic(auto, using(crate::proofs::Fetching::none_keyed))]
     pub fn over(alloc: Global, conn: Connection<S>) -> Result<FileBlobs<E, S>, OpenError>
         ensures open { IfOk result (λ blobs. blobs.closed ≡ false) }
         ensures nothing_waits { IfOk result (λ blobs. (blobs.waiting.entries ≡ []) × (blobs.waiting_roots.entries ≡ [])) }
@@ -106,7 +107,7 @@ impl<E: Env, S: Store> FileBlobs<E, S> {
     ///
     /// # Errors
     /// OutOfMemory, or Storage with the failure counted; then all of it waits as before.
-    #[tactic(auto, using(crate::proofs::Committing::committing))]
+    #[tactic(auto, using(crate::proofs::Committing::committing, crate::proofs::Fetching::none_keyed))]
     pub fn commit(&mut self) -> Result<(), Error>
         ensures blobs { IsTrue (is_sure (S.view self.new.store)) → OnOk result (blobs_in ((S.view self.new.store).committed blob_tree) ≡ stored_with self.old.waiting ((S.view self.old.store).committed blob_tree)) }
         ensures roots { IsTrue (is_sure (S.view self.new.store)) → OnOk result (roots_in ((S.view self.new.store).committed root_tree) ≡ roots_with self.old.waiting_roots ((S.view self.old.store).committed root_tree)) }
@@ -145,6 +146,7 @@ impl<E: Env, D: Disk> FileBlobs<E, FileStore<D>> {
     ///
     /// # Errors
     /// OutOfMemory, or Storage with the failure counted; what was committed stays so.
+    #[tactic(auto, using(crate::proofs::Settling::checkpointed))]
     pub fn checkpoint(&mut self) -> Result<(), Error> {
         self.commit()?;
         match self.store.checkpoint() {
@@ -175,7 +177,8 @@ impl<E: Env, S: Store> PagableStorage<E> for FileBlobs<E, S> {
             return Err(Error::NoData(key));
         }
         if let Some(held) = waiting_at(&self.waiting, key) {
-            return held_blob(held, key);
+            let blob = held_blob(held, key)?;
+            return Ok(blob);
         }
         match read(alloc, &mut self.store, &mut self.row, key) {
             Ok(found) => tested::<E>(alloc, &mut self.stats, key, found),
@@ -190,8 +193,7 @@ impl<E: Env, S: Store> PagableStorage<E> for FileBlobs<E, S> {
         }
         let key = blob.compute_key::<E::Hash>();
         if let Some(held) = waiting_at(&self.waiting, key) {
-            let known = is_held(&mut self.stats, held, key, &blob);
-            known?;
+            is_held(&mut self.stats, held, key, &blob)?;
             return Ok(key);
         }
         match read(alloc, &mut self.store, &mut self.row, key) {
@@ -215,6 +217,7 @@ impl<E: Env, S: Store> PagableStorage<E> for FileBlobs<E, S> {
         self.commit()
     }
 
+    #[tactic(auto, using(crate::proofs::Fetching::none_keyed))]
     fn close(&mut self) {
         self.waiting.clear();
         self.waiting_roots.clear();

@@ -126,7 +126,8 @@ fn push_key(row: &mut Row, key: DataKey) -> Result<(), AllocError>
     ensures fit { OnOk result (CanBeKey key) }
 {
     let bytes = key.get().to_le_bytes();
-    row.push(ValueRef::Blob(&bytes))
+    row.push(ValueRef::Blob(&bytes))?;
+    Ok(())
 }
 
 /// Writes the row of a blob.
