@@ -44,7 +44,10 @@ impl<E: Env, D: Disk + Drop> FileBlobs<E, FileStore<D>> {
             Err((error, _store)) => return Err(OpenError::from(error)),
         };
         match Connection::open_files(alloc, files, options) {
-            Ok(conn) => FileBlobs::over(alloc, conn),
+            Ok(conn) => {
+                let again = FileBlobs::over(alloc, conn)?;
+                Ok(again)
+            }
             Err((error, _left)) => Err(OpenError::from(error)),
         }
     }
