@@ -15,7 +15,8 @@ use std::io::{BufRead, BufReader};
 use std::process::ExitCode;
 use std::{env, io};
 
-const USAGE: &str = "usage: blobctl FILE [stat | list | roots | tree KEY | dot KEY | fsck | copy NEW | gc | put HEX [KEY..] | root NAME KEY | drop NAME | flush | fill COUNT SIZE BATCH | times COUNT LEAST MOST BATCH]";
+const USAGE: &str =
+    "usage: blobctl FILE [stat | list | roots | tree KEY | dot KEY | fsck | copy NEW | gc | put HEX [KEY..] | root NAME KEY | drop NAME | flush | fill COUNT SIZE BATCH | times COUNT LEAST MOST BATCH]";
 
 /// Collects the words after the program's name.
 fn words(rt: &HostRuntime) -> io::Result<Vec<String>> {
@@ -82,7 +83,11 @@ fn serve(rt: &HostRuntime) -> io::Result<ExitCode> {
         let line = line_of(rt.alloc(), &words.as_slice()[1..])?;
         run(rt, &mut session, line.as_str())?
     };
-    Ok(if done { ExitCode::SUCCESS } else { ExitCode::FAILURE })
+    Ok(if done {
+        ExitCode::SUCCESS
+    } else {
+        ExitCode::FAILURE
+    })
 }
 
 fn main(rt: HostRuntime) -> ExitCode {

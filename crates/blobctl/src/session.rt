@@ -99,8 +99,12 @@ impl Session {
             Command::Root(name, key) => self.set_root(rt, name.as_str(), *key),
             Command::Flush => self.flush(rt),
             Command::Fill(count, size, batch) => self.fill(rt, *count, *size, *batch),
-            Command::Times(count, least, most, batch) =>
-                self.times(rt, *count, (*least, *most), *batch),
+            Command::Times(count, least, most, batch) => self.times(
+                rt,
+                *count,
+                (*least, *most),
+                *batch,
+            ),
         }
     }
 
@@ -111,7 +115,11 @@ impl Session {
             bytes = bytes.saturating_add(self.blobs.bytes_at_place(*place)?);
         }
         let roots = self.blobs.root_names(rt.alloc())?;
-        println!(rt; "{} blobs, {bytes} bytes, {} names", places.len(), roots.len())?;
+        println!(rt;
+            "{} blobs, {bytes} bytes, {} names",
+            places.len(),
+            roots.len()
+        )?;
         Ok(true)
     }
 
@@ -263,7 +271,9 @@ impl Session {
         let start = Instant::now(rt)?;
         let bytes = fetch_all(rt.alloc(), &mut self.blobs, keys.as_slice())?;
         let fetched = start.elapsed(rt)?.as_millis();
-        println!(rt; "{count} blobs, {bytes} bytes: stored in {stored} ms, fetched in {fetched} ms")?;
+        println!(rt;
+            "{count} blobs, {bytes} bytes: stored in {stored} ms, fetched in {fetched} ms"
+        )?;
         Ok(true)
     }
 
@@ -301,7 +311,11 @@ impl Session {
 fn edges(rt: &HostRuntime, key: DataKey, arcs: &[DataKey]) -> io::Result<()> {
     println!(rt; "  \"{:032x}\";", digits(key))?;
     for child in arcs {
-        println!(rt; "  \"{:032x}\" -> \"{:032x}\";", digits(key), digits(*child))?;
+        println!(rt;
+            "  \"{:032x}\" -> \"{:032x}\";",
+            digits(key),
+            digits(*child)
+        )?;
     }
     Ok(())
 }

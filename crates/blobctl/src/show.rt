@@ -26,11 +26,20 @@ pub fn flaw(rt: &HostRuntime, flaw: &Flaw) -> io::Result<()> {
     match flaw {
         Flaw::NoKey(place) => println!(rt; "the row at {place} has no key"),
         Flaw::Misplaced(key) => println!(rt; "{:032x} stands at another key's place", digits(*key)),
-        Flaw::BadChildren(key) => println!(rt; "{:032x} has child keys that are no keys", digits(*key)),
+        Flaw::BadChildren(key) => println!(rt;
+            "{:032x} has child keys that are no keys",
+            digits(*key)
+        ),
         Flaw::OtherContent(key) => println!(rt; "{:032x} has another content", digits(*key)),
-        Flaw::NoChild(key, child) =>
-            println!(rt; "{:032x} refers to {:032x}, which is not there", digits(*key), digits(*child)),
-        Flaw::NoRoot(name, key) =>
-            println!(rt; "root {} is {:032x}, which is not there", name.as_str(), digits(*key)),
+        Flaw::NoChild(key, child) => println!(rt;
+            "{:032x} refers to {:032x}, which is not there",
+            digits(*key),
+            digits(*child)
+        ),
+        Flaw::NoRoot(name, key) => println!(rt;
+            "root {} is {:032x}, which is not there",
+            name.as_str(),
+            digits(*key)
+        ),
     }
 }

@@ -57,7 +57,12 @@ pub fn store_all(
     let mut keys = Vec::new(alloc);
     for number in 0..count {
         let size = drawn.size(sizes.0, sizes.1);
-        keys.push(store(alloc, blobs, number, &all.as_slice()[..(size as usize).min(all.len())])?)?;
+        keys.push(store(
+            alloc,
+            blobs,
+            number,
+            &all.as_slice()[..(size as usize).min(all.len())],
+        )?)?;
         if number % batch.max(1) == batch.max(1) - 1 {
             blobs.flush()?;
         }

@@ -24,19 +24,19 @@ made_is_found old new idle made falls shaped no_blobs no_roots =
       settled = λ h. (made (sure_clean new h)).settled;
       sure = λ h. sure_from old (was (sure_clean new h)) (opened h);
       blobs_are = λ h.
-        let here = idle (was (sure_clean new h)) (opened h) in
-        (made (sure_clean new h)).no_blobs_there ∙ sym (absent (old.shape blob_tree) (old.trees blob_tree) no_blobs (shaped here.0).0) ∙ ap (λ t. t blob_tree) here.1;
+          let here = idle (was (sure_clean new h)) (opened h) in
+          (made (sure_clean new h)).no_blobs_there ∙ sym (absent (old.shape blob_tree) (old.trees blob_tree) no_blobs (shaped here.0).0) ∙ ap (λ t. t blob_tree) here.1;
       roots_are = λ h.
-        let here = idle (was (sure_clean new h)) (opened h) in
-        (made (sure_clean new h)).no_roots_there ∙ sym (absent (old.shape root_tree) (old.trees root_tree) no_roots (shaped here.0).1) ∙ ap (λ t. t root_tree) here.1;
+          let here = idle (was (sure_clean new h)) (opened h) in
+          (made (sure_clean new h)).no_roots_there ∙ sym (absent (old.shape root_tree) (old.trees root_tree) no_roots (shaped here.0).1) ∙ ap (λ t. t root_tree) here.1;
     }
 
 pub there_is_found : (v : View) → IsIdle v → (v.is_broken ≡ false → v.trees catalog_tree ≡ v.committed catalog_tree → v.shape ≡ v.committed_shape)
     → (IsClean v → IsTrue v.is_numbered) → v.shape blob_tree ≡ shape.Table → v.shape root_tree ≡ shape.Table → Finds v v
 there_is_found v idle unaltered numbered blobs roots = record {
   settled = λ h.
-    let here = idle (sure_clean v h) (sure_open v h) in
-    record { blobs = blobs; roots = roots; shapes = unaltered here.0 (ap (λ t. t catalog_tree) here.1); idle = λ _. (here.0, here.1); numbered = numbered (sure_clean v h); unmarked = here.2 };
+      let here = idle (sure_clean v h) (sure_open v h) in
+      record { blobs = blobs; roots = roots; shapes = unaltered here.0 (ap (λ t. t catalog_tree) here.1); idle = λ _. (here.0, here.1); numbered = numbered (sure_clean v h); unmarked = here.2 };
   sure = λ h. h;
   blobs_are = λ h. refl;
   roots_are = λ h. refl;

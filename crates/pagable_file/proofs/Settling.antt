@@ -39,28 +39,28 @@ rolled_back old mid new kept back first second =
     let mid_clean : (IsClean new → IsClean mid) = λ h. omega (arith, second, h) in
     let old_clean : (IsClean new → IsClean old) = λ h. omega (arith, first, second, h) in
     let was_open : (IsTrue (is_sure new) → IsTrue (is_sure old)) = λ h.
-      let clean = sure_clean new h in
-      sure_from old (old_clean clean) ((kept (mid_clean clean)).was_open ((back.kept clean).was_open (sure_open new h))) in
+    let clean = sure_clean new h in
+    sure_from old (old_clean clean) ((kept (mid_clean clean)).was_open ((back.kept clean).was_open (sure_open new h))) in
     record {
       settled = λ was h.
-        let clean = sure_clean new h in
-        let it = was (was_open h) in
-        let k = kept (mid_clean clean) in
-        let tied : mid.shape ≡ mid.committed_shape = k.shape ∙ it.shapes ∙ sym k.committed_shape in
-        let shape : new.shape ≡ old.shape = back.shape tied ∙ k.shape in
-        record {
-          blobs = ap (λ s. s blob_tree) shape ∙ it.blobs;
-          roots = ap (λ s. s root_tree) shape ∙ it.roots;
-          shapes = shape ∙ it.shapes ∙ sym (back.committed_shape ∙ k.committed_shape);
-          idle = λ there. ((back.undone there).1, (back.undone there).0 ∙ sym ((back.kept clean).committed there));
-          numbered = subst (λ b. IsTrue b) (sym (back.numbered ∙ k.numbered)) it.numbered;
-          unmarked = (back.kept clean).marks (sure_open new h);
-        };
+          let clean = sure_clean new h in
+          let it = was (was_open h) in
+          let k = kept (mid_clean clean) in
+          let tied : mid.shape ≡ mid.committed_shape = k.shape ∙ it.shapes ∙ sym k.committed_shape in
+          let shape : new.shape ≡ old.shape = back.shape tied ∙ k.shape in
+          record {
+            blobs = ap (λ s. s blob_tree) shape ∙ it.blobs;
+            roots = ap (λ s. s root_tree) shape ∙ it.roots;
+            shapes = shape ∙ it.shapes ∙ sym (back.committed_shape ∙ k.committed_shape);
+            idle = λ there. ((back.undone there).1, (back.undone there).0 ∙ sym ((back.kept clean).committed there));
+            numbered = subst (λ b. IsTrue b) (sym (back.numbered ∙ k.numbered)) it.numbered;
+            unmarked = (back.kept clean).marks (sure_open new h);
+          };
       sure = was_open;
       same = λ h.
-        let clean = sure_clean new h in
-        let there = sure_open new h in
-        (back.kept clean).committed there ∙ (kept (mid_clean clean)).committed ((back.kept clean).was_open there);
+          let clean = sure_clean new h in
+          let there = sure_open new h in
+          (back.kept clean).committed there ∙ (kept (mid_clean clean)).committed ((back.kept clean).was_open there);
     }
 
 pub only_keeps : (old new : View) → OnlyWrites old new → KeepsCommitted old new
@@ -114,32 +114,32 @@ saved old mid new blobs roots wrote commits first second =
     let mid_clean : (IsClean new → IsClean mid) = λ h. omega (arith, second, h) in
     let old_clean : (IsClean new → IsClean old) = λ h. omega (arith, first, second, h) in
     let was_sure : (IsTrue (is_sure new) → IsTrue (is_sure old)) = λ h.
-      let clean = sure_clean new h in
-      let c = commits clean in
-      let w = wrote (mid_clean clean) in
-      sure_from old (old_clean clean) (subst (λ b. IsTrue b) (ap (λ (v : View). v.is_open) c.is ∙ ap (λ (v : View). v.is_open) w.only) (sure_open new h)) in
+    let clean = sure_clean new h in
+    let c = commits clean in
+    let w = wrote (mid_clean clean) in
+    sure_from old (old_clean clean) (subst (λ b. IsTrue b) (ap (λ (v : View). v.is_open) c.is ∙ ap (λ (v : View). v.is_open) w.only) (sure_open new h)) in
     record {
       settled = λ was h.
-        let clean = sure_clean new h in
-        let it = was (was_sure h) in
-        let w = wrote (mid_clean clean) in
-        let c = commits clean in
-        let shape : new.shape ≡ old.shape = ap (λ (v : View). v.shape) c.is ∙ ap (λ (v : View). v.shape) w.only in
-        record {
-          blobs = ap (λ s. s blob_tree) shape ∙ it.blobs;
-          roots = ap (λ s. s root_tree) shape ∙ it.roots;
-          shapes = ap (λ (v : View). v.shape) c.is ∙ sym (ap (λ (v : View). v.committed_shape) c.is);
-          idle = λ there. (ap (λ (v : View). v.is_broken) c.is ∙ c.sound, ap (λ (v : View). v.trees) c.is ∙ sym (ap (λ (v : View). v.committed) c.is));
-          numbered = subst (λ b. IsTrue b) (sym (ap (λ (v : View). v.is_numbered) c.is ∙ ap (λ (v : View). v.is_numbered) w.only)) it.numbered;
-          unmarked = ap (λ (v : View). v.marks) c.is;
-        };
+          let clean = sure_clean new h in
+          let it = was (was_sure h) in
+          let w = wrote (mid_clean clean) in
+          let c = commits clean in
+          let shape : new.shape ≡ old.shape = ap (λ (v : View). v.shape) c.is ∙ ap (λ (v : View). v.shape) w.only in
+          record {
+            blobs = ap (λ s. s blob_tree) shape ∙ it.blobs;
+            roots = ap (λ s. s root_tree) shape ∙ it.roots;
+            shapes = ap (λ (v : View). v.shape) c.is ∙ sym (ap (λ (v : View). v.committed_shape) c.is);
+            idle = λ there. (ap (λ (v : View). v.is_broken) c.is ∙ c.sound, ap (λ (v : View). v.trees) c.is ∙ sym (ap (λ (v : View). v.committed) c.is));
+            numbered = subst (λ b. IsTrue b) (sym (ap (λ (v : View). v.is_numbered) c.is ∙ ap (λ (v : View). v.is_numbered) w.only)) it.numbered;
+            unmarked = ap (λ (v : View). v.marks) c.is;
+          };
       sure = was_sure;
       blobs_are = λ h.
-        let clean = sure_clean new h in
-        ap (λ (v : View). v.committed blob_tree) (commits clean).is ∙ (wrote (mid_clean clean)).blobs_are;
+          let clean = sure_clean new h in
+          ap (λ (v : View). v.committed blob_tree) (commits clean).is ∙ (wrote (mid_clean clean)).blobs_are;
       roots_are = λ h.
-        let clean = sure_clean new h in
-        ap (λ (v : View). v.committed root_tree) (commits clean).is ∙ (wrote (mid_clean clean)).roots_are;
+          let clean = sure_clean new h in
+          ap (λ (v : View). v.committed root_tree) (commits clean).is ∙ (wrote (mid_clean clean)).roots_are;
     }
 
 -- what was committed, by what the store shows between two calls
@@ -158,18 +158,18 @@ in_use v shut sound clean = sure_from v clean (go v.is_open shut)
 pub moved : (old new : View) → doubt old.is_clean ≤ doubt new.is_clean → (IsClean new → MovesOnly old new) → StaysPut old new
 moved old new falls only = record {
   settled = λ was h.
-    let e = only (sure_clean new h) in
-    let it = was (before h) in
-    record {
-      blobs = ap (λ (v : View). v.shape blob_tree) e ∙ it.blobs;
-      roots = ap (λ (v : View). v.shape root_tree) e ∙ it.roots;
-      shapes = ap (λ (v : View). v.shape) e ∙ it.shapes ∙ sym (ap (λ (v : View). v.committed_shape) e);
-      idle = λ there.
-        let here = it.idle (subst (λ b. IsTrue b) (ap (λ (v : View). v.is_open) e) there) in
-        (ap (λ (v : View). v.is_broken) e ∙ here.0, ap (λ (v : View). v.trees) e ∙ here.1 ∙ sym (ap (λ (v : View). v.committed) e));
-      numbered = subst (λ b. IsTrue b) (sym (ap (λ (v : View). v.is_numbered) e)) it.numbered;
-      unmarked = ap (λ (v : View). v.marks) e ∙ it.unmarked;
-    };
+      let e = only (sure_clean new h) in
+      let it = was (before h) in
+      record {
+        blobs = ap (λ (v : View). v.shape blob_tree) e ∙ it.blobs;
+        roots = ap (λ (v : View). v.shape root_tree) e ∙ it.roots;
+        shapes = ap (λ (v : View). v.shape) e ∙ it.shapes ∙ sym (ap (λ (v : View). v.committed_shape) e);
+        idle = λ there.
+            let here = it.idle (subst (λ b. IsTrue b) (ap (λ (v : View). v.is_open) e) there) in
+            (ap (λ (v : View). v.is_broken) e ∙ here.0, ap (λ (v : View). v.trees) e ∙ here.1 ∙ sym (ap (λ (v : View). v.committed) e));
+        numbered = subst (λ b. IsTrue b) (sym (ap (λ (v : View). v.is_numbered) e)) it.numbered;
+        unmarked = ap (λ (v : View). v.marks) e ∙ it.unmarked;
+      };
   sure = before;
   same = λ h. ap (λ (v : View). v.committed) (only (sure_clean new h));
 }

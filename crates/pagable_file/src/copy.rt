@@ -38,7 +38,10 @@ pub fn reached<E: Env, S: PagableStorage<E>>(
 }
 
 /// Collects the keys of all roots.
-pub fn root_keys<E: Env, S: Roots<E>>(alloc: Global, storage: &mut S) -> Result<Vec<DataKey>, Error> {
+pub fn root_keys<E: Env, S: Roots<E>>(
+    alloc: Global,
+    storage: &mut S,
+) -> Result<Vec<DataKey>, Error> {
     let mut keys = Vec::new(alloc);
     for name in &storage.root_names(alloc)? {
         if let Some(key) = storage.root(name.as_str())? {

@@ -6,9 +6,9 @@ ghost use Rattle.{pagable_core.specs.Data.blob_of, pagable_model.specs.{Blob.key
 ghost use Rattle.pagable_file.specs.{Blobs.{AreKeyed, HasBlob, IsNotHeld, RefusesFound, RefusesHeld, RefusesRead, Settled, blob_pending, is_sure, roots_with, settled_prop, stored_with, unless}, Rows.{blob_tree, blobs_in, root_tree, roots_in}};
 
 use crate::fault::Fault;
+use crate::lookup::read;
 use crate::open_error::OpenError;
 use crate::pending::{Pending, Waiting, WaitingRoots, hold, is_same, waiting_at};
-use crate::lookup::read;
 use crate::rows::Reading;
 use crate::saving::save;
 use crate::stats::{Stats, fail, refuse};
@@ -122,7 +122,13 @@ impl<E: Env, S: Store> FileBlobs<E, S> {
             → (blobs_in (db blob_tree) ≡ stored_with self.old.waiting ((S.view self.old.store).committed blob_tree)) × (roots_in (db root_tree) ≡ roots_with self.old.waiting_roots ((S.view self.old.store).committed root_tree))
             ⊎ S.recovers self.old.store db }
     {
-        match save(&mut self.store, &mut self.row, &mut self.bytes, &self.waiting, &self.waiting_roots) {
+        match save(
+            &mut self.store,
+            &mut self.row,
+            &mut self.bytes,
+            &self.waiting,
+            &self.waiting_roots,
+        ) {
             Ok(()) => {
                 self.waiting.clear();
                 self.waiting_roots.clear();
@@ -278,12 +284,7 @@ fn count_fetch(stats: &mut Stats, bytes: usize)
 }
 
 /// Tests that what waits at a key's place is this blob under this key.
-fn is_held(
-    stats: &mut Stats,
-    held: &Pending,
-    key: DataKey,
-    blob: &PagableData,
-) -> Result<(), Error>
+fn is_held(stats: &mut Stats, held: &Pending, key: DataKey, blob: &PagableData) -> Result<(), Error>
     ensures ok { OnOk result ((held.now.key ≡ key) × (blob_pending held.now ≡ blob_of blob.now)) }
     ensures only { IfErr result (RefusesHeld held.now key (blob_of blob.now) stats.old.failures stats.new.failures) }
     ensures later { stats.old.failures ≤ stats.new.failures }

@@ -2,8 +2,8 @@
 
 use crate::file_blobs::FileBlobs;
 use crate::lookup::{look, read_name};
-use crate::rows::{Naming, Reading, key_at, place_of, read_blob};
 use crate::roots::Roots;
+use crate::rows::{Naming, Reading, key_at, place_of, read_blob};
 use crate::scan::all_places;
 use crate::stats::refuse;
 use crate::tables::BLOBS;

@@ -63,7 +63,11 @@ fn read_keys(alloc: Global, bytes: &[u8]) -> Result<Option<Vec<DataKey>>, AllocE
         keys.push(key)?;
         rest = behind;
     }
-    if rest.is_empty() { Ok(Some(keys)) } else { Ok(None) }
+    if rest.is_empty() {
+        Ok(Some(keys))
+    } else {
+        Ok(None)
+    }
 }
 
 /// Appends each child key as 16 bytes.

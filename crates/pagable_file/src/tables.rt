@@ -22,9 +22,11 @@ pub const ROOTS: u32 = 1;
 /// The version of the two tables, which the file has as SQLite's user version.
 pub const VERSION: u32 = 1;
 
-const BLOBS_SQL: &str = "CREATE TABLE blobs (place INTEGER PRIMARY KEY, key BLOB NOT NULL, bytes BLOB NOT NULL, children BLOB NOT NULL) STRICT";
+const BLOBS_SQL: &str =
+    "CREATE TABLE blobs (place INTEGER PRIMARY KEY, key BLOB NOT NULL, bytes BLOB NOT NULL, children BLOB NOT NULL) STRICT";
 
-const ROOTS_SQL: &str = "CREATE TABLE roots (place INTEGER PRIMARY KEY, name TEXT NOT NULL, key BLOB NOT NULL) STRICT";
+const ROOTS_SQL: &str =
+    "CREATE TABLE roots (place INTEGER PRIMARY KEY, name TEXT NOT NULL, key BLOB NOT NULL) STRICT";
 
 fn table(name: &'static str, sql: &'static str) -> Object<'static>
     ensures shape { result.shape ≡ shape.Table }
@@ -84,7 +86,11 @@ fn test<S: Alter>(store: &S, objects: &[Row]) -> Result<(), OpenError> {
     let ours = objects.len() == 2
         && lists(&objects[0], "blobs", BLOBS_SQL)
         && lists(&objects[1], "roots", ROOTS_SQL);
-    if ours { Ok(()) } else { Err(OpenError::NotBlobs) }
+    if ours {
+        Ok(())
+    } else {
+        Err(OpenError::NotBlobs)
+    }
 }
 
 /// Finds the two tables, and makes them where the database has none.
@@ -103,5 +109,9 @@ pub fn prepare<S: Alter>(alloc: Global, store: &mut S) -> Result<(), OpenError>
         return Ok(());
     }
     test(store, objects.as_slice())?;
-    if is_there(store) { Ok(()) } else { Err(OpenError::NotBlobs) }
+    if is_there(store) {
+        Ok(())
+    } else {
+        Err(OpenError::NotBlobs)
+    }
 }

@@ -40,22 +40,37 @@ fn in_memory(rt: HostRuntime) -> Result<(), Fail> {
     let mut blobs: FileBlobs<Weighed, _> = FileBlobs::in_memory(alloc)?;
     let leaf = blobs.store_data(alloc, blob(alloc, &[1, 2, 3], &[])?)?;
     assert_eq!(rt; leaf.get(), 62);
-    assert_eq!(rt; blobs.store_data(alloc, blob(alloc, &[1, 2, 3], &[])?)?, leaf);
+    assert_eq!(rt;
+        blobs.store_data(alloc, blob(alloc, &[1, 2, 3], &[])?)?,
+        leaf
+    );
     // 9 * 10 is 10 * 9.
     let ten = blobs.store_data(alloc, blob(alloc, &[10], &[])?)?;
     assert_eq!(rt; ten.get(), 90);
-    assert_eq!(rt; blobs.store_data(alloc, blob(alloc, &[0, 9], &[])?).err(), Some(Error::KeyTaken));
+    assert_eq!(rt;
+        blobs.store_data(alloc, blob(alloc, &[0, 9], &[])?).err(),
+        Some(Error::KeyTaken)
+    );
     blobs.flush()?;
     let found = blobs.fetch_data_blocking(alloc, leaf)?;
     assert_eq!(rt; found.bytes.as_slice(), [1, 2, 3].as_slice());
-    assert_eq!(rt; blobs.store_data(alloc, blob(alloc, &[0, 9], &[])?).err(), Some(Error::KeyTaken));
+    assert_eq!(rt;
+        blobs.store_data(alloc, blob(alloc, &[0, 9], &[])?).err(),
+        Some(Error::KeyTaken)
+    );
     assert_eq!(rt; blobs.store_data(alloc, blob(alloc, &[10], &[])?)?, ten);
     let root = fill(alloc, &mut blobs)?;
     let found = blobs.fetch_data_blocking(alloc, root)?;
     assert_eq!(rt; found.arcs.as_slice(), [leaf].as_slice());
     blobs.close();
-    assert_eq!(rt; blobs.fetch_data_blocking(alloc, root).err(), Some(Error::NoData(root)));
-    assert_eq!(rt; blobs.store_data(alloc, blob(alloc, &[], &[])?).err(), Some(Error::Closed));
+    assert_eq!(rt;
+        blobs.fetch_data_blocking(alloc, root).err(),
+        Some(Error::NoData(root))
+    );
+    assert_eq!(rt;
+        blobs.store_data(alloc, blob(alloc, &[], &[])?).err(),
+        Some(Error::Closed)
+    );
     Ok(())
 }
 
@@ -67,12 +82,18 @@ fn in_a_file(rt: HostRuntime) -> Result<(), Fail> {
     let mut blobs: FileBlobs<Weighed, FileStore<File>> = FileBlobs::open(&rt, path)?;
     let root = fill(alloc, &mut blobs)?;
     let unflushed = blobs.store_data(alloc, blob(alloc, &[9], &[])?)?;
-    assert_eq!(rt; FileBlobs::<Weighed, FileStore<File>>::open(&rt, path).err(), Some(OpenError::InUse));
+    assert_eq!(rt;
+        FileBlobs::<Weighed, FileStore<File>>::open(&rt, path).err(),
+        Some(OpenError::InUse)
+    );
     drop(blobs);
     let mut again: FileBlobs<Weighed, FileStore<File>> = FileBlobs::open(&rt, path)?;
     let found = again.fetch_data_blocking(alloc, root)?;
     assert_eq!(rt; found.bytes.as_slice(), [7].as_slice());
-    assert_eq!(rt; again.fetch_data_blocking(alloc, unflushed).err(), Some(Error::NoData(unflushed)));
+    assert_eq!(rt;
+        again.fetch_data_blocking(alloc, unflushed).err(),
+        Some(Error::NoData(unflushed))
+    );
     drop(again);
     fs::remove_dir_all(&rt, "pagable_file_test")?;
     Ok(())
@@ -110,15 +131,24 @@ fn roots_need_blobs(rt: HostRuntime) -> Result<(), Fail> {
     let alloc = rt.alloc();
     let mut blobs: FileBlobs<Weighed, _> = FileBlobs::in_memory(alloc)?;
     let key = DataKey::new(62).unwrap();
-    assert_eq!(rt; blobs.set_root(alloc, "main", Some(key)).err(), Some(Error::NoData(key)));
+    assert_eq!(rt;
+        blobs.set_root(alloc, "main", Some(key)).err(),
+        Some(Error::NoData(key))
+    );
     assert_eq!(rt; blobs.root("main")?, None);
-    assert_eq!(rt; blobs.store_data(alloc, blob(alloc, &[1, 2, 3], &[])?)?, key);
+    assert_eq!(rt;
+        blobs.store_data(alloc, blob(alloc, &[1, 2, 3], &[])?)?,
+        key
+    );
     blobs.set_root(alloc, "main", Some(key))?;
     assert_eq!(rt; blobs.root("main")?, Some(key));
     assert_eq!(rt; blobs.root("mair")?, None);
     blobs.close();
     assert_eq!(rt; blobs.root("main")?, None);
-    assert_eq!(rt; blobs.set_root(alloc, "main", None).err(), Some(Error::Closed));
+    assert_eq!(rt;
+        blobs.set_root(alloc, "main", None).err(),
+        Some(Error::Closed)
+    );
     Ok(())
 }
 
@@ -133,7 +163,10 @@ fn copies_and_tests(rt: HostRuntime) -> Result<(), Fail> {
     let mut new: FileBlobs<Weighed, _> = FileBlobs::in_memory(alloc)?;
     assert_eq!(rt; copy(alloc, &mut blobs, &mut new)?, 2);
     assert_eq!(rt; new.root("main")?, Some(root));
-    assert_eq!(rt; new.fetch_data_blocking(alloc, loose).err(), Some(Error::NoData(loose)));
+    assert_eq!(rt;
+        new.fetch_data_blocking(alloc, loose).err(),
+        Some(Error::NoData(loose))
+    );
     assert!(rt; fsck(alloc, &mut new)?.is_empty());
     // A blob may refer to what isn't there; only a look at the whole file finds it.
     let away = DataKey::new(5).unwrap();
@@ -153,7 +186,11 @@ fn fill_folder(rt: &HostRuntime, path: &str, text: &[u8]) -> Result<(), Fail> {
 #[test]
 fn refused_files(rt: HostRuntime) -> Result<(), Fail> {
     folder(&rt, "pagable_refused_test")?;
-    fill_folder(&rt, "pagable_refused_test/text", b"no database, but a text of some length")?;
+    fill_folder(
+        &rt,
+        "pagable_refused_test/text",
+        b"no database, but a text of some length",
+    )?;
     let text = FileBlobs::<Weighed, FileStore<File>>::open(&rt, "pagable_refused_test/text");
     assert_eq!(rt; text.err(), Some(OpenError::NotBlobs));
     let mut conn = sqlite::Connection::open(&rt, "pagable_refused_test/other")?;

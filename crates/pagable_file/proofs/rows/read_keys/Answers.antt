@@ -21,7 +21,7 @@ loop-at-preserved c =
     let front : key_in (take 16 l.rest.now) ≡ Some key = ap key_in (sym c.split_at.ensures.front) ∙ sym c.read_key.ensures ∙ c.in-Some.is in (
       omega (arith, c.split_at.ensures.back_len, l.invariant.0),
       ap (λ (ks : List ℕ). joined ks (keys_from left c.split_at.result.1.now)) c.in_ok-push.ensures.items ∙ ap (λ (r : List ℕ). joined (l.keys.items ++ key ∷ []) (keys_from left r)) c.split_at.ensures.back
-      ∙ one_more l.keys.items left key l.rest.now front ∙ ap (λ n. joined l.keys.items (keys_from n l.rest.now)) next ∙ l.invariant.1,
+          ∙ one_more l.keys.items left key l.rest.now front ∙ ap (λ n. joined l.keys.items (keys_from n l.rest.now)) next ∙ l.invariant.1,
     )
 
 pub returns-then-is_empty : goal.returns-then-is_empty

@@ -19,7 +19,7 @@ loop-place-preserved g c =
     let row : c.write_blob.new.row ≡ pending_row p it = search rules in
     let fits : Fits it = search rules in (
       λ clean. put_blob pending_row l.place-iterator left all p it first now next (l.invariant.0 (omega (arith, c.put.ensures.quiet.clean, clean))) steps
-      (subst (λ (r : Row). SetsTree now next blob_tree (put_row r)) row (c.in_ok-put.ensures.ok clean)) (c.in_ok-put.ensures.frame clean),
+          (subst (λ (r : Row). SetsTree now next blob_tree (put_row r)) row (c.in_ok-put.ensures.ok clean)) (c.in_ok-put.ensures.frame clean),
       all_fit pending_row blob_tree blob_tree Fits l.place-iterator left all p it steps fits l.invariant.1,
       omega (arith, l.invariant.2, c.put.ensures.quiet.clean),
       λ db h. l.invariant.3 db (c.put.ensures.quiet.outcomes db h),
