@@ -8,6 +8,8 @@ from naming import Names, Unlike
 MEMORY, STORAGE, NUMBERS = 22, 23, 21
 # Refused so, they have given up what they were to give up; only a cell wasn't listed.
 GIVING = ("unpin", "release", "set_data_key", "load_drop")
+# A refusal of these gives the value back.
+GIVING_BACK = ("new_pinned", "new_loose", "new_shared", "load_adopt", "load_end")
 ENDS = re.compile(r"-> (ok \d+|failed \d+|already)")
 
 
@@ -130,6 +132,9 @@ class Run:
             return self.work_anew(at, answer)
         if step.name in GIVING:
             return self.list_anew(at)
+        told = f"refused {self.number}" + " 7" * (self.number == STORAGE) + " back" * (step.name in GIVING_BACK)
+        if answer != told:
+            raise Unlike(f"`{answer}` in the place of `{told}`")
         before = self.row.before(at)
         if before is not None:
             self.names.compare_looks(before, self.looked())
