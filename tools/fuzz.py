@@ -131,11 +131,11 @@ def main(words):
     seed, count = int(words[0]), int(words[1])
     with tempfile.TemporaryDirectory() as folder:
         program, library = built(pathlib.Path(words[2] if len(words) > 2 else folder).resolve())
-        server = Server([program], library)
-        for sort in (Machines(server), Values(server), Scripts(program)):
-            for each in range(seed, seed + count):
-                tried(sort, each)
-            print(f"{type(sort).__name__}: {count} drawn, no difference", flush=True)
+        with Server([program], library) as server:
+            for sort in (Machines(server), Values(server), Scripts(program)):
+                for each in range(seed, seed + count):
+                    tried(sort, each)
+                print(f"{type(sort).__name__}: {count} drawn, no difference", flush=True)
 
 
 if __name__ == "__main__":

@@ -21,6 +21,13 @@ class Server:
         pipes = {"stdin": subprocess.PIPE, "stdout": subprocess.PIPE, "encoding": "utf-8"}
         self.running = subprocess.Popen(words, env=env, **pipes, **more)
 
+    def __enter__(self):
+        return self
+
+    def __exit__(self, *_):
+        self.running.stdin.close()
+        self.running.wait()
+
     def ask(self, line):
         self.running.stdin.write(line + "\n")
         self.running.stdin.flush()

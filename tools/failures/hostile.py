@@ -66,6 +66,8 @@ def table(server, tally):
         answer = server.ask(f"ask {MIB} store {blob}; read {key} {node_type}; step 1 {wanted.split()[1]}")
         if not answer.startswith("free ") or answer.split("; ")[-1] != wanted:
             tally.fault(f"blob {blob} as {node_type}", f"`{answer}`")
+        if wanted.startswith("refused") and server.ask("look 400") != "pending 0":
+            tally.fault(f"blob {blob} as {node_type}", "a handle is left of its load")
         tally.places["hostile", "blobs"] += 1
 
 
@@ -119,6 +121,8 @@ def read_cut(server, tally, blob, node_type):
     answer = server.ask(f"ask {MIB} store {blob}; read {key} {node_type}; step 1 140")
     if answer != f"free ok {key}; {wanted}":
         tally.fault(f"blob {blob} as {node_type}", f"`{answer}` in the place of `{wanted}`")
+    if "read" not in wanted.partition("; ")[2] and server.ask("look 400") != "pending 0":
+        tally.fault(f"blob {blob} as {node_type}", "a handle is left of its load")
     tally.places["hostile", "cut blobs"] += 1
 
 

@@ -34,20 +34,13 @@ USES = (
     " pagable_codec pagable_core anyhow either hex indexmap serde_json\n"
 )
 # (a test's own calls, in the copy alone)
-COUNTERS = {
-    "pagable_pager/src/pager.rt": "Pager",
-    "pagable/src/machine.rt": "Machine",
-    "pagable_locked/src/storage_handle.rt": "PagableStorageHandle",
-}
+COUNTERS = {"pagable_pager/src/pager.rt": "Pager", "pagable/src/machine.rt": "Machine"}
 
 
 def add_counters(crates):
-    """Lets the numbers that were given last be seen and set, in a copy of the crates, and tells whether all is in step, where
-    the pager has a call for that."""
-    pager = (crates / "pagable_pager/src/pager.rt").read_text(encoding="utf-8")
-    sound = "self.is_sound()" if "pub fn is_sound(&self)" in pager else "true"
+    """Lets the numbers that were given last be seen and set, in a copy of the crates."""
     for file, name in COUNTERS.items():
-        body = (HERE / f"counters_of_{name.lower()}.txt").read_text(encoding="utf-8").replace("SOUND", sound)
+        body = (HERE / f"counters_of_{name.lower()}.txt").read_text(encoding="utf-8")
         with open(crates / file, "a", encoding="utf-8") as module:
             module.write(f"\nimpl<E: Env<Node: NodeSet<E>>, S: PagableStorage<E>> {name}<E, S> {{\n{body}}}\n")
 
@@ -73,11 +66,10 @@ def built(work):
     return build.compiled_in(work, source, "-O1"), library
 
 
-def rows_of_events(program, library, tally):
+def rows_of_events(server, tally):
     """The rows of events, each undisturbed first."""
     values, worked_rows = rows.worked()
     every = worked_rows + rows.listed_in(HERE / "rows.txt")
-    server = Server([program], library)
     for row in every:
         try:
             sweeps.singly(server, row, tally)
@@ -92,9 +84,8 @@ def rows_of_events(program, library, tally):
     hostile.cut_blobs(server, tally, every)
 
 
-def rows_of_threads(program, library, tally):
+def rows_of_threads(server, tally):
     """The rows of calls on a storage that threads share."""
-    server = Server([program], library)
     for row in shared.rows_in(HERE / "shared.txt"):
         try:
             after = shared.each_request(server, tally, row)
@@ -103,10 +94,8 @@ def rows_of_threads(program, library, tally):
             tally.fault(f"shared, {row[0]}, undisturbed", why)
 
 
-def calls_that_refuse(program, library, tally):
-    """The lists of calls that stand in `vectors`, and those of this folder, of whose refusals alone something is
-    wanted."""
-    server = Server([program], library)
+def calls_that_refuse(server, tally):
+    """The lists of calls that stand in `vectors`, and those of this folder, of whose refusals alone something is wanted."""
     for file in (rows.DATA / "calls.txt", rows.DATA / "loads.txt", rows.DATA / "workers.txt", HERE / "refusals.txt"):
         for row in rows.machines_in(file):
             try:
@@ -115,14 +104,27 @@ def calls_that_refuse(program, library, tally):
                 tally.fault(f"{file.name}, {row.name}", why)
 
 
-def scripts(program, library, tally):
+def rows_of_their_own(server, tally):
+    """Rows that stand in the code, and those of room."""
+    middle.rows(server, tally)
+    answer = server.ask("room")
+    if answer != "count 11 true true; pending 1 false":
+        tally.fault("rows of room", f"`{answer}`")
+
+
+SECTIONS = (rows_of_events, calls_that_refuse, rows_of_threads, rows_of_their_own)
+
+
+def tried(program, library):
+    """Tries all: what came of it."""
+    tally = sweeps.Tally()
+    with Server([program], library) as server:
+        for section in SECTIONS:
+            section(server, tally)
     pagectl.each_request(program, library, tally)
     pagectl.each_reading_and_writing(program, library, tally)
     pagectl.hostile(program, library, tally)
-    middle.rows(Server([program], library), tally)
-    answer = Server([program], library).ask("room")
-    if answer != "count 11 true true; pending 1 false":
-        tally.fault("rows of room", f"`{answer}`")
+    return tally
 
 
 def told(tally):
@@ -140,11 +142,8 @@ def main(words):
     if not shutil.which("cc"):
         print("failures: there is no C compiler, so no request was refused")
         return
-    tally = sweeps.Tally()
     with tempfile.TemporaryDirectory() as folder:
-        program, library = built(pathlib.Path(words[0] if words else folder).resolve())
-        for section in (rows_of_events, calls_that_refuse, rows_of_threads, scripts):
-            section(program, library, tally)
+        tally = tried(*built(pathlib.Path(words[0] if words else folder).resolve()))
     if not told(tally):
         sys.exit("failures: not all came out as it has to")
 
