@@ -6,8 +6,8 @@ use Rattle.pagable_laws.proofs.Words.{ℕ, ◌+◌, ◌==◌, ◌∙◌, ◌∷�
 use Rattle.pagable_laws.specs.{DeepLaws.IsOfHandles, RefusalLaws.{BeginsRefusedLaw, IsOfPin, LoadRefused, LoadsRefusedLaw, PinsRefusedLaw}}
 use Rattle.{pagable_model.specs.{Reading.Rest, Refusals.{is_own_reading, number_of}, Standing.{Answer, answer_at}, Stored.{HasFailed, RefusesFetch}}, std.specs.Prelude.{IfErr, ◌≢◌}}
 use Rattle.pagable_world.specs.{Calls.{FetchCall, PinCall}, LoadCalls.{AskCall, AsksInVain, BeginCall, LazyCall, LoadCloses}, Loads.{Fails, Meets, ReadingDoes, RefusesBlob, RefusesNested, RefusesNode, RefusesRoot}}
-use Rattle.pagable_world.specs.{Loads.{answer_of, answers_from, handles_of, is_faulty, next_by, next_of, read_with}, Refusals.{load_fault, named_fault, refused_if, spent, where_so}, declared.calls.Want.Want}
-use Rattle.pagable_world.specs.{Kinds.{is_loose, is_owner}, LoadCalls.{cell_fault, root_fault}, World.{Root, of_cell, of_key, row_at}}
+use Rattle.pagable_world.specs.{Loads.{answer_of, answers_from, handles_of, is_faulty, next_by, next_of, read_with}, Refusals.{earlier, load_fault, named_fault, refused_if, spent, where_so}, declared.calls.Want.Want}
+use Rattle.pagable_world.specs.{Kinds.{is_loose, is_owner}, LoadCalls.{cell_fault, is_known, root_fault}, World.{Root, of_cell, of_key, row_at}}
 
 -- ---- a blob is refused by its reading alone
 
@@ -159,7 +159,7 @@ module _ {N : Type 0} (v : Values N) (lawful : IsLawful v) (w : Core) (me : Owne
 
   asked : (want : Want) (e : Error) (mid : Core) → AskCall w me reading.load want (Err e) mid → LoadRefused w mid e
   asked want e mid c = elim c.refused [
-    | inl r ↦ sober-refused w mid e (quiet-sober e (only-refused {P = Quiet} e r (only-earlier _ _ (only-load w me reading.load) (λ f so. grind (arith, nat_tests, only-if Quiet))) tt))
+    | inl r ↦ sober-refused w mid e (quiet-sober e (only-refused {P = Quiet} e r (only-earlier _ _ (only-load w me reading.load) (number-quiet (is_known w want) w)) tt))
     | inr (load, owned, vain) ↦ in-vain want load e mid vain
   ]
 
@@ -236,8 +236,12 @@ of-number : (b : Bool) (w : Core) (last : ℕ) (e : Error) → where_so b (spent
 of-number true w last e is = only-if OfPin _ Error.NumbersSpent no-number e is
 of-number false w last e is = absurd (cc)
 
+of-two : (b : Bool) (w : Core) (e : Error) → where_so b (earlier (spent w.last.load) (spent w.last.handle)) ≡ Some e → OfPin e
+of-two true w e is = only-earlier {P = OfPin} _ _ (only-if OfPin _ Error.NumbersSpent no-number) (only-if OfPin _ Error.NumbersSpent no-number) e is
+of-two false w e is = absurd (cc)
+
 pub pins-refused : PinsRefusedLaw
 pins-refused w me h e w' c = by-number e (only-refused {P = OfPin} e c.refused (only-earlier _ _ (of-row me is_loose (row_at w h)) (of-number _ w w.last.handle)) no-memory)
 
 pub begins-refused : BeginsRefusedLaw
-begins-refused w me h e w' c = by-number e (only-refused {P = OfPin} e c.refused (only-earlier _ _ (of-row me is_loose (row_at w h)) (λ f so. grind (arith, nat_tests, of-number, no-number, only-if OfPin))) no-memory)
+begins-refused w me h e w' c = by-number e (only-refused {P = OfPin} e c.refused (only-earlier _ _ (of-row me is_loose (row_at w h)) (of-two _ w)) no-memory)
