@@ -60,15 +60,19 @@ def tried(server, row, number, tally, at, words):
 
 
 def each_request(server, row, tally):
-    """Refuses each request of each step in turn."""
-    stride = STRIDE if len(row.steps) > MANY_STEPS else 1
+    """Refuses each request of each step in turn, and then each with all that follow it in that step."""
     for at, step in enumerate(row.steps):
-        if step.name == "look":
-            continue
-        place = at % stride + 1
-        while place < 5000 and attempt(server, row, MEMORY, tally, at, f"ask {place}"):
-            tally.places[row.name, "requests"] += 1
-            place += stride
+        if step.name != "look":
+            requests_of(server, row, tally, at, "")
+            requests_of(server, row, tally, at, "-")
+
+
+def requests_of(server, row, tally, at, sign):
+    stride = STRIDE if len(row.steps) > MANY_STEPS else 1
+    place = at % stride + 1
+    while place < 5000 and attempt(server, row, MEMORY, tally, at, f"ask {sign}{place}"):
+        tally.places[row.name, "requests and all after" if sign else "requests"] += 1
+        place += stride
 
 
 def each_number(server, row, tally):
