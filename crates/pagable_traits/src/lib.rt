@@ -12,6 +12,7 @@ pub mod loose;
 pub mod one_form;
 pub mod plain;
 pub mod refers;
+mod refers_to_nothing;
 pub mod saved_regex;
 pub mod static_value;
 pub mod storage;
