@@ -60,6 +60,13 @@ pub mod pagable_arc {
     };
 }
 
+/// Nodes of environments of one value type or three, and an environment of records.
+pub mod nodes {
+    pub use pagable_nodes::{
+        EitherNode, OneNode, Record, RecordNode, RecordRef, Records, write_listed,
+    };
+}
+
 /// The parts of which the bodies of a caller's own types are made.
 pub mod parts {
     pub use pagable_codec::parts::{places_for, read_count, read_flag, write_count, write_flag};
@@ -136,6 +143,9 @@ pub use pagable_flavors::{
 pub use pagable_model::{
     ArcRef, HandleNumber, Identity, Kind, LoadNumber, NodeNumber, PagableCursor, WorkerNumber,
 };
+pub use pagable_nodes::{
+    EitherNode, OneNode, Record, RecordNode, RecordRef, Records, write_listed,
+};
 pub use pagable_traits::alike::{CarriedAs, ReadAs};
 pub use pagable_traits::{
     Arc, ArcErase, ArcEraseType, Canonical, Carried, EagerlyCarried, Env, ForTag,
@@ -143,11 +153,11 @@ pub use pagable_traits::{
     OfNode, OneMeaning, Pagable, PagableArc, PagableBoxDeserialize, PagableDeserialize,
     PagableDeserializeOwned, PagableDeserializer, PagableEagerDeserialize, PagableEagerSerialize,
     PagableKey, PagableOrdKey, PagableRegisteredFor, PagableSerialize, PagableSerializer,
-    PagableTagged, PathText, PinnedPagableArc, PinnedPagableArcBorrow, Reader, Refers, SavedRegex,
-    SessionContext, SessionMap, SessionValue, StaticBytes, StaticStr, StaticValue,
-    StaticValueEntry, StaticValueRegistry, StdArcEraseType, TagReader, Thin, TypetagRegistration,
-    TypetagRegistry, deserialize_arc, deserialize_tagged, read_reference, references_of,
-    serialize_slice, serialize_str, write_reference,
+    PagableTagged, PathText, PinnedPagableArc, PinnedPagableArcBorrow, Reader, Refers,
+    RefersToNothing, SavedRegex, SessionContext, SessionMap, SessionValue, StaticBytes, StaticStr,
+    StaticValue, StaticValueEntry, StaticValueRegistry, StdArcEraseType, TagReader, Thin,
+    TypetagRegistration, TypetagRegistry, deserialize_arc, deserialize_tagged, read_reference,
+    references_of, serialize_slice, serialize_str, write_reference,
 };
 
 // Of pagers, and of what stores their values.
