@@ -187,6 +187,10 @@ impl<E: Env<Node: NodeSet<E>>, S: PagableStorage<E>> Pager<E, S> {
         self.storage.store_data(alloc, blob)
     }
 
+    pub fn store_keyed(&mut self, alloc: Global, key: DataKey, blob: PagableData) -> Result<DataKey, Error> {
+        self.storage.store_keyed(alloc, key, blob)
+    }
+
     /// Has the storage write what it has held back: then all that is stored is made sure of. Refused with OutOfMemory and Storage.
     pub fn flush(&mut self) -> Result<(), Error>
         ensures asks { AsksStorage S.is_honest (telling S.stored S.is_closed S.failed) self.old (λ w w'. FlushCall w result w') self.new }

@@ -103,6 +103,18 @@ impl<E: Env> PagableStorage<E> for InMemoryBlobs<E> {
             return Err(Error::Closed);
         }
         let key = blob.compute_key::<E::Hash>();
+        self.store_keyed(alloc, key, blob)
+    }
+
+    fn store_keyed(
+        &mut self,
+        alloc: Global,
+        key: DataKey,
+        blob: PagableData,
+    ) -> Result<DataKey, Error> {
+        if self.closed {
+            return Err(Error::Closed);
+        }
         if let Some(found) = stored_under(&self.blobs, key) {
             if is_same(found, &blob) {
                 return Ok(key);

@@ -59,6 +59,16 @@ pub trait PagableStorage<E: Env>: Sized {
         ensures open { is_closed self.new ≡ is_closed self.old }
         ensures later { failed self.old ≤ failed self.new };
 
+    /// As `store_data`, of a blob whose key the caller has made.
+    fn store_keyed(
+        &mut self,
+        alloc: Global,
+        _key: DataKey,
+        blob: PagableData,
+    ) -> Result<DataKey, Error> {
+        self.store_data(alloc, blob)
+    }
+
     /// Writes what the storage has held back: then all that is stored is made sure of. What is stored stays as it is.
     fn flush(&mut self) -> Result<(), Error>
         ensures sure { IsTrue (is_honest self.new) → OnOk result (flushed self.new ≡ stored self.new) }
