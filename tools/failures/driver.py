@@ -61,8 +61,7 @@ def does_list(step):
 
 class Run:
     """One run of a row on a new machine, of which one event is disturbed: by a refused request for memory, by
-    counters that
-    stand near their end, or, from the start, by a storage that fails once."""
+    counters that stand near their end, or, from the start, by a storage that fails once."""
 
     def __init__(self, server, row, number, tally, storage=None):
         self.server, self.row, self.number, self.tally = server, row, number, tally
@@ -240,8 +239,7 @@ class Run:
 
     def entry_back(self, made, at):
         """The entry of a listed cell that was paged out stands at the list's end again; but where the cell had a key
-        and was pinned
-        already, it is gone, and is listed anew."""
+        and was pinned already, it is gone, and is listed anew."""
         if pending_in(self.looked()) <= pending_in(self.row.steps[at].look) - does_list(self.row.steps[at]):
             self.is_shifted = True
             _, clone = self.told(f"clone {made.listed[0]}")

@@ -14,8 +14,7 @@ BIRTHS = ("new_loose", "new_pinned", "new_shared", "new_paged_out")
 
 class Tally:
     """How often each refusal came of each call; how many places were tried of each row; how many loads and workers
-    were begun
-    anew; what was refused without being told."""
+    were begun anew; what was refused without being told."""
 
     def __init__(self):
         self.refusals, self.places, self.anew, self.untold, self.faults = Counter(), Counter(), 0, Counter(), []
