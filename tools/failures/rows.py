@@ -90,8 +90,7 @@ def entry_of(plain, event):
 
 def row_of(name, storage, lines):
     """A row of lines of events, each with the answer that is stored, or None: it has to be the plain pager's. One
-    behind
-    `last` has the answer of its last event alone."""
+    behind `last` has the answer of its last event alone."""
     plain, steps = Rows(), []
     plain.answer(f"machine {storage}".strip())
     for line, stored in lines:
