@@ -5,7 +5,7 @@ use crate::linked::write_listed;
 use pagable_flavors::{Error, Reason};
 use pagable_traits::{
     ArcRef, Env, KeyHash, NodeSet, OfKind, PagableDeserialize, PagableDeserializer,
-    PagableSerialize, PagableSerializer, Refers, references_of,
+    PagableSerialize, PagableSerializer, references_of,
 };
 use std::alloc::Global;
 use std::marker::PhantomData;
@@ -104,18 +104,6 @@ pub fn lists(alloc: Global, spelled: &[ArcRef]) -> Result<Lists, Error> {
     let pinned = of_kinds(alloc, spelled)?;
     let names = of_two_kinds(alloc, spelled)?;
     Ok((own, (loose, (pinned, names))))
-}
-
-/// A byte refers to nothing.
-impl<H: KeyHash> Refers<CellEnv<H>> for u8 {
-    #[tactic(auto, using(pagable_traits::proofs::Listed::parts), unfolding(pagable_model::specs::References::references_in))]
-    fn list_references(&self, _list: &mut Vec<ArcRef>) -> Result<(), Error> {
-        Ok(())
-    }
-
-    ghost use Rattle.pagable_rows.specs.Cells.{byte_in_order};
-
-    ghost in_order = { λ e. byte_in_order };
 }
 
 impl<H: KeyHash> NodeSet<CellEnv<H>> for CellNode {

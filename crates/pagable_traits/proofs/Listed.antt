@@ -1,7 +1,8 @@
 -- The references of values that hold others, one after the other; and that a value that was made of a reference means what the reference means.
-use Rattle.pagable_model.specs.{Meaning.{Meaning, pair, reference, sequence}, References.references_in, Shape.Shape, Standing.{Gave, Is}, Writing.{Nesting, Out}}
-use Rattle.{pagable_model.specs.{Writing.WritesSome, declared.{error.Error.Error, numbers.ArcRef.ArcRef}}, pagable_traits.specs.Refers.ListsInOrder, std.proofs.Common.{Err, List, Ok, Result}}
-use Rattle.std.{proofs.{Common.{ap, append_assoc, length, slice_index_or, sym, ℕ, ◌++◌, ◌+◌, ◌<◌, ◌∙◌, ◌∷◌, ◌≡◌, ◌≤◌}, lemmas.List.{append-nil, drop_all, drop_more}}, specs.Prelude.{OnOk, drop, map}}
+use Rattle.pagable_model.specs.{Meaning.{Meaning, lifted, pair, reference, sequence}, References.references_in, Shape.Shape, Standing.{Gave, Is}, Writing.{Nesting, Out}}
+use Rattle.{pagable_model.specs.{Writing.WritesSome, declared.{error.Error.Error, numbers.ArcRef.ArcRef}}, pagable_traits.specs.Refers.{ListsInOrder, lifted_refers_to_nothing}, std.proofs.Common.{Err, List, Ok, Result}}
+use Rattle.std.{proofs.{Common.{ap, append_assoc, length, slice_index_or, sym, ℕ, ◌++◌, ◌+◌, ◌<◌, ◌∙◌, ◌∷◌, ◌≡◌, ◌≤◌}, lemmas.List.{append-nil, drop_all, drop_more}}, specs.Prelude.{Bool, OnOk, drop, false, map, true}}
+use Rattle.pagable_model.specs.Meaning as meanings
 
 pub pair_listed : (m n : Meaning ArcRef) (old mid new : List ArcRef) → mid ≡ old ++ references_in m → new ≡ mid ++ references_in n → new ≡ old ++ references_in (pair m n)
 unfolding references_in
@@ -30,5 +31,15 @@ written_listed (Err e) M own n s old new single order w = tt
 -- what is read as a reference is read as what stands for it
 pub gave_held : {X R : Type 0} (held : X → ArcRef) (x : X) (r : ArcRef) (after : R) (read : Result (Meaning ArcRef × R) Error) → held x ≡ r → Gave (Is reference r) after read → Gave (Is (λ y. reference (held y)) x) after read
 gave_held held x r after read e g = record { m = g.m; is = g.is ∙ ap reference (sym e); gave = g.gave }
+
+-- a flag refers to nothing
+pub flag_listed : (list : List ArcRef) (b : Bool) → list ≡ list ++ references_in (meanings.flag b)
+unfolding references_in
+flag_listed list true = sym (append-nil list)
+flag_listed list false = sym (append-nil list)
+
+-- what is lifted refers to nothing
+pub static_listed : (list : List ArcRef) (m : Meaning ⊥) → list ≡ list ++ references_in (lifted m)
+static_listed list m = rw (lifted_refers_to_nothing m) (sym (append-nil list))
 
 pub ruleset parts = (append-nil)

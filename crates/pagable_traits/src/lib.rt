@@ -13,6 +13,7 @@ pub mod one_form;
 pub mod plain;
 pub mod polled;
 pub mod refers;
+mod refers_to_nothing;
 pub mod saved_regex;
 pub mod static_value;
 pub mod storage;

@@ -2,8 +2,8 @@
 #![tactic(auto, using(crate::proofs::Listed::parts), unfolding(pagable_model::specs::References::references_in))]
 
 ghost use Rattle.std.specs.Prelude.{IfErr, IfOk, OnOk, [], map, ◌++◌, ◌∷◌, ◌≡◌};
-ghost use Rattle.{pagable_model.specs.{Gives.memory, Meaning.sequence, References.references_in}, pagable_traits.specs.ReadBack.AreRead};
-ghost use Rattle.pagable_traits.specs.{References.{holding_kind, loose_kind}, Refers.{ListsInOrder, both_in_order, list_in_order, optional_in_order, reference_in_order, text_in_order}};
+ghost use Rattle.{pagable_model.specs.{Gives.memory, Meaning.sequence, References.references_in, Shape.both}, pagable_traits.specs.ReadBack.AreRead};
+ghost use Rattle.pagable_traits.specs.{References.{holding_kind, loose_kind}, Refers.{ListsInOrder, both_in_order, list_in_order, optional_in_order, outcome_in_order, reference_in_order}};
 
 use crate::holding::HoldingArc;
 use crate::loose::PagableArc;
@@ -58,14 +58,6 @@ impl<'a, E: Env, T: Refers<E>> Refers<E> for &'a T {
     ghost in_order = { T.in_order };
 }
 
-impl<E: Env> Refers<E> for String {
-    fn list_references(&self, _list: &mut Vec<ArcRef>) -> Result<(), Error> {
-        Ok(())
-    }
-
-    ghost in_order = { λ e. text_in_order (E.parts e) };
-}
-
 impl<E: Env, T: Refers<E>> Refers<E> for Option<T> {
     fn list_references(&self, list: &mut Vec<ArcRef>) -> Result<(), Error> {
         match self {
@@ -85,6 +77,49 @@ impl<E: Env, A: Refers<E>, B: Refers<E>> Refers<E> for (A, B) {
     }
 
     ghost in_order = { λ e. both_in_order (E.parts e) (A.Carried.shape e) (B.Carried.shape e) (A.in_order e) (B.in_order e) };
+}
+
+/// A boxed value refers to what the value does,
+impl<E: Env, T: Refers<E>> Refers<E> for Box<T> {
+    fn list_references(&self, list: &mut Vec<ArcRef>) -> Result<(), Error> {
+        T::list_references(&**self, list)
+    }
+
+    ghost in_order = { T.in_order };
+}
+
+/// an outcome to what is in it,
+impl<E: Env, T: Refers<E>, X: Refers<E>> Refers<E> for Result<T, X> {
+    fn list_references(&self, list: &mut Vec<ArcRef>) -> Result<(), Error> {
+        match self {
+            Ok(value) => value.list_references(list),
+            Err(failure) => failure.list_references(list),
+        }
+    }
+
+    ghost in_order = { λ e. outcome_in_order (E.parts e) (T.Carried.shape e) (X.Carried.shape e) (T.in_order e) (X.in_order e) };
+}
+
+/// and a longer tuple to what a pair of its first value and the others does.
+impl<E: Env, A: Refers<E>, B: Refers<E>, C: Refers<E>> Refers<E> for (A, B, C) {
+    #[tactic(auto, using(crate::proofs::Listed::pair_listed))]
+    fn list_references(&self, list: &mut Vec<ArcRef>) -> Result<(), Error> {
+        let (first, second, third) = self;
+        Refers::<E>::list_references(&(first, (second, third)), list)
+    }
+
+    ghost in_order = { λ e. both_in_order (E.parts e) (A.Carried.shape e) (both (B.Carried.shape e) (C.Carried.shape e)) (A.in_order e) (both_in_order (E.parts e) (B.Carried.shape e) (C.Carried.shape e) (B.in_order e) (C.in_order e)) };
+}
+
+impl<E: Env, A: Refers<E>, B: Refers<E>, C: Refers<E>, D: Refers<E>> Refers<E> for (A, B, C, D) {
+    #[tactic(auto, using(crate::proofs::Listed::pair_listed))]
+    fn list_references(&self, list: &mut Vec<ArcRef>) -> Result<(), Error> {
+        let (first, second, third, fourth) = self;
+        Refers::<E>::list_references(&(first, (second, (third, fourth))), list)
+    }
+
+    ghost in_order = { λ e. both_in_order (E.parts e) (A.Carried.shape e) (both (B.Carried.shape e) (both (C.Carried.shape e) (D.Carried.shape e))) (A.in_order e)
+        (both_in_order (E.parts e) (B.Carried.shape e) (both (C.Carried.shape e) (D.Carried.shape e)) (B.in_order e) (both_in_order (E.parts e) (C.Carried.shape e) (D.Carried.shape e) (C.in_order e) (D.in_order e))) };
 }
 
 /// The references in a value, in the order in which they are written. Refused by want of memory alone.
