@@ -34,13 +34,20 @@ USES = (
     " pagable_codec pagable_core anyhow either hex indexmap serde_json\n"
 )
 # (a test's own calls, in the copy alone)
-COUNTERS = {"pagable_pager/src/pager.rt": "Pager", "pagable/src/machine.rt": "Machine"}
+COUNTERS = {
+    "pagable_pager/src/pager.rt": "Pager",
+    "pagable/src/machine.rt": "Machine",
+    "pagable_locked/src/storage_handle.rt": "PagableStorageHandle",
+}
 
 
 def add_counters(crates):
-    """Lets the numbers that were given last be seen and set, in a copy of the crates."""
+    """Lets the numbers that were given last be seen and set, in a copy of the crates, and tells whether all is in step, where
+    the pager has a call for that."""
+    pager = (crates / "pagable_pager/src/pager.rt").read_text(encoding="utf-8")
+    sound = "self.is_sound()" if "pub fn is_sound(&self)" in pager else "true"
     for file, name in COUNTERS.items():
-        body = (HERE / f"counters_of_{name.lower()}.txt").read_text(encoding="utf-8")
+        body = (HERE / f"counters_of_{name.lower()}.txt").read_text(encoding="utf-8").replace("SOUND", sound)
         with open(crates / file, "a", encoding="utf-8") as module:
             module.write(f"\nimpl<E: Env<Node: NodeSet<E>>, S: PagableStorage<E>> {name}<E, S> {{\n{body}}}\n")
 

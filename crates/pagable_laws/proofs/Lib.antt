@@ -24,6 +24,7 @@ pub mod Moments
 pub mod Beside
 pub mod Callers
 mod Sound
+mod Refusing
 mod OnePiece
 mod Heights
 mod Laws
