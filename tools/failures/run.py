@@ -26,12 +26,13 @@ import rows  # noqa: E402
 import shared  # noqa: E402
 import sweeps  # noqa: E402
 import table  # noqa: E402
+import typed  # noqa: E402
 from driver import Server  # noqa: E402
 from naming import Unlike  # noqa: E402
 
 USES = (
     "failures: pagable pagable_rows pagable_examples pagable_held pagable_locked pagable_loads pagable_model pagable_traits"
-    " pagable_codec pagable_core anyhow either hex indexmap serde_json\n"
+    " pagable_codec pagable_core anyhow either futures hex indexmap serde_json\n"
 )
 # (a test's own calls, in the copy alone)
 COUNTERS = {
@@ -42,12 +43,9 @@ COUNTERS = {
 
 
 def add_counters(crates):
-    """Lets the numbers that were given last be seen and set, in a copy of the crates, and tells whether all is in step, where
-    the pager has a call for that."""
-    pager = (crates / "pagable_pager/src/pager.rt").read_text(encoding="utf-8")
-    sound = "self.is_sound()" if "pub fn is_sound(&self)" in pager else "true"
+    """Lets the numbers that were given last be seen and set, in a copy of the crates."""
     for file, name in COUNTERS.items():
-        body = (HERE / f"counters_of_{name.lower()}.txt").read_text(encoding="utf-8").replace("SOUND", sound)
+        body = (HERE / f"counters_of_{name.lower()}.txt").read_text(encoding="utf-8")
         with open(crates / file, "a", encoding="utf-8") as module:
             module.write(f"\nimpl<E: Env<Node: NodeSet<E>>, S: PagableStorage<E>> {name}<E, S> {{\n{body}}}\n")
 
@@ -92,13 +90,15 @@ def rows_of_events(server, tally):
 
 
 def rows_of_threads(server, tally):
-    """The rows of calls on a storage that threads share."""
-    for row in shared.rows_in(HERE / "shared.txt"):
-        try:
-            after = shared.each_request(server, tally, row)
-            shared.each_call(server, tally, row, after)
-        except Unlike as why:
-            tally.fault(f"shared, {row[0]}, undisturbed", why)
+    """The rows of calls on a storage that threads share: of handles, and of typed references."""
+    for file, run_of in (("shared.txt", shared.SharedRun), ("typed.txt", typed.TypedRun)):
+        for row in shared.rows_in(HERE / file):
+            try:
+                after = shared.each_request(server, tally, row, run_of)
+                shared.each_call(server, tally, row, after, run_of)
+                shared.each_number(server, tally, row, after, run_of)
+            except Unlike as why:
+                tally.fault(f"{run_of.SORT}, {row[0]}, undisturbed", why)
 
 
 def calls_that_refuse(server, tally):

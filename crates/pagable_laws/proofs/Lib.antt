@@ -25,6 +25,7 @@ pub mod Beside
 pub mod Callers
 mod Sound
 mod Refusing
+mod Telling
 mod OnePiece
 mod Heights
 mod Laws

@@ -1,11 +1,11 @@
 -- Why pins and loads are refused: by whatever refuses them, step by step.
 use Rattle.pagable_laws.proofs.{Related.{Out, OutLook, Sober, both-faulty, both-given, both-looked-up, both-not, both-refused, each, first-refused, typed_par}, Sound.{by-all, by-handle-row, only-earlier, only-if, only-node, only-refused}}
-use Rattle.pagable_laws.proofs.{Trees.{AllTwo, Along, more-two, no-two, same_some}, Words.{ArcRef, Blob, Bool, Core, Err, Error, Frame, HandleNumber, IsLawful, Kind, List, LoadAnswer, LoadNumber, Meaning, None, Ok, OpenLoad, Option, Owner}}
-use Rattle.pagable_laws.proofs.Words.{HandleRow, Mode, Reading, Result, Some, Types, Values, [], any_mode, ap, arith, false, if◌then◌else◌, if_there, inl, inr, is_eager, nat_tests, next_in, owner_worker, not, refl, rest, rules, slice_get, subst, sym, true}
-use Rattle.pagable_laws.proofs.Words.{ℕ, ◌+◌, ◌==◌, ◌∙◌, ◌∷◌, ◌≡◌, ◌≤◌, ◌⊎◌, references_fault}
-use Rattle.pagable_laws.specs.{DeepLaws.IsOfHandles, RefusalLaws.{BeginsRefusedLaw, IsOfPin, LoadRefused, LoadsRefusedLaw, PinsRefusedLaw}}
-use Rattle.{pagable_model.specs.{Reading.Rest, Refusals.{is_own_reading, number_of}, Standing.{Answer, answer_at}, Stored.{HasFailed, RefusesFetch}}, std.specs.Prelude.{IfErr, ◌≢◌}}
-use Rattle.pagable_world.specs.{Calls.{FetchCall, PinCall}, LoadCalls.{AskCall, AsksInVain, BeginCall, LazyCall, LoadCloses}, Loads.{Fails, Meets, ReadingDoes, RefusesBlob, RefusesNested, RefusesNode, RefusesRoot}}
+use Rattle.pagable_laws.proofs.{Trees.{AllTwo, Along, more-two, no-two, same_some}, Words.{ArcRef, Blob, Bool, Core, Err, Error, Frame, HandleNumber, IsLawful, Kind, List, LoadNumber, Meaning, None, Ok, OpenLoad, Option, Owner}}
+use Rattle.pagable_laws.proofs.Words.{HandleRow, Mode, Reading, Result, Some, Types, Values, [], any_mode, arith, false, if◌then◌else◌, if_there, inl, inr, nat_tests, not, refl, rest, slice_get, subst, sym, true}
+use Rattle.pagable_laws.proofs.Words.{ℕ, ◌+◌, ◌==◌, ◌∙◌, ◌∷◌, ◌≡◌, references_fault}
+use Rattle.pagable_laws.specs.{DeepLaws.IsOfHandles, RefusalLaws.{BeginsRefusedLaw, IsOfLoad, IsOfPin, LoadsRefusedLaw, PinsRefusedLaw, TellsOfStorage}}
+use Rattle.{pagable_model.specs.{Reading.Rest, Refusals.is_own_reading, Standing.{Answer, answer_at}, Stored.{HasFailed, RefusesFetch}}, std.specs.Prelude.IfErr}
+use Rattle.pagable_world.specs.{LoadCalls.{AskCall, AsksInVain, LazyCall, LoadCloses}, Loads.{Fails, Meets, RefusesBlob, RefusesNested, RefusesNode, RefusesRoot}}
 use Rattle.pagable_world.specs.{Loads.{answer_of, answers_from, handles_of, is_faulty, next_by, next_of, read_with}, Refusals.{earlier, load_fault, named_fault, refused_if, spent, where_so}, declared.calls.Want.Want}
 use Rattle.pagable_world.specs.{Kinds.{is_loose, is_owner}, LoadCalls.{cell_fault, is_known, root_fault}, World.{Root, of_cell, of_key, row_at}}
 
@@ -48,7 +48,8 @@ alike kind a b h = subst (λ (x : Answer). OutLook told_cause (λ (c d : ArcRef)
 sober-told : (e : Error) → Sober e → Told e
 sober-told e sober = grind (arith, nat_tests)
 
-by-out : {first second : Result (Meaning ArcRef × Rest Answer) Error} → Out told_cause (AllTwo AnswersWell) (Along (Unit {0}) (λ (c d : ArcRef). Unit {0})) first second → IfErr first Told
+by-out : {first second : Result (Meaning ArcRef × Rest Answer) Error}
+    → Out told_cause (AllTwo AnswersWell) (Along (Unit {0}) (λ (c d : ArcRef). Unit {0})) first second → IfErr first Told
 by-out (both-given p q v s) = tt
 by-out (both-faulty e sober) = sober-told e sober
 by-out (both-refused e f told) = told
@@ -57,7 +58,8 @@ by-out (first-refused e r told) = told e
 read-told : (types : Types) (t : ℕ) (blob : Blob) (got : List ArcRef) → IfErr (read_with types t blob got) Told
 read-told types t blob got =
     let input : Rest Answer = rest blob.bytes (answers_from got 0 blob.keys) in
-    by-out (typed_par {E = told_cause} {F = Unit {0}} {T = AllTwo AnswersWell} {R = (λ c d. Unit {0})} {parts = types.parts} answer_at answer_at (each _ _ alike) 0 (types.nodes t) (λ s is. inl tt)
+    by-out (typed_par {E = told_cause} {F = Unit {0}} {T = AllTwo AnswersWell} {R = (λ c d. Unit {0})} {parts = types.parts}
+    answer_at answer_at (each _ _ alike) 0 (types.nodes t) (λ s is. inl tt)
     input input (record { bytes = refl; refs = all-well got 0 blob.keys }))
 
 by-next : (key : Option ℕ) (r : Result (Meaning ArcRef × Rest Answer) Error) (e : Error) → IfErr r Told → next_by key r ≡ is_faulty e → Sober e
@@ -68,7 +70,7 @@ broken types t blob got e is = by-next _ _ e (read-told types t blob got) is
 
 -- ---- what a refusal says
 
-abbrev Quiet : Error → Type 0
+abbrev pub Quiet : Error → Type 0
 Quiet Error.WrongKind = Unit {0}
 Quiet Error.NoSuchHandle = Unit {0}
 Quiet Error.WrongMode = Unit {0}
@@ -80,14 +82,23 @@ Quiet e = ⊥
 quiet-sober : (e : Error) → Quiet e → Sober e
 quiet-sober e quiet = grind (arith, nat_tests)
 
-handles-quiet : (e : Error) → IsOfHandles e → Quiet e
+pub handles-quiet : (e : Error) → IsOfHandles e → Quiet e
 handles-quiet e is = grind (arith, nat_tests)
 
 own-sober : (e : Error) → is_own_reading e ≡ true → Sober e
 own-sober e own = grind (arith, nat_tests)
 
+-- what a load in the world w was refused by, which left the world w'
+pub record LoadRefused (w w' : Core) (e : Error) : Type 0 where
+  pub named : IsOfLoad e
+  pub tells : TellsOfStorage w w' e
+
 sober-refused : (w w' : Core) (e : Error) → Sober e → LoadRefused w w' e
-sober-refused w w' e sober = record { named = grind (arith, nat_tests); failed = λ code is. absurd (subst Sober is sober); absent = λ key is. absurd (subst Sober is sober) }
+sober-refused w w' e sober =
+    record {
+      named = grind (arith, nat_tests);
+      tells = record { failed = λ code is. absurd (subst Sober is sober); absent = λ key is. absurd (subst Sober is sober) };
+    }
 
 -- the storage says it: that nothing stands there, that it failed, or that memory is wanting
 data Says (key : ℕ) (found : Option Blob) (before after : ℕ) : Error → Type 0 where
@@ -98,10 +109,10 @@ data Says (key : ℕ) (found : Option Blob) (before after : ℕ) : Error → Typ
 says : (key : ℕ) (found : Option Blob) (before after : ℕ) (e : Error) → RefusesFetch key found before after e → Says key found before after e
 says key found before after e h = grind (arith, nat_tests, nothing-there, has-failed, is-wanting)
 
-data-named : (k : ℕ) → (number_of (Error.NoData k) ≢ 14) × (number_of (Error.NoData k) ≢ 24) × (number_of (Error.NoData k) ≢ 25)
+data-named : (k : ℕ) → IsOfLoad (Error.NoData k)
 data-named k = grind (arith, nat_tests)
 
-code-named : (c : ℕ) → (number_of (Error.Storage c) ≢ 14) × (number_of (Error.Storage c) ≢ 24) × (number_of (Error.Storage c) ≢ 25)
+code-named : (c : ℕ) → IsOfLoad (Error.Storage c)
 code-named c = grind (arith, nat_tests)
 
 data-is : (k q : ℕ) → Error.NoData k ≡ Error.NoData q → k ≡ q
@@ -116,27 +127,28 @@ not-nothing c q is = cc
 fetched-so : (w w' : Core) (key : ℕ) (e : Error) → Says key (w.stored key) w.failures w'.failures e → LoadRefused w w' e
 fetched-so w w' key _ (nothing-there k same none) = record {
   named = data-named k;
-  failed = λ code is. absurd (not-failed k code is);
-  absent = λ q is. subst (λ x. w.stored x ≡ None) (sym same ∙ data-is k q is) none;
+  tells = record { failed = λ code is. absurd (not-failed k code is); absent = λ q is. subst (λ x. w.stored x ≡ None) (sym same ∙ data-is k q is) none };
 }
-fetched-so w w' key _ (has-failed code failed) = record { named = code-named code; failed = λ c is. failed; absent = λ q is. absurd (not-nothing code q is) }
+fetched-so w w' key _ (has-failed code failed) =
+    record { named = code-named code; tells = record { failed = λ c is. failed; absent = λ q is. absurd (not-nothing code q is) } }
 fetched-so w w' key _ is-wanting = sober-refused w w' Error.OutOfMemory tt
 
-fetched : (w w' : Core) (key : ℕ) (e : Error) → RefusesFetch key (w.stored key) w.failures w'.failures e → LoadRefused w w' e
+pub fetched : (w w' : Core) (key : ℕ) (e : Error) → RefusesFetch key (w.stored key) w.failures w'.failures e → LoadRefused w w' e
 fetched w w' key e h = fetched-so w w' key e (says key (w.stored key) w.failures w'.failures e h)
 
-only-load : (w : Core) (me : Owner) (l : LoadNumber) (e : Error) → load_fault w me l ≡ Some e → Quiet e
+pub only-load : (w : Core) (me : Owner) (l : LoadNumber) (e : Error) → load_fault w me l ≡ Some e → Quiet e
 only-load w me l e is = grind (arith, nat_tests)
 
-only-named : (w : Core) (owner : Owner) (seen : List ℕ) (hs : List HandleNumber) (e : Error) → named_fault w owner seen hs ≡ Some e → Quiet e
+pub only-named : (w : Core) (owner : Owner) (seen : List ℕ) (hs : List HandleNumber) (e : Error) → named_fault w owner seen hs ≡ Some e → Quiet e
 unfolding named_fault
 only-named w owner seen [] e is = absurd (cc)
 only-named w owner seen (h ∷ hs) e is = only-earlier {P = Quiet} _ _ (λ f so. grind (arith, nat_tests)) (only-named w owner (h.0 ∷ seen) hs) e is
 
-only-all : (w : Core) (owner : Owner) (rs : List ArcRef) (e : Error) → references_fault w owner [] rs ≡ Some e → Quiet e
+pub only-all : (w : Core) (owner : Owner) (rs : List ArcRef) (e : Error) → references_fault w owner [] rs ≡ Some e → Quiet e
 only-all w owner rs e is = handles-quiet e (by-all w owner [] rs e is)
 
-there-quiet : (found : Option OpenLoad) (f : OpenLoad → Option Error) → ((load : OpenLoad) (e : Error) → f load ≡ Some e → Quiet e) → (e : Error) → if_there f None found ≡ Some e → Quiet e
+pub there-quiet : (found : Option OpenLoad) (f : OpenLoad → Option Error) → ((load : OpenLoad) (e : Error) → f load ≡ Some e → Quiet e) → (e : Error)
+    → if_there f None found ≡ Some e → Quiet e
 there-quiet None f all e is = absurd (cc)
 there-quiet (Some load) f all e is = all load e is
 
@@ -144,11 +156,11 @@ number-quiet : (b : Bool) (w : Core) (e : Error) → where_so b (spent w.last.ha
 number-quiet true w e is = only-if Quiet _ Error.NumbersSpent tt e is
 number-quiet false w e is = absurd (cc)
 
-root-quiet : (w : Core) (me : Owner) (t : ℕ) (root : Root) (e : Error) → root_fault w me t root ≡ Some e → Quiet e
+pub root-quiet : (w : Core) (me : Owner) (t : ℕ) (root : Root) (e : Error) → root_fault w me t root ≡ Some e → Quiet e
 root-quiet w me t (of_cell node u h) e is = only-earlier {P = Quiet} _ _ (only-if Quiet _ Error.WrongKind tt) (number-quiet _ w) e is
 root-quiet w me t of_key e is = subst Quiet (same_some _ _ is) tt
 
-cell-quiet : (root : Root) (e : Error) → cell_fault root ≡ Some e → Quiet e
+pub cell-quiet : (root : Root) (e : Error) → cell_fault root ≡ Some e → Quiet e
 cell-quiet (of_cell node u h) e is = subst Quiet (same_some _ _ is) tt
 cell-quiet of_key e is = absurd (cc)
 
@@ -157,9 +169,10 @@ module _ {N : Type 0} (v : Values N) (lawful : IsLawful v) (w : Core) (me : Owne
   in-vain Want.Root load e mid vain = fetched w mid load.key e vain.refused
   in-vain (Want.Nested kind key) load e mid vain = fetched w mid key e vain.1.refused
 
-  asked : (want : Want) (e : Error) (mid : Core) → AskCall w me reading.load want (Err e) mid → LoadRefused w mid e
+  pub asked : (want : Want) (e : Error) (mid : Core) → AskCall w me reading.load want (Err e) mid → LoadRefused w mid e
   asked want e mid c = elim c.refused [
-    | inl r ↦ sober-refused w mid e (quiet-sober e (only-refused {P = Quiet} e r (only-earlier _ _ (only-load w me reading.load) (number-quiet (is_known w want) w)) tt))
+    | inl r ↦ sober-refused w mid e
+        (quiet-sober e (only-refused {P = Quiet} e r (only-earlier _ _ (only-load w me reading.load) (number-quiet (is_known w want) w)) tt))
     | inr (load, owned, vain) ↦ in-vain want load e mid vain
   ]
 
@@ -172,16 +185,21 @@ module _ {N : Type 0} (v : Values N) (lawful : IsLawful v) (w : Core) (me : Owne
   of-nested e mid (kind, key, needs, inr (blob, is, deep, c)) = sober-refused w mid e (subst Sober (sym is) tt)
 
   of-lazy : (e : Error) (kind : Kind) (key : ℕ) (mid : Core) → LazyCall w me reading.load kind key (Err e) mid → Quiet e
-  of-lazy e kind key mid c = only-refused {P = Quiet} e c.refused (only-earlier _ _ (only-load w me reading.load) (only-earlier _ _ (only-if Quiet _ Error.WrongKind tt) (only-node Quiet w kind key tt))) tt
+  of-lazy e kind key mid c =
+      only-refused {P = Quiet} e c.refused
+      (only-earlier _ _ (only-load w me reading.load) (only-earlier _ _ (only-if Quiet _ Error.WrongKind tt) (only-node Quiet w kind key tt))) tt
 
   of-node : (e : Error) (mid : Core) → RefusesNode v w me reading e mid → Quiet e
-  of-node e mid r = only-refused {P = Quiet} e r.adopted.refused.1 (only-earlier _ _ (only-load w me reading.load) (only-earlier _ _ (only-if Quiet _ Error.WrongMode tt)
-      (only-earlier _ _ (only-if Quiet _ Error.WrongKind tt) (only-earlier _ _ (only-all w (Owner.Load reading.load) (v.references r.x)) (only-node Quiet w r.reads_node.top.kind r.reads_node.top.key tt))))) tt
+  of-node e mid r = only-refused {P =
+      Quiet} e r.adopted.refused.1 (only-earlier _ _ (only-load w me reading.load) (only-earlier _ _ (only-if Quiet _ Error.WrongMode tt)
+      (only-earlier _ _ (only-if Quiet _ Error.WrongKind tt) (only-earlier _ _ (only-all w (Owner.Load reading.load) (v.references r.x))
+      (only-node Quiet w r.reads_node.top.kind r.reads_node.top.key tt))))) tt
 
   of-root : (e : Error) (mid : Core) → RefusesRoot v w me reading e mid → Quiet e
   of-root e mid r = elim r.refuses [
     | inl (is, ended) ↦ only-refused {P = Quiet} e ended.refused.1 (only-earlier _ _ (only-load w me reading.load)
-        (only-earlier _ _ (there-quiet (w.loads reading.load.0) (λ (load : OpenLoad). root_fault w me (v.node_type r.x) load.root) (λ load. root-quiet w me (v.node_type r.x) load.root))
+        (only-earlier _ _ (there-quiet (w.loads reading.load.0) (λ (load : OpenLoad). root_fault w me (v.node_type r.x) load.root)
+        (λ load. root-quiet w me (v.node_type r.x) load.root))
         (only-all w (Owner.Load reading.load) (v.references r.x)))) tt
     | inr (is, handed) ↦ only-earlier {P = Quiet} _ _ (only-load w me reading.load)
         (only-earlier _ _ (there-quiet (w.loads reading.load.0) (λ (load : OpenLoad). cell_fault load.root) (λ load. cell-quiet load.root))
@@ -190,7 +208,10 @@ module _ {N : Type 0} (v : Values N) (lawful : IsLawful v) (w : Core) (me : Owne
 
   -- what is given up then changes nothing of what the storage said
   closed-over : (e : Error) (mid w' : Core) (told : Result (Unit {0}) Error) → LoadCloses mid reading.load told w' → LoadRefused w mid e → LoadRefused w w' e
-  closed-over e mid w' told closes r = record { named = r.named; failed = λ code is. subst (HasFailed w.failures) (sym closes.leaves.failures) (r.failed code is); absent = r.absent }
+  closed-over e mid w' told closes r = record {
+    named = r.named;
+    tells = record { failed = λ code is. subst (HasFailed w.failures) (sym closes.leaves.failures) (r.tells.failed code is); absent = r.tells.absent };
+  }
 
   met : (e : Error) (mid : Core) → Meets v w me reading e mid → LoadRefused w mid e
   met e mid (inl (refuses, a)) = sober-refused w mid e (of-blob e reading.frames refl refuses)
@@ -200,12 +221,12 @@ module _ {N : Type 0} (v : Values N) (lawful : IsLawful v) (w : Core) (me : Owne
   met e mid (inr (inr (inr (inr (inl node))))) = sober-refused w mid e (quiet-sober e (of-node e mid node))
   met e mid (inr (inr (inr (inr (inr root))))) = sober-refused w mid e (quiet-sober e (of-root e mid root))
 
-  fails : (e : Error) (w' : Core) → Fails v w me reading e w' → LoadRefused w w' e
+  pub fails : (e : Error) (w' : Core) → Fails v w me reading e w' → LoadRefused w w' e
   fails e w' (inl gives) = closed-over e gives.mid w' gives.told gives.closes (met e gives.mid gives.meets)
   fails e w' (inr ended) = sober-refused w w' e (quiet-sober e (handles-quiet e (by-handle-row w me ended.ended.refused.h any_mode e ended.ended.refused.why)))
 
 pub loads-refused : {N : Type 0} (v : Values N) → LoadsRefusedLaw v
-loads-refused v lawful w me reading e w' does = fails v lawful w me reading e w' does.does.0
+loads-refused v lawful w me reading e w' does = (fails v lawful w me reading e w' does.does.0).named
 
 -- ---- what is asked of a handle
 
@@ -228,7 +249,8 @@ by-owner true c e is = subst OfPin (same_some _ _ is) of-another
 by-owner false c e is = only-if OfPin c Error.WrongMode of-other-mode e is
 
 of-row : (me : Owner) (fits : Mode → Bool) (found : Option HandleRow) (e : Error)
-    → if_there (λ (row : HandleRow). if not (is_owner me row.owner) then Some Error.NotYours else refused_if (not (fits row.mode)) Error.WrongMode) (Some Error.NoSuchHandle) found ≡ Some e → OfPin e
+    → if_there (λ (row : HandleRow). if not (is_owner me row.owner) then Some Error.NotYours else refused_if (not (fits row.mode)) Error.WrongMode)
+    (Some Error.NoSuchHandle) found ≡ Some e → OfPin e
 of-row me fits None e is = subst OfPin (same_some _ _ is) not-there
 of-row me fits (Some row) e is = by-owner (not (is_owner me row.owner)) (not (fits row.mode)) e is
 
@@ -241,7 +263,8 @@ of-two true w e is = only-earlier {P = OfPin} _ _ (only-if OfPin _ Error.Numbers
 of-two false w e is = absurd (cc)
 
 pub pins-refused : PinsRefusedLaw
-pins-refused w me h e w' c = by-number e (only-refused {P = OfPin} e c.refused (only-earlier _ _ (of-row me is_loose (row_at w h)) (of-number _ w w.last.handle)) no-memory)
+pins-refused w me h e w' c =
+    by-number e (only-refused {P = OfPin} e c.refused (only-earlier _ _ (of-row me is_loose (row_at w h)) (of-number _ w w.last.handle)) no-memory)
 
 pub begins-refused : BeginsRefusedLaw
 begins-refused w me h e w' c = by-number e (only-refused {P = OfPin} e c.refused (only-earlier _ _ (of-row me is_loose (row_at w h)) (of-two _ w)) no-memory)
