@@ -26,15 +26,20 @@ import rows  # noqa: E402
 import shared  # noqa: E402
 import sweeps  # noqa: E402
 import table  # noqa: E402
+import typed  # noqa: E402
 from driver import Server  # noqa: E402
 from naming import Unlike  # noqa: E402
 
 USES = (
     "failures: pagable pagable_rows pagable_examples pagable_held pagable_locked pagable_loads pagable_model pagable_traits"
-    " pagable_codec pagable_core anyhow either hex indexmap serde_json\n"
+    " pagable_codec pagable_core anyhow either futures hex indexmap serde_json\n"
 )
 # (a test's own calls, in the copy alone)
-COUNTERS = {"pagable_pager/src/pager.rt": "Pager", "pagable/src/machine.rt": "Machine"}
+COUNTERS = {
+    "pagable_pager/src/pager.rt": "Pager",
+    "pagable/src/machine.rt": "Machine",
+    "pagable_locked/src/storage_handle.rt": "PagableStorageHandle",
+}
 
 
 def add_counters(crates):
@@ -85,13 +90,15 @@ def rows_of_events(server, tally):
 
 
 def rows_of_threads(server, tally):
-    """The rows of calls on a storage that threads share."""
-    for row in shared.rows_in(HERE / "shared.txt"):
-        try:
-            after = shared.each_request(server, tally, row)
-            shared.each_call(server, tally, row, after)
-        except Unlike as why:
-            tally.fault(f"shared, {row[0]}, undisturbed", why)
+    """The rows of calls on a storage that threads share: of handles, and of typed references."""
+    for file, run_of in (("shared.txt", shared.SharedRun), ("typed.txt", typed.TypedRun)):
+        for row in shared.rows_in(HERE / file):
+            try:
+                after = shared.each_request(server, tally, row, run_of)
+                shared.each_call(server, tally, row, after, run_of)
+                shared.each_number(server, tally, row, after, run_of)
+            except Unlike as why:
+                tally.fault(f"{run_of.SORT}, {row[0]}, undisturbed", why)
 
 
 def calls_that_refuse(server, tally):

@@ -3,7 +3,7 @@ fails."""
 
 import re
 
-from driver import GIVING, MEMORY, STORAGE, does_refuse
+from driver import GIVING, MEMORY, NUMBERS, STORAGE, does_refuse
 from naming import Unlike
 
 NAME = re.compile(r"\$(\w+)")
@@ -30,15 +30,22 @@ def rows_in(file):
 class SharedRun:
     """One run of such a row on a new storage."""
 
+    # how rows of this sort are called, and the words to the program for a new storage, a call and a look
+    SORT, OVER, CALL, PEEK = "shared", "over", "lock", f"peek {LAST}"
+
     def __init__(self, server, tally, number, storage=""):
         self.server, self.tally, self.number, self.names = server, tally, number, {}
-        server.ask(f"over {storage}".strip())
+        server.ask(f"{self.OVER} {storage}".strip())
 
     def ask(self, call, place=0):
         call = NAME.sub(lambda m: self.names[m[1]], call)
-        met, _, answer = self.server.ask(f"lock {place} {call}").partition(" ")
-        self.tally.count(SHARED.get(call.partition(" ")[0], call), answer)
+        met, _, answer = self.server.ask(f"{self.CALL} {place} {call}").partition(" ")
+        self.tally.count(self.counted_as(call.partition(" ")[0]), answer)
         return met == "met", answer
+
+    def counted_as(self, name):
+        """The name under which a call's refusals are counted."""
+        return SHARED.get(name, name)
 
     def compare(self, call, wanted, answer):
         """Names what is answered where it has no name yet, and else compares."""
@@ -59,7 +66,7 @@ class SharedRun:
         self.names.update(found.groupdict())
 
     def peek(self):
-        return self.server.ask(f"lock 0 peek {LAST}")
+        return self.server.ask(f"{self.CALL} 0 {self.PEEK}")
 
     def step(self, call, loose, wanted, place=0):
         """A call, and what has to follow it where it is refused: whether a request was refused, and whether it was
@@ -67,7 +74,7 @@ class SharedRun:
         before = self.peek() if place else None
         met, answer = self.ask(call, place)
         name = call.partition(" ")[0]
-        if name == "page_out_all" and met:
+        if name == "page_out_all" and (met or does_refuse(answer, self.number)):
             return met, self.all_again(call, wanted, answer)
         if not does_refuse(answer, self.number) or does_refuse(wanted, self.number):
             self.compare(call, wanted, answer)
@@ -85,6 +92,10 @@ class SharedRun:
         """A cell that couldn't be listed is listed now."""
         if not loose or not is_asked or int(self.peek().split("; ")[0].split()[1]) == self.pending_wanted:
             return
+        self.list_by(loose)
+
+    def list_by(self, loose):
+        """Lists the cell of this loose handle."""
         _, made = self.ask(f"clone {loose}")
         self.ask(f"schedule_for_paging {made.split()[1]}")
 
@@ -96,15 +107,15 @@ class SharedRun:
         keys = wanted.split("; ")[1:]
         if answer != f"refused {self.number}":
             for key, found in zip(keys, answer.split("; ")[1:], strict=True):
-                if found not in (key, f"refused {self.number}", "already"):
+                if found != key and found != "already" and not found.startswith(f"refused {self.number}"):
                     raise Unlike(f"`{found}` of an item whose key is `{key}`")
         self.compare(call, wanted, self.ask(call)[1])
         return str(self.number) in answer
 
 
-def whole(server, tally, row):
+def whole(server, tally, row, run_of):
     """A row without a refusal: how the list's length and each live handle stand after each call."""
-    run, after = SharedRun(server, tally, 0), []
+    run, after = run_of(server, tally, 0), []
     for step in row[1]:
         run.step(*step)
         after.append(run.peek())
@@ -115,14 +126,14 @@ def pending_in(peek):
     return int(peek.split("; ")[0].split()[1])
 
 
-def disturbed(server, tally, row, after, at, place):
-    """A row of which one call has a request refused: whether it was."""
-    run = SharedRun(server, tally, MEMORY)
+def disturbed(server, tally, row, after, at, place, run_of, number=MEMORY):
+    """A row of which one call has a request refused, or too few numbers: whether it was refused."""
+    run = run_of(server, tally, number)
     for step in row[1][:at]:
         run.step(*step)
     run.pending_wanted = pending_in(after[at])
     met, is_told = run.step(*row[1][at], place)
-    if not met:
+    if not met and not is_told:
         return False
     if not is_told:
         tally.untold[row[1][at][0].partition(" ")[0]] += 1
@@ -139,14 +150,14 @@ def stands(run, after):
         raise Unlike(f"`{found}` at the end, and `{wanted}` without a refusal")
 
 
-def each_request(server, tally, row):
+def each_request(server, tally, row, run_of=SharedRun):
     """Refuses each request of each call in turn."""
-    name = f"shared, {row[0]}"
-    after = whole(server, tally, row)
+    name = f"{run_of.SORT}, {row[0]}"
+    after = whole(server, tally, row, run_of)
     for at, step in enumerate(row[1]):
         for place in range(1, 2000):
             try:
-                if not disturbed(server, tally, row, after, at, place):
+                if not disturbed(server, tally, row, after, at, place, run_of):
                     break
                 tally.places[name, "requests"] += 1
             except Unlike as why:
@@ -155,12 +166,12 @@ def each_request(server, tally, row):
     return after
 
 
-def each_call(server, tally, row, after):
+def each_call(server, tally, row, after, run_of=SharedRun):
     """Fails each call of the storage in turn, until none is left."""
-    name = f"shared, {row[0]}"
+    name = f"{run_of.SORT}, {row[0]}"
     for call in range(1000):
         try:
-            run = SharedRun(server, tally, STORAGE, call)
+            run = run_of(server, tally, STORAGE, call)
             told = [run.step(*step)[1] for step in row[1]]
             stands(run, after)
         except Unlike as why:
@@ -169,3 +180,20 @@ def each_call(server, tally, row, after):
         if not any(told):
             return
         tally.places[name, "calls"] += 1
+
+
+def each_number(server, tally, row, after, run_of=SharedRun):
+    """Leaves no number, then one, and so on, of each sort, at each call."""
+    name = f"{run_of.SORT}, {row[0]}"
+    for at, step in enumerate(row[1]):
+        for word in ("{},-,-,-", "-,0,-,-", "-,-,{},-", "-,-,-,{}"):
+            # (a number near the end that stays in use would stand before those that come once the counters are back)
+            is_single = "{" not in word or step[0].startswith(GIVING)
+            for left in range(1 if is_single else 1000):
+                try:
+                    if not disturbed(server, tally, row, after, at, word.format(left), run_of, NUMBERS):
+                        break
+                    tally.places[name, "numbers"] += 1
+                except Unlike as why:
+                    tally.fault(f"{name}, `{step[0]}`, numbers left {word.format(left)}", why)
+                    break

@@ -33,12 +33,15 @@ work-store: 22 23 24 25
 work-set: 21 22
 value-read: 1 2 3 4 5 6 7 8 9 10 11 12 13 22
 value-write: 7 9 14 22
-pin_shared: 20 22 23
-read_shared: 22 23
-fetch_arc_or_data: 16 22 23
-page_out_item: 18 22 23 26
-page_out_pending: 22 23 24 26
-page_out_all: 22 23
+pin_shared: 20 21 22 23
+read_shared: 21 22 23
+fetch_arc_or_data: 16 21 22 23
+page_out_item: 18 21 22 23 26
+page_out_pending: 21 22 23 24 26
+page_out_all: 21 22 23
+typed-loose typed-pinned typed-shared typed-away typed-clone typed-borrow typed-unpin typed-release: 21 22
+typed-pin_sync typed-follow typed-polled: 16 21 22 23
+typed-page_out_pending: 21 22 23
 pagectl-buffers pagectl-new pagectl-pin pagectl-unpin pagectl-pageout: 22
 """
 # Those that can't come here, and why.

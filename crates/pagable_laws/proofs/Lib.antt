@@ -24,6 +24,8 @@ pub mod Moments
 pub mod Beside
 pub mod Callers
 mod Sound
+mod Refusing
+mod Telling
 mod OnePiece
 mod Heights
 mod Laws

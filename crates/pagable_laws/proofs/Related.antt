@@ -22,9 +22,13 @@ pub record Front {I A : Type 0} (plus : I → I → I) (get : I → Result (A ×
   pub whole : i ≡ plus used after
   pub reads : (y : I) → get (plus used y) ≡ Ok (v, y)
 
--- refusals but the one by which a reference is asked for; and all
+-- refusals that a reading has of its input: not the one by which a reference is asked for, nor what a storage or a writer says; and all
 abbrev pub Sober : Error → Type 0
 Sober (Error.Storage kind) = ⊥
+Sober (Error.NoData key) = ⊥
+Sober Error.Unregistered = ⊥
+Sober Error.KeyTaken = ⊥
+Sober Error.Closed = ⊥
 Sober e = Unit {0}
 
 abbrev pub Any : Error → Type 0

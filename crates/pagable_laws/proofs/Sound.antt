@@ -130,19 +130,19 @@ either (Some x) None e is = inl is
 either (Some x) (Some y) e is = grind (arith, nat_tests)
 
 -- whatever is told is so
-abbrev Only : (Error → Type 0) → Option Error → Type 0
+abbrev pub Only : (Error → Type 0) → Option Error → Type 0
 Only P told = (e : Error) → told ≡ Some e → P e
 
-only-earlier : {P : Error → Type 0} (a b : Option Error) → Only P a → Only P b → Only P (earlier a b)
+pub only-earlier : {P : Error → Type 0} (a b : Option Error) → Only P a → Only P b → Only P (earlier a b)
 only-earlier a b first second e is = elim (either a b e is) [ inl p ↦ first e p | inr q ↦ second e q ]
 
-only-if : (P : Error → Type 0) (b : Bool) (f : Error) → P f → Only P (refused_if b f)
+pub only-if : (P : Error → Type 0) (b : Bool) (f : Error) → P f → Only P (refused_if b f)
 only-if P x0 f p e is = grind (arith, nat_tests)
 
-only-node : (P : Error → Type 0) (w : Core) (kind : Kind) (key : ℕ) → P Error.NumbersSpent → Only P (node_fault w kind key)
+pub only-node : (P : Error → Type 0) (w : Core) (kind : Kind) (key : ℕ) → P Error.NumbersSpent → Only P (node_fault w kind key)
 only-node P w kind key p e is = grind (arith, nat_tests, only-if P, only-earlier {P = P})
 
-only-refused : {P : Error → Type 0} {cause before : Option Error} {full : Type 0} {w w' : Core} (e : Error) → Refused cause before full w e w' → Only P cause → P Error.OutOfMemory → P e
+pub only-refused : {P : Error → Type 0} {cause before : Option Error} {full : Type 0} {w w' : Core} (e : Error) → Refused cause before full w e w' → Only P cause → P Error.OutOfMemory → P e
 only-refused {P} e r by memory = elim r.why [ inl is ↦ by e is | inr wanting ↦ subst P (sym wanting.0) memory ]
 
 never : (b : Bool) (f e : Error) → b ≡ false → refused_if b f ≡ Some e → ⊥

@@ -6,3 +6,4 @@ pub mod DeepLaws
 pub mod PageOutLaws
 pub mod CallerLaws
 pub mod HeldLaws
+pub mod RefusalLaws

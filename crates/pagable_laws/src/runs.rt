@@ -3,6 +3,7 @@
 
 ghost use Rattle.pagable_world.specs.{Access.{PinLaw, ReadLaw}, Headline.HeadlineLaw, OneWorker.{KeyIsShallow, OneIdentityLaw}, Plain.Types, World.{Frame, Seen}};
 ghost use Rattle.pagable_laws.specs.DeepLaws.{ClaimIsDeep, DepthIsHeight, DepthIsTold, HoldsAlong, LoadIsDeep, LoadIsFaultless, SoundLaw};
+ghost use Rattle.pagable_laws.specs.RefusalLaws.{BeginsRefusedLaw, LoadsRefusedLaw, PinsRefusedLaw, StorageIsTold};
 ghost use Rattle.pagable_laws.specs.{FallLaws.{FallLaws, ChainsJoin, NewIsWhole, NextIsOne, ReadingFills}, HeldLaws.{HeldByCallersLaw, HeldByMomentsLaw, HeldLaw, PinnedLaw, ReadHoldsLaw}, CallerLaws.{CallerLaw, PinnedAgainLaw}, PageOutLaws.{ItemLaw, ListLaw}, TwoLevels.TwoLevelsMeetTheHeadline};
 
 /// How values of this type are seen, with blobs B and what is written W: any values, so that a law is one of all.
@@ -63,6 +64,19 @@ pub fn loads<N: SeenAs<B, W>, B, W, E>()
     ensures reading_fills { ReadingFills E N.seen }
     ensures pins_stand { PinLaw E N.seen.values }
     ensures readings_stand { ReadLaw E N.seen.values }
+{}
+
+/// Of refusals, by their numbers:
+/// - A pin is refused at once only since its handle isn't there, is another's or of another mode, or for want of
+///   numbers or of memory: 18 to 22. So is the begin of a load.
+/// - A load is refused only by 1 to 13, 15 to 23 and 26, the caller's and a worker's.
+/// - Whatever is refused, a call, a load's step or a worker's: by 23 it is only where the storage's count of failures
+///   rose in it, or stood at its end before; and by 16 only where the storage had no blob under that key.
+pub fn refusals<N: SeenAs<B, W>, B, W>()
+    ensures pins { PinsRefusedLaw }
+    ensures begins { BeginsRefusedLaw }
+    ensures loads { LoadsRefusedLaw N.seen.values }
+    ensures storage { StorageIsTold N.seen }
 {}
 
 /// Of what values hold beside the references that are read together with them:
