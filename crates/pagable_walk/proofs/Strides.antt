@@ -1,7 +1,7 @@
 -- Steps that are made together: one after another, and with the worker's end.
 use Rattle.{pagable_model.specs.declared.{error.Error.Error, numbers.ArcRef.ArcRef}, pagable_world.specs.{Kinds.identity_of, declared.events.Took.Took}}
 use Rattle.pagable_walk.proofs.Turning.{ends-walked, goes-walked, none-walked, steps-alone, steps-to, waits-alone}
-use Rattle.pagable_walk.specs.{Strides.{ComesTo, Strides}, Tasks.{Ends, EndsWith, IfGoes, LeadsOn, due, todo_of, todos, waits_as}, Turns.{Closes, HasWalked, RunsTo, StepsAlone, StepsTo, TurnsTo, plan, waits_in}}
+use Rattle.pagable_walk.specs.{Strides.{ComesTo, Strides}, Tasks.{Ends, EndsWith, IfGoes, LeadsOn, due, todo_of, todos, waits_as}, Turns.{Closes, HasWalked, RunsTo, StepsAlone, StepsTo, TurnsTo, is_waiting, plan}}
 use Rattle.pagable_walk.specs.declared.tasks.{Moved.Moved, Node.Node, Task.Task, Turn.Turn, Waiting.Waiting}
 use Rattle.pagable_world.specs.{Pager.PagerState, World.{Shelf, Todo, Values, Written}, declared.{events.WorkerAnswer.WorkerAnswer, handles.Owner.Owner}}
 use Rattle.std.proofs.Common.{Err, List, None, Option, Some, ap, arith, length, refl, subst, sym, true, ℕ, ◌*◌, ◌+◌, ◌<◌, ◌∙◌, ◌∷◌, ◌≡◌}
@@ -123,7 +123,7 @@ module _ {X XN XH XK XV : Type 0} {g : Environments X XN XH XK XV} {gh : Hashes 
 
 module _ {X XN XH XK XV : Type 0} {g : Environments X XN XH XK XV} {gh : Hashes XH} {go : Orders XK} {gq : Equalities XK} {gp : PartialOrders XK} {gn : Nodes XN X XN XH XK XV} {N E : Type 0} (v : Values N) (me : Owner) (n : ℕ) (shelf : Shelf) (r : ArcRef) (place : ℕ) (below : List Todo) where
   -- a worker that is alone waits for nobody, whatever comes then
-  pub waits-walked : (mid shelf' : Shelf) (after rest : List Todo) (moved : Moved X XN XH XK XV g gh go gq gp gn) (e : Error) (task : Task X XN XH XK XV g gh go gq gp gn) (s t u : PagerState N E) → StepsTo v me n shelf (Task.Start r place) below mid moved after s t → waits_in moved ≡ true
+  pub waits-walked : (mid shelf' : Shelf) (after rest : List Todo) (moved : Moved X XN XH XK XV g gh go gq gp gn) (e : Error) (task : Task X XN XH XK XV g gh go gq gp gn) (s t u : PagerState N E) → StepsTo v me n shelf (Task.Start r place) below mid moved after s t → is_waiting moved.took ≡ true
       → HasWalked v me n shelf (Task.Start r place) below shelf' task rest s u
   waits-walked mid shelf' after rest moved e task s t u step waits = step-walked v me n shelf (Task.Start r place) below shelf' task rest (todo_of task ∷ rest) (record { took = Took.Claim (identity_of r) (Err e); turn = Turn.Goes task; counted = true }) s u
       (waits-alone v me n shelf r place below after (todo_of task ∷ rest) mid shelf' moved e task s t u waits step) refl refl
