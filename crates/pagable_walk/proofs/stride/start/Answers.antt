@@ -1,5 +1,5 @@
-use Rattle.{pagable_loads.{proofs.Stepped.tells_all, specs.{Telling.values_at, Working.fault_in}}, pagable_walk.proofs.{Both.{both-on, both-second}, Ends.{claimed-ends, refused-ends}, Strides.{ends-as, turn-walked, waits-walked, walked-on}, Turning.{start-turns, steps-to}}}
-use Rattle.{pagable_walk.specs.{Table.found_as, Tasks.todos, Turns.{HasWalked, StepsTo}, declared.{claims.Found.Found, tasks.{Task.Task, Turn.Turn}}}, pagable_world.specs.{Kinds.identity_of, Workers.claim_fault, World.{to_pin, to_start}}}
+use Rattle.{pagable_loads.{proofs.Stepped.tells_all, specs.{Telling.values_at}}, pagable_walk.proofs.{Both.{both-on, both-second}, Ends.{claimed-ends, refused-ends}, Strides.{ends-as, turn-walked, waits-walked, walked-on}, Turning.{start-turns, steps-to}}}
+use Rattle.{pagable_walk.specs.{Table.found_as, Tasks.todos, Turns.{HasWalked, StepsTo}, declared.{claims.Found.Found, tasks.{Task.Task, Turn.Turn}}}, pagable_world.specs.{Kinds.identity_of, World.{to_pin, to_start}}}
 use Rattle.{pagable_model.specs.declared.error.Error.Error, pagable_world.specs.declared.events.{Claim.Claim, Took.Took}, std.proofs.Common.{Ok, ap, arith, false, refl, ◌∙◌, ◌∷◌, ◌≡◌}}
 use Rattle.pagable_walk.proofs.stride.start.Goals as goal
 
