@@ -7,8 +7,9 @@ In the src/ of every library crate `Error::OutOfMemory` is written as a value in
 patterns, clauses and comments. `AllocError` and `AllocFailed`, the refused growth itself, are values nowhere; and only what `regex` refuses is named by
 `Error::of_library`, which takes its caller's word.
 
-In `pagable_locked` a function that locks the pager calls nothing but functions of `pagable_pager`, so no value is decoded or written, nothing is waited for and
-no other lock is taken meanwhile.
+In `pagable_locked` a function that locks the pager takes that lock once and makes one call of `pagable_pager` by it, beside what makes the access of its owner,
+and behind which it may ask the node of the handle that it got, or the blob that the cache didn't know. It has no loop and no macro from there on, and hands the
+guard to nothing but that access, so no value is decoded or written, nothing is waited for and no other lock is taken meanwhile.
 """
 import re
 import sys
@@ -27,23 +28,50 @@ MATCHES = re.compile(r"\bmatches!\([^;]*\)")
 # A type is written behind `<`, `:` or `,`, or before `>`; a value isn't.
 REFUSED_GROWTH = re.compile(r"(?:[({=]|=>|\breturn|^)\s*(?:AllocError\b(?!\s*[>:])|AllocFailed\s*\{[^{}]*\})")
 LOCKED, PAGER = CRATES / "pagable_locked/src", CRATES / "pagable_pager/src"
-FUNCTION = re.compile(r"(?m)^ *(?:pub(?:\(crate\))? )?(?:const )?fn (\w+)")
-CALLED = re.compile(r"(?<!fn )\b(\w+)\(")
-# What a function that locks the pager may name before a parenthesis, beside the pager's functions.
-PLAIN = {"lock", "Ok", "Err", "Some", "Left", "Right", "Worker"}
+FUNCTION = re.compile(r"(?m)^( *)(?:pub(?:\(crate\))? )?(?:const )?fn (\w+)")
+LOCK = re.compile(r"\b(\w+)\s*\.\s*lock\(")
+# The locks of a slot and of the table are others.
+OTHER_LOCKS = {"state", "slots"}
+CALLED = re.compile(r"(?<!fn )\b(\w+)(?:::<[^(){};]*>)?\(")
+# What may stand before a parenthesis behind the lock, beside one call of the pager: the answer, the access of an owner, and what may follow that call.
+PLAIN = {"Ok", "Err", "Some", "Left", "Right", "Worker"}
+ACCESS = {"new", "for_owner"}
+# What may follow a call, once each: the node of the handle that it answered, and the blob where the cache answered none.
+FOLLOWS, ALSO = {"node_of"}, {"cache_get": {"fetch"}}
+# A new handle is made by one of these.
+INSERTS = {"new_loose", "new_shared", "new_pinned"}
+GUARD = re.compile(r"(?<![.\w])pager\b(?!\s*\.)")
+KEPT = re.compile(r"let (?:mut )?pager = |Lent::(?:new|for_owner)\(&mut \*pager\b")
+
+
+def functions(text):
+    """Each function of a text in the layout of `rt fmt`: where it starts, and its code to its last brace."""
+    for head in FUNCTION.finditer(text):
+        end = text.find(f"\n{head[1]}}}", head.end())
+        yield head.start(), text[head.start() : end if end >= 0 else len(text)]
+
+
+def is_one_call(behind, pager):
+    """Whether what stands behind the pager's lock is one call of these functions of the pager, with what may stand round it."""
+    calls = [name for name in CALLED.findall(behind) if name not in PLAIN | ACCESS]
+    rest = [name for name in calls if name not in INSERTS] if calls[:1] and calls[0] in INSERTS else calls[1:]
+    is_one = len(calls) == len(set(calls)) and set(rest) <= FOLLOWS | ALSO.get(calls[0] if calls else "", set())
+    is_bounded = not re.search(r"\b(?:for|while|loop)\b|\w!\s*[(\[{]|\|", behind)
+    is_kept = not GUARD.search(KEPT.sub("", behind)) and (re.match(r"[^()]*\)\s*\.", behind) or "pager" in behind)
+    return is_one and set(calls) <= pager and is_bounded and bool(is_kept)
 
 
 def lengthy_locks():
-    """The places, as file and line, of functions that lock the pager and call something else."""
-    may = PLAIN | {name for file in PAGER.glob("**/*.rt") for name in FUNCTION.findall(file.read_text(encoding="utf-8"))}
+    """The places, as file and line, of functions that lock the pager and do more than one call by it, or lock what isn't known here."""
+    pager = {name for file in PAGER.glob("**/*.rt") for _, name in FUNCTION.findall(file.read_text(encoding="utf-8"))}
     found = []
     for file in sorted(LOCKED.glob("**/*.rt")):
         text = "\n".join(NOT_CODE.sub("", line) for line in file.read_text(encoding="utf-8").splitlines())
-        heads = list(FUNCTION.finditer(text))
-        for head, end in zip(heads, [at.start() for at in heads[1:]] + [len(text)]):
-            code = text[head.start() : end]
-            if "pager.lock(" in code and set(CALLED.findall(code)) - may:
-                found.append((file, text[: head.start()].count("\n") + 1))
+        for start, code in functions(text):
+            locks = list(LOCK.finditer(code))
+            others = [lock for lock in locks if lock[1] in OTHER_LOCKS]
+            if locks != others and (len(locks) > 1 or locks[0][1] != "pager" or not is_one_call(code[locks[0].end() :], pager)):
+                found.append((file, text[:start].count("\n") + 1))
     return found
 
 

@@ -72,7 +72,8 @@ impl<'a, R: Wait, E: Env<Node: NodeSet<E>>, S: PagableStorage<E>> Access<E>
     }
 
     fn store(&mut self, alloc: Global, blob: PagableData) -> Result<DataKey, Error> {
-        self.pager.lock(self.rt).store(alloc, blob)
+        let key = blob.compute_key::<E::Hash>();
+        self.pager.lock(self.rt).store_keyed(alloc, key, blob)
     }
 
     fn set_data_key(&mut self, handle: HandleNumber, key: DataKey) -> Result<(), Error> {

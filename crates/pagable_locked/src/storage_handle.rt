@@ -175,7 +175,8 @@ impl<E: Env<Node: NodeSet<E>>, S: PagableStorage<E>> PagableStorageHandle<E, S> 
     ) -> Result<DataKey, Error>
         ensures key { IfOk result (λ key. key ≡ key_of E.Hash.digest (blob_of blob)) }
     {
-        self.inner.pager.lock(rt).store(alloc, blob)
+        let key = blob.compute_key::<E::Hash>();
+        self.inner.pager.lock(rt).store_keyed(alloc, key, blob)
     }
 
     /// Has the storage write what it has held back.

@@ -218,6 +218,21 @@ impl<E: Env<Node: NodeSet<E>>, S: PagableStorage<E>> Pager<E, S> {
         self.storage.store_data(alloc, blob)
     }
 
+    /// Stores a blob under its key, which the caller has made, as before it takes a lock round the pager. Refused as `store` is.
+    pub fn store_keyed(
+        &mut self,
+        alloc: Global,
+        key: DataKey,
+        blob: PagableData,
+    ) -> Result<DataKey, Error>
+        requires { key ≡ key_of E.Hash.digest (blob_of blob) }
+        ensures asks { AsksStorage S.is_honest (telling S.stored S.is_closed S.failed) self.old (λ w w'. StoreCall (key_of E.Hash.digest) w (blob_of blob) result w') self.new }
+        ensures key { IfOk result (λ answer. answer ≡ key_of E.Hash.digest (blob_of blob)) }
+        ensures refused { IfErr result (λ e. (found : Option Blob) × RefusesStore (blob_of blob) found (S.is_closed self.old.storage) (S.failed self.old.storage) (S.failed self.new.storage) e) }
+    {
+        self.storage.store_keyed(alloc, key, blob)
+    }
+
     /// Has the storage write what it has held back: then all that is stored is made sure of. Refused with OutOfMemory and Storage.
     pub fn flush(&mut self) -> Result<(), Error>
         ensures asks { AsksStorage S.is_honest (telling S.stored S.is_closed S.failed) self.old (λ w w'. FlushCall w result w') self.new }

@@ -107,12 +107,21 @@ impl<E: Env> PagableStorage<E> for InMemoryBlobs<E> {
         Poll::Ready(self.fetch_data_blocking(alloc, key))
     }
 
-    #[tactic(auto, using(crate::proofs::Adding::adding))]
     fn store_data(&mut self, alloc: Global, blob: PagableData) -> Result<DataKey, Error> {
+        let key = blob.compute_key::<E::Hash>();
+        self.store_keyed(alloc, key, blob)
+    }
+
+    #[tactic(auto, using(crate::proofs::Adding::adding))]
+    fn store_keyed(
+        &mut self,
+        alloc: Global,
+        key: DataKey,
+        blob: PagableData,
+    ) -> Result<DataKey, Error> {
         if self.closed {
             return Err(Error::Closed);
         }
-        let key = blob.compute_key::<E::Hash>();
         if let Some(found) = stored_under(&self.blobs, key) {
             if is_same(found, &blob) {
                 return Ok(key);

@@ -83,6 +83,29 @@ pub trait PagableStorage<E: Env>: Sized {
         ensures open { is_closed self.new ≡ is_closed self.old }
         ensures later { failed self.old ≤ failed self.new };
 
+    /// Adds a blob under its key, which the caller has made, as `store_data` does and refused as that is. So a caller who
+    /// shares the storage makes the key before it takes the lock. By default the key is made once more.
+    fn store_keyed(
+        &mut self,
+        alloc: Global,
+        key: DataKey,
+        blob: PagableData,
+    ) -> Result<DataKey, Error>
+        requires { key ≡ key_of E.Hash.digest (blob_of blob) }
+        ensures key { IfOk result (λ answer. answer ≡ key_of E.Hash.digest (blob_of blob)) }
+        ensures adds { IsTrue (is_honest self.new) → OnOk result (Adds (key_of E.Hash.digest (blob_of blob)) (blob_of blob) (stored self.old) (stored self.new)) }
+        ensures was_open { OnOk result (is_closed self.old ≡ false) }
+        ensures refused { IfErr result (λ e. (found : Option Blob) × RefusesStore (blob_of blob) found (is_closed self.old) (failed self.old) (failed self.new) e) }
+        ensures only { IsTrue (is_honest self.new) → IfErr result (RefusesStore (blob_of blob) (stored self.old (key_of E.Hash.digest (blob_of blob))) (is_closed self.old) (failed self.old) (failed self.new)) }
+        ensures err { IsTrue (is_honest self.new) → OnErr result (stored self.new ≡ stored self.old) }
+        ensures keeps { IsTrue (is_honest self.new) → Keeps (flushed self.old) (flushed self.new) }
+        ensures honest { IsTrue (is_honest self.new) → IsTrue (is_honest self.old) }
+        ensures open { is_closed self.new ≡ is_closed self.old }
+        ensures later { failed self.old ≤ failed self.new }
+    {
+        self.store_data(alloc, blob)
+    }
+
     /// Writes what the storage has held back: then all that is stored is made sure of. What is stored stays as it is.
     fn flush(&mut self) -> Result<(), Error>
         ensures sure { IsTrue (is_honest self.new) → OnOk result (flushed self.new ≡ stored self.new) }

@@ -1,0 +1,12 @@
+use Rattle.{pagable_core.specs.Data.blob_of, pagable_model.specs.Blob.key_of, pagable_pager.proofs.Keeping.{asks-it, kept-so, store-call}}
+
+pub invariant_of-self : Rattle.pagable_pager.proofs.pager.Pager.store_keyed.Goals.invariant_of-self
+invariant_of-self g c = let e = c.store_keyed.ensures in kept-so c.self.invariant c.store_keyed.new.self e.open e.later
+
+pub returns-clause-asks : Rattle.pagable_pager.proofs.pager.Pager.store_keyed.Goals.returns-clause-asks
+returns-clause-asks g c =
+    let e = c.store_keyed.ensures in
+    let s = c.store_keyed.new.self in
+    let digest = key_of g.E.Hash.KeyHash.digest in
+    rw (← c.self.view_is) (asks-it c.self.invariant s e.open e.later
+    (λ h. store-call c.self.invariant s e.open e.later digest (blob_of c.args.blob) c.store_keyed.result e.key (e.adds h) e.was_open (e.only h) (e.err h)) e.honest)
