@@ -156,10 +156,7 @@ impl OfNode<Project> for Commit {
     }
 
     fn from_node(alloc: Global, node: &ProjectNode) -> Result<Option<Arc<Commit>>, Error> {
-        match node {
-            EitherNode::First(node) => Ok(Some(node.value.clone()?)),
-            EitherNode::Second(_) | EitherNode::Third(_) => Ok(None),
-        }
+        node.first()
     }
 
     ghost small = { three_are_small.0 };
@@ -179,10 +176,7 @@ impl OfNode<Project> for Folder {
     }
 
     fn from_node(alloc: Global, node: &ProjectNode) -> Result<Option<Arc<Folder>>, Error> {
-        match node {
-            EitherNode::Second(node) => Ok(Some(node.value.clone()?)),
-            EitherNode::First(_) | EitherNode::Third(_) => Ok(None),
-        }
+        node.second()
     }
 
     ghost small = { three_are_small.1.0 };
@@ -202,10 +196,7 @@ impl OfNode<Project> for File {
     }
 
     fn from_node(alloc: Global, node: &ProjectNode) -> Result<Option<Arc<File>>, Error> {
-        match node {
-            EitherNode::Third(node) => Ok(Some(node.value.clone()?)),
-            EitherNode::First(_) | EitherNode::Second(_) => Ok(None),
-        }
+        node.third()
     }
 
     ghost small = { three_are_small.1.1 };

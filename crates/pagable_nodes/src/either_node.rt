@@ -1,6 +1,7 @@
 //! A node that holds a value of one of three types.
 
-ghost use Rattle.pagable_nodes.specs.Nodes.{either_has_meaning, either_has_shape, either_means, either_number, either_reads, either_refers, either_refs, either_shape, either_writes, shape_of_three};
+ghost use Rattle.{pagable_model.specs.Gives.memory, std.specs.{Arc.arc_value, Option.option_map, Prelude.{IfErr, IfOk, ◌≡◌}}};
+ghost use Rattle.pagable_nodes.specs.Nodes.{either_has_meaning, either_has_shape, either_means, either_number, either_reads, either_refers, either_refs, either_shape, either_writes, first_held, second_held, shape_of_three, third_held};
 
 use crate::one_node::{OneNode, write_listed};
 use pagable_flavors::Error;
@@ -21,6 +22,50 @@ pub enum EitherNode<'de, A, B, C> {
     Second(OneNode<'de, B>),
     /// A value of the type number 2.
     Third(OneNode<'de, C>),
+}
+
+impl<'de, A: Drop, B: Drop, C: Drop> EitherNode<'de, A, B, C> {
+    /// Shares its value of the type number 0. Answers None where it holds another.
+    ///
+    /// # Errors
+    /// - OutOfMemory: the value can't be shared once more.
+    pub fn first(&self) -> Result<Option<Arc<A>>, Error>
+        ensures value { IfOk result (λ found. option_map arc_value found ≡ first_held self.now) }
+        ensures only { IfErr result memory }
+    {
+        match self {
+            EitherNode::First(node) => Ok(Some(node.value.clone()?)),
+            EitherNode::Second(_) | EitherNode::Third(_) => Ok(None),
+        }
+    }
+
+    /// Shares its value of the type number 1. Answers None where it holds another.
+    ///
+    /// # Errors
+    /// - OutOfMemory: the value can't be shared once more.
+    pub fn second(&self) -> Result<Option<Arc<B>>, Error>
+        ensures value { IfOk result (λ found. option_map arc_value found ≡ second_held self.now) }
+        ensures only { IfErr result memory }
+    {
+        match self {
+            EitherNode::Second(node) => Ok(Some(node.value.clone()?)),
+            EitherNode::First(_) | EitherNode::Third(_) => Ok(None),
+        }
+    }
+
+    /// Shares its value of the type number 2. Answers None where it holds another.
+    ///
+    /// # Errors
+    /// - OutOfMemory: the value can't be shared once more.
+    pub fn third(&self) -> Result<Option<Arc<C>>, Error>
+        ensures value { IfOk result (λ found. option_map arc_value found ≡ third_held self.now) }
+        ensures only { IfErr result memory }
+    {
+        match self {
+            EitherNode::Third(node) => Ok(Some(node.value.clone()?)),
+            EitherNode::First(_) | EitherNode::Second(_) => Ok(None),
+        }
+    }
 }
 
 impl<

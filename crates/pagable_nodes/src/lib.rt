@@ -2,6 +2,7 @@
 //! programs that need no types of their own.
 #![tactic(auto)]
 
+pub mod bytes;
 pub mod either_node;
 pub mod one_node;
 pub mod records;
