@@ -1,0 +1,17 @@
+-- How commits, folders and files are spelled and what they mean.
+use Rattle.history.specs.declared.{commit.Commit.Commit, project.{File.File, Folder.Folder}}
+use Rattle.{pagable_model.specs.Shape.Shape, pagable_traits.specs.ReadBack.IsReadThroughout, std.specs.{Int.w64, Prelude.ℕ}}
+use Rattle.pagable_nodes.specs.Spelled.{Spelled, fields, many, number, one, optional, text, two}
+
+-- the fields in their order, the first and the pair of the others
+abbrev pub commit_spelled : Spelled Commit
+commit_spelled = fields (λ c. (c.time, (c.message, (c.parent, c.merged)))) (two (number w64) (two text (two (optional (one 1)) (optional (one 1)))))
+
+pub commit_is_read : (parts : ℕ → Shape) → IsReadThroughout parts commit_spelled.shape
+commit_is_read = commit_spelled.is_read
+
+abbrev pub folder_spelled : Spelled Folder
+folder_spelled = fields (λ f. (f.name, (f.since, f.files))) (two text (two (one 1) (many (one 7))))
+
+abbrev pub file_spelled : Spelled File
+file_spelled = fields (λ f. (f.length, (f.text, f.folder))) (two (number w64) (two text (optional (one 4))))

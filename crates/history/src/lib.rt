@@ -1,0 +1,8 @@
+//! Types of one's own whose values refer to each other: commits alone, and commits, folders and files.
+#![tactic(auto)]
+
+pub mod commit;
+pub mod project;
+
+pub use commit::{Commit, History};
+pub use project::{File, Folder, Project, ProjectNode};

@@ -1,0 +1,203 @@
+//! An environment of three types: commits, folders and files, which refer to each other.
+
+ghost use Rattle.std.specs.{Arc.arc_value, Prelude.{Some, ◌≡◌}};
+ghost use Rattle.history.specs.History.{file_spelled, folder_spelled};
+ghost use Rattle.pagable_nodes.specs.Nodes.{first_held, second_held, third_held, three_are_small};
+
+use crate::commit::Commit;
+use pagable_core::Sha256Key;
+use pagable_flavors::Error;
+use pagable_nodes::{EitherNode, OneNode};
+use pagable_traits::{
+    ArcRef, Canonical, Carried, Env, OfKind, OfNode, OneMeaning, PagableDeserialize,
+    PagableDeserializer, PagableSerialize, PagableSerializer, Refers,
+};
+use std::alloc::Global;
+use std::sync::Arc;
+
+/// The environment of commits, which have the type number 0, folders (1) and files (2).
+#[derive(Drop)]
+pub struct Project;
+
+impl Env for Project {
+    type Node = ProjectNode;
+
+    type Hash = Sha256Key;
+
+    type CtxKey = ();
+
+    type CtxValue = ();
+
+    ghost use Rattle.pagable_model.specs.Shape.{nothing};
+
+    ghost parts = { λ e number. nothing };
+}
+
+/// A node of a project.
+pub type ProjectNode = EitherNode<'static, Commit, Folder, File>;
+
+/// A folder: its name, the commit that it came with, and its files.
+#[derive(Drop)]
+pub struct Folder {
+    pub name: String,
+    pub since: OfKind<1>,
+    pub files: Vec<OfKind<7>>,
+}
+
+impl<E: Env> Carried<E> for Folder {
+    ghost shape = { λ e. folder_spelled.shape };
+
+    ghost means = { folder_spelled.means };
+}
+
+impl<E: Env> OneMeaning<E> for Folder {
+    ghost single = { folder_spelled.single };
+}
+
+impl<E: Env> Canonical<E> for Folder {
+    ghost one_form = { λ e. folder_spelled.one_form (E.parts e) };
+}
+
+impl<E: Env> Refers<E> for Folder {
+    fn list_references(&self, list: &mut Vec<ArcRef>) -> Result<(), Error> {
+        Refers::<E>::list_references(&(&self.name, (&self.since, &self.files)), list)
+    }
+
+    ghost in_order = { λ e. folder_spelled.in_order (E.parts e) };
+}
+
+impl<E: Env> PagableSerialize<E> for Folder {
+    ghost write_causes = { folder_spelled.writes };
+
+    fn pagable_serialize<S: PagableSerializer<E>>(&self, serializer: &mut S) -> Result<(), Error> {
+        (&self.name, (&self.since, &self.files)).pagable_serialize(serializer)
+    }
+}
+
+impl<'de, E: Env> PagableDeserialize<'de, E> for Folder {
+    ghost read_causes = { folder_spelled.reads };
+
+    fn pagable_deserialize<D: PagableDeserializer<E>>(
+        alloc: Global,
+        deserializer: &mut D,
+    ) -> Result<Self, Error> {
+        let fields = PagableDeserialize::pagable_deserialize(alloc, deserializer)?;
+        let (name, (since, files)) = fields;
+        Ok(Folder { name, since, files })
+    }
+}
+
+/// A file: how long it is, its text, and the folder in which it stands.
+#[derive(Drop)]
+pub struct File {
+    pub length: u64,
+    pub text: String,
+    pub folder: Option<OfKind<4>>,
+}
+
+impl<E: Env> Carried<E> for File {
+    ghost shape = { λ e. file_spelled.shape };
+
+    ghost means = { file_spelled.means };
+}
+
+impl<E: Env> OneMeaning<E> for File {
+    ghost single = { file_spelled.single };
+}
+
+impl<E: Env> Canonical<E> for File {
+    ghost one_form = { λ e. file_spelled.one_form (E.parts e) };
+}
+
+impl<E: Env> Refers<E> for File {
+    fn list_references(&self, list: &mut Vec<ArcRef>) -> Result<(), Error> {
+        Refers::<E>::list_references(&(&self.length, (&self.text, &self.folder)), list)
+    }
+
+    ghost in_order = { λ e. file_spelled.in_order (E.parts e) };
+}
+
+impl<E: Env> PagableSerialize<E> for File {
+    ghost write_causes = { file_spelled.writes };
+
+    fn pagable_serialize<S: PagableSerializer<E>>(&self, serializer: &mut S) -> Result<(), Error> {
+        (&self.length, (&self.text, &self.folder)).pagable_serialize(serializer)
+    }
+}
+
+impl<'de, E: Env> PagableDeserialize<'de, E> for File {
+    ghost read_causes = { file_spelled.reads };
+
+    fn pagable_deserialize<D: PagableDeserializer<E>>(
+        alloc: Global,
+        deserializer: &mut D,
+    ) -> Result<Self, Error> {
+        let fields = PagableDeserialize::pagable_deserialize(alloc, deserializer)?;
+        let (length, (text, folder)) = fields;
+        Ok(File {
+            length,
+            text,
+            folder,
+        })
+    }
+}
+
+impl OfNode<Project> for Commit {
+    ghost TYPE = { 0 };
+
+    ghost held = { first_held };
+
+    const TYPE: u32 = 0;
+
+    fn into_node(value: Arc<Commit>) -> ProjectNode
+        ensures { first_held result ≡ Some (arc_value value) }
+    {
+        EitherNode::First(OneNode::new(value))
+    }
+
+    fn from_node(alloc: Global, node: &ProjectNode) -> Result<Option<Arc<Commit>>, Error> {
+        node.first()
+    }
+
+    ghost small = { three_are_small.0 };
+}
+
+impl OfNode<Project> for Folder {
+    ghost TYPE = { 1 };
+
+    ghost held = { second_held };
+
+    const TYPE: u32 = 1;
+
+    fn into_node(value: Arc<Folder>) -> ProjectNode
+        ensures { second_held result ≡ Some (arc_value value) }
+    {
+        EitherNode::Second(OneNode::new(value))
+    }
+
+    fn from_node(alloc: Global, node: &ProjectNode) -> Result<Option<Arc<Folder>>, Error> {
+        node.second()
+    }
+
+    ghost small = { three_are_small.1.0 };
+}
+
+impl OfNode<Project> for File {
+    ghost TYPE = { 2 };
+
+    ghost held = { third_held };
+
+    const TYPE: u32 = 2;
+
+    fn into_node(value: Arc<File>) -> ProjectNode
+        ensures { third_held result ≡ Some (arc_value value) }
+    {
+        EitherNode::Third(OneNode::new(value))
+    }
+
+    fn from_node(alloc: Global, node: &ProjectNode) -> Result<Option<Arc<File>>, Error> {
+        node.third()
+    }
+
+    ghost small = { three_are_small.1.1 };
+}

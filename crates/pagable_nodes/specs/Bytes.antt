@@ -1,0 +1,19 @@
+-- Values written to bytes alone, and read from them.
+use Rattle.std.specs.Prelude.{List, Result, ℕ, [], ◌≡◌}
+use Rattle.pagable_core.specs.Context.{nothing}
+use Rattle.pagable_model.specs.{Meaning.Meaning, Reading.{Rest, read}, Shape.Shape, Standing.{Answer, GivesSome, handles_at}, Writing.{Out, WritesSome, nesting}, declared.{error.Error.Error, numbers.ArcRef.ArcRef}}
+
+-- the bytes of a form of a meaning, which refers to nothing
+pub record IsFormOf (M : Meaning ArcRef → Type 0) (parts : ℕ → Shape) (s : Shape) (bytes : List ℕ) : Type 0 where
+  pub out : Out
+  pub wrote : WritesSome M (nesting 0 parts) s nothing out
+  pub is : bytes ≡ out.bytes
+  pub bare : out.refs ≡ []
+
+abbrev pub alone : List ℕ → Rest Answer
+alone bytes = record { bytes = bytes; refs = [] }
+
+-- what reading gives at the front of the bytes, without references, and what it leaves
+pub record ReadsWhole {X : Type 0} (causes : Error → Type 0) (means : X → Meaning ArcRef → Type 0) (parts : ℕ → Shape) (s : Shape) (bytes : List ℕ) (r : Result X Error) : Type 0 where
+  pub after : Rest Answer
+  pub gives : GivesSome causes means after r (read (handles_at 0 parts) s (alone bytes))

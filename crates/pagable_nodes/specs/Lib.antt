@@ -1,0 +1,4 @@
+pub mod Spelled
+pub mod Nodes
+pub mod Records
+pub mod Bytes

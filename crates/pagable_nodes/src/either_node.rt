@@ -1,0 +1,148 @@
+//! A node that holds a value of one of three types.
+
+ghost use Rattle.{pagable_model.specs.Gives.memory, std.specs.{Arc.arc_value, Option.option_map, Prelude.{IfErr, IfOk, ◌≡◌}}};
+ghost use Rattle.pagable_nodes.specs.Nodes.{either_has_meaning, either_has_shape, either_means, either_number, either_reads, either_refers, either_refs, either_shape, either_writes, first_held, second_held, shape_of_three, third_held};
+
+use crate::one_node::{OneNode, write_listed};
+use pagable_flavors::Error;
+use pagable_traits::{
+    ArcRef, Env, NodeSet, PagableDeserialize, PagableDeserializer, PagableSerialize,
+    PagableSerializer, Refers, references_of,
+};
+use std::alloc::Global;
+use std::sync::Arc;
+
+/// A node of an environment with three value types, which have the numbers 0, 1 and 2 in their order. An environment with
+/// two takes `()` for the third.
+#[derive(Drop)]
+pub enum EitherNode<'de, A, B, C> {
+    /// A value of the type number 0.
+    First(OneNode<'de, A>),
+    /// A value of the type number 1.
+    Second(OneNode<'de, B>),
+    /// A value of the type number 2.
+    Third(OneNode<'de, C>),
+}
+
+impl<'de, A: Drop, B: Drop, C: Drop> EitherNode<'de, A, B, C> {
+    /// Shares its value of the type number 0. Answers None where it holds another.
+    ///
+    /// # Errors
+    /// - OutOfMemory: the value can't be shared once more.
+    pub fn first(&self) -> Result<Option<Arc<A>>, Error>
+        ensures value { IfOk result (λ found. option_map arc_value found ≡ first_held self.now) }
+        ensures only { IfErr result memory }
+    {
+        match self {
+            EitherNode::First(node) => Ok(Some(node.value.clone()?)),
+            EitherNode::Second(_) | EitherNode::Third(_) => Ok(None),
+        }
+    }
+
+    /// Shares its value of the type number 1. Answers None where it holds another.
+    ///
+    /// # Errors
+    /// - OutOfMemory: the value can't be shared once more.
+    pub fn second(&self) -> Result<Option<Arc<B>>, Error>
+        ensures value { IfOk result (λ found. option_map arc_value found ≡ second_held self.now) }
+        ensures only { IfErr result memory }
+    {
+        match self {
+            EitherNode::Second(node) => Ok(Some(node.value.clone()?)),
+            EitherNode::First(_) | EitherNode::Third(_) => Ok(None),
+        }
+    }
+
+    /// Shares its value of the type number 2. Answers None where it holds another.
+    ///
+    /// # Errors
+    /// - OutOfMemory: the value can't be shared once more.
+    pub fn third(&self) -> Result<Option<Arc<C>>, Error>
+        ensures value { IfOk result (λ found. option_map arc_value found ≡ third_held self.now) }
+        ensures only { IfErr result memory }
+    {
+        match self {
+            EitherNode::Third(node) => Ok(Some(node.value.clone()?)),
+            EitherNode::First(_) | EitherNode::Second(_) => Ok(None),
+        }
+    }
+}
+
+impl<
+    'de,
+    E: Env,
+    A: Refers<E> + PagableSerialize<E> + PagableDeserialize<'de, E> + Drop,
+    B: Refers<E> + PagableSerialize<E> + PagableDeserialize<'de, E> + Drop,
+    C: Refers<E> + PagableSerialize<E> + PagableDeserialize<'de, E> + Drop,
+> NodeSet<E> for EitherNode<'de, A, B, C> {
+    ghost type_of = { either_number };
+
+    ghost shape_of = { λ e. shape_of_three (A.Carried.shape e) (B.Carried.shape e) (C.Carried.shape e) };
+
+    ghost own_shape = { λ e n. either_shape (A.Carried.shape e) (B.Carried.shape e) (C.Carried.shape e) n };
+
+    ghost means = { either_means A.Carried.means B.Carried.means C.Carried.means };
+
+    ghost refs_of = { either_refs A.Carried.means B.Carried.means C.Carried.means };
+
+    ghost write_causes = { λ t. (either_writes A.write_causes B.write_causes C.write_causes t).are };
+
+    ghost read_causes = { λ t. (either_reads A.read_causes B.read_causes C.read_causes t).are };
+
+    ghost write_causes_may_refuse = { λ t. (either_writes A.write_causes B.write_causes C.write_causes t).may };
+
+    ghost read_causes_are_own = { λ t. (either_reads A.read_causes B.read_causes C.read_causes t).own };
+
+    ghost has_meaning = { either_has_meaning A.Carried.means B.Carried.means C.Carried.means };
+
+    ghost refers = { either_refers A.Carried.means B.Carried.means C.Carried.means A.OneMeaning.single B.OneMeaning.single C.OneMeaning.single };
+
+    ghost has_shape = { λ e. either_has_shape (A.Carried.shape e) (B.Carried.shape e) (C.Carried.shape e) };
+
+    fn node_type(&self) -> u32 {
+        match self {
+            EitherNode::First(_) => 0,
+            EitherNode::Second(_) => 1,
+            EitherNode::Third(_) => 2,
+        }
+    }
+
+    fn refs(&self, alloc: Global) -> Result<Vec<ArcRef>, Error> {
+        match self {
+            EitherNode::First(node) => references_of::<E, A>(alloc, node.value.as_ref()),
+            EitherNode::Second(node) => references_of::<E, B>(alloc, node.value.as_ref()),
+            EitherNode::Third(node) => references_of::<E, C>(alloc, node.value.as_ref()),
+        }
+    }
+
+    fn write<S: PagableSerializer<E>>(&self, serializer: &mut S) -> Result<(), Error> {
+        match self {
+            EitherNode::First(node) => write_listed(node.value.as_ref(), serializer),
+            EitherNode::Second(node) => write_listed(node.value.as_ref(), serializer),
+            EitherNode::Third(node) => write_listed(node.value.as_ref(), serializer),
+        }
+    }
+
+    #[tactic(auto, using(crate::proofs::Causes::or_memory))]
+    fn read<D: PagableDeserializer<E>>(
+        node_type: u32,
+        alloc: Global,
+        deserializer: &mut D,
+    ) -> Result<EitherNode<'de, A, B, C>, Error> {
+        match node_type {
+            0 => {
+                let value = A::pagable_deserialize(alloc, deserializer)?;
+                Ok(EitherNode::First(OneNode::new(Arc::new(alloc, value)?)))
+            }
+            1 => {
+                let value = B::pagable_deserialize(alloc, deserializer)?;
+                Ok(EitherNode::Second(OneNode::new(Arc::new(alloc, value)?)))
+            }
+            2 => {
+                let value = C::pagable_deserialize(alloc, deserializer)?;
+                Ok(EitherNode::Third(OneNode::new(Arc::new(alloc, value)?)))
+            }
+            _ => Err(Error::WrongKind),
+        }
+    }
+}

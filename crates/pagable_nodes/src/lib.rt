@@ -1,0 +1,12 @@
+//! Nodes of an environment: of one value type (`OneNode`) or of three (`EitherNode`), and an environment of records for
+//! programs that need no types of their own.
+#![tactic(auto)]
+
+pub mod bytes;
+pub mod either_node;
+pub mod one_node;
+pub mod records;
+
+pub use either_node::EitherNode;
+pub use one_node::{OneNode, write_listed};
+pub use records::{Record, RecordNode, RecordRef, Records};

@@ -1,0 +1,178 @@
+//! An environment for programs that need no types of their own: a record has a tag, a text and references to other
+//! records.
+
+ghost use Rattle.std.specs.{Arc.arc_value, Prelude.{IfOk, Some, refl, ◌≡◌}};
+ghost use Rattle.pagable_nodes.specs.{Nodes.{holds_one, one_held, zero_is_small}, Records.{IsRecord, record_spelled}};
+ghost use Rattle.pagable_traits.specs.{ReadBack.IsReadThroughout, References.{loose, plain}};
+
+use crate::one_node::OneNode;
+use pagable_core::Sha256Key;
+use pagable_flavors::Error;
+use pagable_traits::{
+    ArcRef, Canonical, Carried, Env, InNode, OfKind, OfNode, OneMeaning, PagableArc,
+    PagableDeserialize, PagableDeserializer, PagableSerialize, PagableSerializer, Refers,
+};
+use std::alloc::Global;
+use std::sync::Arc;
+
+/// The environment of records, which have the type number 0. Keys are made by SHA-256.
+#[derive(Drop)]
+pub struct Records;
+
+impl Default for Records {
+    fn default() -> Records {
+        Records
+    }
+}
+
+impl Env for Records {
+    type Node = RecordNode;
+
+    type Hash = Sha256Key;
+
+    type CtxKey = ();
+
+    type CtxValue = ();
+
+    ghost use Rattle.pagable_model.specs.Shape.{nothing};
+
+    ghost parts = { λ e number. nothing };
+}
+
+/// A node of records.
+pub type RecordNode = OneNode<'static, Record>;
+
+/// A reference to a record, as a record holds it: it is read without the other's value.
+pub type RecordRef = OfKind<1>;
+
+/// A record: what it is by a number of the program's own, a text, and references to other records in their order.
+#[derive(Drop)]
+pub struct Record {
+    /// What kind of record it is, by a number that the program chooses.
+    pub tag: u32,
+    /// Its content.
+    pub text: String,
+    /// What it refers to.
+    pub refs: Vec<RecordRef>,
+}
+
+impl Record {
+    /// Makes a record with a copy of this text.
+    ///
+    /// # Errors
+    /// - OutOfMemory: the references are dropped.
+    pub fn new(alloc: Global, tag: u32, text: &str, refs: Vec<RecordRef>) -> Result<Record, Error>
+        ensures { IfOk result (λ r. IsRecord tag text.now refs r) }
+    {
+        let text = String::from_str(alloc, text)?;
+        Ok(Record { tag, text, refs })
+    }
+
+    /// Makes the node of such a record, as `insert` takes it.
+    ///
+    /// # Errors
+    /// - OutOfMemory: the references are dropped.
+    pub fn node(
+        alloc: Global,
+        tag: u32,
+        text: &str,
+        refs: Vec<RecordRef>,
+    ) -> Result<RecordNode, Error>
+        ensures { IfOk result (λ n. IsRecord tag text.now refs (arc_value n.value)) }
+    {
+        let made = Record::new(alloc, tag, text, refs)?;
+        Ok(OneNode::new(Arc::new(alloc, made)?))
+    }
+
+    /// Makes a loose reference one that a record holds.
+    pub fn reference(of: PagableArc<Record>) -> RecordRef
+        ensures { plain 1 result ≡ loose 0 of }
+    {
+        match OfKind::from_reference(of.reference::<Records>()) {
+            Some(reference) => reference,
+            None => unreachable!(),
+        }
+    }
+}
+
+impl<E: Env> Carried<E> for Record {
+    ghost shape = { λ e. record_spelled.shape };
+
+    ghost means = { record_spelled.means };
+}
+
+impl<E: Env> OneMeaning<E> for Record {
+    ghost single = { record_spelled.single };
+}
+
+/// Equal records have one form, so equal keys.
+impl<E: Env> Canonical<E> for Record {
+    ghost one_form = { λ e. record_spelled.one_form (E.parts e) };
+}
+
+impl<E: Env> Refers<E> for Record {
+    fn list_references(&self, list: &mut Vec<ArcRef>) -> Result<(), Error> {
+        let fields = (&self.tag, (&self.text, &self.refs));
+        Refers::<E>::list_references(&fields, list)
+    }
+
+    ghost in_order = { λ e. record_spelled.in_order (E.parts e) };
+}
+
+impl<E: Env> PagableSerialize<E> for Record {
+    ghost write_causes = { record_spelled.writes };
+
+    fn pagable_serialize<S: PagableSerializer<E>>(&self, serializer: &mut S) -> Result<(), Error> {
+        let fields = (&self.tag, (&self.text, &self.refs));
+        fields.pagable_serialize(serializer)
+    }
+}
+
+impl<'de, E: Env> PagableDeserialize<'de, E> for Record {
+    ghost read_causes = { record_spelled.reads };
+
+    fn pagable_deserialize<D: PagableDeserializer<E>>(
+        alloc: Global,
+        deserializer: &mut D,
+    ) -> Result<Self, Error> {
+        let fields = PagableDeserialize::pagable_deserialize(alloc, deserializer)?;
+        let (tag, (text, refs)) = fields;
+        Ok(Record { tag, text, refs })
+    }
+}
+
+impl OfNode<Records> for Record {
+    ghost TYPE = { 0 };
+
+    ghost held = { one_held };
+
+    const TYPE: u32 = 0;
+
+    fn into_node(value: Arc<Record>) -> RecordNode
+        ensures { one_held result ≡ Some (arc_value value) }
+    {
+        OneNode::new(value)
+    }
+
+    fn from_node(alloc: Global, node: &RecordNode) -> Result<Option<Arc<Record>>, Error> {
+        Ok(Some(node.value.clone()?))
+    }
+
+    ghost small = { zero_is_small };
+}
+
+impl InNode<Records> for Record {
+    ghost holds = { holds_one record_spelled.means };
+
+    ghost shape_is = { λ e. refl };
+
+    ghost writes_as = { λ e h. h };
+
+    ghost reads_as = { λ e h. h };
+}
+
+/// The forms of a record are read again.
+#[tactic(auto, using(crate::specs::Records::record_is_read))]
+pub fn records_are_read<E: Env>()
+    ensures { (e : E) → IsReadThroughout (E.parts e) (⟦<Record as Carried<E>>⟧.shape e) }
+{}
