@@ -97,8 +97,8 @@ class SharedRun:
         self.list_by(loose)
 
     def list_unlisted(self, handles):
-        """Lists the cells of these loose handles that have neither a pin nor a key: a page-out that had pinned them found
-        no number by which to list them again."""
+        """Lists the cells of these loose handles that have neither a pin nor a key: a page-out that had pinned them
+        found no number by which to list them again."""
         for handle in handles:
             if f"; {self.names[handle[1:]]}: 0 0 here" in self.peek():
                 self.list_by(handle)
