@@ -50,6 +50,8 @@ def pending_in(look):
 
 def nodes_in(look):
     """The node of each live handle, by a look."""
+    if look.endswith("; out of step"):
+        raise Unlike(f"`{look}`")
     parts = (part.split(" ") for part in look.split("; ")[1:])
     return {int(words[0].rstrip(":")): int(words[1]) for words in parts}
 
@@ -118,7 +120,9 @@ class Run:
             self.refused(at, answer)
             return met, True
         self.names.compare(step.event, step.wanted, answer)
-        self.list_anew(at)
+        # (a number near the end may have stayed in use, where numbers were short)
+        if self.number != NUMBERS:
+            self.list_anew(at)
         return met, False
 
     def end(self):

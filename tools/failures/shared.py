@@ -85,6 +85,8 @@ class SharedRun:
             return met, True
         if before is not None and name not in PARTLY and self.peek() != before:
             raise Unlike(f"`{self.peek()}` after the refused `{call}`, and `{before}` before it")
+        if name in PARTLY and self.number == NUMBERS:
+            self.list_unlisted(loose.split())
         self.compare(call, wanted, self.ask(call)[1])
         return met, True
 
@@ -93,6 +95,13 @@ class SharedRun:
         if not loose or not is_asked or int(self.peek().split("; ")[0].split()[1]) == self.pending_wanted:
             return
         self.list_by(loose)
+
+    def list_unlisted(self, handles):
+        """Lists the cells of these loose handles that have neither a pin nor a key: a page-out that had pinned them
+        found no number by which to list them again."""
+        for handle in handles:
+            if f"; {self.names[handle[1:]]}: 0 0 here" in self.peek():
+                self.list_by(handle)
 
     def list_by(self, loose):
         """Lists the cell of this loose handle."""
