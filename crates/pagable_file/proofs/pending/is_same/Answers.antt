@@ -1,0 +1,9 @@
+use Rattle.{std.proofs.{Common.{ap, sym, ◌∙◌, refl}, lemmas.{Bool.{and_parts, Decides.Decides-eqb}, Slice.Eq.slice_eq-Decides}}, pagable_model.specs.Blob.Blob}
+
+pub returns : Rattle.pagable_file.proofs.pending.is_same.Goals.returns
+returns c =
+    let bytes = slice_eq-Decides Decides-eqb c.args.left.now.bytes.items c.args.right.now.bytes.items _ refl in
+    let keys = slice_eq-Decides Decides-eqb c.args.left.now.arcs.items c.args.right.now.arcs.items _ refl in (
+      λ is. let both = and_parts _ _ (sym c.eq.ensures ∙ is) in rw (bytes.0 both.0, keys.0 both.1) refl,
+      λ same. c.eq.ensures ∙ rw (bytes.1 (ap (λ (b : Blob). b.bytes) same), keys.1 (ap (λ (b : Blob). b.keys) same)) refl,
+    )

@@ -1,0 +1,12 @@
+use Rattle.pagable_file.specs.Rows.{blob_tree, root_tree}
+use Rattle.pagable_file.proofs.Opening.{made_is_found}
+use Rattle.pagable_file.proofs.tables.prepare.Goals as goal
+
+pub returns-then-is_empty : goal.returns-then-is_empty
+returns-then-is_empty g c =
+    let store = c.args.store.now in
+    let free = c.if-not-is_free.false in
+    record {
+      found = made_is_found (g.S.Store.view store) (g.S.Store.view c.make.new.store) c.requires.idle c.in_ok-make.ensures.made c.make.ensures.clean
+          (λ sound. (g.met.S.Store.ordered store sound blob_tree, g.met.S.Store.ordered store sound root_tree)) (c.is_free.ensures.blobs free) (c.is_free.ensures.roots free);
+    }

@@ -1,0 +1,342 @@
+//! A storage of blobs in a file.
+
+ghost use Rattle.std.specs.{Arc.arc_value, Prelude.{◌≡◌, ◌≤◌, ◌⊎◌, [], false, is_some, IfErr, IfOk, IsTrue, OnOk, Some}};
+ghost use Rattle.{sqlite.specs.Held.state, sqlite_trees.specs.{Tree.Trees, View.IsClean}};
+ghost use Rattle.{pagable_core.specs.Data.blob_of, pagable_model.specs.{Blob.key_of, Stored.RefusesFlush}};
+ghost use Rattle.pagable_file.specs.{Blobs.{AreKeyed, HasBlob, IsNotHeld, RefusesFound, RefusesHeld, RefusesRead, Settled, blob_pending, is_sure, roots_with, settled_prop, stored_with, unless}, Rows.{blob_tree, blobs_in, root_tree, roots_in}};
+
+use crate::fault::Fault;
+use crate::lookup::read;
+use crate::naming::has;
+use crate::open_error::OpenError;
+use crate::pending::{Pending, Waiting, WaitingRoots, hold, is_same, waiting_at};
+use crate::rows::Reading;
+use crate::saving::save;
+use crate::stats::{Stats, fail, refuse};
+use crate::tables::prepare;
+use futures::task::{Context, Poll};
+use pagable_codec::Env;
+use pagable_core::{PagableData, PagableStorage};
+use pagable_flavors::{DataKey, Error};
+use sqlite::{Connection, File, FileStore, MemStore};
+use sqlite_trees::store::{Alter, Store};
+use sqlite_value::row::Row;
+use std::alloc::Global;
+use std::collections::HashMap;
+use std::marker::PhantomData;
+use std::sync::Arc;
+
+/// A storage of blobs over a database of two tables, in a file or in memory, with names of roots. What was stored and
+/// which names were set is held back in memory until a flush commits it all at once.
+#[derive(Drop)]
+pub struct FileBlobs<E: Env, S: Store> {
+    pub(crate) store: S,
+    pub(crate) waiting: Waiting,
+    pub(crate) waiting_roots: WaitingRoots,
+    pub(crate) row: Row,
+    bytes: Vec<u8>,
+    pub(crate) closed: bool,
+    pub(crate) stats: Stats,
+    environment: PhantomData<E>,
+    ghost settled: { Settled (S.view store) } by { settled_prop (S.view store) },
+    ghost named: { AreKeyed (key_of E.Hash.digest) waiting },
+}
+
+impl<E: Env> FileBlobs<E, FileStore<File>> {
+    /// Opens the file at a path, or makes it. A new file ends each page in a sum of its bytes, so that damage is seen.
+    ///
+    /// # Errors
+    /// As [`OpenError`] names them; a file that is refused is left as it is.
+    pub fn open(rt: &HostRuntime, path: &str) -> Result<FileBlobs<E, FileStore<File>>, OpenError> {
+        let conn = Connection::open_with_sums(rt, path)?;
+        FileBlobs::over(rt.alloc(), conn)
+    }
+}
+
+impl<E: Env> FileBlobs<E, MemStore> {
+    /// Makes a storage in memory, without blobs and names.
+    ///
+    /// # Errors
+    /// OutOfMemory.
+    pub fn in_memory(alloc: Global) -> Result<FileBlobs<E, MemStore>, OpenError> {
+        let conn = Connection::open_in_memory(alloc)?;
+        FileBlobs::over(alloc, conn)
+    }
+}
+
+impl<E: Env, S: Alter + Drop> FileBlobs<E, S> {
+    /// Opens the blobs of a database, or makes the tables for them where it has none.
+    ///
+    /// # Errors
+    /// As [`OpenError`] names them, with nothing changed.
+    #[tactic(auto, using(crate::proofs::Fetching::none_keyed))]
+    pub fn over(alloc: Global, conn: Connection<S>) -> Result<FileBlobs<E, S>, OpenError>
+        ensures open { IfOk result (λ blobs. blobs.closed ≡ false) }
+        ensures clean { IfOk result (λ blobs. IsTrue (is_sure (S.Store.view blobs.store)) → IsClean (S.Store.view conn.store)) }
+        ensures nothing_waits { IfOk result (λ blobs. (blobs.waiting.entries ≡ []) × (blobs.waiting_roots.entries ≡ [])) }
+        ensures blobs { IfOk result (λ blobs. IsTrue (is_sure (S.Store.view blobs.store)) → (S.Store.view blobs.store).committed blob_tree ≡ (state S.Store conn).committed.trees blob_tree) }
+        ensures roots { IfOk result (λ blobs. IsTrue (is_sure (S.Store.view blobs.store)) → (S.Store.view blobs.store).committed root_tree ≡ (state S.Store conn).committed.trees root_tree) }
+    {
+        let mut store = conn.into_store();
+        prepare(alloc, &mut store)?;
+        Ok(FileBlobs {
+            store,
+            waiting: HashMap::new(alloc),
+            waiting_roots: HashMap::new(alloc),
+            row: Row::new(alloc),
+            bytes: Vec::new(alloc),
+            closed: false,
+            stats: Stats::NONE,
+            environment: PhantomData,
+        })
+    }
+}
+
+impl<E: Env, S: Store> FileBlobs<E, S> {
+    /// Tells what has been asked since the open.
+    pub fn stats(&self) -> Stats
+        ensures { result ≡ self.now.stats }
+    {
+        self.stats
+    }
+
+    /// Tells whether a blob stands under a key. It is read, and its key isn't computed again.
+    ///
+    /// # Errors
+    /// OutOfMemory, or Storage with the failure counted.
+    #[tactic(auto, using(crate::proofs::Named::roots_named))]
+    pub fn contains(&mut self, alloc: Global, key: DataKey) -> Result<bool, Error>
+        ensures ok { IsTrue (is_sure (S.view self.new.store)) → IfOk result (λ there. there ≡ is_some (unless self.old.closed (stored_with self.old.waiting ((S.view self.old.store).committed blob_tree)) key)) }
+        ensures same { IsTrue (is_sure (S.view self.new.store)) → unless self.new.closed (stored_with self.new.waiting ((S.view self.new.store).committed blob_tree)) ≡ unless self.old.closed (stored_with self.old.waiting ((S.view self.old.store).committed blob_tree)) }
+        ensures sure { IsTrue (is_sure (S.view self.new.store)) → IsTrue (is_sure (S.view self.old.store)) }
+        ensures only { IfErr result (RefusesFlush self.old.stats.failures self.new.stats.failures) }
+        ensures later { self.old.stats.failures ≤ self.new.stats.failures }
+        ensures open { self.new.closed ≡ self.old.closed }
+    {
+        if self.closed {
+            return Ok(false);
+        }
+        let there = has(
+            alloc,
+            &mut self.store,
+            &mut self.row,
+            &self.waiting,
+            &mut self.stats,
+            key,
+        )?;
+        Ok(there)
+    }
+
+    /// Tells how many blobs wait for a flush.
+    pub fn pending(&self) -> usize {
+        self.waiting.len()
+    }
+
+    /// Commits the blobs that were stored and the names that were set, all in one, or none of them.
+    ///
+    /// # Errors
+    /// OutOfMemory, or Storage with the failure counted; then all of it waits as before.
+    #[tactic(auto, using(crate::proofs::Committing::committing, crate::proofs::Fetching::none_keyed))]
+    pub fn commit(&mut self) -> Result<(), Error>
+        ensures blobs { IsTrue (is_sure (S.view self.new.store)) → OnOk result (blobs_in ((S.view self.new.store).committed blob_tree) ≡ stored_with self.old.waiting ((S.view self.old.store).committed blob_tree)) }
+        ensures roots { IsTrue (is_sure (S.view self.new.store)) → OnOk result (roots_in ((S.view self.new.store).committed root_tree) ≡ roots_with self.old.waiting_roots ((S.view self.old.store).committed root_tree)) }
+        ensures stored { IsTrue (is_sure (S.view self.new.store)) → stored_with self.new.waiting ((S.view self.new.store).committed blob_tree) ≡ stored_with self.old.waiting ((S.view self.old.store).committed blob_tree) }
+        ensures roots_stay { IsTrue (is_sure (S.view self.new.store)) → roots_with self.new.waiting_roots ((S.view self.new.store).committed root_tree) ≡ roots_with self.old.waiting_roots ((S.view self.old.store).committed root_tree) }
+        ensures nothing_waits { OnOk result ((self.new.waiting.entries ≡ []) × (self.new.waiting_roots.entries ≡ [])) }
+        ensures sure { IsTrue (is_sure (S.view self.new.store)) → IsTrue (is_sure (S.view self.old.store)) }
+        ensures only { IfErr result (RefusesFlush self.old.stats.failures self.new.stats.failures) }
+        ensures later { self.old.stats.failures ≤ self.new.stats.failures }
+        ensures open { self.new.closed ≡ self.old.closed }
+        ensures crash { IsTrue (is_sure (S.view self.old.store)) → IsClean (S.view self.new.store) → (db : Trees) → S.recovers self.new.store db
+            → (blobs_in (db blob_tree) ≡ stored_with self.old.waiting ((S.view self.old.store).committed blob_tree)) × (roots_in (db root_tree) ≡ roots_with self.old.waiting_roots ((S.view self.old.store).committed root_tree))
+            ⊎ S.recovers self.old.store db }
+    {
+        match save(
+            &mut self.store,
+            &mut self.row,
+            &mut self.bytes,
+            &self.waiting,
+            &self.waiting_roots,
+        ) {
+            Ok(()) => {
+                self.waiting.clear();
+                self.waiting_roots.clear();
+                self.stats.flushes = self.stats.flushes.saturating_add(1);
+                Ok(())
+            }
+            Err(error) => Err(refuse(&mut self.stats, error)),
+        }
+    }
+
+    /// Gives the database back. What waits for a flush is let go.
+    pub fn into_store(self) -> S
+        ensures { result ≡ self.store }
+    {
+        self.store
+    }
+}
+
+impl<E: Env, S: Store> PagableStorage<E> for FileBlobs<E, S> {
+    ghost stored = { λ s. unless s.closed (stored_with s.waiting ((S.view s.store).committed blob_tree)) };
+
+    ghost flushed = { λ s. unless s.closed (blobs_in ((S.view s.store).committed blob_tree)) };
+
+    ghost is_closed = { λ s. s.closed };
+
+    ghost is_honest = { λ s. is_sure (S.view s.store) };
+
+    ghost failed = { λ s. s.stats.failures };
+
+    #[tactic(auto, using(crate::proofs::Fetching::fetching))]
+    fn fetch_data_blocking(
+        &mut self,
+        alloc: Global,
+        key: DataKey,
+    ) -> Result<Arc<PagableData>, Error> {
+        if self.closed {
+            return Err(Error::NoData(key));
+        }
+        if let Some(held) = waiting_at(&self.waiting, key) {
+            let blob = held_blob(held, key)?;
+            return Ok(blob);
+        }
+        match read(alloc, &mut self.store, &mut self.row, key) {
+            Ok(found) => tested::<E>(alloc, &mut self.stats, key, found),
+            Err(error) => Err(refuse(&mut self.stats, error)),
+        }
+    }
+
+    fn fetch_data(
+        &mut self,
+        _cx: &mut Context<'_>,
+        alloc: Global,
+        key: DataKey,
+    ) -> Poll<Result<Arc<PagableData>, Error>> {
+        Poll::Ready(self.fetch_data_blocking(alloc, key))
+    }
+
+    #[tactic(auto, using(crate::proofs::Fetching::storing))]
+    fn store_data(&mut self, alloc: Global, blob: PagableData) -> Result<DataKey, Error> {
+        if self.closed {
+            return Err(Error::Closed);
+        }
+        let key = blob.compute_key::<E::Hash>();
+        if let Some(held) = waiting_at(&self.waiting, key) {
+            is_held(&mut self.stats, held, key, &blob)?;
+            return Ok(key);
+        }
+        match read(alloc, &mut self.store, &mut self.row, key) {
+            Ok(None) => {}
+            Ok(Some(found)) => {
+                is_found(&mut self.stats, &found, &blob)?;
+                return Ok(key);
+            }
+            Err(error) => return Err(refuse(&mut self.stats, error)),
+        }
+        let blob = Arc::new(alloc, blob)?;
+        hold(&mut self.waiting, key, blob)?;
+        self.stats.stores = self.stats.stores.saturating_add(1);
+        Ok(key)
+    }
+
+    fn flush(&mut self) -> Result<(), Error> {
+        if self.closed {
+            return Ok(());
+        }
+        self.commit()
+    }
+
+    #[tactic(auto, using(crate::proofs::Fetching::none_keyed))]
+    fn close(&mut self) {
+        self.waiting.clear();
+        self.waiting_roots.clear();
+        self.closed = true;
+    }
+
+    fn has_closed(&self) -> bool {
+        self.closed
+    }
+
+    fn failures(&self) -> u64 {
+        self.stats.failures
+    }
+}
+
+/// Shares the blob that waits at a key's place, if it is this key's.
+fn held_blob(held: &Pending, key: DataKey) -> Result<Arc<PagableData>, Error>
+    ensures ok { IfOk result (λ blob. (blob_of (arc_value blob) ≡ blob_pending held.now) × (held.now.key ≡ key)) }
+    ensures only { IfErr result (IsNotHeld held.now.key key) }
+{
+    if held.key != key {
+        return Err(Error::NoData(key));
+    }
+    Ok(held.blob.clone()?)
+}
+
+/// Shares what was read, if it has the key that was asked for.
+fn tested<E: Env>(
+    alloc: Global,
+    stats: &mut Stats,
+    key: DataKey,
+    found: Option<Reading>,
+) -> Result<Arc<PagableData>, Error>
+    ensures ok { IfOk result (λ blob. HasBlob found (blob_of (arc_value blob))) }
+    ensures named { IfOk result (λ blob. key_of E.Hash.digest (blob_of (arc_value blob)) ≡ key) }
+    ensures only { IfErr result (RefusesRead found key stats.old.failures stats.new.failures) }
+    ensures later { stats.old.failures ≤ stats.new.failures }
+{
+    match found {
+        None | Some(Reading::Other) => Err(Error::NoData(key)),
+        Some(Reading::Damaged) => Err(fail(stats, Fault::Damaged)),
+        Some(Reading::Blob(blob)) => {
+            if blob.compute_key::<E::Hash>() != key {
+                return Err(fail(stats, Fault::Damaged));
+            }
+            count_fetch(stats, blob.bytes.len());
+            Ok(Arc::new(alloc, blob)?)
+        }
+    }
+}
+
+/// Counts a fetch of so many bytes.
+fn count_fetch(stats: &mut Stats, bytes: usize)
+    ensures { stats.new.failures ≡ stats.old.failures }
+{
+    stats.fetches = stats.fetches.saturating_add(1);
+    stats.fetched_bytes = stats.fetched_bytes.saturating_add(bytes as u64);
+}
+
+/// Tests that what waits at a key's place is this blob under this key.
+fn is_held(stats: &mut Stats, held: &Pending, key: DataKey, blob: &PagableData) -> Result<(), Error>
+    ensures ok { OnOk result ((held.now.key ≡ key) × (blob_pending held.now ≡ blob_of blob.now)) }
+    ensures only { IfErr result (RefusesHeld held.now key (blob_of blob.now) stats.old.failures stats.new.failures) }
+    ensures later { stats.old.failures ≤ stats.new.failures }
+{
+    if held.key != key {
+        return Err(fail(stats, Fault::PlaceTaken));
+    }
+    if !is_same(&held.blob, blob) {
+        return Err(Error::KeyTaken);
+    }
+    stats.known = stats.known.saturating_add(1);
+    Ok(())
+}
+
+/// Tests that what was read at a key's place is this blob under this key.
+fn is_found(stats: &mut Stats, found: &Reading, blob: &PagableData) -> Result<(), Error>
+    ensures ok { OnOk result (HasBlob (Some found.now) (blob_of blob.now)) }
+    ensures only { IfErr result (RefusesFound found.now (blob_of blob.now) stats.old.failures stats.new.failures) }
+    ensures later { stats.old.failures ≤ stats.new.failures }
+{
+    match found {
+        Reading::Other => Err(fail(stats, Fault::PlaceTaken)),
+        Reading::Damaged => Err(fail(stats, Fault::Damaged)),
+        Reading::Blob(there) => {
+            if !is_same(there, blob) {
+                return Err(Error::KeyTaken);
+            }
+            stats.known = stats.known.saturating_add(1);
+            Ok(())
+        }
+    }
+}

@@ -1,0 +1,30 @@
+//! Blobs that last: a storage of a pager in a file that SQLite reads, with names of roots, and the same in memory.
+//!
+//! The file has two tables, `blobs` and `roots`, over the kit's `sqlite`. What was stored is held back in memory until
+//! `flush` writes it, the names of roots with the blobs that they stand for, in one transaction.
+#![tactic(auto)]
+
+pub mod blob_env;
+pub mod fault;
+pub mod file_blobs;
+pub mod laws;
+mod lookup;
+mod naming;
+pub mod open_error;
+pub mod pending;
+pub mod reopening;
+pub mod roots;
+pub mod rows;
+mod saving;
+mod scan;
+pub mod stats;
+pub mod tables;
+#[cfg(test)]
+mod tests;
+
+pub use blob_env::BlobEnv;
+pub use fault::Fault;
+pub use file_blobs::FileBlobs;
+pub use open_error::OpenError;
+pub use roots::Roots;
+pub use stats::Stats;

@@ -1,0 +1,76 @@
+//! Looks at one row of a table.
+
+ghost use Rattle.std.specs.Prelude.{◌≡◌, IfOk, IsTrue, None, Some, if◌then◌else◌};
+ghost use Rattle.sqlite_trees.specs.{Tree.Trees, declared.store.Shape.TheVariants.Table};
+ghost use Rattle.pagable_file.specs.{Blobs.{IsFoundAs, IsNamedAs, Settled, StaysPut, is_sure}, Rows.{blob_tree, root_tree, row_at}};
+
+use crate::rows::{Naming, Reading, place_of, place_of_name, read_blob, read_root};
+use crate::tables::{BLOBS, ROOTS};
+use pagable_flavors::DataKey;
+use sqlite_trees::error::StoreError;
+use sqlite_trees::store::Store;
+use sqlite_value::row::Row;
+use std::alloc::Global;
+
+/// Reads the row at a place of a table over `row`, or answers false where none is there. A failure is rolled back.
+#[tactic(auto, using(crate::proofs::Settling::reading))]
+pub fn look<S: Store>(
+    store: &mut S,
+    table: u32,
+    place: i64,
+    row: &mut Row,
+) -> Result<bool, StoreError>
+    requires settled { Settled (S.view store.old) }
+    requires table { IsTrue (is_sure (S.view store.old)) → (S.view store.old).shape table ≡ Table }
+    ensures found { IsTrue (is_sure (S.view store.new)) → IfOk result (λ found. row_at ((S.view store.old).committed table) place ≡ (if found then Some row.new else None)) }
+    ensures stays { StaysPut (S.view store.old) (S.view store.new) }
+    ensures crash { (db : Trees) → S.recovers store.new db → S.recovers store.old db }
+{
+    if store.is_broken() {
+        return Err(StoreError::Broken);
+    }
+    match store.get(table, place, row) {
+        Ok(found) => Ok(found),
+        Err(error) => {
+            store.rollback();
+            Err(error)
+        }
+    }
+}
+
+/// Reads the blob of a key from its table; None where no row stands at the key's place.
+pub fn read<S: Store>(
+    alloc: Global,
+    store: &mut S,
+    row: &mut Row,
+    key: DataKey,
+) -> Result<Option<Reading>, StoreError>
+    requires settled { Settled (S.view store.old) }
+    ensures found { IsTrue (is_sure (S.view store.new)) → IfOk result (IsFoundAs ((S.view store.old).committed blob_tree) key) }
+    ensures stays { StaysPut (S.view store.old) (S.view store.new) }
+    ensures crash { (db : Trees) → S.recovers store.new db → S.recovers store.old db }
+{
+    if look(store, BLOBS, place_of(key), row)? {
+        Ok(Some(read_blob(alloc, row, key)?))
+    } else {
+        Ok(None)
+    }
+}
+
+/// Reads the root of a name from its table; None where no row stands at the name's place.
+pub fn read_name<S: Store>(
+    store: &mut S,
+    row: &mut Row,
+    name: &str,
+) -> Result<Option<Naming>, StoreError>
+    requires settled { Settled (S.view store.old) }
+    ensures found { IsTrue (is_sure (S.view store.new)) → IfOk result (IsNamedAs ((S.view store.old).committed root_tree) name.now) }
+    ensures stays { StaysPut (S.view store.old) (S.view store.new) }
+    ensures crash { (db : Trees) → S.recovers store.new db → S.recovers store.old db }
+{
+    if look(store, ROOTS, place_of_name(name), row)? {
+        Ok(Some(read_root(row, name)))
+    } else {
+        Ok(None)
+    }
+}

@@ -1,0 +1,190 @@
+//! Looks at what waits and then at a table: whether a blob stands under a key, and whether a name may be set.
+
+ghost use Rattle.std.specs.{HashMap.get, Ordering.int_eq, Str.bytes_eq, String.string_bytes, Prelude.{◌≡◌, ◌≤◌, None, false, is_some, if◌then◌else◌, IfErr, IfOk, IsTrue, OnErr, OnOk, true}};
+ghost use Rattle.pagable_model.specs.{Gives.memory, Stored.RefusesFlush};
+ghost use Rattle.pagable_file.specs.Blobs.{HasPlace, HoldsRoot, IsNotOther, RefusesRoot, Settled, Stands, StaysPut, found_root, is_sure, reads_blob, stored_with};
+ghost use Rattle.pagable_file.specs.Rows.{blob_tree, root_tree, row_at};
+ghost use Rattle.pagable_file.specs.Rows as spec;
+
+use crate::fault::Fault;
+use crate::lookup::{read, read_name};
+use crate::pending::{PendingRoot, Waiting, WaitingRoots, root_at, waiting_at};
+use crate::rows::{Naming, Reading, place_of_name};
+use crate::stats::{Stats, fail, refuse};
+use pagable_flavors::{DataKey, Error};
+use sqlite_trees::store::Store;
+use sqlite_value::row::Row;
+use std::alloc::Global;
+
+/// Whether a blob was read.
+fn is_blob(found: &Option<Reading>) -> bool
+    ensures { result ≡ reads_blob found.now }
+{
+    matches!(found, Some(Reading::Blob(_)))
+}
+
+/// Tells whether a blob stands under a key. It is read, and its key isn't computed again.
+#[tactic(auto, using(crate::proofs::Named::looking))]
+pub fn has<S: Store>(
+    alloc: Global,
+    store: &mut S,
+    row: &mut Row,
+    waiting: &Waiting,
+    stats: &mut Stats,
+    key: DataKey,
+) -> Result<bool, Error>
+    requires settled { Settled (S.view store.old) }
+    ensures ok { IsTrue (is_sure (S.view store.new)) → IfOk result (λ there. there ≡ is_some (stored_with waiting.now ((S.view store.old).committed blob_tree) key)) }
+    ensures stays { StaysPut (S.view store.old) (S.view store.new) }
+    ensures only { IfErr result (RefusesFlush stats.old.failures stats.new.failures) }
+    ensures later { stats.old.failures ≤ stats.new.failures }
+{
+    if let Some(held) = waiting_at(waiting, key) {
+        return Ok(held.key == key);
+    }
+    match read(alloc, store, row, key) {
+        Ok(found) => Ok(is_blob(&found)),
+        Err(error) => Err(refuse(stats, error)),
+    }
+}
+
+/// Tests that a blob stands under a key, if there is one.
+#[tactic(auto, using(crate::proofs::Named::looking))]
+fn test_key<S: Store>(
+    alloc: Global,
+    store: &mut S,
+    row: &mut Row,
+    waiting: &Waiting,
+    stats: &mut Stats,
+    key: &Option<DataKey>,
+) -> Result<(), Error>
+    requires settled { Settled (S.view store.old) }
+    ensures stands { IsTrue (is_sure (S.view store.new)) → OnOk result (Stands (stored_with waiting.now ((S.view store.old).committed blob_tree)) key.now) }
+    ensures refused { IsTrue (is_sure (S.view store.new)) → IfErr result (RefusesRoot key.now (stored_with waiting.now ((S.view store.old).committed blob_tree)) false stats.old.failures stats.new.failures) }
+    ensures stays { StaysPut (S.view store.old) (S.view store.new) }
+    ensures later { stats.old.failures ≤ stats.new.failures }
+{
+    let Some(wanted) = key else {
+        return Ok(());
+    };
+    let there = has(alloc, store, row, waiting, stats, *wanted)?;
+    if there {
+        Ok(())
+    } else {
+        Err(Error::NoData(*wanted))
+    }
+}
+
+/// The key that a name stands for by what waits at its place, or None where another name waits there.
+pub fn held_root(held: &PendingRoot, name: &str) -> Option<DataKey>
+    ensures { result ≡ (if bytes_eq (string_bytes held.now.name) name.now then held.now.key else None) }
+{
+    if held.name.as_bytes() == name.as_bytes() {
+        held.key
+    } else {
+        None
+    }
+}
+
+/// The key that a name stands for by what was read.
+pub fn read_key_of(found: Option<Naming>) -> Option<DataKey>
+    ensures { result ≡ found_root found }
+{
+    match found {
+        Some(Naming::Root(key)) => key,
+        Some(Naming::Other) | None => None,
+    }
+}
+
+/// Tests that what waits at a name's place is this name.
+fn test_held(stats: &mut Stats, held: &PendingRoot, name: &str) -> Result<(), Error>
+    ensures ok { OnOk result (bytes_eq (string_bytes held.now.name) name.now ≡ true) }
+    ensures only { IfErr result (RefusesFlush stats.old.failures stats.new.failures) }
+    ensures later { stats.old.failures ≤ stats.new.failures }
+{
+    if held.name.as_bytes() == name.as_bytes() {
+        Ok(())
+    } else {
+        Err(fail(stats, Fault::PlaceTaken))
+    }
+}
+
+/// Tests that what was read at a name's place is no other name.
+fn test_found(stats: &mut Stats, found: Option<Naming>) -> Result<(), Error>
+    ensures ok { OnOk result (IsNotOther found) }
+    ensures only { IfErr result (RefusesFlush stats.old.failures stats.new.failures) }
+    ensures later { stats.old.failures ≤ stats.new.failures }
+{
+    match found {
+        Some(Naming::Other) => Err(fail(stats, Fault::PlaceTaken)),
+        Some(Naming::Root(_)) | None => Ok(()),
+    }
+}
+
+/// Tests that no other name has this one's place.
+#[tactic(auto, using(crate::proofs::Named::looking))]
+fn test_place<S: Store>(
+    store: &mut S,
+    row: &mut Row,
+    waiting: &WaitingRoots,
+    stats: &mut Stats,
+    name: &str,
+) -> Result<(), Error>
+    requires settled { Settled (S.view store.old) }
+    ensures free { IsTrue (is_sure (S.view store.new)) → OnOk result (HasPlace name.now (get int_eq waiting.now (spec.place_of_name name.now)) (row_at ((S.view store.old).committed root_tree) (spec.place_of_name name.now))) }
+    ensures stays { StaysPut (S.view store.old) (S.view store.new) }
+    ensures only { IfErr result (RefusesFlush stats.old.failures stats.new.failures) }
+    ensures later { stats.old.failures ≤ stats.new.failures }
+{
+    if let Some(held) = root_at(waiting, name) {
+        test_held(stats, held, name)?;
+        return Ok(());
+    }
+    match read_name(store, row, name) {
+        Ok(found) => {
+            test_found(stats, found)?;
+            Ok(())
+        }
+        Err(error) => Err(refuse(stats, error)),
+    }
+}
+
+/// Tests that a blob stands under the key, if there is one, and that no other name has this one's place.
+#[tactic(auto, using(crate::proofs::Named::looking))]
+pub fn test_root<S: Store>(
+    alloc: Global,
+    store: &mut S,
+    row: &mut Row,
+    waiting: &Waiting,
+    waiting_roots: &WaitingRoots,
+    stats: &mut Stats,
+    name: &str,
+    key: &Option<DataKey>,
+) -> Result<(), Error>
+    requires settled { Settled (S.view store.old) }
+    ensures stands { IsTrue (is_sure (S.view store.new)) → OnOk result (Stands (stored_with waiting.now ((S.view store.old).committed blob_tree)) key.now) }
+    ensures free { IsTrue (is_sure (S.view store.new)) → OnOk result (HasPlace name.now (get int_eq waiting_roots.now (spec.place_of_name name.now)) (row_at ((S.view store.old).committed root_tree) (spec.place_of_name name.now))) }
+    ensures refused { IsTrue (is_sure (S.view store.new)) → IfErr result (RefusesRoot key.now (stored_with waiting.now ((S.view store.old).committed blob_tree)) false stats.old.failures stats.new.failures) }
+    ensures stays { StaysPut (S.view store.old) (S.view store.new) }
+    ensures later { stats.old.failures ≤ stats.new.failures }
+{
+    test_key(alloc, store, row, waiting, stats, key)?;
+    test_place(store, row, waiting_roots, stats, name)?;
+    Ok(())
+}
+
+/// Lets a name wait with the key that it stands for.
+pub fn hold_root(
+    alloc: Global,
+    waiting: &mut WaitingRoots,
+    name: &str,
+    key: Option<DataKey>,
+) -> Result<(), Error>
+    ensures ok { OnOk result (HoldsRoot name.now key waiting.old waiting.new) }
+    ensures only { IfErr result memory }
+    ensures err { OnErr result (waiting.new.entries ≡ waiting.old.entries) }
+{
+    let text = String::from_str(alloc, name)?;
+    waiting.insert(place_of_name(name), PendingRoot { name: text, key })?;
+    Ok(())
+}

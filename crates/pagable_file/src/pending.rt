@@ -1,0 +1,63 @@
+//! What was stored, and which names were set, and not yet flushed.
+
+ghost use Rattle.std.specs.{Arc.arc_value, HashMap.get, Ordering.int_eq, Prelude.{◌≡◌, ◌↔◌, IfErr, IsTrue, OnErr, OnOk, option_copied}};
+ghost use Rattle.{pagable_core.specs.Data.blob_of, pagable_file.specs.Blobs.Holds, pagable_model.specs.Gives.memory};
+ghost use Rattle.pagable_file.specs.Rows as spec;
+
+use crate::rows::{place_of, place_of_name};
+use pagable_core::PagableData;
+use pagable_flavors::{DataKey, Error};
+use std::collections::HashMap;
+use std::sync::Arc;
+
+/// A blob that waits for a flush, with its key.
+#[derive(Drop)]
+pub struct Pending {
+    pub key: DataKey,
+    pub blob: Arc<PagableData>,
+}
+
+/// The blobs that wait for a flush, by their places.
+pub type Waiting = HashMap<i64, Pending>;
+
+/// A name that waits for a flush, with the key that it stands for; None where it stands for none any more.
+#[derive(Drop)]
+pub struct PendingRoot {
+    pub name: String,
+    pub key: Option<DataKey>,
+}
+
+/// The names that wait for a flush, by their places.
+pub type WaitingRoots = HashMap<i64, PendingRoot>;
+
+/// Finds what waits at a key's place.
+pub fn waiting_at(waiting: &Waiting, key: DataKey) -> Option<&Pending>
+    ensures { option_copied result ≡ get int_eq waiting.now (spec.place_of key) }
+{
+    waiting.get(&place_of(key))
+}
+
+/// Finds what waits at a name's place.
+pub fn root_at<'a>(waiting: &'a WaitingRoots, name: &str) -> Option<&'a PendingRoot>
+    ensures { option_copied result ≡ get int_eq waiting.now (spec.place_of_name name.now) }
+{
+    waiting.get(&place_of_name(name))
+}
+
+/// Lets a blob wait under its key.
+#[tactic(auto, using(crate::proofs::Fetching::holds))]
+pub fn hold(waiting: &mut Waiting, key: DataKey, blob: Arc<PagableData>) -> Result<(), Error>
+    ensures ok { OnOk result (Holds key (blob_of (arc_value blob)) waiting.old waiting.new) }
+    ensures only { IfErr result memory }
+    ensures err { OnErr result (waiting.new.entries ≡ waiting.old.entries) }
+{
+    waiting.insert(place_of(key), Pending { key, blob })?;
+    Ok(())
+}
+
+/// Whether two blobs are one.
+pub fn is_same(left: &PagableData, right: &PagableData) -> bool
+    ensures { IsTrue result ↔ (blob_of left.now ≡ blob_of right.now) }
+{
+    left == right
+}

@@ -1,0 +1,114 @@
+//! The transaction that commits all that waits.
+
+ghost use Rattle.std.specs.{HashMap.IsUnique, List.AllByRecursion, Ordering.int_eq, Prelude.{◌≡◌, ◌≤◌, ◌⊎◌, OnErr, OnOk}};
+ghost use Rattle.sqlite_trees.specs.{Tree.Trees, View.{IsClean, KeepsCommitted, doubt}, declared.store.Shape.TheVariants.Table};
+ghost use Rattle.pagable_file.specs.{Blobs.{CanBeKeyIf, Fits, Saved, SavedAs, Settled, StaysPut, Wrote, pending_root_row, pending_row, put_all}, Rows.{blob_tree, root_tree}};
+
+use crate::pending::{Waiting, WaitingRoots};
+use crate::rows::{write_blob, write_root};
+use crate::tables::{BLOBS, ROOTS};
+use sqlite_trees::error::StoreError;
+use sqlite_trees::store::Store;
+use sqlite_value::row::Row;
+
+/// Puts the blobs that wait into their table, in a transaction that goes on.
+#[tactic(auto, using(crate::proofs::Settling::writing, crate::proofs::Putting::putting))]
+fn put_blobs<S: Store>(
+    store: &mut S,
+    row: &mut Row,
+    bytes: &mut Vec<u8>,
+    waiting: &Waiting,
+) -> Result<(), StoreError>
+    requires table { IsClean (S.view store.old) → (S.view store.old).shape blob_tree ≡ Table }
+    ensures ok { OnOk result (IsClean (S.view store.new) → Wrote (S.view store.old) (S.view store.new) (put_all pending_row waiting.now.entries ((S.view store.old).trees blob_tree)) ((S.view store.old).trees root_tree)) }
+    ensures fit { OnOk result (AllByRecursion (λ e. Fits e.1) waiting.now.entries) }
+    ensures once { IsUnique int_eq waiting.now }
+    ensures err { OnErr result (IsClean (S.view store.new) → KeepsCommitted (S.view store.old) (S.view store.new)) }
+    ensures clean { doubt (S.view store.old).is_clean ≤ doubt (S.view store.new).is_clean }
+    ensures crash { (db : Trees) → S.recovers store.new db → S.recovers store.old db }
+{
+    for (place, pending) in waiting {
+        write_blob(row, bytes, *place, pending.key, &pending.blob)?;
+        store.put(BLOBS, row)?;
+    }
+    Ok(())
+}
+
+/// Puts the names that wait into their table, in the same transaction.
+#[tactic(auto, using(crate::proofs::Settling::writing, crate::proofs::Putting::putting))]
+fn put_roots<S: Store>(
+    store: &mut S,
+    row: &mut Row,
+    bytes: &mut Vec<u8>,
+    waiting: &WaitingRoots,
+) -> Result<(), StoreError>
+    requires table { IsClean (S.view store.old) → (S.view store.old).shape root_tree ≡ Table }
+    ensures ok { OnOk result (IsClean (S.view store.new) → Wrote (S.view store.old) (S.view store.new) ((S.view store.old).trees blob_tree) (put_all pending_root_row waiting.now.entries ((S.view store.old).trees root_tree))) }
+    ensures fit { OnOk result (AllByRecursion (λ e. CanBeKeyIf e.1.key) waiting.now.entries) }
+    ensures once { IsUnique int_eq waiting.now }
+    ensures err { OnErr result (IsClean (S.view store.new) → KeepsCommitted (S.view store.old) (S.view store.new)) }
+    ensures clean { doubt (S.view store.old).is_clean ≤ doubt (S.view store.new).is_clean }
+    ensures crash { (db : Trees) → S.recovers store.new db → S.recovers store.old db }
+{
+    for (place, root) in waiting {
+        write_root(row, bytes, *place, root.name.as_str(), root.key)?;
+        store.put(ROOTS, row)?;
+    }
+    Ok(())
+}
+
+/// Puts all that waits into the two tables.
+#[tactic(auto, using(crate::proofs::Settling::writing, crate::proofs::Putting::putting))]
+fn put_waiting<S: Store>(
+    store: &mut S,
+    row: &mut Row,
+    bytes: &mut Vec<u8>,
+    waiting: &Waiting,
+    roots: &WaitingRoots,
+) -> Result<(), StoreError>
+    requires blobs { IsClean (S.view store.old) → (S.view store.old).shape blob_tree ≡ Table }
+    requires roots { IsClean (S.view store.old) → (S.view store.old).shape root_tree ≡ Table }
+    ensures ok { OnOk result (IsClean (S.view store.new) → Wrote (S.view store.old) (S.view store.new) (put_all pending_row waiting.now.entries ((S.view store.old).trees blob_tree)) (put_all pending_root_row roots.now.entries ((S.view store.old).trees root_tree))) }
+    ensures fit { OnOk result (AllByRecursion (λ e. Fits e.1) waiting.now.entries) }
+    ensures roots_fit { OnOk result (AllByRecursion (λ e. CanBeKeyIf e.1.key) roots.now.entries) }
+    ensures once { OnOk result (IsUnique int_eq waiting.now) }
+    ensures roots_once { OnOk result (IsUnique int_eq roots.now) }
+    ensures err { OnErr result (IsClean (S.view store.new) → KeepsCommitted (S.view store.old) (S.view store.new)) }
+    ensures clean { doubt (S.view store.old).is_clean ≤ doubt (S.view store.new).is_clean }
+    ensures crash { (db : Trees) → S.recovers store.new db → S.recovers store.old db }
+{
+    put_blobs(store, row, bytes, waiting)?;
+    put_roots(store, row, bytes, roots)?;
+    Ok(())
+}
+
+/// Commits all that waits in one transaction, or leaves what was committed as it is.
+#[tactic(auto, using(crate::proofs::Settling::saving, crate::proofs::Committing::crashed))]
+pub fn save<S: Store>(
+    store: &mut S,
+    row: &mut Row,
+    bytes: &mut Vec<u8>,
+    waiting: &Waiting,
+    roots: &WaitingRoots,
+) -> Result<(), StoreError>
+    requires settled { Settled (S.view store.old) }
+    ensures ok { OnOk result (Saved (S.view store.old) (S.view store.new) (put_all pending_row waiting.now.entries ((S.view store.old).trees blob_tree)) (put_all pending_root_row roots.now.entries ((S.view store.old).trees root_tree))) }
+    ensures fit { OnOk result (AllByRecursion (λ e. Fits e.1) waiting.now.entries) }
+    ensures roots_fit { OnOk result (AllByRecursion (λ e. CanBeKeyIf e.1.key) roots.now.entries) }
+    ensures once { OnOk result (IsUnique int_eq waiting.now) }
+    ensures roots_once { OnOk result (IsUnique int_eq roots.now) }
+    ensures err { OnErr result (StaysPut (S.view store.old) (S.view store.new)) }
+    ensures crash { IsClean (S.view store.new) → (db : Trees) → S.recovers store.new db
+        → SavedAs (S.view store.old) waiting.now roots.now db ⊎ S.recovers store.old db }
+{
+    if store.is_broken() {
+        return Err(StoreError::Broken);
+    }
+    match put_waiting(store, row, bytes, waiting, roots) {
+        Ok(()) => store.commit(),
+        Err(error) => {
+            store.rollback();
+            Err(error)
+        }
+    }
+}

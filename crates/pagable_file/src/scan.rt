@@ -1,0 +1,57 @@
+//! Goes over all names of roots.
+
+ghost use Rattle.std.specs.Prelude.{OnErr, OnOk, ◌≤◌};
+ghost use Rattle.sqlite_trees.specs.{Tree.Trees, View.{IsClean, KeepsCommitted, doubt}};
+ghost use Rattle.pagable_file.specs.Blobs.{MovesOnly, Settled, StaysPut};
+
+use crate::tables::ROOTS;
+use sqlite_trees::error::StoreError;
+use sqlite_trees::sound::bytes_of;
+use sqlite_trees::store::{Direction, Store};
+use sqlite_value::row::Row;
+use std::alloc::Global;
+
+/// The cursor that goes over a table.
+const CURSOR: u16 = 0;
+
+/// Collects the names of all rows of the table of roots that are texts, in the order of their places.
+#[tactic(auto, using(crate::proofs::Settling::scanning))]
+fn names<S: Store>(alloc: Global, store: &mut S, row: &mut Row) -> Result<Vec<String>, StoreError>
+    ensures ok { OnOk result (IsClean (S.view store.new) → MovesOnly (S.view store.old) (S.view store.new)) }
+    ensures err { OnErr result (IsClean (S.view store.new) → KeepsCommitted (S.view store.old) (S.view store.new)) }
+    ensures clean { doubt (S.view store.old).is_clean ≤ doubt (S.view store.new).is_clean }
+    ensures crash { (db : Trees) → S.recovers store.new db → S.recovers store.old db }
+{
+    let mut names = Vec::new(alloc);
+    row.clear();
+    store.seek(CURSOR, ROOTS, row, Direction::Forward)?;
+    'rows: for _ in 0..u64::MAX {
+        if !store.next(CURSOR, row)? {
+            break;
+        }
+        if let Ok(name) = str::from_utf8(bytes_of(row.get(2))) {
+            names.push(String::from_str(alloc, name)?)?;
+        }
+    }
+    Ok(names)
+}
+
+/// Collects the names of all roots, in the order of their places. A failure is rolled back.
+#[tactic(auto, using(crate::proofs::Settling::scanning))]
+pub fn all_names<S: Store>(
+    alloc: Global,
+    store: &mut S,
+    row: &mut Row,
+) -> Result<Vec<String>, StoreError>
+    requires settled { Settled (S.view store.old) }
+    ensures stays { StaysPut (S.view store.old) (S.view store.new) }
+    ensures crash { (db : Trees) → S.recovers store.new db → S.recovers store.old db }
+{
+    match names(alloc, store, row) {
+        Ok(names) => Ok(names),
+        Err(error) => {
+            store.rollback();
+            Err(error)
+        }
+    }
+}

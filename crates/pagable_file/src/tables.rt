@@ -1,0 +1,117 @@
+//! The two tables of a file of blobs.
+
+ghost use Rattle.std.specs.Prelude.{[], IsTrue, OnOk, ◌≡◌, ◌≤◌};
+ghost use Rattle.sqlite_trees.specs.{Objects.catalog_tree, View.{IsClean, doubt}};
+ghost use Rattle.sqlite_trees.specs.declared.store.Shape.TheVariants as shape;
+ghost use Rattle.pagable_file.specs.{Blobs.{Finds, IsIdle, Made}, Rows.{blob_tree, root_tree}};
+
+use crate::open_error::OpenError;
+use sqlite_trees::error::StoreError;
+use sqlite_trees::schema::Object;
+use sqlite_trees::sound::bytes_of;
+use sqlite_trees::store::{Alter, Shape, Store};
+use sqlite_value::row::Row;
+use std::alloc::Global;
+
+/// The number of the table of blobs.
+pub const BLOBS: u32 = 0;
+
+/// The number of the table of roots.
+pub const ROOTS: u32 = 1;
+
+/// The version of the two tables, which the file has as SQLite's user version.
+pub const VERSION: u32 = 1;
+
+const BLOBS_SQL: &str =
+    "CREATE TABLE blobs (place INTEGER PRIMARY KEY, key BLOB NOT NULL, bytes BLOB NOT NULL, children BLOB NOT NULL) STRICT";
+
+const ROOTS_SQL: &str =
+    "CREATE TABLE roots (place INTEGER PRIMARY KEY, name TEXT NOT NULL, key BLOB NOT NULL) STRICT";
+
+fn table(name: &'static str, sql: &'static str) -> Object<'static>
+    ensures shape { result.shape ≡ shape.Table }
+    ensures name { result.name.now ≡ name.now }
+{
+    Object {
+        shape: Shape::Table,
+        kind: "table",
+        name,
+        table: name,
+        reals: 0,
+        sql: Some(sql),
+    }
+}
+
+/// Whether a row of the list of objects is this table.
+fn lists(row: &Row, name: &str, sql: &str) -> bool {
+    bytes_of(row.get(2)) == name.as_bytes() && bytes_of(row.get(4)) == sql.as_bytes()
+}
+
+/// Whether neither of the two tables is there.
+fn is_free<S: Store>(store: &S) -> bool
+    ensures blobs { IsTrue result → (S.view store.now).shape blob_tree ≡ shape.Absent }
+    ensures roots { IsTrue result → (S.view store.now).shape root_tree ≡ shape.Absent }
+{
+    matches!(store.shape(BLOBS), Shape::Absent) && matches!(store.shape(ROOTS), Shape::Absent)
+}
+
+/// Whether both tables are there.
+fn is_there<S: Store>(store: &S) -> bool
+    ensures blobs { IsTrue result → (S.view store.now).shape blob_tree ≡ shape.Table }
+    ensures roots { IsTrue result → (S.view store.now).shape root_tree ≡ shape.Table }
+{
+    matches!(store.shape(BLOBS), Shape::Table) && matches!(store.shape(ROOTS), Shape::Table)
+}
+
+/// Makes the two tables in an empty database.
+fn make<S: Alter>(store: &mut S) -> Result<(), StoreError>
+    requires numbered { IsClean (S.Store.view store.old) → IsTrue (S.Store.view store.old).is_numbered }
+    requires empty { IsClean (S.Store.view store.old) → (S.Store.view store.old).trees catalog_tree ≡ [] }
+    requires blobs { (S.Store.view store.old).shape blob_tree ≡ shape.Absent }
+    requires roots { (S.Store.view store.old).shape root_tree ≡ shape.Absent }
+    ensures made { OnOk result (IsClean (S.Store.view store.new) → Made (S.Store.view store.old) (S.Store.view store.new)) }
+    ensures clean { doubt (S.Store.view store.old).is_clean ≤ doubt (S.Store.view store.new).is_clean }
+{
+    store.create(BLOBS, &table("blobs", BLOBS_SQL))?;
+    store.create(ROOTS, &table("roots", ROOTS_SQL))?;
+    store.set_version(VERSION)?;
+    store.commit()
+}
+
+/// Tests that the two tables are the only ones, and of this version.
+fn test<S: Alter>(store: &S, objects: &[Row]) -> Result<(), OpenError> {
+    if store.version() > VERSION {
+        return Err(OpenError::Newer(store.version()));
+    }
+    let ours = objects.len() == 2
+        && lists(&objects[0], "blobs", BLOBS_SQL)
+        && lists(&objects[1], "roots", ROOTS_SQL);
+    if ours {
+        Ok(())
+    } else {
+        Err(OpenError::NotBlobs)
+    }
+}
+
+/// Finds the two tables, and makes them where the database has none.
+#[tactic(auto, using(crate::proofs::Opening::opening))]
+pub fn prepare<S: Alter>(alloc: Global, store: &mut S) -> Result<(), OpenError>
+    requires numbered { IsClean (S.Store.view store.old) → IsTrue (S.Store.view store.old).is_numbered }
+    requires idle { IsIdle (S.Store.view store.old) }
+    ensures found { OnOk result (Finds (S.Store.view store.old) (S.Store.view store.new)) }
+{
+    let objects = store.objects(alloc)?;
+    if objects.is_empty() {
+        if !is_free(store) {
+            return Err(OpenError::Io);
+        }
+        make(store)?;
+        return Ok(());
+    }
+    test(store, objects.as_slice())?;
+    if is_there(store) {
+        Ok(())
+    } else {
+        Err(OpenError::NotBlobs)
+    }
+}
