@@ -19,8 +19,6 @@ mod saving;
 mod scan;
 pub mod stats;
 pub mod tables;
-#[cfg(test)]
-mod tests;
 
 pub use blob_env::BlobEnv;
 pub use fault::Fault;
