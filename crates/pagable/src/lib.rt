@@ -61,6 +61,14 @@ pub mod pagable_arc {
     };
 }
 
+/// Nodes of environments of one value type or three, an environment of records, and values without references as bytes.
+pub mod nodes {
+    pub use pagable_nodes::bytes::{from_bytes, to_bytes};
+    pub use pagable_nodes::{
+        EitherNode, OneNode, Record, RecordNode, RecordRef, Records, write_listed,
+    };
+}
+
 /// The parts of which the bodies of a caller's own types are made.
 pub mod parts {
     pub use pagable_codec::parts::{places_for, read_count, read_flag, write_count, write_flag};
@@ -137,6 +145,10 @@ pub use pagable_flavors::{
 };
 pub use pagable_model::{
     ArcRef, HandleNumber, Identity, Kind, LoadNumber, NodeNumber, PagableCursor, WorkerNumber,
+};
+pub use pagable_nodes::bytes::{from_bytes, to_bytes};
+pub use pagable_nodes::{
+    EitherNode, OneNode, Record, RecordNode, RecordRef, Records, write_listed,
 };
 pub use pagable_traits::alike::{CarriedAs, ReadAs};
 pub use pagable_traits::{
