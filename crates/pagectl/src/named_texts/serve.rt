@@ -9,24 +9,20 @@ use pagable_rows::lines::Answering;
 use std::alloc::Global;
 use std::io;
 use std::io::{BufRead, Write};
-use std::sync::Wait;
 
-/// Answers each line of the input with one line, by a storage over blobs in memory whose keys the hash `H` makes. Bad
-/// input is answered and never ends it. Refused where reading or writing fails, or the storage or a buffer can't be
-/// made; nothing more is written then.
-pub fn serve<H: KeyHash, T: Wait, R: BufRead, W: Write + Drop>(
-    rt: &T,
+/// Answers each line of the input with one line, by a pager over blobs in memory whose keys the hash `H` makes. Bad
+/// input is answered and never ends it. Refused where reading or writing fails, or a buffer can't be made;
+/// nothing more is written then.
+pub fn serve<H: KeyHash, R: BufRead, W: Write + Drop>(
     alloc: Global,
     reader: &mut R,
     writer: W,
 ) -> io::Result<()> {
-    match Session::<T, H>::new(rt, alloc) {
-        Ok(mut session) => lines::serve(alloc, &mut session, reader, writer),
-        Err(_) => Err(io::ErrorKind::OutOfMemory.into()),
-    }
+    let mut session: Session<H> = Session::new(alloc);
+    lines::serve(alloc, &mut session, reader, writer)
 }
 
-impl<'a, T: Wait, H: KeyHash> Answering for Session<'a, T, H> {
+impl<H: KeyHash> Answering for Session<H> {
     /// An empty line gets no answer.
     fn answer<W: Write>(
         &mut self,
