@@ -7,10 +7,12 @@ use crate::named_texts::serve::serve;
 use pagable::{KeyHash, Sha256Key, WeighHash};
 use std::io::BufReader;
 use std::process::ExitCode;
+use std::rt::Runtime;
+use std::sync::Wait;
 use std::{env, io};
 
 /// The one word after the program's name; None for no word, for more, and for one that isn't text.
-fn wanted(rt: &HostRuntime) -> io::Result<Option<String>> {
+fn wanted<R: Runtime + AllocGlobal>(rt: &R) -> io::Result<Option<String>> {
     let mut words = match env::args(rt) {
         Ok(words) => words,
         Err(e) if e.kind() == io::ErrorKind::InvalidData => return Ok(None),
@@ -24,18 +26,18 @@ fn wanted(rt: &HostRuntime) -> io::Result<Option<String>> {
 }
 
 /// Serves with keys by the hash `H`.
-fn answer<H: KeyHash>(rt: &HostRuntime) -> io::Result<()> {
+fn answer<H: KeyHash, R: Runtime + AllocGlobal + Wait>(rt: &R) -> io::Result<()> {
     let alloc = rt.alloc();
     let mut reader = BufReader::new(alloc, rt.reader())?;
-    serve::<H, _, _>(alloc, &mut reader, io::writer(rt))
+    serve::<H, _, _, _>(rt, alloc, &mut reader, io::writer(rt))
 }
 
 /// Serves with keys by the hash that the word names.
-fn run(rt: &HostRuntime) -> io::Result<ExitCode> {
+fn run<R: Runtime + AllocGlobal + Wait>(rt: &R) -> io::Result<ExitCode> {
     let word = wanted(rt)?;
     match word.as_ref().map(String::as_str) {
-        Some("weigh") => answer::<WeighHash>(rt)?,
-        Some("sha256") => answer::<Sha256Key>(rt)?,
+        Some("weigh") => answer::<WeighHash, R>(rt)?,
+        Some("sha256") => answer::<Sha256Key, R>(rt)?,
         _ => {
             eprintln!(rt; "usage: pagectl weigh|sha256")?;
             return Ok(ExitCode::from(2));

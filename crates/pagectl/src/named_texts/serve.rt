@@ -9,20 +9,24 @@ use pagable_rows::lines::Answering;
 use std::alloc::Global;
 use std::io;
 use std::io::{BufRead, Write};
+use std::sync::Wait;
 
-/// Answers each line of the input with one line, by a pager over blobs in memory whose keys the hash `H` makes. Bad
-/// input is answered and never ends it. Refused where reading or writing fails, or a buffer can't be made;
-/// nothing more is written then.
-pub fn serve<H: KeyHash, R: BufRead, W: Write + Drop>(
+/// Answers each line of the input with one line, by a storage over blobs in memory whose keys the hash `H` makes. Bad
+/// input is answered and never ends it. Refused where reading or writing fails, or the storage or a buffer can't be
+/// made; nothing more is written then.
+pub fn serve<H: KeyHash, T: Wait, R: BufRead, W: Write + Drop>(
+    rt: &T,
     alloc: Global,
     reader: &mut R,
     writer: W,
 ) -> io::Result<()> {
-    let mut session: Session<H> = Session::new(alloc);
-    lines::serve(alloc, &mut session, reader, writer)
+    match Session::<T, H>::new(rt, alloc) {
+        Ok(mut session) => lines::serve(alloc, &mut session, reader, writer),
+        Err(_) => Err(io::ErrorKind::OutOfMemory.into()),
+    }
 }
 
-impl<H: KeyHash> Answering for Session<H> {
+impl<'a, T: Wait, H: KeyHash> Answering for Session<'a, T, H> {
     /// An empty line gets no answer.
     fn answer<W: Write>(
         &mut self,

@@ -1,15 +1,17 @@
-//! Named handles over a pager of texts.
+//! Named handles over a storage of texts.
 
 ghost use Rattle.pagectl.specs.Named.{Gives, IsFree, OtherNames, Serves};
 
 use crate::named_texts::command::{Command, Verb};
 use crate::named_texts::names::{Names, Refusal};
+use pagable::storage::handle::Storage;
 use pagable::{
-    Env, Error, HandleNumber, InMemoryBlobs, KeyHash, OptionalDataKey, PageOutError, Pager, paging,
+    Env, Error, FirstHandle, HandleNumber, InMemoryBlobs, InMemoryPagableStorage, KeyHash,
+    OptionalDataKey, PagableStorageHandle, PageOutError,
 };
 use pagable_rows::text::{TextEnv, TextNode};
 use std::alloc::Global;
-use std::sync::Arc;
+use std::sync::{Arc, Wait};
 
 /// What a command answers, in one line.
 #[derive(Drop)]
@@ -20,53 +22,60 @@ pub enum Answer {
     Value(Arc<TextNode>),
 }
 
-type TextPager<H> = Pager<TextEnv<H>, InMemoryBlobs<TextEnv<H>>>;
+type TextStorage<H> = PagableStorageHandle<TextEnv<H>, InMemoryBlobs<TextEnv<H>>>;
 
-/// The handles that have names, and the pager that they are of. No text stands outside a cell or a blob.
+/// The handles that have names, and the storage that they are of. No text stands outside a cell or a blob.
 #[derive(Drop)]
-pub struct Session<H: KeyHash>
+pub struct Session<'a, R: Wait, H: KeyHash>
 where
     TextEnv<H>: Env<Node = TextNode, Hash = H, CtxKey = (), CtxValue = ()>,
 {
+    rt: &'a R,
     names: Names,
-    pager: TextPager<H>,
+    storage: TextStorage<H>,
 }
 
-impl<H: KeyHash> Session<H> {
-    /// No names and no cells. It takes no memory.
-    pub fn new(alloc: Global) -> Session<H> {
-        Session {
+impl<'a, R: Wait, H: KeyHash> Session<'a, R, H> {
+    /// Makes a session without names and cells.
+    ///
+    /// # Errors
+    /// - OutOfMemory.
+    pub fn new(rt: &'a R, alloc: Global) -> Result<Session<'a, R, H>, Error> {
+        let storage = InMemoryPagableStorage::new(alloc, TextEnv::new())?;
+        Ok(Session {
+            rt,
             names: Names::new(alloc),
-            pager: Pager::new(alloc, InMemoryBlobs::new(alloc), TextEnv::new()),
-        }
+            storage: storage.handle()?,
+        })
     }
 
     /// Runs a command.
     pub fn run(&mut self, alloc: Global, command: Command<'_>) -> Result<Answer, Refusal> {
-        run(alloc, &mut self.names, &mut self.pager, command)
+        run(self.rt, alloc, &mut self.names, &self.storage, command)
     }
 }
 
-/// Runs a command on these names and the pager that their handles are of.
-fn run<H: KeyHash>(
+/// Runs a command on these names and the storage that their handles are of.
+fn run<R: Wait, H: KeyHash>(
+    rt: &R,
     alloc: Global,
     names: &mut Names,
-    pager: &mut TextPager<H>,
+    storage: &TextStorage<H>,
     command: Command<'_>,
 ) -> Result<Answer, Refusal>
     ensures { Serves command.entry result names.old names.new }
 {
     match command {
-        Command::New(name, text) => make(alloc, names, pager, name, text),
-        Command::Pin(name, new) => pin(alloc, names, pager, name, new),
-        Command::Clone(name, new) => clone(alloc, names, pager, name, new),
-        Command::Release(name) => release(names, pager, name),
+        Command::New(name, text) => make(rt, alloc, names, storage, name, text),
+        Command::Pin(name, new) => pin(rt, alloc, names, storage, name, new),
+        Command::Clone(name, new) => clone(rt, alloc, names, storage, name, new),
+        Command::Release(name) => release(rt, names, storage, name),
         Command::Of(verb, name) => {
             let handle = names.find(name)?;
-            Ok(ask(pager, verb, handle)?)
+            Ok(ask(rt, storage, verb, handle)?)
         }
-        Command::Pending => Ok(Answer::Number(pager.pending() as u128)),
-        Command::PageOut => match paging::page_out_pending(alloc, pager) {
+        Command::Pending => Ok(Answer::Number(storage.pending_paging_count(rt) as u128)),
+        Command::PageOut => match storage.page_out_pending(rt, alloc) {
             Ok(()) => Ok(Answer::Word("ok")),
             Err(PageOutError::Failed(e)) => Err(Refusal::Error(e)),
             Err(PageOutError::AlreadyFailed) => Ok(Answer::Word("already failed")),
@@ -75,10 +84,11 @@ fn run<H: KeyHash>(
 }
 
 /// A new cell with the text, whose loose handle gets the name.
-fn make<H: KeyHash>(
+fn make<R: Wait, H: KeyHash>(
+    rt: &R,
     alloc: Global,
     names: &mut Names,
-    pager: &mut TextPager<H>,
+    storage: &TextStorage<H>,
     name: &str,
     text: &str,
 ) -> Result<Answer, Refusal>
@@ -86,16 +96,17 @@ fn make<H: KeyHash>(
 {
     let room = names.make_room(alloc, name)?;
     let node = TextNode::new(alloc, text)?;
-    let handle = pager.new_loose(alloc, node).map_err(|back| back.0)?;
+    let (_node, handle) = storage.insert(rt, alloc, node, FirstHandle::Loose)?;
     names.give(room, handle);
     Ok(Answer::Word("ok"))
 }
 
 /// Pins the cell of a name, and answers its text. The pin gets the new name.
-fn pin<H: KeyHash>(
+fn pin<R: Wait, H: KeyHash>(
+    rt: &R,
     alloc: Global,
     names: &mut Names,
-    pager: &mut TextPager<H>,
+    storage: &TextStorage<H>,
     name: &str,
     new: &str,
 ) -> Result<Answer, Refusal>
@@ -103,16 +114,17 @@ fn pin<H: KeyHash>(
 {
     let handle = names.find(name)?;
     let room = names.make_room(alloc, new)?;
-    let (pinned, node) = paging::pin(alloc, pager, handle)?;
-    names.give(room, pinned);
-    Ok(Answer::Value(node))
+    let pinned = storage.pin(rt, alloc, handle)?;
+    names.give(room, pinned.handle);
+    Ok(Answer::Value(pinned.value))
 }
 
 /// Clones the handle of a name. The clone gets the new name.
-fn clone<H: KeyHash>(
+fn clone<R: Wait, H: KeyHash>(
+    rt: &R,
     alloc: Global,
     names: &mut Names,
-    pager: &mut TextPager<H>,
+    storage: &TextStorage<H>,
     name: &str,
     new: &str,
 ) -> Result<Answer, Refusal>
@@ -120,16 +132,17 @@ fn clone<H: KeyHash>(
 {
     let handle = names.find(name)?;
     let room = names.make_room(alloc, new)?;
-    let cloned = pager.clone(handle)?;
+    let cloned = storage.clone_handle(rt, handle)?;
     names.give(room, cloned);
     Ok(Answer::Word("ok"))
 }
 
 /// Gives up the handle of a name, which is free again. All handles that have names are the program's own, so a refusal
 /// says that the cell couldn't be listed: the handle is given up all the same.
-fn release<H: KeyHash>(
+fn release<R: Wait, H: KeyHash>(
+    rt: &R,
     names: &mut Names,
-    pager: &mut TextPager<H>,
+    storage: &TextStorage<H>,
     name: &str,
 ) -> Result<Answer, Refusal>
     ensures is_free { IsFree name.now names.new }
@@ -137,26 +150,27 @@ fn release<H: KeyHash>(
 {
     let handle = names.find(name)?;
     names.free(name);
-    pager.release(handle)?;
+    storage.release(rt, handle)?;
     Ok(Answer::Word("ok"))
 }
 
 /// Gives up a handle's pin, makes a Pinned handle loose, or answers how many handles pin its cell, the number of the
 /// cell's key, or whether the cell's text isn't in memory.
-fn ask<H: KeyHash>(
-    pager: &mut TextPager<H>,
+fn ask<R: Wait, H: KeyHash>(
+    rt: &R,
+    storage: &TextStorage<H>,
     verb: Verb,
     handle: HandleNumber,
 ) -> Result<Answer, Error> {
     match verb {
-        Verb::Unpin => pager.unpin(handle).map(|_| Answer::Word("ok")),
-        Verb::Loose => pager.into_pagable(handle).map(|_| Answer::Word("ok")),
-        Verb::Count => Ok(Answer::Number(u128::from(pager.count(handle)?))),
-        Verb::Key => match pager.key(handle)? {
+        Verb::Unpin => storage.unpin(rt, handle).map(|_| Answer::Word("ok")),
+        Verb::Loose => storage.into_pagable(rt, handle).map(|_| Answer::Word("ok")),
+        Verb::Count => Ok(Answer::Number(u128::from(storage.count(rt, handle)?))),
+        Verb::Key => match storage.key(rt, handle)? {
             OptionalDataKey::None => Ok(Answer::Word("none")),
             OptionalDataKey::Some(key) => Ok(Answer::Number(key.get())),
         },
-        Verb::Out => match pager.is_paged_out(handle)? {
+        Verb::Out => match storage.is_paged_out(rt, handle)? {
             true => Ok(Answer::Word("yes")),
             false => Ok(Answer::Word("no")),
         },
