@@ -1,0 +1,14 @@
+use Rattle.{pagable_budget.{proofs.Evicting.Needed, specs.Budgets.cost_of}, pagable_pager.specs.View.telling, std.proofs.Common.{length, ◌≡◌, ◌≤◌}}
+use Rattle.pagable_budget.proofs.evictions.evict_above.Given as goal
+
+-- pins were given up so far, no more than it needs, and what is left costs so much
+abbrev pub invariant-loop-left : goal.invariant-loop-left
+invariant-loop-left g l = record {
+  so : Needed (telling g.S.PagableStorage.stored g.S.PagableStorage.is_closed g.S.PagableStorage.failed) l.most l.fn.pins.entries l.fn.pager l.pins.entries l.pager;
+  sum : l.left ≡ cost_of l.pins.entries;
+  less : l.left ≤ l.cost;
+  room : l.pins.cap ≡ l.fn.pins.cap;
+}
+
+abbrev pub decreases-loop-left : goal.decreases-loop-left
+decreases-loop-left g l = length l.pins.entries

@@ -1,0 +1,246 @@
+//! A budget: pins that are kept up to a cost, and counts of what became of the cells that were pinned.
+
+ghost use Rattle.std.specs.Map.{lookup};
+ghost use Rattle.std.specs.Prelude.{[], IfOk, IsTrue, None, is_some, length, nat_eq, ◌-◌, ◌≡◌, ◌≤◌};
+ghost use Rattle.pagable_budget.specs.Budgets.{Admits, Clears, Keeps, PinsWithin, Stores, Trims};
+ghost use Rattle.pagable_budget.specs.Budgets.{cost_of, counted, new_budget, touched};
+ghost use Rattle.{pagable_loads.specs.Telling.values_at, pagable_pager.specs.View.telling};
+ghost use Rattle.{pagable_world.specs.World.seen_as, std.specs.Arc.arc_value};
+
+use crate::evictions::{KeptPin, KeptPins, evict_above, evict_all, insert};
+use lru::LruCache;
+use pagable::paging;
+use pagable_codec::{Env, NodeSet};
+use pagable_core::PagableStorage;
+use pagable_model::{Error, HandleNumber, NodeNumber};
+use pagable_pager::Pager;
+use std::alloc::Global;
+use std::marker::Model;
+use std::sync::Arc;
+
+/// What became of the cells that were pinned by a budget, counted up to the greatest number that there is.
+#[derive(Clone, Copy, Debug, PartialEq, Eq)]
+pub struct BudgetStats {
+    /// The pins of cells of which a pin was kept already.
+    pub hits: u64,
+    /// The pins of other cells.
+    pub misses: u64,
+    /// The kept pins that were given up since what is kept would have cost too much.
+    pub evictions: u64,
+}
+
+/// Pins that a program wants kept, at most so much of a cost in all. They are handles of the budget's own, and it gives
+/// up no others: the pin that was not used for longest first.
+///
+/// A budget is for one pager. Before it is dropped, `clear` gives its pins up; without that their cells stay in memory
+/// for as long as the pager.
+#[derive(Drop)]
+pub struct Budget {
+    pins: KeptPins,
+    cost: u64,
+    most: u64,
+    stats: BudgetStats,
+}
+
+impl Model for Budget {
+    ghost use Rattle.std.specs.Coded.{codes};
+    ghost use Rattle.pagable_budget.specs.Budgets.{BudgetView, IsBounded};
+
+    ghost Value = { BudgetView };
+
+    ghost coded = { Prim.hlevel codes };
+
+    ghost view = { λ b. record { pins = b.pins.entries; most = b.most; stats = b.stats } };
+
+    ghost invariant = { λ b. IsBounded b.pins b.cost b.most };
+}
+
+// One hit or miss more.
+fn counted(stats: BudgetStats, is_hit: bool) -> BudgetStats
+    ensures { result ≡ counted is_hit stats }
+{
+    let mut stats = stats;
+    if is_hit {
+        stats.hits = stats.hits.saturating_add(1);
+    } else {
+        stats.misses = stats.misses.saturating_add(1);
+    }
+    stats
+}
+
+impl Budget {
+    /// Makes a budget that keeps pins of at most `most` in all, in the unit of the costs that `pin` is told: cells of 1
+    /// each, or bytes. It keeps none yet.
+    ///
+    /// # Errors
+    /// - OutOfMemory.
+    pub fn new(alloc: Global, most: u64) -> Result<Budget, Error>
+        ensures { IfOk result (λ b. b ≡ new_budget most) }
+    {
+        let pins = LruCache::unbounded(alloc)?;
+        let stats = BudgetStats {
+            hits: 0,
+            misses: 0,
+            evictions: 0,
+        };
+        Ok(Budget {
+            pins,
+            cost: 0,
+            most,
+            stats,
+        })
+    }
+
+    /// Returns what the kept pins may cost in all.
+    pub fn most(&self) -> u64
+        ensures { result ≡ self.now.most }
+    {
+        self.most
+    }
+
+    /// Returns what the kept pins cost in all.
+    pub fn cost(&self) -> u64
+        ensures sum { result ≡ cost_of self.now.pins }
+        ensures within { result ≤ self.now.most }
+    {
+        self.cost
+    }
+
+    /// Returns how many pins are kept.
+    pub fn kept(&self) -> usize
+        ensures { result ≡ length self.now.pins }
+    {
+        self.pins.len()
+    }
+
+    /// Tells whether a pin of this cell is kept.
+    pub fn keeps(&self, cell: NodeNumber) -> bool
+        ensures { result ≡ is_some (lookup (nat_eq cell.0) self.now.pins) }
+    {
+        self.pins.contains(&cell.0)
+    }
+
+    /// Returns the counts of hits, misses and evictions.
+    pub fn stats(&self) -> BudgetStats
+        ensures { result ≡ self.now.stats }
+    {
+        self.stats
+    }
+
+    /// Pins a loose handle's cell for the caller, as `paging::pin`, and keeps a pin of the cell beside that, as the last
+    /// used, under this cost; pins that were not used for longer are given up as far as it needs. A cell of which a pin
+    /// is kept already becomes the last used, at the cost that it has. No pin is kept of a cell that alone costs more
+    /// than the bound, nor where no handle or no memory is left for one, and the caller's pin is answered all the same.
+    ///
+    /// # Errors
+    /// - as `paging::pin`. The budget stays as it was.
+    pub fn pin<E: Env<Node: NodeSet<E>>, S: PagableStorage<E>>(
+        &mut self,
+        alloc: Global,
+        pager: &mut Pager<E, S>,
+        handle: HandleNumber,
+        cost: u64,
+    ) -> Result<(HandleNumber, Arc<E::Node>), Error>
+        ensures pins { IsTrue (S.is_honest pager.new.storage) → PinsWithin (telling S.stored S.is_closed S.failed)
+            (values_at E.Node.NodeSet E.Env E.Hash.KeyHash) self.old pager.old handle cost
+            (seen_as (λ a. (a.0, arc_value a.1)) result) self.new pager.new }
+        ensures honest { IsTrue (S.is_honest pager.new.storage) → IsTrue (S.is_honest pager.old.storage) }
+    {
+        let pinned = paging::pin(alloc, pager, handle)?;
+        self.keep(pager, pinned.0, cost);
+        Ok(pinned)
+    }
+
+    // Keeps a pin beside the caller's: that of a cell that is kept already becomes the last used.
+    fn keep<E: Env<Node: NodeSet<E>>, S: PagableStorage<E>>(
+        &mut self,
+        pager: &mut Pager<E, S>,
+        pinned: HandleNumber,
+        cost: u64,
+    )
+        ensures { Keeps (telling S.stored S.is_closed S.failed) self.old pager.old pinned cost self.new pager.new }
+    {
+        let Ok(cell) = pager.node_of(pinned) else {
+            return;
+        };
+        if self.touch(cell.0) {
+            return;
+        }
+        self.admit(pager, cell.0, pinned, cost);
+    }
+
+    // Counts a hit or a miss, and makes the pin of a cell the last used; answers whether one is kept.
+    fn touch(&mut self, cell: u64) -> bool
+        ensures kept { result ≡ is_some (lookup (nat_eq cell) self.old.pins) }
+        ensures touched { self.new ≡ touched cell self.old }
+    {
+        let is_kept = self.pins.promote(&cell);
+        self.stats = counted(self.stats, is_kept);
+        is_kept
+    }
+
+    // Keeps a pin of a cell of which none is kept, if it may cost so much and can be had.
+    fn admit<E: Env<Node: NodeSet<E>>, S: PagableStorage<E>>(
+        &mut self,
+        pager: &mut Pager<E, S>,
+        cell: u64,
+        pinned: HandleNumber,
+        cost: u64,
+    )
+        requires new { lookup (nat_eq cell) self.old.pins ≡ None }
+        ensures { Admits (telling S.stored S.is_closed S.failed) self.old pager.old cell pinned cost self.new pager.new }
+    {
+        if cost > self.most {
+            return;
+        }
+        if let Ok(handle) = pager.clone(pinned) {
+            self.store(pager, cell, KeptPin { handle, cost });
+        }
+    }
+
+    // Makes room for a pin, and keeps it. Where memory is wanting, it is given up.
+    fn store<E: Env<Node: NodeSet<E>>, S: PagableStorage<E>>(
+        &mut self,
+        pager: &mut Pager<E, S>,
+        cell: u64,
+        pin: KeptPin,
+    )
+        requires new { lookup (nat_eq cell) self.old.pins ≡ None }
+        requires fits { pin.cost ≤ self.old.most }
+        ensures { Stores (telling S.stored S.is_closed S.failed) self.old pager.old cell pin self.new pager.new }
+    {
+        let most = self.most - pin.cost;
+        self.trim(pager, most);
+        if insert(&mut self.pins, cell, pin) {
+            self.cost += pin.cost;
+        } else {
+            let _told = pager.release(pin.handle);
+        }
+    }
+
+    /// Gives up pins, those that were not used for longest first and no more than it needs, until what is kept costs at
+    /// most `most`. What may be kept later stays as it was.
+    pub fn trim<E: Env<Node: NodeSet<E>>, S: PagableStorage<E>>(
+        &mut self,
+        pager: &mut Pager<E, S>,
+        most: u64,
+    )
+        ensures { Trims (telling S.stored S.is_closed S.failed) most self.old pager.old self.new pager.new }
+    {
+        let before = self.pins.len();
+        let cost = evict_above(&mut self.pins, pager, self.cost, most);
+        let after = self.pins.len();
+        let evicted = before - after;
+        let evictions = self.stats.evictions.saturating_add(evicted as u64);
+        self.cost = cost;
+        self.stats.evictions = evictions;
+    }
+
+    /// Gives up all pins that are kept. The counts stay as they are.
+    pub fn clear<E: Env<Node: NodeSet<E>>, S: PagableStorage<E>>(&mut self, pager: &mut Pager<E, S>)
+        ensures { Clears (telling S.stored S.is_closed S.failed) self.old pager.old self.new pager.new }
+    {
+        evict_all(&mut self.pins, pager);
+        self.cost = 0;
+    }
+}

@@ -1,0 +1,90 @@
+//! The pins that a budget keeps, the last used first, and how it gives up those that were not used for longest.
+
+ghost use Rattle.std.specs.Map.{lookup};
+ghost use Rattle.std.specs.Prelude.{[], None, nat_eq, ◌-◌, ◌^◌, ◌≡◌, ◌≤◌};
+ghost use Rattle.pagable_budget.specs.Budgets.{Evicts, EvictsAbove, EvictsLast, Inserts, cost_of};
+ghost use Rattle.pagable_pager.specs.View.{telling};
+
+use lru::LruCache;
+use pagable_codec::{Env, NodeSet};
+use pagable_core::PagableStorage;
+use pagable_model::HandleNumber;
+use pagable_pager::Pager;
+
+/// A pin that a budget keeps of a cell.
+#[derive(Clone, Copy, Debug, PartialEq, Eq)]
+pub struct KeptPin {
+    /// The budget's own Pinned handle.
+    pub handle: HandleNumber,
+    /// What keeping the cell costs, in the unit of the budget's bound.
+    pub cost: u64,
+}
+
+/// Pins by the numbers of their cells, the last used first.
+pub(crate) type KeptPins = LruCache<u64, KeptPin>;
+
+// Gives up the pin that was not used for longest, and answers its cost; None where none is kept.
+#[tactic(auto, using(crate::proofs::Evicting::ends))]
+fn evict_last<E: Env<Node: NodeSet<E>>, S: PagableStorage<E>>(
+    pins: &mut KeptPins,
+    pager: &mut Pager<E, S>,
+) -> Option<u64>
+    ensures evicts { EvictsLast (telling S.stored S.is_closed S.failed)
+        pins.old.entries pager.old result pins.new.entries pager.new }
+    ensures room { pins.new.cap ≡ pins.old.cap }
+{
+    let (_, pin) = pins.pop_lru()?;
+    let _told = pager.release(pin.handle);
+    Some(pin.cost)
+}
+
+/// Gives up pins, those that were not used for longest first, until what is kept costs at most `most`. Takes and answers
+/// what the pins cost in all.
+pub(crate) fn evict_above<E: Env<Node: NodeSet<E>>, S: PagableStorage<E>>(
+    pins: &mut KeptPins,
+    pager: &mut Pager<E, S>,
+    cost: u64,
+    most: u64,
+) -> u64
+    requires sum { cost ≡ cost_of pins.old.entries }
+    ensures evicts { EvictsAbove (telling S.stored S.is_closed S.failed)
+        most pins.old.entries pager.old pins.new.entries pager.new }
+    ensures sum { result ≡ cost_of pins.new.entries }
+    ensures less { result ≤ cost }
+    ensures room { pins.new.cap ≡ pins.old.cap }
+{
+    let mut left = cost;
+    while left > most {
+        let Some(given) = evict_last(pins, pager) else {
+            unreachable!();
+        };
+        left -= given;
+    }
+    left
+}
+
+/// Gives up all pins, those that were not used for longest first.
+#[tactic(auto, using(crate::proofs::Evicting::gone))]
+pub(crate) fn evict_all<E: Env<Node: NodeSet<E>>, S: PagableStorage<E>>(
+    pins: &mut KeptPins,
+    pager: &mut Pager<E, S>,
+)
+    ensures evicts { Evicts (telling S.stored S.is_closed S.failed) pager.old pins.old.entries pager.new }
+    ensures none { pins.new.entries ≡ [] }
+    ensures room { pins.new.cap ≡ pins.old.cap }
+{
+    while let Some(_cost) = evict_last(pins, pager) {}
+}
+
+/// Keeps a pin of a cell of which none is kept, as the last used; answers false where memory is wanting, and then
+/// nothing changes.
+#[tactic(auto, using(crate::proofs::Evicting::inserts))]
+pub(crate) fn insert(pins: &mut KeptPins, cell: u64, pin: KeptPin) -> bool
+    requires new { lookup (nat_eq cell) pins.old.entries ≡ None }
+    requires wide { pins.old.cap ≡ 2 ^ 64 - 1 }
+    ensures { Inserts cell pin result pins.old pins.new }
+{
+    // There are fewer pins than the cache has room for, so that it gives none up of its own accord.
+    let _kept = pins.len();
+    pins.push(cell, pin).is_ok()
+}

@@ -1,0 +1,34 @@
+//! Page-outs of what waits for them, once it is too much.
+
+ghost use Rattle.std.specs.Prelude.{IsTrue};
+ghost use Rattle.{pagable_budget.specs.Budgets.PagesOutAbove, pagable_loads.specs.Telling.values_at};
+ghost use Rattle.pagable_pager.specs.View.{state_in, telling};
+
+use pagable::paging::page_out_pending;
+use pagable_codec::{Env, NodeSet};
+use pagable_core::PagableStorage;
+use pagable_pager::Pager;
+use pagable_walk::PageOutError;
+use std::alloc::Global;
+
+/// Pages out all cells that wait for it, as `paging::page_out_pending`, if there are more than `most`; else does
+/// nothing. A cell without a key stays in memory however few pins it has, so that a bound on memory wants both.
+///
+/// # Errors
+/// - as `paging::page_out_pending`.
+pub fn page_out_above<E: Env<Node: NodeSet<E>>, S: PagableStorage<E>>(
+    alloc: Global,
+    pager: &mut Pager<E, S>,
+    most: usize,
+) -> Result<(), PageOutError>
+    ensures pages { IsTrue (S.is_honest pager.new.storage) → PagesOutAbove
+        (values_at E.Node.NodeSet E.Env E.Hash.KeyHash pager.old.environment) most
+        (state_in (telling S.stored S.is_closed S.failed) pager.old) result
+        (state_in (telling S.stored S.is_closed S.failed) pager.new) }
+    ensures honest { IsTrue (S.is_honest pager.new.storage) → IsTrue (S.is_honest pager.old.storage) }
+{
+    if pager.pending() <= most {
+        return Ok(());
+    }
+    page_out_pending(alloc, pager)
+}
