@@ -127,10 +127,11 @@ impl Budget {
         self.stats
     }
 
-    /// Pins a loose handle's cell for the caller, as `paging::pin`, and keeps a pin of the cell beside that, as the last
-    /// used, under this cost; pins that were not used for longer are given up as far as it needs. A cell of which a pin
-    /// is kept already becomes the last used, at the cost that it has. No pin is kept of a cell that alone costs more
-    /// than the bound, nor where no handle or no memory is left for one, and the caller's pin is answered all the same.
+    /// Pins a loose handle's cell for the caller, as `paging::pin`, and keeps a pin of the cell beside that, as the
+    /// last used, under this cost; pins that were not used for longer are given up as far as it needs. A cell of which
+    /// a pin is kept already becomes the last used, at the cost that it has. No pin is kept of a cell that alone costs
+    /// more than the bound, nor where no handle or no memory is left for one, and the caller's pin is answered all the
+    /// same.
     ///
     /// # Errors
     /// - as `paging::pin`. The budget stays as it was.
@@ -188,7 +189,8 @@ impl Budget {
         cost: u64,
     )
         requires new { lookup (nat_eq cell) self.old.pins ≡ None }
-        ensures { Admits (telling S.stored S.is_closed S.failed) self.old pager.old cell pinned cost self.new pager.new }
+        ensures { Admits (telling S.stored S.is_closed S.failed) self.old pager.old cell pinned cost
+            self.new pager.new }
     {
         if cost > self.most {
             return;

@@ -38,8 +38,8 @@ fn evict_last<E: Env<Node: NodeSet<E>>, S: PagableStorage<E>>(
     Some(pin.cost)
 }
 
-/// Gives up pins, those that were not used for longest first, until what is kept costs at most `most`. Takes and answers
-/// what the pins cost in all.
+/// Gives up pins, those that were not used for longest first, until what is kept costs at most `most`. Takes and
+/// answers what the pins cost in all.
 pub(crate) fn evict_above<E: Env<Node: NodeSet<E>>, S: PagableStorage<E>>(
     pins: &mut KeptPins,
     pager: &mut Pager<E, S>,
