@@ -8,7 +8,7 @@ use anyhow::{Context, ensure};
 use pagable::paging::{page_out_item, page_out_pending, pin};
 use pagable::{
     DataKey, Env, Error, LentTable, NodeSet, PagableStorage, PagableVecFlavor, PageOutError, Pager,
-    Records, WeighHash, from_bytes, to_bytes,
+    WeighHash,
 };
 use pagable_examples::any::{AnyEnv, written};
 use pagable_rows::asked::item;
@@ -52,15 +52,6 @@ fn write_over(alloc: Global) -> Result<bool, Error> {
     out.write_u8(7)?;
     out.write_at(0, &[9]);
     Ok(out.finalize().as_slice() == [9u8, 7].as_slice())
-}
-
-/// Whether a number and a text become bytes by one call, and come of them by another.
-fn are_bytes(alloc: Global) -> Result<bool, Error> {
-    let value = (300u16, String::from_str(alloc, "hi")?);
-    let bytes = to_bytes(alloc, &Records, &value)?;
-    let found: (u16, String) = from_bytes(alloc, &Records, bytes.as_slice())?;
-    let is_same = found.0 == 300 && found.1.as_str() == "hi";
-    Ok(is_same && bytes.as_slice() == [0xac, 0x02, 0x02, 0x68, 0x69].as_slice())
 }
 
 /// Whether an item that refers to a shared text comes to its key by one call.
@@ -122,7 +113,6 @@ where
     E::Node: NodeSet<E>,
 {
     match number {
-        1 => Ok(are_bytes(alloc)?),
         6 => are_too_deep(alloc),
         9 => Ok(page_out_and_read_back(alloc, "hello world")?),
         10 => is_item_paged_out(alloc, pager),
