@@ -3,3 +3,4 @@ pub mod Driving
 pub mod PageOuts
 pub mod Paged
 pub mod TypedReferences
+pub mod Visits

@@ -2,6 +2,7 @@
 
 ghost use Rattle.std.specs.{Arc.arc_value, Fn.FnOnceReturnsAt, Prelude.{IfErr, IfOk, IsTrue, None, ◌≡◌}};
 ghost use Rattle.{pagable.specs.Cells.{AsksWhether, Follows, InsertsCell, Looks, LooksByPin, OpensCell}, pagable_loads.specs.Telling.values_at};
+ghost use Rattle.pagable.specs.Visits.{OwnsAll, OwnsEach, ReleasesEach, Visits, VisitsByPin};
 ghost use Rattle.{pagable_model.specs.Stored.RefusesFetch, pagable_pager.specs.View.{AsksStorage, core_in, state_in, telling}};
 ghost use Rattle.pagable_traits.specs.References.{loose_kind};
 ghost use Rattle.pagable_world.specs.World.{seen_as};
@@ -10,7 +11,7 @@ use crate::paging::pin;
 use either::Either;
 use pagable_codec::{Env, NodeSet, OfNode};
 use pagable_core::PagableStorage;
-use pagable_model::{DataKey, Error, HandleNumber};
+use pagable_model::{ArcRef, DataKey, Error, HandleNumber};
 use pagable_pager::Pager;
 use pagable_traits::{ArcErase, PagableArc};
 use std::alloc::Global;
@@ -154,5 +155,97 @@ where
     match pager.value(handle)? {
         Some(value) => Ok(show(value)),
         None => look_by_pin(alloc, pager, handle, show),
+    }
+}
+
+// Gives handles up, one after the other, whatever each call tells.
+fn give_up<E: Env<Node: NodeSet<E>>, S: PagableStorage<E>>(
+    pager: &mut Pager<E, S>,
+    handles: &[HandleNumber],
+)
+    ensures { ReleasesEach (telling S.stored S.is_closed S.failed) pager.old handles.now pager.new }
+{
+    for handle in handles {
+        let _told = pager.release(*handle);
+    }
+}
+
+// Clones the handles of references.
+fn own_each<E: Env<Node: NodeSet<E>>, S: PagableStorage<E>>(
+    alloc: Global,
+    pager: &mut Pager<E, S>,
+    references: &[ArcRef],
+) -> Result<Vec<HandleNumber>, Error>
+    ensures { OwnsEach (telling S.stored S.is_closed S.failed) pager.old references.now (seen_as (λ made. made.items) result) pager.new }
+{
+    let mut made = Vec::with_capacity(alloc, references.len())?;
+    for reference in references {
+        match pager.clone(reference.handle) {
+            Ok(handle) => made.push_reserved(handle),
+            Err(e) => {
+                give_up(pager, made.as_slice());
+                return Err(e);
+            }
+        }
+    }
+    Ok(made)
+}
+
+// Answers a value with clones of the handles of its references.
+fn own_all<E: Env<Node: NodeSet<E>>, S: PagableStorage<E>>(
+    alloc: Global,
+    pager: &mut Pager<E, S>,
+    value: Arc<E::Node>,
+) -> Result<(Arc<E::Node>, Vec<HandleNumber>), Error>
+    ensures { OwnsAll (telling S.stored S.is_closed S.failed) (values_at E.Node.NodeSet E.Env E.Hash.KeyHash pager.old.environment) pager.old (arc_value value)
+        (seen_as (λ a. (arc_value a.0, a.1.items)) result) pager.new }
+{
+    let references = value.as_ref().refs(alloc)?;
+    let own = own_each(alloc, pager, references.as_slice())?;
+    Ok((value, own))
+}
+
+// The same for a handle that pins nothing: by a pin that is let go again.
+fn visit_by_pin<E: Env<Node: NodeSet<E>>, S: PagableStorage<E>>(
+    alloc: Global,
+    pager: &mut Pager<E, S>,
+    handle: HandleNumber,
+) -> Result<(Arc<E::Node>, Vec<HandleNumber>), Error>
+    ensures visits { IsTrue (S.is_honest pager.new.storage) → VisitsByPin (telling S.stored S.is_closed S.failed) (values_at E.Node.NodeSet E.Env E.Hash.KeyHash) pager.old
+        handle (seen_as (λ a. (arc_value a.0, a.1.items)) result) pager.new }
+    ensures honest { IsTrue (S.is_honest pager.new.storage) → IsTrue (S.is_honest pager.old.storage) }
+{
+    let (pinned, value) = pin(alloc, pager, handle)?;
+    let visited = own_all(alloc, pager, value);
+    let _unpinned = pager.unpin(handle);
+    let told = pager.release(pinned);
+    match (visited, told) {
+        (Ok((_, own)), Err(e)) => {
+            give_up(pager, own.as_slice());
+            Err(e)
+        }
+        (visited, _) => visited,
+    }
+}
+
+/// Answers the value of a handle's node, shared, reading it where it isn't in memory, and clones of the handles of its
+/// references, in their order, which are the caller's. Leaves the handle in the mode that it had.
+///
+/// # Errors
+/// - NoSuchHandle: nothing live has this number.
+/// - as `pin`, where the handle pins nothing.
+/// - NumbersSpent, OutOfMemory: no clone is left; the cell may not be listed for page-out.
+pub fn visit<E: Env<Node: NodeSet<E>>, S: PagableStorage<E>>(
+    alloc: Global,
+    pager: &mut Pager<E, S>,
+    handle: HandleNumber,
+) -> Result<(Arc<E::Node>, Vec<HandleNumber>), Error>
+    ensures visits { IsTrue (S.is_honest pager.new.storage) → Visits (telling S.stored S.is_closed S.failed) (values_at E.Node.NodeSet E.Env E.Hash.KeyHash) pager.old
+        handle (seen_as (λ a. (arc_value a.0, a.1.items)) result) pager.new }
+    ensures honest { IsTrue (S.is_honest pager.new.storage) → IsTrue (S.is_honest pager.old.storage) }
+{
+    match pager.share(handle)? {
+        Some(value) => own_all(alloc, pager, value),
+        None => visit_by_pin(alloc, pager, handle),
     }
 }
