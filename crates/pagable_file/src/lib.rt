@@ -5,8 +5,10 @@
 #![tactic(auto)]
 
 pub mod blob_env;
+pub mod copy;
 pub mod fault;
 pub mod file_blobs;
+pub mod fsck;
 pub mod laws;
 mod lookup;
 mod naming;
@@ -25,6 +27,7 @@ mod tests;
 pub use blob_env::BlobEnv;
 pub use fault::Fault;
 pub use file_blobs::FileBlobs;
+pub use fsck::Flaw;
 pub use open_error::OpenError;
 pub use roots::Roots;
 pub use stats::Stats;

@@ -1,18 +1,41 @@
-//! Goes over all names of roots.
+//! Goes over all rows of a table.
 
 ghost use Rattle.std.specs.Prelude.{OnErr, OnOk, ◌≤◌};
 ghost use Rattle.sqlite_trees.specs.{Tree.Trees, View.{IsClean, KeepsCommitted, doubt}};
 ghost use Rattle.pagable_file.specs.Blobs.{MovesOnly, Settled, StaysPut};
 
-use crate::tables::ROOTS;
+use crate::tables::{BLOBS, ROOTS};
 use sqlite_trees::error::StoreError;
 use sqlite_trees::sound::bytes_of;
 use sqlite_trees::store::{Direction, Store};
 use sqlite_value::row::Row;
+use sqlite_value::value::ValueRef;
 use std::alloc::Global;
 
 /// The cursor that goes over a table.
 const CURSOR: u16 = 0;
+
+/// Collects the places of all rows of the table of blobs, in their order.
+#[tactic(auto, using(crate::proofs::Settling::scanning))]
+fn places<S: Store>(alloc: Global, store: &mut S, row: &mut Row) -> Result<Vec<i64>, StoreError>
+    ensures ok { OnOk result (IsClean (S.view store.new) → MovesOnly (S.view store.old) (S.view store.new)) }
+    ensures err { OnErr result (IsClean (S.view store.new) → KeepsCommitted (S.view store.old) (S.view store.new)) }
+    ensures clean { doubt (S.view store.old).is_clean ≤ doubt (S.view store.new).is_clean }
+    ensures crash { (db : Trees) → S.recovers store.new db → S.recovers store.old db }
+{
+    let mut places = Vec::new(alloc);
+    row.clear();
+    store.seek(CURSOR, BLOBS, row, Direction::Forward)?;
+    'rows: for _ in 0..u64::MAX {
+        if !store.next(CURSOR, row)? {
+            break;
+        }
+        if let ValueRef::Int(place) = row.get(0) {
+            places.push(place)?;
+        }
+    }
+    Ok(places)
+}
 
 /// Collects the names of all rows of the table of roots that are texts, in the order of their places.
 #[tactic(auto, using(crate::proofs::Settling::scanning))]
@@ -34,6 +57,26 @@ fn names<S: Store>(alloc: Global, store: &mut S, row: &mut Row) -> Result<Vec<St
         }
     }
     Ok(names)
+}
+
+/// Collects the places of all rows of the table of blobs, in their order. A failure is rolled back.
+#[tactic(auto, using(crate::proofs::Settling::scanning))]
+pub fn all_places<S: Store>(
+    alloc: Global,
+    store: &mut S,
+    row: &mut Row,
+) -> Result<Vec<i64>, StoreError>
+    requires settled { Settled (S.view store.old) }
+    ensures stays { StaysPut (S.view store.old) (S.view store.new) }
+    ensures crash { (db : Trees) → S.recovers store.new db → S.recovers store.old db }
+{
+    match places(alloc, store, row) {
+        Ok(places) => Ok(places),
+        Err(error) => {
+            store.rollback();
+            Err(error)
+        }
+    }
 }
 
 /// Collects the names of all roots, in the order of their places. A failure is rolled back.

@@ -1,4 +1,6 @@
 use super::*;
+use crate::copy::copy;
+use crate::fsck::fsck;
 use pagable_core::{PagableData, PagableStorage, Sha256Key, WeighHash};
 use pagable_flavors::{DataKey, Error};
 use sqlite::{File, FileStore};
@@ -147,6 +149,32 @@ fn roots_need_blobs(rt: HostRuntime) -> Result<(), Fail> {
         blobs.set_root(alloc, "main", None).err(),
         Some(Error::Closed)
     );
+    Ok(())
+}
+
+#[test]
+fn copies_and_tests(rt: HostRuntime) -> Result<(), Fail> {
+    let alloc = rt.alloc();
+    let mut blobs: FileBlobs<Weighed, _> = FileBlobs::in_memory(alloc)?;
+    let root = fill(alloc, &mut blobs)?;
+    let loose = blobs.store_data(alloc, blob(alloc, &[9], &[])?)?;
+    blobs.set_root(alloc, "main", Some(root))?;
+    blobs.flush()?;
+    let mut new: FileBlobs<Weighed, _> = FileBlobs::in_memory(alloc)?;
+    assert_eq!(rt; copy(alloc, &mut blobs, &mut new)?, 2);
+    assert_eq!(rt; new.root("main")?, Some(root));
+    assert_eq!(rt;
+        new.fetch_data_blocking(alloc, loose).err(),
+        Some(Error::NoData(loose))
+    );
+    assert!(rt; fsck(alloc, &mut new)?.is_empty());
+    // A blob may refer to what isn't there; only a look at the whole file finds it.
+    let away = DataKey::new(5).unwrap();
+    let parent = new.store_data(alloc, blob(alloc, &[], &[away])?)?;
+    new.flush()?;
+    let flaws = fsck(alloc, &mut new)?;
+    assert_eq!(rt; flaws.len(), 1);
+    assert!(rt; flaws[0] == Flaw::NoChild(parent, away));
     Ok(())
 }
 
