@@ -1,8 +1,10 @@
 -- What an open finds.
-use Rattle.std.proofs.Common.{◌≡◌, ◌∙◌, ◌≤◌, Bool, true, false, IsTrue, List, [], ◌∷◌, map, take, refl, sym, ap, subst, arith}
+use Rattle.std.proofs.Common.{◌≡◌, ◌≢◌, ◌∙◌, ◌≤◌, ℕ, Bool, true, false, IsTrue, List, [], ◌∷◌, length, map, take, refl, sym, ap, subst, true≢false, arith}
 use Rattle.sqlite_value.specs.Order.{Row}
-use Rattle.sqlite_trees.specs.{Objects.catalog_tree, View.{IsClean, IsShaped, View, doubt}, declared.store.Shape.Shape}
+use Rattle.sqlite_trees.specs.{Objects.{catalog_tree, version_rows, version_tree}, View.{IsClean, IsShaped, View, doubt}, declared.store.Shape.Shape}
 use Rattle.sqlite_trees.specs.declared.store.Shape.TheVariants as shape
+use Rattle.std.specs.Prelude.{◌==◌}
+use Rattle.pagable_file.specs.{Opened.{IsOfStore, RefusesOpen, RefusesTables}, declared.open_error.OpenError.OpenError}
 use Rattle.pagable_file.specs.{Closing.IsHeldIn, Rows.{blob_tree, root_tree}, Blobs.{Finds as FindsTables, IsIdle, IsSettled, Made, Settled, is_sure}}
 use Rattle.pagable_file.proofs.Settling.{in_use, sure_clean, sure_from, sure_open}
 use Rattle.std.proofs.Math.Logic.{∥∥₁_elim}
@@ -47,6 +49,35 @@ there_is_found v idle unaltered numbered blobs roots = record {
   roots_are = λ h. refl;
 }
 
+-- the version that a store shows
+pub version_read : (v : View) (n : ℕ) → IsTrue (is_sure v) → (IsClean v → IsTrue v.is_open → v.trees version_tree ≡ version_rows n) → v.trees version_tree ≡ version_rows n
+version_read v n sure is = is (sure_clean v sure) (sure_open v sure)
+
+pub some_listed : (v : View) (items : List Row) (empty : Bool) → IsTrue (is_sure v) → (IsClean v → items ≡ map (take 5) (v.trees catalog_tree)) → empty ≡ (length items == 0) → empty ≡ false → v.trees catalog_tree ≢ []
+some_listed v items empty sure is e no none =
+    let listed : items ≡ [] = is (sure_clean v sure) ∙ ap (map (take 5)) none in
+    true≢false (sym (e ∙ ap (λ (l : List Row). length l == 0) listed) ∙ no)
+
+pub of_store : (v : View) (e : OpenError) → IsOfStore e → RefusesOpen v e
+of_store v OpenError.OutOfMemory h = h
+of_store v OpenError.Io h = h
+of_store v OpenError.Damaged h = h
+of_store v OpenError.Full h = h
+of_store v OpenError.InUse h = absurd h
+of_store v OpenError.CannotOpen h = absurd h
+of_store v OpenError.NotBlobs h = absurd h
+of_store v (OpenError.Newer n) h = absurd h
+
+pub of_tables : (v : View) (e : OpenError) → RefusesTables v e → v.trees catalog_tree ≢ [] → RefusesOpen v e
+of_tables v OpenError.OutOfMemory h some = absurd h
+of_tables v OpenError.Io h some = absurd h
+of_tables v OpenError.Damaged h some = absurd h
+of_tables v OpenError.Full h some = absurd h
+of_tables v OpenError.InUse h some = absurd h
+of_tables v OpenError.CannotOpen h some = absurd h
+of_tables v OpenError.NotBlobs h some = some
+of_tables v (OpenError.Newer n) h some = h
+
 -- what an open asks of a store that is handed on
 pub fresh_store : (v : View) → Settled v → (v.is_open ≡ false → IsTrue v.is_broken) → (IsClean v → v.is_broken ≡ false) → IsClean v → IsFresh v
 fresh_store v was shut sound clean =
@@ -59,4 +90,4 @@ fresh_store v was shut sound clean =
 pub found_again : {D : Type 0} {g : Ghosts D} (new : Held (FileStore D g)) (files : Files D) (db : Trees) → (AreClean g files.log files.db → IsHeldIn g files db) → Finds files new → (file_state new).committed.trees ≡ db
 found_again new files db held found = ∥∥₁_elim (held found.honest) (Trees-set _ _) (found.holds _)
 
-pub ruleset opening = (none_listed, made_is_found, there_is_found)
+pub ruleset opening = (none_listed, made_is_found, there_is_found, some_listed, of_store, of_tables)

@@ -1,3 +1,4 @@
 pub mod Rows
 pub mod Blobs
 pub mod Closing
+pub mod Opened

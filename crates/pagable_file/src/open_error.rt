@@ -1,5 +1,7 @@
 //! Why a file of blobs isn't opened.
 
+ghost use Rattle.pagable_file.specs.Opened.{IsOfStore};
+
 use sqlite::{Error as SqlError, ErrorCode};
 use sqlite_trees::error::StoreError;
 use std::alloc::{AllocError, AllocFailed};
@@ -41,6 +43,8 @@ impl From<SqlError> for OpenError {
 }
 
 impl From<StoreError> for OpenError {
+    ghost from_gives = { λ _ e. IsOfStore e };
+
     fn from(error: StoreError) -> OpenError {
         match error {
             StoreError::OutOfMemory => OpenError::OutOfMemory,
@@ -52,6 +56,8 @@ impl From<StoreError> for OpenError {
 }
 
 impl From<AllocError> for OpenError {
+    ghost from_gives = { λ _ e. IsOfStore e };
+
     fn from(_: AllocError) -> OpenError {
         OpenError::OutOfMemory
     }

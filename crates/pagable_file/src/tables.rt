@@ -1,9 +1,9 @@
 //! The two tables of a file of blobs.
 
-ghost use Rattle.std.specs.Prelude.{[], IsTrue, OnOk, ◌≡◌, ◌≤◌};
+ghost use Rattle.std.specs.Prelude.{[], IfErr, IsTrue, OnOk, ◌≡◌, ◌≤◌};
 ghost use Rattle.sqlite_trees.specs.{Objects.catalog_tree, View.{IsClean, doubt}};
 ghost use Rattle.sqlite_trees.specs.declared.store.Shape.TheVariants as shape;
-ghost use Rattle.pagable_file.specs.{Blobs.{Finds, IsIdle, Made}, Rows.{blob_tree, root_tree}};
+ghost use Rattle.pagable_file.specs.{Blobs.{Finds, IsIdle, Made, is_sure}, Opened.{RefusesOpen, RefusesTables}, Rows.{blob_tree, root_tree}};
 
 use crate::open_error::OpenError;
 use sqlite_trees::error::StoreError;
@@ -79,9 +79,13 @@ fn make<S: Alter>(store: &mut S) -> Result<(), StoreError>
 }
 
 /// Tests that the two tables are the only ones, and of this version.
-fn test<S: Alter>(store: &S, objects: &[Row]) -> Result<(), OpenError> {
-    if store.version() > VERSION {
-        return Err(OpenError::Newer(store.version()));
+#[tactic(auto, using(crate::proofs::Opening::version_read))]
+fn test<S: Alter>(store: &S, objects: &[Row]) -> Result<(), OpenError>
+    ensures { IsTrue (is_sure (S.Store.view store.now)) → IfErr result (RefusesTables (S.Store.view store.now)) }
+{
+    let version = store.version();
+    if version > VERSION {
+        return Err(OpenError::Newer(version));
     }
     let ours = objects.len() == 2
         && lists(&objects[0], "blobs", BLOBS_SQL)
@@ -99,6 +103,7 @@ pub fn prepare<S: Alter>(alloc: Global, store: &mut S) -> Result<(), OpenError>
     requires numbered { IsClean (S.Store.view store.old) → IsTrue (S.Store.view store.old).is_numbered }
     requires idle { IsIdle (S.Store.view store.old) }
     ensures found { OnOk result (Finds (S.Store.view store.old) (S.Store.view store.new)) }
+    ensures refused { IsTrue (is_sure (S.Store.view store.new)) → IfErr result (RefusesOpen (S.Store.view store.old)) }
 {
     let objects = store.objects(alloc)?;
     if objects.is_empty() {

@@ -2,8 +2,8 @@ use Rattle.pagable_file.specs.Rows.{blob_tree, root_tree}
 use Rattle.pagable_file.proofs.Opening.{made_is_found}
 use Rattle.pagable_file.proofs.tables.prepare.Goals as goal
 
-pub returns-then-is_empty : goal.returns-then-is_empty
-returns-then-is_empty g c =
+pub returns-then-is_empty-clause-found : goal.returns-then-is_empty-clause-found
+returns-then-is_empty-clause-found g c =
     let store = c.args.store.now in
     let free = c.if-not-is_free.false in
     record {
