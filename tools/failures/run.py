@@ -56,7 +56,7 @@ def add_pagectl(crates, source):
     shutil.copy(folder / "named_texts.rt", source)
     shutil.copytree(folder / "named_texts", source / "named_texts")
     text = (folder / "main.rt").read_text(encoding="utf-8")
-    text = re.sub(r"^(#!\[.*|mod named_texts;)\n", "", text, flags=re.MULTILINE).replace("\nfn run(", "\npub fn run(")
+    text = re.sub(r"^(#!\[.*|mod named_texts;)\n", "", text, flags=re.MULTILINE).replace("\nfn run<", "\npub fn run<")
     (source / "pagectl.rt").write_text(text[: text.index("fn main(")], encoding="utf-8")
 
 
