@@ -42,19 +42,20 @@ pub struct HandleAt {
     pub row: HandleRow,
 }
 
-/// What is kept of a node, beside the references of its value.
+/// What is kept of a node, beside the references of its value. The widest fields come first, so that none leaves a gap.
 #[derive(Clone, Copy)]
 pub struct Counts {
-    pub node_type: u32,
     /// The number of its key, 0 where it has none.
     pub key: u128,
     /// How many handles pin it.
     pub pins: u64,
     /// How many handles it has.
     pub holds: u64,
-    /// Whether its value has gone and what that refers to is still to be given up, and the node of which that is done next, 0 where it is none.
-    pub is_falling: bool,
+    /// The node whose value's references are given up after those of this one, 0 where it is none.
     pub next: u64,
+    /// Whether its value has gone and what that refers to is still to be given up.
+    pub is_falling: bool,
+    pub node_type: u32,
 }
 
 /// A node.
