@@ -3,7 +3,7 @@
 
 ghost use Rattle.std.specs.{Arc.arc_value, Prelude.{IfErr, IfNone, IfOk, IfSome, length, Option, ◌≡◌, ◌≤◌}};
 ghost use Rattle.{pagable_core.specs.Data.blob_of, pagable_loads.specs.{Starting.{Shares, StartsPin}, Telling.{Acting, Acts, ActsThen, AdoptsValue, as_caller, as_worker, AsksFor, Brings}}};
-ghost use Rattle.{pagable_loads.specs.{Telling.{IsReadBy, TakesLazily, Tells, values_at}, Working.{fault_in, RefusesEntry, StartsEntry, TakesReference}}, pagable_model.specs.Blob.key_of};
+ghost use Rattle.{pagable_loads.specs.{Telling.{IsReadBy, TakesLazily, Tells, values_at}, Working.{ClosesNode, fault_in, RefusesEntry, SetsThrough, SharesTaken, StartsEntry, StoresNode, taken_of, TakesReference}}, pagable_model.specs.Blob.key_of};
 ghost use Rattle.{pagable_model.specs.declared.numbers.HandleNumber.HandleNumber as Handle, pagable_world.specs.{Access.{Called, EntryHas, WorkerStarts}, Calls.ReleaseCall}};
 ghost use Rattle.pagable_world.specs.{Calls.{ScheduleCall, SetKeyCall, StoreCall, TakeCall, UnpinCall}, Cascade.FallsAnyhow, declared.calls.Want.Want, LoadCalls.{AskCall, BeginKeyCall}};
 ghost use Rattle.pagable_world.specs.{LoadCalls.{DropCall, EndCall, from_store, HandOverCall}, Pager.{IsCellOf, IsNewNode, PagerState}, Workers.{claim_fault, is_workers_at, WorkerEnds}, World.Alike};
@@ -56,6 +56,17 @@ pub trait Access<E: Env<Node: NodeSet<E>>> {
     /// Stores a blob, and answers its key. Refused with OutOfMemory, Storage, KeyTaken and Closed.
     fn store(&mut self, alloc: Global, blob: PagableData) -> Result<DataKey, Error>
         ensures key { IfOk result (λ key. key ≡ key_of E.Hash.digest (blob_of blob)) }
+        ensures acts { Acts told acting self.old self.new (λ a s t. Called (values_at E.Node.NodeSet E.Env E.Hash.KeyHash a.environment) (λ w'. StoreCall (key_of E.Hash.digest) s.core (blob_of blob) result w') s t) };
+
+    /// Stores a blob under its key, which the caller has made, as before it takes a lock round the pager. Refused as `store`.
+    fn store_keyed(
+        &mut self,
+        alloc: Global,
+        key: DataKey,
+        blob: PagableData,
+    ) -> Result<DataKey, Error>
+        requires { key ≡ key_of E.Hash.digest (blob_of blob) }
+        ensures key { IfOk result (λ answer. answer ≡ key_of E.Hash.digest (blob_of blob)) }
         ensures acts { Acts told acting self.old self.new (λ a s t. Called (values_at E.Node.NodeSet E.Env E.Hash.KeyHash a.environment) (λ w'. StoreCall (key_of E.Hash.digest) s.core (blob_of blob) result w') s t) };
 
     /// The cell of a loose handle gets a key. Refused with NoSuchHandle and NotYours, and nothing changes; NumbersSpent and OutOfMemory say that a cell
@@ -144,6 +155,24 @@ pub enum Taken {
     Begun(HandleNumber, LoadNumber, DataKey),
 }
 
+/// What a worker got of a reference that it claimed, with the value that it pins.
+#[derive(Drop)]
+pub enum TakenValue<N> {
+    /// A handle of the reference's mode, the handle that pins the node, and what sharing its value answered.
+    Held(HandleNumber, HandleNumber, Result<Option<Arc<N>>, Error>),
+    /// A handle of the reference's mode, and the load of its cell that has begun, under this key.
+    Begun(HandleNumber, LoadNumber, DataKey),
+}
+
+/// A node at which a worker has handles; and the one of them through which the node's cell gets its key, where the
+/// reference that was claimed is a loose one.
+#[derive(Clone, Copy)]
+pub struct WorkerNode {
+    pub worker: WorkerNumber,
+    pub node: NodeNumber,
+    pub loose: Option<HandleNumber>,
+}
+
 /// The calls of a pager for one worker.
 pub trait WorkerAccess<E: Env<Node: NodeSet<E>>>: Access<E> {
     /// Whether a reference can be claimed, whoever owns its handle. Refused with NoSuchHandle where the handle isn't live or isn't at the reference's node, and with
@@ -155,9 +184,88 @@ pub trait WorkerAccess<E: Env<Node: NodeSet<E>>>: Access<E> {
     fn take_reference(&mut self, reference: ArcRef) -> Result<Taken, Error>
         ensures { Acts Self.told Self.acting self.old self.new (λ a s t. Called (values_at E.Node.NodeSet E.Env E.Hash.KeyHash a.environment) (λ w'. TakesReference s.core a.me reference result w') s t) };
 
+    /// Takes a reference as `take_reference` does, and shares the value that is pinned then. Where that can't be shared,
+    /// the handles are there all the same.
+    ///
+    /// # Errors
+    /// - as `take_reference`.
+    fn take_value(&mut self, reference: ArcRef) -> Result<TakenValue<E::Node>, Error>
+        ensures takes { Acts Self.told Self.acting self.old self.new (λ a s t. Called (values_at E.Node.NodeSet E.Env E.Hash.KeyHash a.environment) (λ w'. TakesReference s.core a.me reference (seen_as taken_of result) w') s t) }
+        ensures shares { IfOk result (λ taken. Tells (Self.told self.new) (λ s. SharesTaken s taken)) }
+    {
+        match self.take_reference(reference)? {
+            Taken::Held(through, pin) => Ok(TakenValue::Held(through, pin, self.share(pin))),
+            Taken::Begun(through, load, key) => Ok(TakenValue::Begun(through, load, key)),
+        }
+    }
+
     /// All handles of a worker at a node are given up.
     fn give_up(&mut self, worker: WorkerNumber, node: NodeNumber)
         ensures { Acts Self.told Self.acting self.old self.new (λ a s t. Called (values_at E.Node.NodeSet E.Env E.Hash.KeyHash a.environment) (λ w'. FallsAnyhow s.core s.core (is_workers_at s.core worker.0 node.0) w') s t) };
+
+    /// Sets the key of a cell through its loose handle, where there is one; else it does nothing.
+    ///
+    /// # Errors
+    /// - as `set_data_key`.
+    fn set_key_through(&mut self, loose: Option<HandleNumber>, key: DataKey) -> Result<(), Error>
+        ensures { Acts Self.told Self.acting self.old self.new (λ a s t. SetsThrough (values_at E.Node.NodeSet E.Env E.Hash.KeyHash a.environment) a.me loose key result s t) }
+    {
+        match loose {
+            Some(handle) => self.set_data_key(handle, key),
+            None => Ok(()),
+        }
+    }
+
+    /// Sets the key of a worker's node, if it is to get one, and gives up all handles that the worker has there.
+    ///
+    /// # Errors
+    /// - as `set_data_key`: the handles are still there.
+    fn close_node(&mut self, at: WorkerNode, key: DataKey) -> Result<(), Error>
+        ensures { Acts Self.told Self.acting self.old self.new (λ a s t. ClosesNode (values_at E.Node.NodeSet E.Env E.Hash.KeyHash a.environment) a.me at key result s t) }
+    {
+        self.set_key_through(at.loose, key)?;
+        self.give_up(at.worker, at.node);
+        Ok(())
+    }
+
+    /// Stores the blob of a worker's node, and does with its key what `close_node` does; answers the key.
+    ///
+    /// # Errors
+    /// - as `store`: no key is set, and the worker's handles are still there.
+    /// - as `close_node`: the blob is stored.
+    fn store_node(
+        &mut self,
+        alloc: Global,
+        blob: PagableData,
+        at: WorkerNode,
+    ) -> Result<DataKey, Error>
+        ensures key { IfOk result (λ key. key ≡ key_of E.Hash.digest (blob_of blob)) }
+        ensures acts { Acts Self.told Self.acting self.old self.new (λ a s t. StoresNode (values_at E.Node.NodeSet E.Env E.Hash.KeyHash a.environment) a.me at (blob_of blob) result s t) }
+    {
+        let key = self.store(alloc, blob)?;
+        self.close_node(at, key)?;
+        Ok(key)
+    }
+
+    /// Does what `store_node` does, by a blob's key that the caller has made, as before it takes a lock round the pager.
+    ///
+    /// # Errors
+    /// - as `store_node`.
+    fn store_node_keyed(
+        &mut self,
+        alloc: Global,
+        key: DataKey,
+        blob: PagableData,
+        at: WorkerNode,
+    ) -> Result<DataKey, Error>
+        requires { key ≡ key_of E.Hash.digest (blob_of blob) }
+        ensures key { IfOk result (λ answer. answer ≡ key_of E.Hash.digest (blob_of blob)) }
+        ensures acts { Acts Self.told Self.acting self.old self.new (λ a s t. StoresNode (values_at E.Node.NodeSet E.Env E.Hash.KeyHash a.environment) a.me at (blob_of blob) result s t) }
+    {
+        let stored = self.store_keyed(alloc, key, blob)?;
+        self.close_node(at, stored)?;
+        Ok(stored)
+    }
 
     /// A loose unpinned handle moves to the list's end. Refused with NoSuchHandle, NotYours, WrongMode and OutOfMemory.
     fn schedule_for_paging(&mut self, handle: HandleNumber) -> Result<(), Error>

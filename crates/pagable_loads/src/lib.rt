@@ -9,7 +9,7 @@ pub mod pinning;
 pub mod reading;
 pub mod step;
 
-pub use access::{Access, PinStart, Taken, WorkerAccess};
+pub use access::{Access, PinStart, Taken, TakenValue, WorkerAccess, WorkerNode};
 pub use cell_reading::CellReading;
 pub use decoding::{Decoded, GotReferences, decode};
 pub use pinning::{BegunPin, begin_reading};

@@ -4,7 +4,7 @@
 use either::Either;
 use pagable_codec::{Env, NodeSet};
 use pagable_core::{PagableData, PagableStorage, SessionOf, Setting};
-use pagable_loads::{Access, PinStart, Taken, WorkerAccess};
+use pagable_loads::{Access, PinStart, Taken, TakenValue, WorkerAccess, WorkerNode};
 use pagable_model::{
     ArcRef, DataKey, Error, HandleNumber, Kind, LoadNumber, NodeNumber, OptionalDataKey,
     WorkerNumber,
@@ -73,6 +73,15 @@ impl<'a, R: Wait, E: Env<Node: NodeSet<E>>, S: PagableStorage<E>> Access<E>
 
     fn store(&mut self, alloc: Global, blob: PagableData) -> Result<DataKey, Error> {
         let key = blob.compute_key::<E::Hash>();
+        self.store_keyed(alloc, key, blob)
+    }
+
+    fn store_keyed(
+        &mut self,
+        alloc: Global,
+        key: DataKey,
+        blob: PagableData,
+    ) -> Result<DataKey, Error> {
         self.pager.lock(self.rt).store_keyed(alloc, key, blob)
     }
 
@@ -172,6 +181,32 @@ impl<'a, R: Wait, E: Env<Node: NodeSet<E>>, S: PagableStorage<E>> WorkerAccess<E
     fn take_reference(&mut self, reference: ArcRef) -> Result<Taken, Error> {
         let mut pager = self.pager.lock(self.rt);
         Lent::for_owner(&mut *pager, self.me)?.take_reference(reference)
+    }
+
+    fn take_value(&mut self, reference: ArcRef) -> Result<TakenValue<E::Node>, Error> {
+        let mut pager = self.pager.lock(self.rt);
+        Lent::for_owner(&mut *pager, self.me)?.take_value(reference)
+    }
+
+    fn store_node(
+        &mut self,
+        alloc: Global,
+        blob: PagableData,
+        at: WorkerNode,
+    ) -> Result<DataKey, Error> {
+        let key = blob.compute_key::<E::Hash>();
+        self.store_node_keyed(alloc, key, blob, at)
+    }
+
+    fn store_node_keyed(
+        &mut self,
+        alloc: Global,
+        key: DataKey,
+        blob: PagableData,
+        at: WorkerNode,
+    ) -> Result<DataKey, Error> {
+        let mut pager = self.pager.lock(self.rt);
+        Lent::for_owner(&mut *pager, self.me)?.store_node_keyed(alloc, key, blob, at)
     }
 
     fn give_up(&mut self, worker: WorkerNumber, node: NodeNumber) {

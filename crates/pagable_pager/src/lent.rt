@@ -128,6 +128,15 @@ impl<'a, E: Env<Node: NodeSet<E>>, S: PagableStorage<E>> Access<E> for Lent<'a, 
         settled(self.pager.store(alloc, blob), self.pager)
     }
 
+    fn store_keyed(
+        &mut self,
+        alloc: Global,
+        key: DataKey,
+        blob: PagableData,
+    ) -> Result<DataKey, Error> {
+        settled(self.pager.store_keyed(alloc, key, blob), self.pager)
+    }
+
     fn set_data_key(&mut self, handle: HandleNumber, key: DataKey) -> Result<(), Error> {
         self.pager.set_data_key_by(self.me, handle, key)
     }

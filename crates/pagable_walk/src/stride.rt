@@ -1,21 +1,22 @@
 //! Strides of a walk: the steps of a worker from one claim to the next, or at a node that is done, made together, so
 //! that no task is kept between them.
 
-ghost use Rattle.pagable_world.specs.World.{SameShelf, was_refused, to_pin, to_publish, to_set, to_start, to_write};
-ghost use Rattle.pagable_world.specs.{Access.Told, Workers.with_wait};
-ghost use Rattle.std.specs.Prelude.{None, Some, ℕ, ◌*◌, ◌+◌, ◌<◌, ◌∷◌, ◌≡◌};
-ghost use Rattle.{pagable_loads.specs.Telling.values_at, pagable_walk.specs.{Both.ActsBoth, Strides.{ComesTo, Strides}, Tasks.{AwaitsLow, IsPlain, back_of, due, Ends, fails, far, GoesOn, IfGoes, IsWay, todo_of, todos, waiting_todo}, Turns.{acting_then, HasWalked, plan}}};
+ghost use Rattle.pagable_world.specs.World.{SameShelf, Shelf, published, was_refused, to_pin, to_publish, to_start, to_write};
+ghost use Rattle.pagable_world.specs.{Access.Told, Workers.{with_changed_slot, with_outcome, with_wait}};
+ghost use Rattle.std.specs.{Arc.arc_value, Prelude.{None, Some, ℕ, ◌*◌, ◌+◌, ◌<◌, ◌∷◌, ◌≡◌}};
+ghost use Rattle.{pagable_loads.specs.{Starting.Shares, Telling.{Acts, Tells, values_at}}, pagable_walk.specs.{Both.ActsBoth, Strides.{ComesTo, HandsOn, Strides}, Tasks.{AwaitsLow, IsPlain, back_of, due, Ends, fails, far, GoesOn, IfGoes, IsWay, todo_of, todos, waiting_todo}, Turns.{acting_then, HasWalked, plan}}};
 
 use crate::stack::{give, refuse, settle};
 use crate::step::{end_answered, step};
-use crate::tasks::{Done, Moved, Task, Turn, Waiting, named};
-use crate::turns::{after_claim, claim, prepare, set_key_of, store, stored};
+use crate::tasks::{Done, Moved, Node, Task, Turn, Waiting, named};
+use crate::turns::{after_claim, claim, done_with, prepare, store, store_node, stored};
 use crate::{Claims, Found};
 use pagable_codec::{Env, NodeSet};
-use pagable_loads::{Reading, Taken, WorkerAccess};
+use pagable_loads::{Reading, TakenValue, WorkerAccess};
 use pagable_model::{ArcRef, Error, HandleNumber, WorkerNumber};
 use pagable_world::WorkerAnswer;
 use std::alloc::Global;
+use std::sync::Arc;
 
 // A claim that isn't made, for this reason: the worker waits for nothing, and its walk fails.
 fn unclaimed<E: Env<Node: NodeSet<E>>, T: Claims<E>>(
@@ -34,7 +35,7 @@ fn unclaimed<E: Env<Node: NodeSet<E>>, T: Claims<E>>(
     refuse(path, &e, Some(reference.handle))
 }
 
-// Writes the value that is pinned, and comes to its references.
+// Writes the value that was shared from the handle that pins it, and comes to its references.
 fn enter<E: Env<Node: NodeSet<E>>, A: WorkerAccess<E>, T: Claims<E>>(
     access: &A,
     alloc: Global,
@@ -43,14 +44,14 @@ fn enter<E: Env<Node: NodeSet<E>>, A: WorkerAccess<E>, T: Claims<E>>(
     reference: ArcRef,
     place: u64,
     through: HandleNumber,
-    pin: HandleNumber,
+    shared: Result<Option<Arc<E::Node>>, Error>,
 ) -> Task<E>
     requires { IsWay (to_write reference place through ∷ todos path.old.items) }
     ensures ends { Ends (to_write reference place through ∷ todos path.old.items) (Turn.Goes result) (todo_of result ∷ todos path.new.items) }
     ensures goes { GoesOn (to_write reference place through ∷ todos path.old.items) (Turn.Goes result) (todo_of result ∷ todos path.new.items) }
-    ensures step { (n : ℕ) → ActsBoth A.told A.acting T.shelf access.now table.old access.now table.new (λ a. a) (λ a s q s' q'. HasWalked (values_at E.Node.NodeSet E.Env E.Hash.KeyHash a.environment) a.me n q (Task.Write reference place through pin) (todos path.old.items) q' result (todos path.new.items) s s') }
+    ensures step { (n : ℕ) (pin : HandleNumber) → Tells (A.told access.now) (λ s. Shares arc_value s pin shared) → ActsBoth A.told A.acting T.shelf access.now table.old access.now table.new (λ a. a) (λ a s q s' q'. HasWalked (values_at E.Node.NodeSet E.Env E.Hash.KeyHash a.environment) a.me n q (Task.Write reference place through pin) (todos path.old.items) q' result (todos path.new.items) s s') }
 {
-    match prepare(access, alloc, path, reference, place, through, pin) {
+    match prepare(access, alloc, path, reference, place, through, shared) {
         Ok((waiting, references, told)) => {
             let _written = told;
             table.note_written(named(reference), references);
@@ -75,12 +76,14 @@ fn take<E: Env<Node: NodeSet<E>>, A: WorkerAccess<E>, T: Claims<E>>(
     ensures goes { GoesOn (to_pin reference place ∷ todos path.old.items) (Turn.Goes result) (todo_of result ∷ todos path.new.items) }
     ensures acts { (n : ℕ) → ActsBoth A.told A.acting T.shelf access.old table.old access.new table.new (λ a. a) (λ a s q s' q'. HasWalked (values_at E.Node.NodeSet E.Env E.Hash.KeyHash a.environment) a.me n q (Task.Pin reference place) (todos path.old.items) q' result (todos path.new.items) s s') }
 {
-    match access.take_reference(reference) {
+    match access.take_value(reference) {
         Ok(taken) => match taken {
-            Taken::Held(through, pin) => {
-                enter(access, alloc, table, path, reference, place, through, pin)
+            TakenValue::Held(through, _pin, shared) => {
+                enter(
+                    access, alloc, table, path, reference, place, through, shared,
+                )
             }
-            Taken::Begun(through, load, key) => {
+            TakenValue::Begun(through, load, key) => {
                 let reading = Reading::new(alloc, load, key, reference.kind.0 / 3, true);
                 Task::Load(reference, place, through, reading)
             }
@@ -133,52 +136,71 @@ fn begin<E: Env<Node: NodeSet<E>>, A: WorkerAccess<E>, T: Claims<E>>(
     Turn::Goes(start(access, alloc, table, worker, path, reference, place))
 }
 
-// Publishes the result of a node whose key is set, and gives up the worker's handles of it. Its result goes to what
-// waits for it; where nothing does, its key is answered.
+// Publishes the result of a node whose key is set and whose handles are given up. Its result goes to what waits for it;
+// where nothing does, its key is answered.
 #[tactic(auto, using(std::proofs::lemmas::Bool::Decides::nat_tests, crate::proofs::Stacks::ways))]
-fn publish<E: Env<Node: NodeSet<E>>, A: WorkerAccess<E>, T: Claims<E>>(
-    access: &mut A,
+fn publish<E: Env<Node: NodeSet<E>>, T: Claims<E>>(
     table: &mut T,
-    worker: WorkerNumber,
     path: &mut Vec<Waiting<E>>,
     done: Done<E>,
 ) -> Turn<E>
     requires { AwaitsLow (todos path.old.items) done.reference done.found.height }
     ensures ends { Ends (to_publish done.reference done.found.key done.found.height ∷ todos path.old.items) result (plan result path.new.items) }
     ensures goes { GoesOn (to_publish done.reference done.found.key done.found.height ∷ todos path.old.items) result (plan result path.new.items) }
-    ensures acts { ActsBoth A.told A.acting T.shelf access.old table.old access.new table.new (λ a. a) (λ a s q s' q'. ComesTo (values_at E.Node.NodeSet E.Env E.Hash.KeyHash a.environment) a.me worker.0 q (Task.Publish done) (todos path.old.items) q' result (plan result path.new.items) s s') }
+    ensures hands { HandsOn done (todos path.old.items) result (plan result path.new.items) }
+    ensures table { Told (T.shelf table.old) (T.shelf table.new) (λ q q'. SameShelf (with_changed_slot q done.found.identity (with_outcome (published done.found.key done.found.height))) q') }
 {
     table.publish(&done.found);
-    access.give_up(worker, done.reference.node);
     match give(path, done) {
         Ok(task) => Turn::Goes(task),
         Err(done) => Turn::Answers(WorkerAnswer::Key(done.key())),
     }
 }
 
-// Sets the key of a node whose blob was stored, and publishes its result.
+// Stores the blob of a node whose references are all done, sets its key, gives up the worker's handles of it, and
+// publishes its result.
 #[tactic(auto, using(std::proofs::lemmas::Bool::Decides::nat_tests))]
-fn close<E: Env<Node: NodeSet<E>>, A: WorkerAccess<E>, T: Claims<E>>(
+fn leave_node<E: Env<Node: NodeSet<E>>, A: WorkerAccess<E>, T: Claims<E>>(
     access: &mut A,
+    alloc: Global,
     table: &mut T,
     worker: WorkerNumber,
     path: &mut Vec<Waiting<E>>,
-    done: Done<E>,
-    through: HandleNumber,
+    waiting: Waiting<E>,
+    node: Node,
 ) -> Turn<E>
-    requires { AwaitsLow (todos path.old.items) done.reference done.found.height }
-    ensures ends { Ends (to_set done.reference through done.found.key done.found.height ∷ todos path.old.items) result (plan result path.new.items) }
-    ensures goes { GoesOn (to_set done.reference through done.found.key done.found.height ∷ todos path.old.items) result (plan result path.new.items) }
-    ensures acts { ActsBoth A.told A.acting T.shelf access.old table.old access.new table.new (λ a. a) (λ a s q s' q'. ComesTo (values_at E.Node.NodeSet E.Env E.Hash.KeyHash a.environment) a.me worker.0 q (Task.SetKey done through) (todos path.old.items) q' result (plan result path.new.items) s s') }
+    requires way { IsWay (waiting_todo waiting ∷ todos path.old.items) }
+    requires node { waiting.node ≡ Some node }
+    ensures ends { Ends (waiting_todo waiting ∷ todos path.old.items) result (plan result path.new.items) }
+    ensures goes { GoesOn (waiting_todo waiting ∷ todos path.old.items) result (plan result path.new.items) }
+    ensures acts { ActsBoth A.told A.acting T.shelf access.old table.old access.new table.new (λ a. a) (λ a s q s' q'. ComesTo (values_at E.Node.NodeSet E.Env E.Hash.KeyHash a.environment) a.me worker.0 q (Task.Finish waiting) (todos path.old.items) q' result (plan result path.new.items) s s') }
 {
-    match set_key_of(access, done.reference, through, done.key()) {
-        Ok(()) => publish(access, table, worker, path, done),
+    match store_node(access, alloc, worker, &waiting, node) {
+        Ok(key) => publish(table, path, done_with(&waiting, node, key)),
         Err(e) => Turn::Goes(refuse(path, &e, None)),
     }
 }
 
-// Stores the blob of a node or an item whose references are all done, and closes the node.
+// Stores the blob of an item whose references are all done, and answers its key.
 #[tactic(auto, using(crate::proofs::Turning::finishing))]
+fn leave_item<E: Env<Node: NodeSet<E>>, A: WorkerAccess<E>>(
+    access: &mut A,
+    alloc: Global,
+    path: &mut Vec<Waiting<E>>,
+    waiting: Waiting<E>,
+) -> Turn<E>
+    requires { IsWay (waiting_todo waiting ∷ todos path.old.items) }
+    ensures ends { Ends (waiting_todo waiting ∷ todos path.old.items) result (plan result path.new.items) }
+    ensures goes { GoesOn (waiting_todo waiting ∷ todos path.old.items) result (plan result path.new.items) }
+    ensures acts { (n : ℕ) (shelf : Shelf) → Acts A.told A.acting access.old access.new (λ a s t. ComesTo (values_at E.Node.NodeSet E.Env E.Hash.KeyHash a.environment) a.me n shelf (Task.Finish waiting) (todos path.old.items) shelf result (plan result path.new.items) s t) }
+{
+    match store(access, alloc, &waiting) {
+        Ok(key) => stored(waiting, key),
+        Err(e) => Turn::Goes(refuse(path, &e, None)),
+    }
+}
+
+// Leaves what was written, a node or the item, once its references are all done.
 fn leave<E: Env<Node: NodeSet<E>>, A: WorkerAccess<E>, T: Claims<E>>(
     access: &mut A,
     alloc: Global,
@@ -192,15 +214,9 @@ fn leave<E: Env<Node: NodeSet<E>>, A: WorkerAccess<E>, T: Claims<E>>(
     ensures goes { GoesOn (waiting_todo waiting ∷ todos path.old.items) result (plan result path.new.items) }
     ensures acts { ActsBoth A.told A.acting T.shelf access.old table.old access.new table.new (λ a. a) (λ a s q s' q'. ComesTo (values_at E.Node.NodeSet E.Env E.Hash.KeyHash a.environment) a.me worker.0 q (Task.Finish waiting) (todos path.old.items) q' result (plan result path.new.items) s s') }
 {
-    match store(access, alloc, &waiting) {
-        Ok(key) => match stored(waiting, key) {
-            Turn::Goes(next) => match next {
-                Task::SetKey(done, through) => close(access, table, worker, path, done, through),
-                other => Turn::Goes(other),
-            },
-            Turn::Answers(answer) => Turn::Answers(answer),
-        },
-        Err(e) => Turn::Goes(refuse(path, &e, None)),
+    match waiting.node {
+        Some(node) => leave_node(access, alloc, table, worker, path, waiting, node),
+        None => leave_item(access, alloc, path, waiting),
     }
 }
 

@@ -1,0 +1,14 @@
+use Rattle.{pagable_core.specs.Data.blob_of, pagable_loads.specs.Telling.values_at, pagable_model.specs.Blob.key_of, pagable_pager.{proofs.Keeping.{all_there, called_fewer, told-if}, specs.View.{core_in, telling}}}
+use Rattle.{pagable_world.specs.Calls.StoreCall, std.proofs.Common.rules}
+
+pub returns-clause-acts : Rattle.pagable_pager.proofs.lent.LentAccess.store_keyed.Goals.returns-clause-acts
+returns-clause-acts g c =
+    let tells = telling g.S.PagableStorage.stored g.S.PagableStorage.is_closed g.S.PagableStorage.failed in
+    let asks = c.store_keyed.ensures.asks in
+    let digest = key_of g.E.Hash.KeyHash.digest in
+    record {
+      step = told-if _ _ _ _ asks.honest (λ h. called_fewer tells (λ e. values_at g.E.Node.NodeSet g.E.Env g.E.Hash.KeyHash e) c.args.self.now.pager.now c.store_keyed.new.self
+          (λ w'. StoreCall digest (core_in tells c.args.self.now.pager.now) (blob_of c.args.blob) c.settled.result w') (rw c.settled.ensures.same (asks.step h))
+          (all_there tells (λ e. values_at g.E.Node.NodeSet g.E.Env g.E.Hash.KeyHash e) _ _ (record { values = asks.only.values; environment = asks.only.environment })) c.settled.ensures.whole);
+      acting = search rules;
+    }
