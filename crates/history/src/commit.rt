@@ -6,10 +6,10 @@ ghost use Rattle.pagable_nodes.specs.Nodes.{one_held, zero_is_small};
 
 use pagable_core::Sha256Key;
 use pagable_flavors::Error;
-use pagable_nodes::OneNode;
+use pagable_nodes::{NodeValue, OneNode, write_listed};
 use pagable_traits::{
     ArcRef, Canonical, Carried, Env, OfKind, OfNode, OneMeaning, PagableDeserialize,
-    PagableDeserializer, PagableSerialize, PagableSerializer, Refers,
+    PagableDeserializer, PagableSerialize, PagableSerializer, Refers, references_of,
 };
 use std::alloc::Global;
 use std::sync::Arc;
@@ -19,7 +19,7 @@ use std::sync::Arc;
 pub struct History;
 
 impl Env for History {
-    type Node = OneNode<'static, Commit>;
+    type Node = OneNode<Commit>;
 
     type Hash = Sha256Key;
 
@@ -92,6 +92,25 @@ impl<'de, E: Env> PagableDeserialize<'de, E> for Commit {
     }
 }
 
+impl<E: Env> NodeValue<E> for Commit {
+    ghost spelled = { commit_spelled };
+
+    fn list(&self, alloc: Global) -> Result<Vec<ArcRef>, Error> {
+        references_of::<E, Commit>(alloc, self)
+    }
+
+    fn write<S: PagableSerializer<E>>(&self, serializer: &mut S) -> Result<(), Error> {
+        write_listed(self, serializer)
+    }
+
+    fn read<D: PagableDeserializer<E>>(
+        alloc: Global,
+        deserializer: &mut D,
+    ) -> Result<Commit, Error> {
+        Commit::pagable_deserialize(alloc, deserializer)
+    }
+}
+
 impl OfNode<History> for Commit {
     ghost TYPE = { 0 };
 
@@ -99,16 +118,13 @@ impl OfNode<History> for Commit {
 
     const TYPE: u32 = 0;
 
-    fn into_node(value: Arc<Commit>) -> OneNode<'static, Commit>
+    fn into_node(value: Arc<Commit>) -> OneNode<Commit>
         ensures { one_held result ≡ Some (arc_value value) }
     {
         OneNode::new(value)
     }
 
-    fn from_node(
-        alloc: Global,
-        node: &OneNode<'static, Commit>,
-    ) -> Result<Option<Arc<Commit>>, Error> {
+    fn from_node(alloc: Global, node: &OneNode<Commit>) -> Result<Option<Arc<Commit>>, Error> {
         Ok(Some(node.value.clone()?))
     }
 

@@ -7,10 +7,10 @@ ghost use Rattle.pagable_nodes.specs.Nodes.{first_held, second_held, third_held,
 use crate::commit::Commit;
 use pagable_core::Sha256Key;
 use pagable_flavors::Error;
-use pagable_nodes::{EitherNode, OneNode};
+use pagable_nodes::{EitherNode, NodeValue, OneNode, write_listed};
 use pagable_traits::{
     ArcRef, Canonical, Carried, Env, OfKind, OfNode, OneMeaning, PagableDeserialize,
-    PagableDeserializer, PagableSerialize, PagableSerializer, Refers,
+    PagableDeserializer, PagableSerialize, PagableSerializer, Refers, references_of,
 };
 use std::alloc::Global;
 use std::sync::Arc;
@@ -34,7 +34,7 @@ impl Env for Project {
 }
 
 /// A node of a project.
-pub type ProjectNode = EitherNode<'static, Commit, Folder, File>;
+pub type ProjectNode = EitherNode<Commit, Folder, File>;
 
 /// A folder: its name, the commit that it came with, and its files.
 #[derive(Drop)]
@@ -84,6 +84,25 @@ impl<'de, E: Env> PagableDeserialize<'de, E> for Folder {
         let fields = PagableDeserialize::pagable_deserialize(alloc, deserializer)?;
         let (name, (since, files)) = fields;
         Ok(Folder { name, since, files })
+    }
+}
+
+impl<E: Env> NodeValue<E> for Folder {
+    ghost spelled = { folder_spelled };
+
+    fn list(&self, alloc: Global) -> Result<Vec<ArcRef>, Error> {
+        references_of::<E, Folder>(alloc, self)
+    }
+
+    fn write<S: PagableSerializer<E>>(&self, serializer: &mut S) -> Result<(), Error> {
+        write_listed(self, serializer)
+    }
+
+    fn read<D: PagableDeserializer<E>>(
+        alloc: Global,
+        deserializer: &mut D,
+    ) -> Result<Folder, Error> {
+        Folder::pagable_deserialize(alloc, deserializer)
     }
 }
 
@@ -139,6 +158,22 @@ impl<'de, E: Env> PagableDeserialize<'de, E> for File {
             text,
             folder,
         })
+    }
+}
+
+impl<E: Env> NodeValue<E> for File {
+    ghost spelled = { file_spelled };
+
+    fn list(&self, alloc: Global) -> Result<Vec<ArcRef>, Error> {
+        references_of::<E, File>(alloc, self)
+    }
+
+    fn write<S: PagableSerializer<E>>(&self, serializer: &mut S) -> Result<(), Error> {
+        write_listed(self, serializer)
+    }
+
+    fn read<D: PagableDeserializer<E>>(alloc: Global, deserializer: &mut D) -> Result<File, Error> {
+        File::pagable_deserialize(alloc, deserializer)
     }
 }
 

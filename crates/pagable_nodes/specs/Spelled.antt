@@ -3,10 +3,10 @@ use Rattle.std.specs.{Global.Vec, Int.Width, Prelude.{Bool, Option, String, ℕ,
 use Rattle.pagable_model.specs.OneForm.{HasOneFormThroughout, basic_has_one_form, over_has_one_form, two_has_one_form}
 use Rattle.pagable_model.specs.{Shape.Shape, declared.numbers.ArcRef.ArcRef}
 use Rattle.pagable_traits.specs.Meanings.{AreSingle, Meanings, exactly, lists, lists_single, options, options_single, pairs, pairs_single, seen_by}
-use Rattle.pagable_traits.specs.OwnCauses.{ReadCauses, WriteCauses, reads_either, reads_memory, reads_memory_or, reads_never, writes_either, writes_long_or, writes_memory, writes_memory_or}
+use Rattle.pagable_traits.specs.OwnCauses.{ReadCauses, WriteCauses, reads_either, reads_memory, reads_memory_or, reads_never, writes_either, writes_long_or, writes_memory, writes_memory_or, writes_never}
 use Rattle.pagable_traits.specs.ReadBack.{IsReadThroughout, basic_is_read, over_is_read, two_is_read}
 use Rattle.pagable_traits.specs.References.{holding_kind, holding_means, loose_kind, loose_means, plain_means, reads_unlent, reference_has_one_form, reference_is_read}
-use Rattle.pagable_traits.specs.Refers.{ListsInOrder, both_in_order, flag_in_order, list_in_order, optional_in_order, reference_in_order, signed_in_order, text_in_order, unsigned_in_order}
+use Rattle.pagable_traits.specs.Refers.{ListsInOrder, both_in_order, flag_in_order, list_in_order, nothing_in_order, optional_in_order, reference_in_order, signed_in_order, text_in_order, unsigned_in_order}
 use Rattle.pagable_traits.specs.declared.{holding.HoldingArc.HoldingArc, loose.PagableArc.PagableArc, plain.OfKind.OfKind}
 use Rattle.pagable_model.specs.Meaning as meanings
 use Rattle.pagable_model.specs.Shape as shapes
@@ -22,6 +22,19 @@ pub record Spelled (T : Type 0) : Type 1 where
   pub in_order : (parts : ℕ → Shape) → ListsInOrder parts shape
   pub one_form : (parts : ℕ → Shape) → HasOneFormThroughout parts shape
   pub is_read : (parts : ℕ → Shape) → IsReadThroughout parts shape
+
+-- nothing, as no byte
+abbrev pub empty : Spelled Unit
+empty = record {
+  shape = shapes.nothing;
+  means = exactly (λ x. meanings.none);
+  single = λ x m is. is;
+  writes = writes_never;
+  reads = reads_never;
+  in_order = λ parts. nothing_in_order parts;
+  one_form = λ parts. basic_has_one_form tt;
+  is_read = λ parts. basic_is_read tt;
+}
 
 -- a number without a sign, of this width: `number w64` of u64
 abbrev pub number : Width → Spelled ℕ

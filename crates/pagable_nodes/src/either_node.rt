@@ -4,28 +4,26 @@ ghost use Rattle.pagable_model.specs.Gives.{memory};
 ghost use Rattle.std.specs.{Arc.arc_value, Option.option_map, Prelude.{IfErr, IfOk, ◌≡◌}};
 ghost use Rattle.pagable_nodes.specs.Nodes.{either_has_meaning, either_has_shape, either_means, either_number, either_reads, either_refers, either_refs, either_shape, either_writes, first_held, second_held, shape_of_three, third_held};
 
-use crate::one_node::{OneNode, write_listed};
+use crate::node_value::NodeValue;
+use crate::one_node::OneNode;
 use pagable_flavors::Error;
-use pagable_traits::{
-    ArcRef, Env, NodeSet, PagableDeserialize, PagableDeserializer, PagableSerialize,
-    PagableSerializer, Refers, references_of,
-};
+use pagable_traits::{ArcRef, Env, NodeSet, PagableDeserializer, PagableSerializer};
 use std::alloc::Global;
 use std::sync::Arc;
 
 /// A node of an environment with three value types, which have the numbers 0, 1 and 2 in their order. An environment with
 /// two takes `()` for the third.
 #[derive(Drop)]
-pub enum EitherNode<'de, A, B, C> {
+pub enum EitherNode<A, B, C> {
     /// A value of the type number 0.
-    First(OneNode<'de, A>),
+    First(OneNode<A>),
     /// A value of the type number 1.
-    Second(OneNode<'de, B>),
+    Second(OneNode<B>),
     /// A value of the type number 2.
-    Third(OneNode<'de, C>),
+    Third(OneNode<C>),
 }
 
-impl<'de, A: Drop, B: Drop, C: Drop> EitherNode<'de, A, B, C> {
+impl<A: Drop, B: Drop, C: Drop> EitherNode<A, B, C> {
     /// Shares its value of the type number 0. Answers None where it holds another.
     ///
     /// # Errors
@@ -69,36 +67,31 @@ impl<'de, A: Drop, B: Drop, C: Drop> EitherNode<'de, A, B, C> {
     }
 }
 
-impl<
-    'de,
-    E: Env,
-    A: Refers<E> + PagableSerialize<E> + PagableDeserialize<'de, E> + Drop,
-    B: Refers<E> + PagableSerialize<E> + PagableDeserialize<'de, E> + Drop,
-    C: Refers<E> + PagableSerialize<E> + PagableDeserialize<'de, E> + Drop,
-> NodeSet<E> for EitherNode<'de, A, B, C> {
+impl<E: Env, A: NodeValue<E> + Drop, B: NodeValue<E> + Drop, C: NodeValue<E> + Drop> NodeSet<E>
+    for EitherNode<A, B, C> {
     ghost type_of = { either_number };
 
-    ghost shape_of = { λ e. shape_of_three (A.Carried.shape e) (B.Carried.shape e) (C.Carried.shape e) };
+    ghost shape_of = { λ e. shape_of_three A.spelled.shape B.spelled.shape C.spelled.shape };
 
-    ghost own_shape = { λ e n. either_shape (A.Carried.shape e) (B.Carried.shape e) (C.Carried.shape e) n };
+    ghost own_shape = { λ e n. either_shape A.spelled.shape B.spelled.shape C.spelled.shape n };
 
-    ghost means = { either_means A.Carried.means B.Carried.means C.Carried.means };
+    ghost means = { either_means A.spelled.means B.spelled.means C.spelled.means };
 
-    ghost refs_of = { either_refs A.Carried.means B.Carried.means C.Carried.means };
+    ghost refs_of = { either_refs A.spelled.means B.spelled.means C.spelled.means };
 
-    ghost write_causes = { λ t. (either_writes A.write_causes B.write_causes C.write_causes t).are };
+    ghost write_causes = { λ t. (either_writes A.spelled.writes B.spelled.writes C.spelled.writes t).are };
 
-    ghost read_causes = { λ t. (either_reads A.read_causes B.read_causes C.read_causes t).are };
+    ghost read_causes = { λ t. (either_reads A.spelled.reads B.spelled.reads C.spelled.reads t).are };
 
-    ghost write_causes_may_refuse = { λ t. (either_writes A.write_causes B.write_causes C.write_causes t).may };
+    ghost write_causes_may_refuse = { λ t. (either_writes A.spelled.writes B.spelled.writes C.spelled.writes t).may };
 
-    ghost read_causes_are_own = { λ t. (either_reads A.read_causes B.read_causes C.read_causes t).own };
+    ghost read_causes_are_own = { λ t. (either_reads A.spelled.reads B.spelled.reads C.spelled.reads t).own };
 
-    ghost has_meaning = { either_has_meaning A.Carried.means B.Carried.means C.Carried.means };
+    ghost has_meaning = { either_has_meaning A.spelled.means B.spelled.means C.spelled.means };
 
-    ghost refers = { either_refers A.Carried.means B.Carried.means C.Carried.means A.OneMeaning.single B.OneMeaning.single C.OneMeaning.single };
+    ghost refers = { either_refers A.spelled.means B.spelled.means C.spelled.means A.spelled.single B.spelled.single C.spelled.single };
 
-    ghost has_shape = { λ e. either_has_shape (A.Carried.shape e) (B.Carried.shape e) (C.Carried.shape e) };
+    ghost has_shape = { λ e. either_has_shape A.spelled.shape B.spelled.shape C.spelled.shape };
 
     fn node_type(&self) -> u32 {
         match self {
@@ -110,17 +103,17 @@ impl<
 
     fn refs(&self, alloc: Global) -> Result<Vec<ArcRef>, Error> {
         match self {
-            EitherNode::First(node) => references_of::<E, A>(alloc, node.value.as_ref()),
-            EitherNode::Second(node) => references_of::<E, B>(alloc, node.value.as_ref()),
-            EitherNode::Third(node) => references_of::<E, C>(alloc, node.value.as_ref()),
+            EitherNode::First(node) => NodeValue::<E>::list(node.value.as_ref(), alloc),
+            EitherNode::Second(node) => NodeValue::<E>::list(node.value.as_ref(), alloc),
+            EitherNode::Third(node) => NodeValue::<E>::list(node.value.as_ref(), alloc),
         }
     }
 
     fn write<S: PagableSerializer<E>>(&self, serializer: &mut S) -> Result<(), Error> {
         match self {
-            EitherNode::First(node) => write_listed(node.value.as_ref(), serializer),
-            EitherNode::Second(node) => write_listed(node.value.as_ref(), serializer),
-            EitherNode::Third(node) => write_listed(node.value.as_ref(), serializer),
+            EitherNode::First(node) => NodeValue::<E>::write(node.value.as_ref(), serializer),
+            EitherNode::Second(node) => NodeValue::<E>::write(node.value.as_ref(), serializer),
+            EitherNode::Third(node) => NodeValue::<E>::write(node.value.as_ref(), serializer),
         }
     }
 
@@ -129,18 +122,18 @@ impl<
         node_type: u32,
         alloc: Global,
         deserializer: &mut D,
-    ) -> Result<EitherNode<'de, A, B, C>, Error> {
+    ) -> Result<EitherNode<A, B, C>, Error> {
         match node_type {
             0 => {
-                let value = A::pagable_deserialize(alloc, deserializer)?;
+                let value = <A as NodeValue<E>>::read(alloc, deserializer)?;
                 Ok(EitherNode::First(OneNode::new(Arc::new(alloc, value)?)))
             }
             1 => {
-                let value = B::pagable_deserialize(alloc, deserializer)?;
+                let value = <B as NodeValue<E>>::read(alloc, deserializer)?;
                 Ok(EitherNode::Second(OneNode::new(Arc::new(alloc, value)?)))
             }
             2 => {
-                let value = C::pagable_deserialize(alloc, deserializer)?;
+                let value = <C as NodeValue<E>>::read(alloc, deserializer)?;
                 Ok(EitherNode::Third(OneNode::new(Arc::new(alloc, value)?)))
             }
             _ => Err(Error::WrongKind),

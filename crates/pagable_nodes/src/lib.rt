@@ -4,9 +4,11 @@
 
 pub mod bytes;
 pub mod either_node;
+pub mod node_value;
 pub mod one_node;
 pub mod records;
 
 pub use either_node::EitherNode;
+pub use node_value::NodeValue;
 pub use one_node::{OneNode, write_listed};
 pub use records::{Record, RecordNode, RecordRef, Records};

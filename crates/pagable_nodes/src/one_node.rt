@@ -4,34 +4,29 @@ ghost use Rattle.std.specs.{Arc.arc_value, Prelude.{OnOk, refl, ◌++◌, ◌≡
 ghost use Rattle.pagable_nodes.specs.Nodes.{shape_of_one, value_refers};
 ghost use Rattle.{pagable_model.specs.References.references_in, pagable_traits.specs.{Clauses.{Wrote, value as form}, Meanings.some, OwnCauses.{reads_memory_or}}};
 
+use crate::node_value::NodeValue;
 use pagable_flavors::Error;
 use pagable_traits::{
-    ArcRef, Env, NodeSet, PagableDeserialize, PagableDeserializer, PagableSerialize,
-    PagableSerializer, Refers, references_of,
+    ArcRef, Env, NodeSet, PagableDeserializer, PagableSerialize, PagableSerializer, Refers,
 };
 use std::alloc::Global;
-use std::marker::PhantomData;
 use std::sync::Arc;
 
 /// A node of an environment whose values are all of the type `T`, which has the number 0.
 ///
-/// An environment names it at `'static`, as `type Node = OneNode<'static, Commit>`.
+/// An environment names it, as `type Node = OneNode<Commit>`.
 #[derive(Drop)]
-pub struct OneNode<'de, T> {
+pub struct OneNode<T> {
     /// The value.
     pub value: Arc<T>,
-    read_at: PhantomData<&'de ()>,
 }
 
-impl<'de, T> OneNode<'de, T> {
+impl<T> OneNode<T> {
     /// Makes the node that holds this value.
-    pub fn new(value: Arc<T>) -> OneNode<'de, T>
+    pub fn new(value: Arc<T>) -> OneNode<T>
         ensures { result.value ≡ value }
     {
-        OneNode {
-            value,
-            read_at: PhantomData,
-        }
+        OneNode { value }
     }
 }
 
@@ -49,29 +44,28 @@ pub fn write_listed<E: Env, T: Refers<E> + PagableSerialize<E>, S: PagableSerial
     value.pagable_serialize(serializer)
 }
 
-impl<'de, E: Env, T: Refers<E> + PagableSerialize<E> + PagableDeserialize<'de, E> + Drop> NodeSet<E>
-    for OneNode<'de, T> {
+impl<E: Env, T: NodeValue<E> + Drop> NodeSet<E> for OneNode<T> {
     ghost type_of = { λ n. 0 };
 
-    ghost shape_of = { λ e t. shape_of_one (T.Carried.shape e) t };
+    ghost shape_of = { λ e t. shape_of_one T.spelled.shape t };
 
-    ghost own_shape = { λ e n. T.Carried.shape e };
+    ghost own_shape = { λ e n. T.spelled.shape };
 
-    ghost means = { λ n. T.Carried.means.of (arc_value n.value) };
+    ghost means = { λ n. T.spelled.means.of (arc_value n.value) };
 
-    ghost refs_of = { λ n. references_in (T.Carried.means.meaning (arc_value n.value)) };
+    ghost refs_of = { λ n. references_in (T.spelled.means.meaning (arc_value n.value)) };
 
-    ghost write_causes = { λ t. T.write_causes.are };
+    ghost write_causes = { λ t. T.spelled.writes.are };
 
-    ghost read_causes = { λ t. (reads_memory_or T.read_causes).are };
+    ghost read_causes = { λ t. (reads_memory_or T.spelled.reads).are };
 
-    ghost write_causes_may_refuse = { λ t. T.write_causes.may };
+    ghost write_causes_may_refuse = { λ t. T.spelled.writes.may };
 
-    ghost read_causes_are_own = { λ t. (reads_memory_or T.read_causes).own };
+    ghost read_causes_are_own = { λ t. (reads_memory_or T.spelled.reads).own };
 
-    ghost has_meaning = { λ n. some T.Carried.means (arc_value n.value) };
+    ghost has_meaning = { λ n. some T.spelled.means (arc_value n.value) };
 
-    ghost refers = { λ n m h. value_refers T.Carried.means T.OneMeaning.single (arc_value n.value) m h };
+    ghost refers = { λ n m h. value_refers T.spelled.means T.spelled.single (arc_value n.value) m h };
 
     ghost has_shape = { λ e n. refl };
 
@@ -80,22 +74,22 @@ impl<'de, E: Env, T: Refers<E> + PagableSerialize<E> + PagableDeserialize<'de, E
     }
 
     fn refs(&self, alloc: Global) -> Result<Vec<ArcRef>, Error> {
-        references_of::<E, T>(alloc, self.value.as_ref())
+        NodeValue::<E>::list(self.value.as_ref(), alloc)
     }
 
     fn write<S: PagableSerializer<E>>(&self, serializer: &mut S) -> Result<(), Error> {
-        write_listed(self.value.as_ref(), serializer)
+        NodeValue::<E>::write(self.value.as_ref(), serializer)
     }
 
     fn read<D: PagableDeserializer<E>>(
         node_type: u32,
         alloc: Global,
         deserializer: &mut D,
-    ) -> Result<OneNode<'de, T>, Error> {
+    ) -> Result<OneNode<T>, Error> {
         if node_type != 0 {
             return Err(Error::WrongKind);
         }
-        let value = T::pagable_deserialize(alloc, deserializer)?;
+        let value = <T as NodeValue<E>>::read(alloc, deserializer)?;
         Ok(OneNode::new(Arc::new(alloc, value)?))
     }
 }

@@ -5,12 +5,14 @@ ghost use Rattle.std.specs.{Arc.arc_value, Prelude.{IfOk, Some, refl, ◌≡◌}
 ghost use Rattle.pagable_nodes.specs.{Nodes.{holds_one, one_held, zero_is_small}, Records.{IsRecord, record_spelled}};
 ghost use Rattle.pagable_traits.specs.{ReadBack.IsReadThroughout, References.{loose, plain}};
 
-use crate::one_node::OneNode;
+use crate::node_value::NodeValue;
+use crate::one_node::{OneNode, write_listed};
 use pagable_core::Sha256Key;
 use pagable_flavors::Error;
 use pagable_traits::{
     ArcRef, Canonical, Carried, Env, InNode, OfKind, OfNode, OneMeaning, PagableArc,
     PagableDeserialize, PagableDeserializer, PagableSerialize, PagableSerializer, Refers,
+    references_of,
 };
 use std::alloc::Global;
 use std::sync::Arc;
@@ -40,7 +42,7 @@ impl Env for Records {
 }
 
 /// A node of records.
-pub type RecordNode = OneNode<'static, Record>;
+pub type RecordNode = OneNode<Record>;
 
 /// A reference to a record, as a record holds it: it is read without the other's value.
 pub type RecordRef = OfKind<1>;
@@ -138,6 +140,25 @@ impl<'de, E: Env> PagableDeserialize<'de, E> for Record {
         let fields = PagableDeserialize::pagable_deserialize(alloc, deserializer)?;
         let (tag, (text, refs)) = fields;
         Ok(Record { tag, text, refs })
+    }
+}
+
+impl<E: Env> NodeValue<E> for Record {
+    ghost spelled = { record_spelled };
+
+    fn list(&self, alloc: Global) -> Result<Vec<ArcRef>, Error> {
+        references_of::<E, Record>(alloc, self)
+    }
+
+    fn write<S: PagableSerializer<E>>(&self, serializer: &mut S) -> Result<(), Error> {
+        write_listed(self, serializer)
+    }
+
+    fn read<D: PagableDeserializer<E>>(
+        alloc: Global,
+        deserializer: &mut D,
+    ) -> Result<Record, Error> {
+        Record::pagable_deserialize(alloc, deserializer)
     }
 }
 
