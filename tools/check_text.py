@@ -30,7 +30,9 @@ REFUSED_GROWTH = re.compile(r"(?:[({=]|=>|\breturn|^)\s*(?:AllocError\b(?!\s*[>:
 LOCKED, PAGER = CRATES / "pagable_locked/src", CRATES / "pagable_pager/src"
 ACCESS_TRAITS = CRATES / "pagable_loads/src/access.rt"
 FUNCTION = re.compile(r"(?m)^( *)(?:pub(?:\(crate\))? )?(?:const )?fn (\w+)")
-LOCK = re.compile(r"\b(\w+)\s*\.\s*lock\(")
+LOCK = re.compile(r"\b(\w+)\s*\.\s*lock\(|\block_briefly\(\s*&?(?:\w+\.)*(\w+),")
+# How a lock is taken: by `lock_briefly`, which knows nothing of what it guards.
+TAKING = "lock.rt"
 # The locks of a slot and of the table are others.
 OTHER_LOCKS = {"state", "slots"}
 CALLED = re.compile(r"(?<!fn )\b(\w+)(?:::<[^(){};]*>)?\(")
@@ -67,11 +69,14 @@ def lengthy_locks():
     pager = {name for file in [ACCESS_TRAITS, *PAGER.glob("**/*.rt")] for _, name in FUNCTION.findall(file.read_text(encoding="utf-8"))}
     found = []
     for file in sorted(LOCKED.glob("**/*.rt")):
+        if file.name == TAKING:
+            continue
         text = "\n".join(NOT_CODE.sub("", line) for line in file.read_text(encoding="utf-8").splitlines())
         for start, code in functions(text):
             locks = list(LOCK.finditer(code))
-            others = [lock for lock in locks if lock[1] in OTHER_LOCKS]
-            if locks != others and (len(locks) > 1 or locks[0][1] != "pager" or not is_one_call(code[locks[0].end() :], pager)):
+            names = [lock[1] or lock[2] for lock in locks]
+            is_other = set(names) <= OTHER_LOCKS
+            if not is_other and (names != ["pager"] or not is_one_call(code[locks[0].end() :], pager)):
                 found.append((file, text[:start].count("\n") + 1))
     return found
 

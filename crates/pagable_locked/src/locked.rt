@@ -1,6 +1,7 @@
 //! A pager behind a lock, as an access, and as that of a page-out worker. Between two calls other threads may make
 //! theirs, so it tells nothing.
 
+use crate::lock::lock_briefly;
 use either::Either;
 use pagable_codec::{Env, NodeSet};
 use pagable_core::{PagableData, PagableStorage, SessionOf, Setting};
@@ -63,12 +64,12 @@ impl<'a, R: Wait, E: Env<Node: NodeSet<E>>, S: PagableStorage<E>> Access<E>
     }
 
     fn begin_pin(&mut self, handle: HandleNumber) -> Result<PinStart, Error> {
-        let mut pager = self.pager.lock(self.rt);
+        let mut pager = lock_briefly(self.pager, self.rt);
         Lent::for_owner(&mut *pager, self.me)?.begin_pin(handle)
     }
 
     fn share(&self, handle: HandleNumber) -> Result<Option<Arc<E::Node>>, Error> {
-        self.pager.lock(self.rt).share(handle)
+        lock_briefly(self.pager, self.rt).share(handle)
     }
 
     fn store(&mut self, alloc: Global, blob: PagableData) -> Result<DataKey, Error> {
@@ -82,31 +83,31 @@ impl<'a, R: Wait, E: Env<Node: NodeSet<E>>, S: PagableStorage<E>> Access<E>
         key: DataKey,
         blob: PagableData,
     ) -> Result<DataKey, Error> {
-        self.pager.lock(self.rt).store_keyed(alloc, key, blob)
+        lock_briefly(self.pager, self.rt).store_keyed(alloc, key, blob)
     }
 
     fn set_data_key(&mut self, handle: HandleNumber, key: DataKey) -> Result<(), Error> {
-        let mut pager = self.pager.lock(self.rt);
+        let mut pager = lock_briefly(self.pager, self.rt);
         Lent::for_owner(&mut *pager, self.me)?.set_data_key(handle, key)
     }
 
     fn unpin(&mut self, handle: HandleNumber) -> Result<(), Error> {
-        let mut pager = self.pager.lock(self.rt);
+        let mut pager = lock_briefly(self.pager, self.rt);
         Lent::for_owner(&mut *pager, self.me)?.unpin(handle)
     }
 
     fn release(&mut self, handle: HandleNumber) -> Result<(), Error> {
-        let mut pager = self.pager.lock(self.rt);
+        let mut pager = lock_briefly(self.pager, self.rt);
         Lent::for_owner(&mut *pager, self.me)?.release(handle)
     }
 
     fn load_key(&mut self, key: DataKey) -> Result<LoadNumber, Error> {
-        let mut pager = self.pager.lock(self.rt);
+        let mut pager = lock_briefly(self.pager, self.rt);
         Lent::for_owner(&mut *pager, self.me)?.load_key(key)
     }
 
     fn load_root(&mut self, alloc: Global, load: LoadNumber) -> Result<Arc<PagableData>, Error> {
-        let mut pager = self.pager.lock(self.rt);
+        let mut pager = lock_briefly(self.pager, self.rt);
         Lent::for_owner(&mut *pager, self.me)?.load_root(alloc, load)
     }
 
@@ -117,7 +118,7 @@ impl<'a, R: Wait, E: Env<Node: NodeSet<E>>, S: PagableStorage<E>> Access<E>
         kind: Kind,
         key: DataKey,
     ) -> Result<Either<ArcRef, Arc<PagableData>>, Error> {
-        let mut pager = self.pager.lock(self.rt);
+        let mut pager = lock_briefly(self.pager, self.rt);
         Lent::for_owner(&mut *pager, self.me)?.load_nested(alloc, load, kind, key)
     }
 
@@ -128,7 +129,7 @@ impl<'a, R: Wait, E: Env<Node: NodeSet<E>>, S: PagableStorage<E>> Access<E>
         kind: Kind,
         key: DataKey,
     ) -> Result<ArcRef, Error> {
-        let mut pager = self.pager.lock(self.rt);
+        let mut pager = lock_briefly(self.pager, self.rt);
         Lent::for_owner(&mut *pager, self.me)?.load_lazy(alloc, load, kind, key)
     }
 
@@ -140,7 +141,7 @@ impl<'a, R: Wait, E: Env<Node: NodeSet<E>>, S: PagableStorage<E>> Access<E>
         key: DataKey,
         node: E::Node,
     ) -> Result<ArcRef, (Error, E::Node)> {
-        let mut pager = self.pager.lock(self.rt);
+        let mut pager = lock_briefly(self.pager, self.rt);
         match Lent::for_owner(&mut *pager, self.me) {
             Ok(mut lent) => lent.load_adopt(alloc, load, kind, key, node),
             Err(e) => Err((e, node)),
@@ -153,7 +154,7 @@ impl<'a, R: Wait, E: Env<Node: NodeSet<E>>, S: PagableStorage<E>> Access<E>
         load: LoadNumber,
         value: E::Node,
     ) -> Result<HandleNumber, (Error, Option<E::Node>)> {
-        let mut pager = self.pager.lock(self.rt);
+        let mut pager = lock_briefly(self.pager, self.rt);
         if let Err(e) = Lent::for_owner(&mut *pager, self.me) {
             return Err((e, Some(value)));
         }
@@ -161,12 +162,12 @@ impl<'a, R: Wait, E: Env<Node: NodeSet<E>>, S: PagableStorage<E>> Access<E>
     }
 
     fn load_take(&mut self, load: LoadNumber, named: &[HandleNumber]) -> Result<(), Error> {
-        let mut pager = self.pager.lock(self.rt);
+        let mut pager = lock_briefly(self.pager, self.rt);
         Lent::for_owner(&mut *pager, self.me)?.load_take(load, named)
     }
 
     fn load_drop(&mut self, load: LoadNumber) -> Result<(), Error> {
-        let mut pager = self.pager.lock(self.rt);
+        let mut pager = lock_briefly(self.pager, self.rt);
         Lent::for_owner(&mut *pager, self.me)?.load_drop(load)
     }
 }
@@ -174,18 +175,28 @@ impl<'a, R: Wait, E: Env<Node: NodeSet<E>>, S: PagableStorage<E>> Access<E>
 impl<'a, R: Wait, E: Env<Node: NodeSet<E>>, S: PagableStorage<E>> WorkerAccess<E>
     for Locked<'a, R, E, S> {
     fn check_reference(&self, reference: ArcRef) -> Result<(), Error> {
-        let mut pager = self.pager.lock(self.rt);
+        let mut pager = lock_briefly(self.pager, self.rt);
         Lent::for_owner(&mut *pager, self.me)?.check_reference(reference)
     }
 
     fn take_reference(&mut self, reference: ArcRef) -> Result<Taken, Error> {
-        let mut pager = self.pager.lock(self.rt);
+        let mut pager = lock_briefly(self.pager, self.rt);
         Lent::for_owner(&mut *pager, self.me)?.take_reference(reference)
     }
 
     fn take_value(&mut self, reference: ArcRef) -> Result<TakenValue<E::Node>, Error> {
-        let mut pager = self.pager.lock(self.rt);
+        let mut pager = lock_briefly(self.pager, self.rt);
         Lent::for_owner(&mut *pager, self.me)?.take_value(reference)
+    }
+
+    fn set_key_through(&mut self, loose: Option<HandleNumber>, key: DataKey) -> Result<(), Error> {
+        let mut pager = lock_briefly(self.pager, self.rt);
+        Lent::for_owner(&mut *pager, self.me)?.set_key_through(loose, key)
+    }
+
+    fn close_node(&mut self, at: WorkerNode, key: DataKey) -> Result<(), Error> {
+        let mut pager = lock_briefly(self.pager, self.rt);
+        Lent::for_owner(&mut *pager, self.me)?.close_node(at, key)
     }
 
     fn store_node(
@@ -205,51 +216,51 @@ impl<'a, R: Wait, E: Env<Node: NodeSet<E>>, S: PagableStorage<E>> WorkerAccess<E
         blob: PagableData,
         at: WorkerNode,
     ) -> Result<DataKey, Error> {
-        let mut pager = self.pager.lock(self.rt);
+        let mut pager = lock_briefly(self.pager, self.rt);
         Lent::for_owner(&mut *pager, self.me)?.store_node_keyed(alloc, key, blob, at)
     }
 
     fn give_up(&mut self, worker: WorkerNumber, node: NodeNumber) {
-        let mut pager = self.pager.lock(self.rt);
+        let mut pager = lock_briefly(self.pager, self.rt);
         Lent::new(&mut *pager).give_up(worker, node);
     }
 
     fn schedule_for_paging(&mut self, handle: HandleNumber) -> Result<(), Error> {
-        let mut pager = self.pager.lock(self.rt);
+        let mut pager = lock_briefly(self.pager, self.rt);
         Lent::for_owner(&mut *pager, self.me)?.schedule_for_paging(handle)
     }
 
     fn worker_begin(&mut self) -> Result<WorkerNumber, Error> {
-        let mut pager = self.pager.lock(self.rt);
+        let mut pager = lock_briefly(self.pager, self.rt);
         let worker = Lent::new(&mut *pager).worker_begin()?;
         self.me = Owner::Worker(worker);
         Ok(worker)
     }
 
     fn worker_listed(&mut self, place: usize) -> Result<(WorkerNumber, ArcRef), Error> {
-        let mut pager = self.pager.lock(self.rt);
+        let mut pager = lock_briefly(self.pager, self.rt);
         let (worker, reference) = Lent::new(&mut *pager).worker_listed(place)?;
         self.me = Owner::Worker(worker);
         Ok((worker, reference))
     }
 
     fn worker_end(&mut self, worker: WorkerNumber) {
-        let mut pager = self.pager.lock(self.rt);
+        let mut pager = lock_briefly(self.pager, self.rt);
         Lent::new(&mut *pager).worker_end(worker);
         self.me = Owner::Caller;
     }
 
     fn pending(&self) -> usize {
-        self.pager.lock(self.rt).pending()
+        lock_briefly(self.pager, self.rt).pending()
     }
 
     fn entry_key(&self, place: usize) -> Option<OptionalDataKey> {
-        let mut pager = self.pager.lock(self.rt);
+        let mut pager = lock_briefly(self.pager, self.rt);
         Lent::new(&mut *pager).entry_key(place)
     }
 
     fn take_pending(&mut self, place: usize) -> Option<HandleNumber> {
-        let mut pager = self.pager.lock(self.rt);
+        let mut pager = lock_briefly(self.pager, self.rt);
         match Lent::for_owner(&mut *pager, self.me) {
             Ok(mut lent) => lent.take_pending(place),
             Err(_) => None,

@@ -3,6 +3,7 @@
 ghost use Rattle.std.specs.{BTreeSet.btree_set_len, Prelude.{IfOk, OnErr, if◌then◌else◌, ◌+◌, ◌<◌, ◌≡◌}};
 ghost use Rattle.pagable_locked.specs.Slots.{IsProbeOf};
 
+use crate::lock::lock_briefly;
 use crate::share::{ClaimShare, WalkShare};
 use crate::slot::ArcSerSlot;
 use indexmap::IndexMap;
@@ -262,9 +263,6 @@ impl<L: Ledger> WalkShare<L> {
         ensures { IfOk result (IsProbeOf identity) }
     {
         let WalkShare { share } = self;
-        table
-            .slots
-            .lock(rt)
-            .probe(rt, alloc, worker, identity, share)
+        lock_briefly(&table.slots, rt).probe(rt, alloc, worker, identity, share)
     }
 }

@@ -1,6 +1,7 @@
 //! The calls of typed handles on a storage that threads share.
 
 use crate::handle_pin::HandlePin;
+use crate::lock::lock_briefly;
 use crate::storage_handle::PagableStorageHandle;
 use pagable_codec::{Env, NodeSet};
 use pagable_core::PagableStorage;
@@ -24,7 +25,7 @@ impl<E: Env<Node: NodeSet<E>>, S: PagableStorage<E>> Storage<E> for PagableStora
         node: E::Node,
         first: FirstHandle,
     ) -> Result<(NodeNumber, HandleNumber), Error> {
-        let mut pager = self.inner.pager.lock(rt);
+        let mut pager = lock_briefly(&self.inner.pager, rt);
         let inserted = match first {
             FirstHandle::Loose => pager.new_loose(alloc, node),
             FirstHandle::Shared => pager.new_shared(alloc, node),
@@ -43,13 +44,13 @@ impl<E: Env<Node: NodeSet<E>>, S: PagableStorage<E>> Storage<E> for PagableStora
         node_type: u32,
         key: DataKey,
     ) -> Result<(NodeNumber, HandleNumber), Error> {
-        let mut pager = self.inner.pager.lock(rt);
+        let mut pager = lock_briefly(&self.inner.pager, rt);
         let handle = pager.new_paged_out(alloc, node_type, key)?;
         Ok((pager.node_of(handle)?, handle))
     }
 
     fn clone_handle<R: Wait>(&self, rt: &R, handle: HandleNumber) -> Result<HandleNumber, Error> {
-        self.inner.pager.lock(rt).clone(handle)
+        lock_briefly(&self.inner.pager, rt).clone(handle)
     }
 
     fn pin<R: Wait>(
@@ -72,24 +73,24 @@ impl<E: Env<Node: NodeSet<E>>, S: PagableStorage<E>> Storage<E> for PagableStora
     }
 
     fn unpin<R: Wait>(&self, rt: &R, handle: HandleNumber) -> Result<(), Error> {
-        self.inner.pager.lock(rt).unpin(handle)
+        lock_briefly(&self.inner.pager, rt).unpin(handle)
     }
 
     fn into_pagable<R: Wait>(&self, rt: &R, handle: HandleNumber) -> Result<(), Error> {
-        let _same = self.inner.pager.lock(rt).into_pagable(handle)?;
+        let _same = lock_briefly(&self.inner.pager, rt).into_pagable(handle)?;
         Ok(())
     }
 
     fn release<R: Wait>(&self, rt: &R, handle: HandleNumber) -> Result<(), Error> {
-        self.inner.pager.lock(rt).release(handle)
+        lock_briefly(&self.inner.pager, rt).release(handle)
     }
 
     fn count<R: Wait>(&self, rt: &R, handle: HandleNumber) -> Result<u64, Error> {
-        self.inner.pager.lock(rt).count(handle)
+        lock_briefly(&self.inner.pager, rt).count(handle)
     }
 
     fn key<R: Wait>(&self, rt: &R, handle: HandleNumber) -> Result<OptionalDataKey, Error> {
-        self.inner.pager.lock(rt).key(handle)
+        lock_briefly(&self.inner.pager, rt).key(handle)
     }
 
     fn set_data_key<R: Wait>(
@@ -98,10 +99,10 @@ impl<E: Env<Node: NodeSet<E>>, S: PagableStorage<E>> Storage<E> for PagableStora
         handle: HandleNumber,
         key: DataKey,
     ) -> Result<(), Error> {
-        self.inner.pager.lock(rt).set_data_key(handle, key)
+        lock_briefly(&self.inner.pager, rt).set_data_key(handle, key)
     }
 
     fn is_paged_out<R: Wait>(&self, rt: &R, handle: HandleNumber) -> Result<bool, Error> {
-        self.inner.pager.lock(rt).is_paged_out(handle)
+        lock_briefly(&self.inner.pager, rt).is_paged_out(handle)
     }
 }

@@ -1,0 +1,19 @@
+//! Locks that are held for one short call.
+
+use std::hint::spin_loop;
+use std::sync::{Mutex, MutexGuard, Wait};
+
+/// How often a lock that is held is tried before the thread sleeps until it is free.
+const TRIES: u32 = 200;
+
+/// Takes a lock that others hold for one call each. It is tried for a while first, also where other threads sleep for it:
+/// most calls take less time than to fall asleep and be woken.
+pub(crate) fn lock_briefly<'a, R: Wait, T>(mutex: &'a Mutex<T>, rt: &R) -> MutexGuard<'a, T> {
+    for _ in 0..TRIES {
+        if let Some(guard) = mutex.try_lock() {
+            return guard;
+        }
+        spin_loop();
+    }
+    mutex.lock(rt)
+}
