@@ -188,6 +188,16 @@ impl<'a, R: Wait, E: Env<Node: NodeSet<E>>, S: PagableStorage<E>> WorkerAccess<E
         Lent::for_owner(&mut *pager, self.me)?.take_value(reference)
     }
 
+    fn set_key_through(&mut self, loose: Option<HandleNumber>, key: DataKey) -> Result<(), Error> {
+        let mut pager = self.pager.lock(self.rt);
+        Lent::for_owner(&mut *pager, self.me)?.set_key_through(loose, key)
+    }
+
+    fn close_node(&mut self, at: WorkerNode, key: DataKey) -> Result<(), Error> {
+        let mut pager = self.pager.lock(self.rt);
+        Lent::for_owner(&mut *pager, self.me)?.close_node(at, key)
+    }
+
     fn store_node(
         &mut self,
         alloc: Global,
