@@ -7,8 +7,8 @@ In the src/ of every library crate `Error::OutOfMemory` is written as a value in
 patterns, clauses and comments. `AllocError` and `AllocFailed`, the refused growth itself, are values nowhere; and only what `regex` and the kit's `sqlite`
 refuse is named by `Error::of_library`, which takes its caller's word.
 
-In `pagable_locked` a function that locks the pager takes that lock once and makes one call of `pagable_pager`, or of its access, by it, beside what makes the access
-of its owner, and behind which it may ask the node of the handle that it got, or the blob that the cache didn't know. It has no loop and no macro from there on, and hands the
+In `pagable_locked` a function that locks the pager takes that lock once and makes one call of `pagable_pager` by it, beside what makes the access of its owner,
+and behind which it may ask the node of the handle that it got, or the blob that the cache didn't know. It has no loop and no macro from there on, and hands the
 guard to nothing but that access, so no value is decoded or written, nothing is waited for and no other lock is taken meanwhile.
 """
 import re
@@ -28,7 +28,6 @@ MATCHES = re.compile(r"\bmatches!\([^;]*\)")
 # A type is written behind `<`, `:` or `,`, or before `>`; a value isn't.
 REFUSED_GROWTH = re.compile(r"(?:[({=]|=>|\breturn|^)\s*(?:AllocError\b(?!\s*[>:])|AllocFailed\s*\{[^{}]*\})")
 LOCKED, PAGER = CRATES / "pagable_locked/src", CRATES / "pagable_pager/src"
-ACCESS_TRAITS = CRATES / "pagable_loads/src/access.rt"
 FUNCTION = re.compile(r"(?m)^( *)(?:pub(?:\(crate\))? )?(?:const )?fn (\w+)")
 LOCK = re.compile(r"\b(\w+)\s*\.\s*lock\(|\block_briefly\(\s*&?(?:\w+\.)*(\w+),")
 # How a lock is taken: by `lock_briefly`, which knows nothing of what it guards.
@@ -66,7 +65,7 @@ def is_one_call(behind, pager):
 
 def lengthy_locks():
     """The places, as file and line, of functions that lock the pager and do more than one call by it, or lock what isn't known here."""
-    pager = {name for file in [ACCESS_TRAITS, *PAGER.glob("**/*.rt")] for _, name in FUNCTION.findall(file.read_text(encoding="utf-8"))}
+    pager = {name for file in PAGER.glob("**/*.rt") for _, name in FUNCTION.findall(file.read_text(encoding="utf-8"))}
     found = []
     for file in sorted(LOCKED.glob("**/*.rt")):
         if file.name == TAKING:

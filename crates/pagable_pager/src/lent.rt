@@ -10,7 +10,7 @@ use crate::pager::Pager;
 use either::Either;
 use pagable_codec::{Env, NodeSet};
 use pagable_core::{PagableData, PagableStorage, SessionOf};
-use pagable_loads::{Access, PinStart, Taken, WorkerAccess};
+use pagable_loads::{Access, PinStart, Taken, TakenValue, WorkerAccess, WorkerNode};
 use pagable_model::{
     ArcRef, DataKey, Error, HandleNumber, Kind, LoadNumber, NodeNumber, OptionalDataKey,
     WorkerNumber,
@@ -240,8 +240,51 @@ impl<'a, E: Env<Node: NodeSet<E>>, S: PagableStorage<E>> WorkerAccess<E> for Len
         settled(self.pager.take_reference(self.me, reference), self.pager)
     }
 
+    fn take_value(&mut self, reference: ArcRef) -> Result<TakenValue<E::Node>, Error> {
+        match self.take_reference(reference)? {
+            Taken::Held(through, pin) => Ok(TakenValue::Held(through, pin, self.share(pin))),
+            Taken::Begun(through, load, key) => Ok(TakenValue::Begun(through, load, key)),
+        }
+    }
+
     fn give_up(&mut self, worker: WorkerNumber, node: NodeNumber) {
         self.pager.release_node(worker, node);
+    }
+
+    fn set_key_through(&mut self, loose: Option<HandleNumber>, key: DataKey) -> Result<(), Error> {
+        match loose {
+            Some(handle) => self.set_data_key(handle, key),
+            None => Ok(()),
+        }
+    }
+
+    fn close_node(&mut self, at: WorkerNode, key: DataKey) -> Result<(), Error> {
+        self.set_key_through(at.loose, key)?;
+        self.give_up(at.worker, at.node);
+        Ok(())
+    }
+
+    fn store_node(
+        &mut self,
+        alloc: Global,
+        blob: PagableData,
+        at: WorkerNode,
+    ) -> Result<DataKey, Error> {
+        let key = self.store(alloc, blob)?;
+        self.close_node(at, key)?;
+        Ok(key)
+    }
+
+    fn store_node_keyed(
+        &mut self,
+        alloc: Global,
+        key: DataKey,
+        blob: PagableData,
+        at: WorkerNode,
+    ) -> Result<DataKey, Error> {
+        let stored = self.store_keyed(alloc, key, blob)?;
+        self.close_node(at, stored)?;
+        Ok(stored)
     }
 
     fn schedule_for_paging(&mut self, handle: HandleNumber) -> Result<(), Error> {
