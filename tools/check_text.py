@@ -1,6 +1,6 @@
 #!/usr/bin/env python3
-"""Prints where the library's text invents a want of memory, or does more under the pager's lock than one call of it, as file:line, and nothing else;
-the status is 1 where it does.
+"""Prints where the library's text invents a want of memory, or does more under the pager's lock than one call of it, or where README.md shows other code
+than the file has, as file:line, and nothing else; the status is 1 where it does.
 
 In the src/ of every library crate `Error::OutOfMemory` is written as a value in one function alone, which makes it of a growth that the allocator refused
 (crates/pagable_model/src/error.rt). All others pass such a refusal on, so none says that memory is wanting where no growth was refused. It may stand in
@@ -10,6 +10,8 @@ refuse is named by `Error::of_library`, which takes its caller's word.
 In `pagable_locked` a function that locks the pager takes that lock once and makes one call of `pagable_pager` by it, beside what makes the access of its owner,
 and behind which it may ask the node of the handle that it got, or the blob that the cache didn't know. It has no loop and no macro from there on, and hands the
 guard to nothing but that access, so no value is decoded or written, nothing is waited for and no other lock is taken meanwhile.
+
+What README.md shows of a file (`This is`, its name, and the code) is that file, without the comment at its head and its tests.
 """
 import re
 import sys
@@ -43,6 +45,8 @@ FOLLOWS, ALSO = {"node_of"}, {"cache_get": {"fetch"}}
 # A new handle is made by one of these.
 INSERTS = {"new_loose", "new_shared", "new_pinned"}
 GUARD = re.compile(r"(?<![.\w])pager\b(?!\s*\.)")
+# A file that README.md shows, and what it shows.
+SHOWN = re.compile(r"This is\s`(crates/\S+\.rt)`[^`]*\n\n```rust\n(.*?)```", re.S)
 KEPT = re.compile(r"let (?:mut )?pager = |Lent::(?:new|for_owner)\(&mut \*pager\b")
 
 
@@ -80,6 +84,19 @@ def lengthy_locks():
     return found
 
 
+def stale_code():
+    """The places, as file and line, at which README.md shows other code than the file that it names has."""
+    readme = CRATES.parent / "README.md"
+    text = readme.read_text(encoding="utf-8")
+    found = []
+    for shown in SHOWN.finditer(text):
+        lines = (CRATES.parent / shown[1]).read_text(encoding="utf-8").partition("\n#[cfg(test)]")[0].splitlines(keepends=True)
+        code = "".join(line for line in lines if not line.startswith("//!")).lstrip("\n")
+        if code.rstrip("\n") != shown[2].rstrip("\n"):
+            found.append((readme, text[: shown.start(2)].count("\n") + 1))
+    return found
+
+
 def offences(text, file):
     """The lines, counted from 1, that write a want of memory as a value; and those that do in the one function that may."""
     function, found, allowed = "", [], []
@@ -105,7 +122,7 @@ def main():
         found, allowed = offences(file.read_text(encoding="utf-8"), str(file.relative_to(CRATES)))
         is_home = file == CRATES / "pagable_model/src/error.rt"
         lines += [(file, number) for number in found + (allowed[1:] if is_home else allowed)]
-    lines += lengthy_locks()
+    lines += lengthy_locks() + stale_code()
     for file, number in lines:
         print(f"{file.relative_to(CRATES.parent)}:{number}")
     sys.exit(1 if lines else 0)
