@@ -5,4 +5,5 @@ mod Named
 mod Opening
 mod Places
 mod Putting
+mod Scanning
 mod Settling
