@@ -1,8 +1,7 @@
 #!/usr/bin/env python3
-"""Picks rows of what the original crate writes and reads, as data of `vectors` and as the answers that they have to get.
+"""Picks rows of what the original crate writes and reads, as data of `vectors`, each with the answers that it has to get.
 
-    tools/original_rows.py data original.jsonl > crates/vectors/data/original.txt
-    tools/original_rows.py answers original.jsonl     # the part of crates/vectors/stdout behind that of by_hand.txt
+    tools/original_rows.py original.jsonl > crates/vectors/data/original.txt
 
 Each line of the input is a JSON object: a value that the original wrote ("op": "enc"), an input that it read ("op": "dec"), or a tree of blobs that it
 stored ("op": "blob"). docs/PROOFS.md says what the lines of the output mean. A type is added by its name in CARRIED, and by a case of `form` where it is
@@ -184,8 +183,8 @@ def rows_of(name, lines):
     return written + picked([found for found in decoded if found not in written], READ, kind_of_answer)
 
 
-def print_lines(word, start, rows):
-    """Prints either the inputs or the answers of the rows, in lines that aren't too long."""
+def print_lines(start, rows):
+    """Prints the inputs of the rows and their answers, in lines of which neither part is too long."""
     lines = []
     for row in rows:
         if not lines or sum(max(map(len, other)) + 2 for other in [*lines[-1], row]) > COLUMNS:
@@ -193,11 +192,11 @@ def print_lines(word, start, rows):
         lines[-1].append(row)
     for line in lines:
         inputs, answers = zip(*line)
-        print(" ".join([start, *inputs]) if word == "data" else "; ".join(answers))
+        print(" ".join([start, *inputs]), "->", "; ".join(answers))
 
 
 def main():
-    word, path = sys.argv[1:]
+    (path,) = sys.argv[1:]
     lines, blobs = {name: [] for name in CARRIED}, {}
     with open(path, encoding="utf-8") as texts:
         for line in map(json.loads, texts):
@@ -206,12 +205,11 @@ def main():
                     blobs[(blob["data_hex"] or "-") + ":" * bool(blob["arcs"]) + ",".join(blob["arcs"]), blob["key"]] = None
             elif line.get("type") in lines and not line.get("differs"):
                 lines[line["type"]].append(line)
-    if word == "data":
-        print("# What the original crate wrote and read, by tools/original_rows.py.")
+    print("# What the original crate wrote and read, by tools/original_rows.py.")
     for name in CARRIED:
-        print_lines(word, f"{name} read", [(data.hex() or "-", answer) for data, answer in rows_of(name, lines[name])])
+        print_lines(f"{name} read", [(data.hex() or "-", answer) for data, answer in rows_of(name, lines[name])])
     of_blobs = picked(list(blobs), BLOBS, lambda blob: ("ok", ":" in blob[0], blob[0].count(","), len(blob[0])))
-    print_lines(word, "blob weigh", of_blobs)
+    print_lines("blob weigh", of_blobs)
 
 
 if __name__ == "__main__":

@@ -1,7 +1,7 @@
 #!/usr/bin/env python3
 """Rows of events, as the program `vectors` reads them, answered by a plain pager or drawn from a seed.
 
-    plain_rows.py answers FILE              prints the answer to each row of the file that has one, as `vectors` has to
+    plain_rows.py answers FILE              prints the file with the answer behind each row that has one, as `vectors` expects it
     plain_rows.py draw SEED COUNT           prints a new machine, COUNT drawn lists of events and a look
 
 A row is one line: a new machine, a look, or calls parted by semicolons. docs/PROOFS.md tells its words, of which `chain` stands in worked rows alone.
@@ -37,6 +37,12 @@ class Rows:
         if name == "last":
             return self.answer(rest).rpartition("; ")[2]
         return "; ".join(answer for call in row.split(";") for answer in self.answers(call.strip()))
+
+    def answered(self, line):
+        """A line of a file, with the answer behind it in the place of the one that stands there."""
+        asked = line.partition(" ->")[0]
+        answer = "" if asked[:1] in ("", "#") else self.answer(asked)
+        return f"{asked} -> {answer}" if answer else line
 
     def answers(self, call):
         """The answer to a call, or to each of so many steps."""
@@ -375,7 +381,7 @@ def main(words):
     if len(words) == 2 and words[0] == "answers":
         rows = Rows()
         with open(words[1], encoding="utf-8") as lines:
-            print("\n".join(filter(None, (rows.answer(line) for line in lines.read().splitlines() if line[:1] not in ("", "#")))))
+            print("\n".join(rows.answered(line) for line in lines.read().splitlines()))
     elif len(words) == 3 and words[0] == "draw":
         print("\n".join(Draw(int(words[1])).rows(int(words[2]))))
     else:

@@ -43,7 +43,7 @@ def inputs():
     """Each input of the rows of values, with its type."""
     for name in ("worked.txt", "by_hand.txt", "original.txt"):
         for line in (DATA / name).read_text(encoding="utf-8").splitlines():
-            line = line.partition(": ")[2].partition(" ->")[0] if name == "worked.txt" else line
+            line = (line.partition(": ")[2] if name == "worked.txt" else line).partition(" ->")[0]
             words = line.split(" ")
             # (a lent slice is written alone, and of a list that isn't read nothing is written)
             if len(words) > 2 and words[1] == "read" and is_of_values(line) and not words[0].endswith("[i32]"):
@@ -82,7 +82,7 @@ def written(server, tally):
     counted(tally, "free ok 0 " + server.ask("deep"))
     for line in (DATA / "by_hand.txt").read_text(encoding="utf-8").splitlines():
         if line.startswith("Json write "):
-            counted(tally, "free ok 0 " + server.ask("write Json " + line.removeprefix("Json write ")))
+            counted(tally, "free ok 0 " + server.ask("write Json " + line.removeprefix("Json write ").partition(" ->")[0]))
 
 
 def cuts(server, tally):

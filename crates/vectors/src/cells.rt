@@ -2,6 +2,7 @@
 //! followed.
 
 use crate::calls::let_go;
+use pagable::cell_page_out::page_out;
 use pagable::cells::{cell_of, contains, follow, insert, look};
 use pagable::paging::page_out_pending;
 use pagable::typed_references::{holding, loose};
@@ -59,9 +60,19 @@ fn loose_link(node: &LinkedNode) -> Option<HandleNumber> {
     }
 }
 
+/// Whether a link of nothing is paged out by its pin, under the key 1, and stays in memory.
+fn is_kept<S: PagableStorage<Linked>>(alloc: Global, pager: &mut Pager<Linked, S>) -> Option<bool> {
+    let pinned = pager
+        .new_pinned(alloc, node(alloc, Link { next: None })?)
+        .ok()?;
+    let key = page_out(alloc, pager, pinned).ok()?;
+    Some(Some(key) == DataKey::new(1) && !pager.is_paged_out(pinned).ok()?)
+}
+
 /// Whether a bundle that was paged out is found by its key, and its loose link by the reference in it; and whether each
 /// look leaves its cell away and unpinned.
 fn hold_in<S: PagableStorage<Linked>>(alloc: Global, pager: &mut Pager<Linked, S>) -> Option<bool> {
+    let is_kept = is_kept(alloc, pager)?;
     let value = bundle(alloc, pager)?;
     let value = node(alloc, value)?;
     let_go(insert(alloc, pager, value).ok()?);
@@ -76,7 +87,7 @@ fn hold_in<S: PagableStorage<Linked>>(alloc: Global, pager: &mut Pager<Linked, S
     let link = loose_link(bundle.as_ref())?;
     let (_, link) = follow(alloc, pager, link).ok()?;
     let is_link = matches!(link.as_ref(), LinkedNode::Link(_));
-    Some(is_stored && !is_other_stored && is_found && is_away && is_link)
+    Some(is_kept && is_stored && !is_other_stored && is_found && is_away && is_link)
 }
 
 /// The same in a new pager.

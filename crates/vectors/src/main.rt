@@ -1,5 +1,6 @@
-//! `vectors FILE..` answers each line of each file with one line, but for comments and lines that only make a pager; of the file `worked.txt` it
-//! runs the rows, and prints a line for each. Before, it says whether sessions, bundles and cells hold. What it has to answer stands in `stdout`, and comes from outside the program.
+//! `vectors FILE..` answers each row of each file, compares it with the answer that stands behind the row, and prints one
+//! line of counts for each file. Before, it says whether sessions, bundles and cells hold. What rows expect comes from
+//! outside the program. A row that expects nothing is answered by a line.
 #![tactic(auto)]
 
 mod bundles;
@@ -7,55 +8,48 @@ mod calls;
 mod cells;
 mod lines;
 mod quick_start;
+mod rows;
 mod worked;
 
 use crate::calls::{Calls, let_go};
-use anyhow::Context;
+use anyhow::ensure;
 use pagable_examples::sessions;
 use std::{env, fs};
 
-/// Answers the lines of a file, or runs the worked rows that stand in it.
-fn answer(rt: &HostRuntime, calls: &mut Calls, word: &str) -> anyhow::Result<()> {
-    let text = fs::read_to_string(rt, word)?;
-    if word.ends_with("worked.txt") {
-        return worked::run(rt, calls, text.as_str());
+/// Compares the rows of a file with what they expect, and tells whether all are answered so.
+fn compare(rt: &HostRuntime, calls: &mut Calls, file: &str) -> anyhow::Result<bool> {
+    let text = fs::read_to_string(rt, file)?;
+    if file.ends_with("worked.txt") {
+        return worked::run(rt, calls, file, text.as_str());
     }
-    for line in text.lines() {
-        if line.starts_with('#') {
-            continue;
-        }
-        let answer = lines::answer(rt.alloc(), calls, line).context(format_args!(
-            "{word}: {line}"
-        ))?;
-        if !answer.is_empty() {
-            println!(rt; "{}", answer.as_str())?;
-        }
+    rows::compare(rt, calls, file, text.as_str())
+}
+
+/// Compares files one after the other: the rows of calls of one go on where those of the file before have ended.
+fn compare_each(rt: &HostRuntime, calls: &mut Calls, files: &[String]) -> anyhow::Result<()> {
+    let mut all_hold = true;
+    for file in files {
+        let hold = compare(rt, calls, file.as_str())?;
+        all_hold = all_hold && hold;
     }
+    ensure!(all_hold, "a row is answered otherwise than it expects");
     Ok(())
 }
 
-/// Answers files one after the other: the rows of calls of one go on where those of the file before have ended.
-fn answer_each(rt: &HostRuntime, calls: &mut Calls, words: &[String]) -> anyhow::Result<()> {
-    for word in words {
-        answer(rt, calls, word.as_str())?;
-    }
-    Ok(())
-}
-
-/// Says whether sessions, bundles and cells hold, and answers the files of these names, from a new machine on.
-fn run(rt: &HostRuntime, words: &[String], sessions_hold: bool) -> anyhow::Result<()> {
+/// Says whether sessions, bundles and cells hold, and compares the files of these names, from a new machine on.
+fn run(rt: &HostRuntime, files: &[String], sessions_hold: bool) -> anyhow::Result<()> {
     println!(rt; "sessions hold: {sessions_hold}")?;
     println!(rt; "bundles hold: {}", bundles::hold(rt.alloc()))?;
     println!(rt; "cells hold: {}", cells::hold(rt.alloc()))?;
     let mut calls = Calls::new(rt.alloc(), "");
-    let done = answer_each(rt, &mut calls, words);
+    let done = compare_each(rt, &mut calls, files);
     let_go(calls);
     done
 }
 
 fn main(rt: HostRuntime) -> anyhow::Result<()> {
-    let words: Vec<String> = env::args(&rt)?.skip(1).collect(rt.alloc())?;
+    let files: Vec<String> = env::args(&rt)?.skip(1).collect(rt.alloc())?;
     // Only `main` has threads.
     let sessions_hold = sessions::hold(&rt, rt.alloc());
-    run(&rt, words.as_slice(), sessions_hold)
+    run(&rt, files.as_slice(), sessions_hold)
 }

@@ -1,34 +1,30 @@
 //! The shortest use of the pager: a text is kept, paged out, and read back.
 
-use pagable::paging::{page_out_pending, pin};
-use pagable::{Error, InMemoryBlobs, PageOutError, Pager, WeighHash};
-use pagable_rows::text::{TextEnv, TextNode};
+use pagable::cells::{insert, look};
+use pagable::paging::page_out_pending;
+use pagable::{Error, InMemoryBlobs, Pager, Record, Records};
 use std::alloc::Global;
 
-/// A pager of texts over blobs in memory.
-type TextPager = Pager<TextEnv<WeighHash>, InMemoryBlobs<TextEnv<WeighHash>>>;
+/// A pager of records over blobs in memory.
+type RecordPager = Pager<Records, InMemoryBlobs<Records>>;
 
 /// Keeps a text, pages it out, reads it back, and says whether it is the same.
 pub fn page_out_and_read_back(alloc: Global, text: &str) -> Result<bool, Error> {
-    // An environment names the types of values, the hash and the registries.
-    let env = TextEnv::<WeighHash>::new();
-    let mut pager = Pager::new(alloc, InMemoryBlobs::new(alloc), env);
+    let mut pager = Pager::new(alloc, InMemoryBlobs::new(alloc), Records);
     in_pager(alloc, &mut pager, text)
 }
 
-/// The same in a pager at hand: for each way out of a function that owns one there is a proof that it is dropped.
-fn in_pager(alloc: Global, pager: &mut TextPager, text: &str) -> Result<bool, Error> {
-    // A value becomes a cell with one pinning handle.
-    let node = TextNode::new(alloc, text)?;
-    let cell = pager.new_loose(alloc, node).map_err(|refused| refused.0)?;
+/// Does so in a pager that is lent.
+fn in_pager(alloc: Global, pager: &mut RecordPager, text: &str) -> Result<bool, Error> {
+    // A value becomes a cell. Nothing pins it, so it waits for page-out.
+    let node = Record::node(alloc, 0, text, Vec::new(alloc))?;
+    let cell = insert(alloc, pager, node)?;
 
-    // Without a pin the cell waits for page-out: it is stored under its content's key, and leaves memory.
-    pager.unpin(cell)?;
-    if let Err(PageOutError::Failed(e)) = page_out_pending(alloc, pager) {
-        return Err(e);
-    }
+    // It is stored under the key of its content, and leaves memory.
+    page_out_pending(alloc, pager)?;
 
-    // A pin reads it back.
-    let (_, found) = pin(alloc, pager, cell)?;
-    Ok(found.as_ref().as_str() == text)
+    // A look reads it back, and lets it go again.
+    let is_same = look(alloc, pager, cell, |node| node.value.text.as_str() == text)?;
+    pager.release(cell)?;
+    Ok(is_same)
 }

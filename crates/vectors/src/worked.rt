@@ -1,14 +1,15 @@
-//! The worked rows, whose lines stand in a file. What they expect was worked out from the rules of the wire format, of keys and of cells: by hand, but for keys by SHA-256, which
-//! Python's hashlib made of the preimages.
+//! The worked rows, whose lines stand in a file. What they expect was worked out from the rules of the wire format, of
+//! keys and of cells: by hand, but for keys by SHA-256, which Python's hashlib made of the preimages.
 
 use crate::calls::{Calls, let_go, pager_over};
 use crate::lines;
 use crate::quick_start::page_out_and_read_back;
-use anyhow::{Context, ensure};
+use crate::rows::print_counts;
+use anyhow::Context;
 use pagable::paging::{page_out_item, page_out_pending, pin};
 use pagable::{
     DataKey, Env, Error, LentTable, NodeSet, PagableStorage, PagableVecFlavor, PageOutError, Pager,
-    WeighHash,
+    Records, WeighHash, from_bytes, to_bytes,
 };
 use pagable_examples::any::{AnyEnv, written};
 use pagable_rows::asked::item;
@@ -52,6 +53,15 @@ fn write_over(alloc: Global) -> Result<bool, Error> {
     out.write_u8(7)?;
     out.write_at(0, &[9]);
     Ok(out.finalize().as_slice() == [9u8, 7].as_slice())
+}
+
+/// Whether a number and a text become bytes by one call, and come of them by another.
+fn are_bytes(alloc: Global) -> Result<bool, Error> {
+    let value = (300u16, String::from_str(alloc, "hi")?);
+    let bytes = to_bytes(alloc, &Records, &value)?;
+    let found: (u16, String) = from_bytes(alloc, &Records, bytes.as_slice())?;
+    let is_same = found.0 == 300 && found.1.as_str() == "hi";
+    Ok(is_same && bytes.as_slice() == [0xac, 0x02, 0x02, 0x68, 0x69].as_slice())
 }
 
 /// Whether an item that refers to a shared text comes to its key by one call.
@@ -113,6 +123,7 @@ where
     E::Node: NodeSet<E>,
 {
     match number {
+        1 => Ok(are_bytes(alloc)?),
         6 => are_too_deep(alloc),
         9 => Ok(page_out_and_read_back(alloc, "hello world")?),
         10 => is_item_paged_out(alloc, pager),
@@ -137,15 +148,16 @@ fn is_ok(alloc: Global, calls: &mut Calls, text: &str, number: u32) -> bool {
         && others_hold(alloc, number).unwrap_or(false)
 }
 
-/// Runs the rows whose lines stand in this text, and prints a line for each.
-pub fn run(rt: &HostRuntime, calls: &mut Calls, text: &str) -> anyhow::Result<()> {
-    let mut all_ok = true;
+/// Runs the rows whose lines stand in this text, and prints one line of their counts and one for each that failed. Tells
+/// whether all came out as they have to.
+pub fn run(rt: &HostRuntime, calls: &mut Calls, file: &str, text: &str) -> anyhow::Result<bool> {
+    let mut failed = 0u32;
     for number in 1..=LAST {
-        let is_ok = is_ok(rt.alloc(), calls, text, number);
-        let word = if is_ok { "ok" } else { "failed" };
-        println!(rt; "row {number} {word}")?;
-        all_ok = all_ok && is_ok;
+        if !is_ok(rt.alloc(), calls, text, number) {
+            println!(rt; "row {number} failed")?;
+            failed = failed.saturating_add(1);
+        }
     }
-    ensure!(all_ok, "a row failed");
-    Ok(())
+    print_counts(rt, file, LAST.saturating_sub(failed), failed)?;
+    Ok(failed == 0)
 }
