@@ -1,0 +1,178 @@
+//! The turns of a page-out over the nodes that have no key.
+
+ghost use Rattle.std.specs.Prelude.{IfErr, IfOk, IsSome, IsTrue, OnErr, OnOk, ◌≡◌};
+ghost use Rattle.pagable_changes.specs.Changes.{GivesUp, GoesDown, GoesNowhere, IsOver, IsUnset, LeaveFails, Leaves, SetsFor, TurnFails, Turned, Walks, stage};
+ghost use Rattle.{pagable_changes.specs.Keeping.KeepsStorage, pagable_core.specs.Data.blob_of, pagable_loads.specs.Telling.values_at};
+ghost use Rattle.{pagable_pager.specs.View.{core_in, state_in, telling}, pagable_tables.specs.Rows.{place_at, row_by}};
+
+use crate::calls::{let_go, set_key, store};
+use crate::keys::{FoundKey, FoundKeys, LONGEST_PATH, collect_keys, find};
+use crate::nodes::{OpenNode, enter};
+use pagable_codec::{Env, NodeSet};
+use pagable_core::{PagableData, PagableStorage};
+use pagable_model::{ArcRef, DataKey, Error};
+use pagable_pager::Pager;
+use pagable_tables::number_table::NumberTable;
+use std::alloc::Global;
+use std::mem;
+
+// The blob of a node whose references all have keys, with the length of the longest path below it.
+fn blob_of_node<E: Env<Node: NodeSet<E>>, S: PagableStorage<E>>(
+    alloc: Global,
+    pager: &Pager<E, S>,
+    found: &FoundKeys,
+    node: &OpenNode,
+) -> Result<(PagableData, u64), Error>
+    ensures { IfOk result (λ r. IsOver (λ n. row_by found.now n) (core_in (telling S.stored S.is_closed S.failed) pager.now) node.now (blob_of r.0)) }
+{
+    let (arcs, height) = collect_keys(alloc, pager, found, &node.written.arcs)?;
+    if height > LONGEST_PATH || node.place > LONGEST_PATH - height {
+        return Err(Error::TooDeep);
+    }
+    let bytes = Vec::from_slice(alloc, node.written.bytes.as_slice())?;
+    Ok((PagableData { bytes, arcs }, height))
+}
+
+// Sets the key of a cell. Of a node that was come to by no loose reference it is kept for this page-out.
+fn set_for<E: Env<Node: NodeSet<E>>, S: PagableStorage<E>>(
+    pager: &mut Pager<E, S>,
+    found: &mut FoundKeys,
+    node: &OpenNode,
+    known: FoundKey,
+) -> Result<(), Error>
+    requires ready { IsSome (place_at found.old node.now.reference.node.0) }
+    ensures sets { OnOk result (SetsFor (values_at E.Node.NodeSet E.Env E.Hash.KeyHash pager.old.environment) (λ n. row_by found.old n) node.now known.key
+        (state_in (telling S.stored S.is_closed S.failed) pager.old) (λ n. row_by found.new n) (state_in (telling S.stored S.is_closed S.failed) pager.new)) }
+    ensures refused { IfErr result (λ e. IsUnset (values_at E.Node.NodeSet E.Env E.Hash.KeyHash pager.old.environment) node.now known.key (state_in (telling S.stored S.is_closed S.failed) pager.old) e (state_in (telling S.stored S.is_closed S.failed) pager.new)) }
+    ensures keeps { KeepsStorage pager.old pager.new }
+{
+    if node.reference.kind.0 % 3 == 1 {
+        return set_key(pager, node.through, known.key);
+    }
+    found.put(node.reference.node.0, known);
+    Ok(())
+}
+
+// Stores a node whose references all have keys, sets its key, and gives its handles up.
+fn leave<E: Env<Node: NodeSet<E>>, S: PagableStorage<E>>(
+    alloc: Global,
+    pager: &mut Pager<E, S>,
+    found: &mut FoundKeys,
+    node: &OpenNode,
+) -> Result<DataKey, Error>
+    ensures leaves { IsTrue (S.is_honest pager.new.storage) → IfOk result (λ key. Leaves (values_at E.Node.NodeSet E.Env E.Hash.KeyHash pager.old.environment) (λ n. row_by found.old n)
+        (state_in (telling S.stored S.is_closed S.failed) pager.old) node.now key (λ n. row_by found.new n) (state_in (telling S.stored S.is_closed S.failed) pager.new)) }
+    ensures fails { IsTrue (S.is_honest pager.new.storage) → IfErr result (λ e. LeaveFails (values_at E.Node.NodeSet E.Env E.Hash.KeyHash pager.old.environment) (λ n. row_by found.old n)
+        (state_in (telling S.stored S.is_closed S.failed) pager.old) node.now e (state_in (telling S.stored S.is_closed S.failed) pager.new)) }
+    ensures honest { IsTrue (S.is_honest pager.new.storage) → IsTrue (S.is_honest pager.old.storage) }
+    ensures environment { pager.new.environment ≡ pager.old.environment }
+{
+    let (blob, height) = blob_of_node(alloc, pager, found, node)?;
+    found.reserve(node.reference.node.0)?;
+    let key = store(alloc, pager, blob)?;
+    set_for(pager, found, node, FoundKey { key, height })?;
+    let_go(pager, node.through, node.pin);
+    Ok(key)
+}
+
+// Comes to a reference that has no key.
+fn go_down<E: Env<Node: NodeSet<E>>, S: PagableStorage<E>>(
+    alloc: Global,
+    pager: &mut Pager<E, S>,
+    path: &mut Vec<OpenNode>,
+    node: &mut OpenNode,
+    reference: ArcRef,
+) -> Result<(), Error>
+    ensures goes { OnOk result (GoesDown (values_at E.Node.NodeSet E.Env E.Hash.KeyHash pager.old.environment) reference path.old.items node.old (state_in (telling S.stored S.is_closed S.failed) pager.old) path.new.items node.new (state_in (telling S.stored S.is_closed S.failed) pager.new)) }
+    ensures fails { IfErr result (λ e. GoesNowhere (values_at E.Node.NodeSet E.Env E.Hash.KeyHash pager.old.environment) reference (state_in (telling S.stored S.is_closed S.failed) pager.old) e (state_in (telling S.stored S.is_closed S.failed) pager.new)) }
+    ensures stays { OnErr result ((path.new.items ≡ path.old.items) × (node.new ≡ node.old)) }
+    ensures keeps { KeepsStorage pager.old pager.new }
+{
+    let place = if reference.kind.0 % 3 == 1 { 0 } else { node.place + 1 };
+    if place > LONGEST_PATH || reference.node.0 >= node.reference.node.0 {
+        return Err(Error::TooDeep);
+    }
+    path.reserve(1)?;
+    let child = enter(alloc, pager, reference, place)?;
+    path.push_reserved(mem::replace(node, child));
+    Ok(())
+}
+
+// Goes on at the node: at its next reference, or back to the one that refers to it. Answers the key of the last one.
+fn turn<E: Env<Node: NodeSet<E>>, S: PagableStorage<E>>(
+    alloc: Global,
+    pager: &mut Pager<E, S>,
+    found: &mut FoundKeys,
+    path: &mut Vec<OpenNode>,
+    node: &mut OpenNode,
+) -> Result<Option<DataKey>, Error>
+    ensures turns { IsTrue (S.is_honest pager.new.storage) → IfOk result (λ key. Turned (values_at E.Node.NodeSet E.Env E.Hash.KeyHash pager.old.environment) (stage path.old.items node.old (λ n. row_by found.old n) (state_in (telling S.stored S.is_closed S.failed) pager.old))
+        key (stage path.new.items node.new (λ n. row_by found.new n) (state_in (telling S.stored S.is_closed S.failed) pager.new))) }
+    ensures fails { IsTrue (S.is_honest pager.new.storage) → IfErr result (λ e. TurnFails (values_at E.Node.NodeSet E.Env E.Hash.KeyHash pager.old.environment) (stage path.old.items node.old (λ n. row_by found.old n) (state_in (telling S.stored S.is_closed S.failed) pager.old))
+        e (state_in (telling S.stored S.is_closed S.failed) pager.new)) }
+    ensures stays { OnErr result ((path.new.items ≡ path.old.items) × (node.new ≡ node.old)) }
+    ensures honest { IsTrue (S.is_honest pager.new.storage) → IsTrue (S.is_honest pager.old.storage) }
+    ensures environment { pager.new.environment ≡ pager.old.environment }
+{
+    if node.keyed >= node.written.arcs.len() {
+        let key = leave(alloc, pager, found, node)?;
+        return match path.pop() {
+            Some(parent) => {
+                *node = parent;
+                Ok(None)
+            }
+            None => Ok(Some(key)),
+        };
+    }
+    let reference = node.written.arcs[node.keyed];
+    match find(pager, found, reference)? {
+        Some(_) => node.keyed += 1,
+        None => go_down(alloc, pager, path, node, reference)?,
+    }
+    Ok(None)
+}
+
+// Gives up the handles of all nodes.
+fn give_up<E: Env<Node: NodeSet<E>>, S: PagableStorage<E>>(
+    pager: &mut Pager<E, S>,
+    path: &mut Vec<OpenNode>,
+)
+    ensures gives { GivesUp (values_at E.Node.NodeSet E.Env E.Hash.KeyHash pager.old.environment) path.old.items (state_in (telling S.stored S.is_closed S.failed) pager.old) (state_in (telling S.stored S.is_closed S.failed) pager.new) }
+    ensures keeps { KeepsStorage pager.old pager.new }
+{
+    while let Some(node) = path.pop() {
+        let_go(pager, node.through, node.pin);
+    }
+}
+
+/// Writes a node and all that it refers to and that has no key, and answers its key.
+pub(crate) fn walk<E: Env<Node: NodeSet<E>>, S: PagableStorage<E>>(
+    alloc: Global,
+    pager: &mut Pager<E, S>,
+    first: OpenNode,
+) -> Result<DataKey, Error>
+    ensures walks { IsTrue (S.is_honest pager.new.storage) → Walks (values_at E.Node.NodeSet E.Env E.Hash.KeyHash pager.old.environment) first
+        (state_in (telling S.stored S.is_closed S.failed) pager.old) result (state_in (telling S.stored S.is_closed S.failed) pager.new) }
+    ensures honest { IsTrue (S.is_honest pager.new.storage) → IsTrue (S.is_honest pager.old.storage) }
+    ensures environment { pager.new.environment ≡ pager.old.environment }
+{
+    let mut path = Vec::new(alloc);
+    let mut found = NumberTable::new(alloc);
+    let mut node = first;
+    let mut left = u64::MAX;
+    while left > 0 {
+        left -= 1;
+        match turn(alloc, pager, &mut found, &mut path, &mut node) {
+            Ok(None) => {}
+            Ok(Some(key)) => return Ok(key),
+            Err(e) => {
+                let_go(pager, node.through, node.pin);
+                give_up(pager, &mut path);
+                return Err(e);
+            }
+        }
+    }
+    let_go(pager, node.through, node.pin);
+    give_up(pager, &mut path);
+    Err(Error::TooDeep)
+}
