@@ -1,5 +1,5 @@
 -- A page-out of what has no key: which node it comes to, what it writes and stores of it, and what it gives up, call by call of the pager.
-use Rattle.std.specs.Prelude.{Err, List, None, Ok, Option, Result, Some, [], false, true, ℕ, ◌++◌, ◌<◌, ◌∷◌, ◌≡◌, ◌≢◌}
+use Rattle.std.specs.Prelude.{Err, List, None, Ok, Option, Result, Some, [], false, slice_get, true, ℕ, ◌++◌, ◌∷◌, ◌≡◌, ◌≢◌}
 use Rattle.pagable_changes.specs.declared.{keys.FoundKey.FoundKey, nodes.OpenNode.OpenNode}
 use Rattle.{pagable_core.specs.declared.context.writing.SerializedData.SerializedData, pagable_model.specs.Merkle.blob_of, pagable_world.specs.Access.Called}
 use Rattle.pagable_world.specs.Calls.{CloneCall, KeyCall, LoosenCall, NodeCall, PinCall, ReleaseCall, SetKeyCall, StoreCall}
@@ -38,6 +38,14 @@ pub data AllHave (found : FoundKeys) (w : Core) : List ArcRef → List ℕ → T
   none-are-asked : AllHave found w [] []
   one-more-has : (rs : List ArcRef) (keys : List ℕ) (r : ArcRef) (key : ℕ) → AllHave found w rs keys → HasKey found w r key
       → AllHave found w (rs ++ r ∷ []) (keys ++ key ∷ [])
+
+-- the reference at this place has a key, which comes behind the others
+pub record TakesKey (found : FoundKeys) (w : Core) (rs : List ArcRef) (at : ℕ) (keys keys' : List ℕ) : Type 0 where
+  pub r : ArcRef
+  pub key : ℕ
+  pub there : slice_get rs at ≡ Some r
+  pub has : HasKey found w r key
+  pub added : keys' ≡ keys ++ key ∷ []
 
 -- the blob of a node whose references all have keys: what was written of it, over these
 pub record IsOver (found : FoundKeys) (w : Core) (o : OpenNode) (blob : Blob) : Type 0 where
@@ -203,6 +211,19 @@ module _ {N E : Type 0} (v : Values N) where
   pub data GivesUp : List OpenNode → PagerState N E → PagerState N E → Type 0 where
     none-is-open : (s : PagerState N E) → GivesUp [] s s
     one-goes-first : (path : List OpenNode) (o : OpenNode) (s mid s' : PagerState N E) → LetsGo o.through o.pin s mid → GivesUp path mid s' → GivesUp (path ++ o ∷ []) s s'
+
+  -- turns that led from one stage to the last node, which is left; or to a refusal, and what stood open then
+  pub record TurnsOut (a : Stage N E) (key : ℕ) (b : Stage N E) : Type 0 where
+    pub last : Stage N E
+    pub so : Turns a last
+    pub out : Turned last (Some key) b
+
+  pub record TurnsFail (a : Stage N E) (e : Error) (path : List OpenNode) (node : OpenNode) (s' : PagerState N E) : Type 0 where
+    pub last : Stage N E
+    pub so : Turns a last
+    pub fails : TurnFails last e s'
+    pub path_is : path ≡ last.path
+    pub node_is : node ≡ last.node
 
   -- The walk from a node that was entered: turns up to the last node, which is left; or up to a refusal, and all is given up.
   pub data Walks (first : OpenNode) (s : PagerState N E) : Result ℕ Error → PagerState N E → Type 0 where

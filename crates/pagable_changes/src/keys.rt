@@ -1,7 +1,7 @@
 //! The keys that references have: of a cell its own, and of any other node the one that was found in this page-out.
 
-ghost use Rattle.std.specs.Prelude.{IfOk, Ok, ◌≡◌};
-ghost use Rattle.{pagable_changes.specs.Changes.{AllHave, IsFound}, pagable_world.specs.Calls.{KeyCall, NodeCall}};
+ghost use Rattle.std.specs.Prelude.{[], IfOk, Ok, OnOk, ◌++◌, ◌∷◌, ◌≡◌};
+ghost use Rattle.{pagable_changes.specs.Changes.{AllHave, IsFound, TakesKey}, pagable_world.specs.Calls.{KeyCall, NodeCall}};
 ghost use Rattle.{pagable_pager.specs.View.{core_in, telling}, pagable_tables.specs.Rows.row_by};
 
 use crate::calls::is_at;
@@ -80,6 +80,40 @@ fn height_above(reference: ArcRef, height: u64) -> u64 {
     }
 }
 
+// Adds a key at the end.
+fn add_key(keys: &mut Vec<DataKey>, key: DataKey) -> Result<(), Error>
+    ensures { OnOk result (keys.new.items ≡ keys.old.items ++ key ∷ []) }
+{
+    keys.push(key)?;
+    Ok(())
+}
+
+// Adds the key of the reference at this place, which has one, and answers what it adds to the height.
+fn take_key<E: Env<Node: NodeSet<E>>, S: PagableStorage<E>>(
+    pager: &Pager<E, S>,
+    found: &FoundKeys,
+    references: &Vec<ArcRef>,
+    at: usize,
+    keys: &mut Vec<DataKey>,
+) -> Result<u64, Error>
+    ensures { OnOk result (TakesKey (λ n. row_by found.now n) (core_in (telling S.stored S.is_closed S.failed) pager.now) references.now.items at keys.old.items keys.new.items) }
+{
+    let Some(reference) = references.get(at) else {
+        return Err(Error::TooDeep);
+    };
+    let known = match find(pager, found, *reference) {
+        Ok(known) => known,
+        Err(e) => return Err(e),
+    };
+    match known {
+        Some(key) => match add_key(keys, key.key) {
+            Ok(()) => Ok(height_above(*reference, key.height)),
+            Err(e) => Err(e),
+        },
+        None => Err(Error::TooDeep),
+    }
+}
+
 /// Collects the keys of these references, each of which has one; and answers the length of the longest path from what
 /// holds them. Refused with TooDeep where one has no key yet: then what it names holds what holds it.
 pub(crate) fn collect_keys<E: Env<Node: NodeSet<E>>, S: PagableStorage<E>>(
@@ -94,14 +128,11 @@ pub(crate) fn collect_keys<E: Env<Node: NodeSet<E>>, S: PagableStorage<E>>(
     let mut height = 0;
     let mut at = 0;
     while at < references.len() {
-        let reference = references[at];
-        match find(pager, found, reference)? {
-            Some(known) => {
-                keys.push(known.key)?;
-                height = height_above(reference, known.height).max(height);
-            }
-            None => return Err(Error::TooDeep),
-        }
+        let above = match take_key(pager, found, references, at, &mut keys) {
+            Ok(above) => above,
+            Err(e) => return Err(e),
+        };
+        height = above.max(height);
         at += 1;
     }
     Ok((keys, height))

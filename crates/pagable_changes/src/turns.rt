@@ -1,7 +1,7 @@
 //! The turns of a page-out over the nodes that have no key.
 
-ghost use Rattle.std.specs.Prelude.{IfErr, IfOk, IsSome, IsTrue, OnErr, OnOk, ◌≡◌};
-ghost use Rattle.pagable_changes.specs.Changes.{GivesUp, GoesDown, GoesNowhere, IsOver, IsUnset, LeaveFails, Leaves, SetsFor, TurnFails, Turned, Walks, stage};
+ghost use Rattle.std.specs.Prelude.{IfErr, IfOk, IsSome, IsTrue, OnErr, OnOk, Some, slice_get, ◌≡◌};
+ghost use Rattle.pagable_changes.specs.Changes.{GivesUp, GoesDown, GoesNowhere, IsOver, IsUnset, LeaveFails, Leaves, SetsFor, Turn, TurnFails, Turned, TurnsFail, TurnsOut, Walks, stage};
 ghost use Rattle.{pagable_changes.specs.Keeping.KeepsStorage, pagable_core.specs.Data.blob_of, pagable_loads.specs.Telling.values_at};
 ghost use Rattle.{pagable_pager.specs.View.{core_in, state_in, telling}, pagable_tables.specs.Rows.{place_at, row_by}};
 
@@ -67,12 +67,36 @@ fn leave<E: Env<Node: NodeSet<E>>, S: PagableStorage<E>>(
     ensures honest { IsTrue (S.is_honest pager.new.storage) → IsTrue (S.is_honest pager.old.storage) }
     ensures environment { pager.new.environment ≡ pager.old.environment }
 {
-    let (blob, height) = blob_of_node(alloc, pager, found, node)?;
+    let (blob, height) = match blob_of_node(alloc, pager, found, node) {
+        Ok(over) => over,
+        Err(e) => return Err(e),
+    };
     found.reserve(node.reference.node.0)?;
-    let key = store(alloc, pager, blob)?;
-    set_for(pager, found, node, FoundKey { key, height })?;
+    let key = match store(alloc, pager, blob) {
+        Ok(key) => key,
+        Err(e) => return Err(e),
+    };
+    match set_for(pager, found, node, FoundKey { key, height }) {
+        Ok(()) => {}
+        Err(e) => return Err(e),
+    }
     let_go(pager, node.through, node.pin);
     Ok(key)
+}
+
+// Returns the place of a node that this reference of a node leads to.
+fn place_below(node: &OpenNode, reference: ArcRef) -> u64 {
+    if reference.kind.0 % 3 == 1 {
+        0
+    } else {
+        node.place.saturating_add(1)
+    }
+}
+
+// Tells whether a reference lies too deep at its place, or leads to a node that isn't older: what a node refers to was
+// there before it.
+fn is_too_deep(node: &OpenNode, reference: ArcRef, place: u64) -> bool {
+    place > LONGEST_PATH || reference.node.0 >= node.reference.node.0
 }
 
 // Comes to a reference that has no key.
@@ -88,14 +112,83 @@ fn go_down<E: Env<Node: NodeSet<E>>, S: PagableStorage<E>>(
     ensures stays { OnErr result ((path.new.items ≡ path.old.items) × (node.new ≡ node.old)) }
     ensures keeps { KeepsStorage pager.old pager.new }
 {
-    let place = if reference.kind.0 % 3 == 1 { 0 } else { node.place + 1 };
-    if place > LONGEST_PATH || reference.node.0 >= node.reference.node.0 {
+    let place = place_below(node, reference);
+    if is_too_deep(node, reference, place) {
         return Err(Error::TooDeep);
     }
     path.reserve(1)?;
-    let child = enter(alloc, pager, reference, place)?;
+    let child = match enter(alloc, pager, reference, place) {
+        Ok(child) => child,
+        Err(e) => return Err(e),
+    };
     path.push_reserved(mem::replace(node, child));
     Ok(())
+}
+
+// Returns the next of a node's references that wasn't found to have a key.
+fn next_of(node: &OpenNode) -> Option<ArcRef>
+    ensures { result ≡ slice_get node.now.written.arcs.items node.now.keyed }
+{
+    node.written.arcs.get(node.keyed).copied()
+}
+
+// Goes on at the next reference: past it where it has a key, and down to it where it has none.
+fn go_on<E: Env<Node: NodeSet<E>>, S: PagableStorage<E>>(
+    alloc: Global,
+    pager: &mut Pager<E, S>,
+    found: &FoundKeys,
+    path: &mut Vec<OpenNode>,
+    node: &mut OpenNode,
+    reference: ArcRef,
+) -> Result<(), Error>
+    requires next { Some reference ≡ slice_get node.old.written.arcs.items node.old.keyed }
+    ensures turns { OnOk result (Turn (values_at E.Node.NodeSet E.Env E.Hash.KeyHash pager.old.environment) (stage path.old.items node.old (λ n. row_by found.now n) (state_in (telling S.stored S.is_closed S.failed) pager.old))
+        (stage path.new.items node.new (λ n. row_by found.now n) (state_in (telling S.stored S.is_closed S.failed) pager.new))) }
+    ensures fails { IfErr result (λ e. TurnFails (values_at E.Node.NodeSet E.Env E.Hash.KeyHash pager.old.environment) (stage path.old.items node.old (λ n. row_by found.now n) (state_in (telling S.stored S.is_closed S.failed) pager.old))
+        e (state_in (telling S.stored S.is_closed S.failed) pager.new)) }
+    ensures stays { OnErr result ((path.new.items ≡ path.old.items) × (node.new ≡ node.old)) }
+    ensures keeps { KeepsStorage pager.old pager.new }
+{
+    let known = match find(pager, found, reference) {
+        Ok(known) => known,
+        Err(e) => return Err(e),
+    };
+    match known {
+        Some(_) => {
+            node.keyed = node.keyed.saturating_add(1);
+            Ok(())
+        }
+        None => go_down(alloc, pager, path, node, reference),
+    }
+}
+
+// Leaves a node whose references all have keys, for the one that waits for it. Answers the key of the last one.
+fn go_up<E: Env<Node: NodeSet<E>>, S: PagableStorage<E>>(
+    alloc: Global,
+    pager: &mut Pager<E, S>,
+    found: &mut FoundKeys,
+    path: &mut Vec<OpenNode>,
+    node: &mut OpenNode,
+) -> Result<Option<DataKey>, Error>
+    ensures turns { IsTrue (S.is_honest pager.new.storage) → IfOk result (λ key. Turned (values_at E.Node.NodeSet E.Env E.Hash.KeyHash pager.old.environment) (stage path.old.items node.old (λ n. row_by found.old n) (state_in (telling S.stored S.is_closed S.failed) pager.old))
+        key (stage path.new.items node.new (λ n. row_by found.new n) (state_in (telling S.stored S.is_closed S.failed) pager.new))) }
+    ensures fails { IsTrue (S.is_honest pager.new.storage) → IfErr result (λ e. TurnFails (values_at E.Node.NodeSet E.Env E.Hash.KeyHash pager.old.environment) (stage path.old.items node.old (λ n. row_by found.old n) (state_in (telling S.stored S.is_closed S.failed) pager.old))
+        e (state_in (telling S.stored S.is_closed S.failed) pager.new)) }
+    ensures stays { OnErr result ((path.new.items ≡ path.old.items) × (node.new ≡ node.old)) }
+    ensures honest { IsTrue (S.is_honest pager.new.storage) → IsTrue (S.is_honest pager.old.storage) }
+    ensures environment { pager.new.environment ≡ pager.old.environment }
+{
+    let key = match leave(alloc, pager, found, node) {
+        Ok(key) => key,
+        Err(e) => return Err(e),
+    };
+    match path.pop() {
+        Some(parent) => {
+            *node = parent;
+            Ok(None)
+        }
+        None => Ok(Some(key)),
+    }
 }
 
 // Goes on at the node: at its next reference, or back to the one that refers to it. Answers the key of the last one.
@@ -114,22 +207,43 @@ fn turn<E: Env<Node: NodeSet<E>>, S: PagableStorage<E>>(
     ensures honest { IsTrue (S.is_honest pager.new.storage) → IsTrue (S.is_honest pager.old.storage) }
     ensures environment { pager.new.environment ≡ pager.old.environment }
 {
-    if node.keyed >= node.written.arcs.len() {
-        let key = leave(alloc, pager, found, node)?;
-        return match path.pop() {
-            Some(parent) => {
-                *node = parent;
-                Ok(None)
-            }
-            None => Ok(Some(key)),
+    match next_of(node) {
+        None => go_up(alloc, pager, found, path, node),
+        Some(reference) => match go_on(alloc, pager, found, path, node, reference) {
+            Ok(()) => Ok(None),
+            Err(e) => Err(e),
+        },
+    }
+}
+
+// Makes turns up to the key of the last node, or to a refusal.
+fn make_turns<E: Env<Node: NodeSet<E>>, S: PagableStorage<E>>(
+    alloc: Global,
+    pager: &mut Pager<E, S>,
+    found: &mut FoundKeys,
+    path: &mut Vec<OpenNode>,
+    node: &mut OpenNode,
+) -> Result<DataKey, Error>
+    ensures turns { IsTrue (S.is_honest pager.new.storage) → IfOk result (λ key. TurnsOut (values_at E.Node.NodeSet E.Env E.Hash.KeyHash pager.old.environment) (stage path.old.items node.old (λ n. row_by found.old n) (state_in (telling S.stored S.is_closed S.failed) pager.old))
+        key (stage path.new.items node.new (λ n. row_by found.new n) (state_in (telling S.stored S.is_closed S.failed) pager.new))) }
+    ensures fails { IsTrue (S.is_honest pager.new.storage) → IfErr result (λ e. TurnsFail (values_at E.Node.NodeSet E.Env E.Hash.KeyHash pager.old.environment) (stage path.old.items node.old (λ n. row_by found.old n) (state_in (telling S.stored S.is_closed S.failed) pager.old))
+        e path.new.items node.new (state_in (telling S.stored S.is_closed S.failed) pager.new)) }
+    ensures honest { IsTrue (S.is_honest pager.new.storage) → IsTrue (S.is_honest pager.old.storage) }
+    ensures environment { pager.new.environment ≡ pager.old.environment }
+{
+    let mut left = u64::MAX;
+    while left > 0 {
+        left -= 1;
+        let turned = match turn(alloc, pager, found, path, node) {
+            Ok(turned) => turned,
+            Err(e) => return Err(e),
         };
+        match turned {
+            Some(key) => return Ok(key),
+            None => {}
+        }
     }
-    let reference = node.written.arcs[node.keyed];
-    match find(pager, found, reference)? {
-        Some(_) => node.keyed += 1,
-        None => go_down(alloc, pager, path, node, reference)?,
-    }
-    Ok(None)
+    Err(Error::TooDeep)
 }
 
 // Gives up the handles of all nodes.
@@ -159,20 +273,12 @@ pub(crate) fn walk<E: Env<Node: NodeSet<E>>, S: PagableStorage<E>>(
     let mut path = Vec::new(alloc);
     let mut found = NumberTable::new(alloc);
     let mut node = first;
-    let mut left = u64::MAX;
-    while left > 0 {
-        left -= 1;
-        match turn(alloc, pager, &mut found, &mut path, &mut node) {
-            Ok(None) => {}
-            Ok(Some(key)) => return Ok(key),
-            Err(e) => {
-                let_go(pager, node.through, node.pin);
-                give_up(pager, &mut path);
-                return Err(e);
-            }
+    match make_turns(alloc, pager, &mut found, &mut path, &mut node) {
+        Ok(key) => Ok(key),
+        Err(e) => {
+            let_go(pager, node.through, node.pin);
+            give_up(pager, &mut path);
+            Err(e)
         }
     }
-    let_go(pager, node.through, node.pin);
-    give_up(pager, &mut path);
-    Err(Error::TooDeep)
 }

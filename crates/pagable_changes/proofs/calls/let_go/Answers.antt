@@ -1,11 +1,10 @@
 use Rattle.{pagable_changes.specs.Changes.{both-go, one-goes}, pagable_model.specs.declared.numbers.HandleNumber.HandleNumber}
-use Rattle.std.proofs.Common.{ap, subst, ℕ}
-use Rattle.pagable_changes.proofs.Changing.{at-same}
+use Rattle.{pagable_changes.proofs.Changing.at-same, pagable_loads.specs.Telling.values_at, std.proofs.Common.{ap, ℕ}}
 use Rattle.pagable_changes.proofs.calls.let_go.Goals as goal
 
 pub returns-then-pin-through-clause-lets : goal.returns-then-pin-through-clause-lets
 returns-then-pin-through-clause-lets g c =
-    both-go _ _ _ _ c.release-unpinned.ensures.called (at-same _ c.release-unpinned.ensures.keeps.environment c.release-released.ensures.called)
+    both-go _ _ _ _ c.release-unpinned.ensures.called (at-same (values_at g.E.Node.NodeSet g.E.Env g.E.Hash.KeyHash) c.release-unpinned.ensures.keeps.environment c.release-released.ensures.called)
 
 pub returns-else-pin-through-clause-lets : goal.returns-else-pin-through-clause-lets
 returns-else-pin-through-clause-lets g c =

@@ -1,0 +1,8 @@
+use Rattle.{pagable_changes.proofs.Changing.{all-taken, no-keys-yet, one-taken}, std.proofs.Common.{arith}}
+use Rattle.pagable_changes.proofs.keys.collect_keys.Goals as goal
+
+pub loop-at-init : goal.loop-at-init
+loop-at-init g c = record { within = omega arith; so = no-keys-yet _ c.in_ok-keys.ensures.items }
+
+pub loop-at-preserved : goal.loop-at-preserved
+loop-at-preserved g c = record { within = omega (arith, c.loop-at-test.true); so = one-taken c.loop-at.invariant.so c.in-Ok.ensures }
