@@ -6,7 +6,7 @@ use Rattle.pagable_changes.specs.Changes.{one-more-turn, stage, turns-once, walk
 use Rattle.pagable_changes.specs.declared.{keys.FoundKey.FoundKey, nodes.OpenNode.OpenNode}
 use Rattle.pagable_model.specs.Merkle.{blob_of}
 use Rattle.pagable_world.specs.{Access.Called, Pager.PagerState, Plain.{ArcRef, Blob, Error, HandleNumber, is_loose_kind}, World.{Core, Values, Written}}
-use Rattle.std.proofs.Common.{Err, IfErr, IsErrAnd, List, None, Ok, OnOk, Option, Result, Some, [], ap, arith, false, length, refl, subst, sym, take, true, ℕ, ◌%◌, ◌++◌, ◌+◌, ◌∙◌, ◌∷◌, ◌≡◌, ◌≢◌, ◌≤◌}
+use Rattle.std.proofs.Common.{Err, IfErr, List, None, Ok, OnOk, Option, Result, Some, [], ap, arith, false, length, refl, subst, sym, take, true, ℕ, ◌%◌, ◌++◌, ◌+◌, ◌∙◌, ◌∷◌, ◌≡◌, ◌≢◌, ◌≤◌}
 use Rattle.std.proofs.lemmas.{Bool.Decides.nat_tests, List.{take_all, take_more}, Option.{get_or_from_slice_get, slice_get_within}}
 use Rattle.std.specs.Prelude.{slice_get}
 
@@ -46,11 +46,7 @@ pub walks-same : {N E X : Type 0} (says : E → Values N) {e e' : E} {first : Op
     → Walks (says e) first s r s'
 walks-same says {first = first} {r} {s} {s'} same walks = subst (λ x. Walks (says x) first s r s') same walks
 
--- a refusal that a call within gave
-pub err-of : {X Y : Type 0} {P : Y → Type 0} (r : Result X Y) {e : Y} → IsErrAnd r (λ y. y ≡ e) → P e → IfErr r P
-err-of {P = P} (Err y) is p = subst P (sym is) p
-err-of (Ok x) is p = absurd is
-
+-- what is so of each refusal
 pub err-any : {X Y : Type 0} {P : Y → Type 0} (r : Result X Y) → ((e : Y) → P e) → IfErr r P
 err-any (Err y) all = all y
 err-any (Ok x) all = tt
@@ -82,7 +78,7 @@ one-key-more {found} {w} rs at r key {keys} {keys'} one so has is =
 pub one-taken : {found : FoundKeys} {w : Core} {rs : List ArcRef} {at : ℕ} {keys keys' : List ℕ} → AllHave found w (take at rs) keys → TakesKey found w rs at keys keys'
     → AllHave found w (take (at + 1) rs) keys'
 one-taken {rs = rs} {at} so t =
-    one-key-more rs at t.r t.key (take_more rs at t.r (slice_get_within rs at t.there) ∙ ap (λ x. take at rs ++ x ∷ []) (get_or_from_slice_get rs at t.r t.r t.there)) so t.has t.added
+    one-key-more rs at t.r t.key (take_more rs at t.r (slice_get_within rs at t.r t.there) ∙ ap (λ x. take at rs ++ x ∷ []) (get_or_from_slice_get rs at t.r t.r t.there)) so t.has t.added
 
 pub all-taken : {found : FoundKeys} {w : Core} (rs : List ArcRef) {at : ℕ} {keys : List ℕ} → length rs ≤ at → AllHave found w (take at rs) keys → AllHave found w rs keys
 all-taken {found} {w} rs {at} {keys} past so = subst (λ xs. AllHave found w xs keys) (take_all at rs past) so
@@ -111,7 +107,7 @@ module _ {N E : Type 0} (v : Values N) {found : FoundKeys} {s mid : PagerState N
   key-fails-by {key = key} {s'} stores unset = key-is-refused _ key over.keys mid s' over.have (stores-over stores) unset
 
 -- a turn down
-module _ {N E : Type 0} (v : Values N) {s s' : PagerState N E} {path path' : List OpenNode} {o o' : OpenNode} {found : FoundKeys} {q : ArcRef}
+module _ {N E : Type 0} (v : Values N) (s s' : PagerState N E) (path path' : List OpenNode) (o o' : OpenNode) (found : FoundKeys) {q : ArcRef}
     (next : Some q ≡ slice_get o.written.arcs.items o.keyed) (none : HasNoKey found s.core q) where
   pub down-by : (r : Result (Unit {0}) Error) → OnOk r (GoesDown v q path o s path' o' s') → OnOk r (Turn v (stage path o found s) (stage path' o' found s'))
   down-by (Ok u) down = goes-down _ q (o.keyed, sym next) none down.waits refl down.enters
@@ -129,9 +125,9 @@ pub next-stage : {N E : Type 0} (v : Values N) {a b c : Stage N E} → Turns v a
 next-stage v {a} {b} so (turns-once d turn) = one-more-turn a b d so turn
 
 -- one of the nodes is given up
-pub one-given-up : {N E : Type 0} (v : Values N) {path path' : List OpenNode} {o : OpenNode} {s mid s' : PagerState N E} → path ≡ path' ++ o ∷ [] → LetsGo v o.through o.pin s mid
+pub one-given-up : {N E : Type 0} (v : Values N) {path path' : List OpenNode} (o : OpenNode) {s mid s' : PagerState N E} → path ≡ path' ++ o ∷ [] → LetsGo v o.through o.pin s mid
     → GivesUp v path' mid s' → GivesUp v path s s'
-one-given-up v {path' = path'} {o} {s} {mid} {s'} is lets gives = subst (λ p. GivesUp v p s s') (sym is) (one-goes-first path' o s mid s' lets gives)
+one-given-up v {path' = path'} o {s} {mid} {s'} is lets gives = subst (λ p. GivesUp v p s s') (sym is) (one-goes-first path' o s mid s' lets gives)
 
 pub none-left : {N E : Type 0} (v : Values N) {path : List OpenNode} {s : PagerState N E} → path ≡ [] → GivesUp v path s s
 none-left v {s = s} is = subst (λ p. GivesUp v p s s) (sym is) (none-is-open s)

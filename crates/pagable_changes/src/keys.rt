@@ -1,6 +1,6 @@
 //! The keys that references have: of a cell its own, and of any other node the one that was found in this page-out.
 
-ghost use Rattle.std.specs.Prelude.{[], IfOk, Ok, OnOk, ◌++◌, ◌∷◌, ◌≡◌};
+ghost use Rattle.std.specs.Prelude.{[], IfOk, Ok, OnOk, slice_get, ◌++◌, ◌∷◌, ◌≡◌};
 ghost use Rattle.{pagable_changes.specs.Changes.{AllHave, IsFound, TakesKey}, pagable_world.specs.Calls.{KeyCall, NodeCall}};
 ghost use Rattle.{pagable_pager.specs.View.{core_in, telling}, pagable_tables.specs.Rows.row_by};
 
@@ -88,6 +88,13 @@ fn add_key(keys: &mut Vec<DataKey>, key: DataKey) -> Result<(), Error>
     Ok(())
 }
 
+// Returns the reference at this place, if there is one.
+fn reference_at(references: &Vec<ArcRef>, at: usize) -> Option<ArcRef>
+    ensures { result ≡ slice_get references.now.items at }
+{
+    references.get(at).copied()
+}
+
 // Adds the key of the reference at this place, which has one, and answers what it adds to the height.
 fn take_key<E: Env<Node: NodeSet<E>>, S: PagableStorage<E>>(
     pager: &Pager<E, S>,
@@ -98,16 +105,16 @@ fn take_key<E: Env<Node: NodeSet<E>>, S: PagableStorage<E>>(
 ) -> Result<u64, Error>
     ensures { OnOk result (TakesKey (λ n. row_by found.now n) (core_in (telling S.stored S.is_closed S.failed) pager.now) references.now.items at keys.old.items keys.new.items) }
 {
-    let Some(reference) = references.get(at) else {
+    let Some(reference) = reference_at(references, at) else {
         return Err(Error::TooDeep);
     };
-    let known = match find(pager, found, *reference) {
+    let known = match find(pager, found, reference) {
         Ok(known) => known,
         Err(e) => return Err(e),
     };
     match known {
         Some(key) => match add_key(keys, key.key) {
-            Ok(()) => Ok(height_above(*reference, key.height)),
+            Ok(()) => Ok(height_above(reference, key.height)),
             Err(e) => Err(e),
         },
         None => Err(Error::TooDeep),

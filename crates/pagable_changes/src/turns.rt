@@ -1,6 +1,6 @@
 //! The turns of a page-out over the nodes that have no key.
 
-ghost use Rattle.std.specs.Prelude.{IfErr, IfOk, IsSome, IsTrue, OnErr, OnOk, Some, slice_get, ◌≡◌};
+ghost use Rattle.std.specs.Prelude.{[], IfErr, IfNone, IfOk, IfSome, IsSome, IsTrue, OnErr, OnOk, Some, slice_get, ◌++◌, ◌∷◌, ◌≡◌};
 ghost use Rattle.pagable_changes.specs.Changes.{GivesUp, GoesDown, GoesNowhere, IsOver, IsUnset, LeaveFails, Leaves, SetsFor, Turn, TurnFails, Turned, TurnsFail, TurnsOut, Walks, stage};
 ghost use Rattle.{pagable_changes.specs.Keeping.KeepsStorage, pagable_core.specs.Data.blob_of, pagable_loads.specs.Telling.values_at};
 ghost use Rattle.{pagable_pager.specs.View.{core_in, state_in, telling}, pagable_tables.specs.Rows.{place_at, row_by}};
@@ -162,6 +162,17 @@ fn go_on<E: Env<Node: NodeSet<E>>, S: PagableStorage<E>>(
     }
 }
 
+// Takes the last node off the path.
+fn pop_node(path: &mut Vec<OpenNode>) -> Option<OpenNode>
+    ensures some { IfSome result (λ node. path.old.items ≡ path.new.items ++ node ∷ []) }
+    ensures none { IfNone result (path.old.items ≡ []) }
+{
+    if path.is_empty() {
+        return None;
+    }
+    path.pop()
+}
+
 // Leaves a node whose references all have keys, for the one that waits for it. Answers the key of the last one.
 fn go_up<E: Env<Node: NodeSet<E>>, S: PagableStorage<E>>(
     alloc: Global,
@@ -182,7 +193,7 @@ fn go_up<E: Env<Node: NodeSet<E>>, S: PagableStorage<E>>(
         Ok(key) => key,
         Err(e) => return Err(e),
     };
-    match path.pop() {
+    match pop_node(path) {
         Some(parent) => {
             *node = parent;
             Ok(None)
@@ -254,7 +265,7 @@ fn give_up<E: Env<Node: NodeSet<E>>, S: PagableStorage<E>>(
     ensures gives { GivesUp (values_at E.Node.NodeSet E.Env E.Hash.KeyHash pager.old.environment) path.old.items (state_in (telling S.stored S.is_closed S.failed) pager.old) (state_in (telling S.stored S.is_closed S.failed) pager.new) }
     ensures keeps { KeepsStorage pager.old pager.new }
 {
-    while let Some(node) = path.pop() {
+    while let Some(node) = pop_node(path) {
         let_go(pager, node.through, node.pin);
     }
 }

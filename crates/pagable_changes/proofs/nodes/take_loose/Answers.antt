@@ -1,9 +1,9 @@
-use Rattle.pagable_changes.{proofs.Changing.{at-same, err-of, pins-same}, specs.Changes.{cell-is-taken, clone-is-refused, pin-is-refused}}
-use Rattle.{pagable_loads.specs.Telling.values_at, std.proofs.Common.◌∙◌}
+use Rattle.pagable_changes.{proofs.Changing.{at-same, pins-same}, specs.Changes.{cell-is-taken, clone-is-refused, pin-is-refused}}
+use Rattle.{pagable_loads.specs.Telling.values_at, pagable_tables.proofs.Worlds.failed, std.proofs.Common.◌∙◌}
 use Rattle.pagable_changes.proofs.nodes.take_loose.Goals as goal
 
 pub returns-in_err-through-clause-fails : goal.returns-in_err-through-clause-fails
-returns-in_err-through-clause-fails g c = err-of c.from_residual.result c.from_residual.ensures.1 (clone-is-refused _ _ c.in_err-through.ensures.called)
+returns-in_err-through-clause-fails g c = rw (failed c.from_residual.result c.from_residual.ensures.1) (clone-is-refused _ _ c.in_err-through.ensures.called)
 
 pub returns-in-Ok-clause-takes : goal.returns-in-Ok-clause-takes
 returns-in-Ok-clause-takes g c =
