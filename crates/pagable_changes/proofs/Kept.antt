@@ -262,8 +262,7 @@ module _ {N E : Type 0} (v : Values N) (lawful : IsLawful v) where
         let o_is = e.of in
         let through = w.at.found in
         let written : WroteTree v.types (ground s' a.trees') r.node.0 (written_of o.written) =
-        wrote a.now.stands well a.now.settled lawful r.node.0 (written_of o.written) (readable _) (record { x = x; held = has; form = w.writes.form.form; listed = w.writes.form.listed }) in
-        (
+        wrote a.now.stands well a.now.settled lawful r.node.0 (written_of o.written) (readable _) (record { x = x; held = has; form = w.writes.form.form; listed = w.writes.form.listed }) in (
           a,
           record {
             given = subst (λ (q : ArcRef). q.node.0 ≤ s'.core.last.node) (sym o_is) live.1;
@@ -310,7 +309,7 @@ module _ {N E : Type 0} (v : Values N) (lawful : IsLawful v) where
         let f = open-on a fits in
         let is_stored : mid.core.stored key ≡ Some blob = stores.step.stores.1.adds.each key ∙ ap (λ b. if b then Some blob else s.core.stored key) (self-equal key) in
         let each : (r : ArcRef) → Among (written_of o.written).references r
-            → ((a.trees' r.node.0).type ≡ type_of r.kind.0) × ReadsTree mid.core.stored v.types (key_now found s.core r) (a.trees' r.node.0) = λ r among.
+        → ((a.trees' r.node.0).type ≡ type_of r.kind.0) × ReadsTree mid.core.stored v.types (key_now found s.core r) (a.trees' r.node.0) = λ r among.
         let h = each-has have r among in
         (f.typed r among, subst (λ q. ReadsTree mid.core.stored v.types q (a.trees' r.node.0)) (sym (has-now h.1)) (key-on a (has-reads at founds h.1)).reads) in
         record { went = a; fits = f; reads = record { given = f.given; reads = blob-reads f.wrote have each is_stored } }
