@@ -8,4 +8,4 @@ pub loop-at-preserved : goal.loop-at-preserved
 loop-at-preserved g c = record { within = omega (arith, c.loop-at-test.true); so = one-taken c.loop-at.invariant.so c.in-Ok.ensures }
 
 pub returns : goal.returns
-returns g c = all-taken c.args.references.now.items c.loop-at-test.false c.loop-at.invariant.so
+returns g c = all-taken c.args.references.now.items {at = c.loop-at.at} (omega (arith, c.loop-at-test.false)) c.loop-at.invariant.so
