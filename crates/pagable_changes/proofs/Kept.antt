@@ -1,7 +1,7 @@
 -- Turn by turn the pager stands for the trees that it stood for; what was written of each open node is a form of its tree; and each key that was found reads as
 -- its node's tree.
-use Rattle.pagable_changes.specs.{Changes.{AllHave, EnterFails, Enters, FoundKeys, GivesUp, GoesNowhere, HasKey, IsUnset, LeaveFails, Leaves, LetsGo, PagesOutChanged, PagesOutKeyless, PinsLoosely, SetsFor, Stage, StoresBlob}, Keys.ChangedLaw}
-use Rattle.pagable_changes.specs.Changes.{TakeFails, Takes, Turn, TurnFails, Turns, Walks, WritesTaken, all-is-stored, blob-is-refused, both-go, cell-gets-key, cell-has-key, cell-is-away}
+use Rattle.pagable_changes.specs.{Changes.{AllHave, EnterFails, Enters, FoundKeys, GivesUp, GoesNowhere, HasKey, LeaveFails, Leaves, LetsGo, PagesOutChanged, PagesOutKeyless, PinsLoosely, SetsFor, Stage, StoresBlob}, Keys.ChangedLaw}
+use Rattle.pagable_changes.specs.Changes.{TakeFails, Takes, Turn, TurnFails, Turns, Walks, all-is-stored, blob-is-refused, both-go, cell-gets-key, cell-has-key, cell-is-away}
 use Rattle.pagable_changes.specs.Changes.{cell-is-not-pinned, cell-is-pinned, cell-is-taken, clone-is-refused, goes-down, goes-up, has-key, isnt-entered, isnt-left, isnt-taken, isnt-written}
 use Rattle.pagable_changes.specs.Changes.{key-is-found, key-is-refused, key-was-found, no-turn, node-is-refused, node-is-taken, none-are-asked, none-is-open, nothing-is-begun, nothing-is-done}
 use Rattle.pagable_changes.specs.Changes.{nothing-is-stored, nothing_found, one-goes, one-goes-first, one-more-has, one-more-turn, pin-is-refused, root-has-key, root-has-none, root-is-refused}
@@ -10,18 +10,17 @@ use Rattle.pagable_changes.specs.declared.{keys.FoundKey.FoundKey, nodes.OpenNod
 use Rattle.pagable_laws.proofs.{Answered.{After, after-then, rows-stay}, Called.calls-go, Decoding.{among-left, among-right}, Following.{given-of, leads-on, wrote}, Goes.{among-found, found-number}}
 use Rattle.pagable_laws.proofs.{Moments.{Stands, call-stays, no-value, still-settled}, ReadingSteps.caller-free, Related.keeps_forms, Taking.{pushed, row-held, tree-stays}}
 use Rattle.pagable_laws.proofs.{Again.{Looked, all-looked, form-again, one-looked}, Trees.{same-number, same_some}}
-use Rattle.pagable_laws.specs.{CallerLaws.IsCall, FormLaws.rest, PageOutLaws.NobodyWorks}
-use Rattle.pagable_laws.specs.TreeSteps.{FollowsTo, Ground, KeepsStored, WroteTree, followed-leads, integer-leads, none-leads, number-leads, pair-leads, pattern-leads, reference-leads, text-leads, variant-leads}
+use Rattle.pagable_laws.specs.{CallerLaws.IsCall, FormLaws.rest}
+use Rattle.pagable_laws.specs.TreeSteps.{FollowsTo, Ground, KeepsStored, WroteTree, followed-leads, pair-leads, reference-leads, variant-leads}
 use Rattle.pagable_model.specs.{Canonical.IsReadableType, Merkle.{StoredAs, blob_of, key_of_ref, kind_of_ref}, Meaning.{Meaning, rename}, Reading.{deepest, read}, Writing.kind_of_arc}
 use Rattle.pagable_model.specs.Trees.{IsFollowed, KeyRef, ReadsAs, ReadsTree, Tree, Types, integer-followed, key_ref, none-followed, number-followed, pair-followed, pattern-followed, reference-followed, text-followed, type_of, variant-followed}
-use Rattle.pagable_world.specs.{Access.Called, Events.Does, Pager.{NodeStands, PagerState, Represents, WellFormed, away, here}, Runs.{AsksWell, HoldsSettled, KeepsOpen}}
+use Rattle.pagable_world.specs.{Access.Called, Events.Does, Pager.{NodeStands, PagerState, away, here}, Runs.{AsksWell, KeepsOpen}}
 use Rattle.pagable_world.specs.Plain.{Among, ArcRef, Blob, Error, HandleNumber, OptionalDataKey, if_there, is_loose_kind}
 use Rattle.pagable_world.specs.{Calls.{KeyCall, NodeCall}, Kinds.{held, is_loose}, Refusals.Owns}
-use Rattle.pagable_world.specs.World.{Core, IsLawful, Seen, Values, Written, key_at, row_at, type_at}
+use Rattle.pagable_world.specs.World.{Core, IsLawful, Seen, Values, Written, key_at, row_at}
 use Rattle.pagable_world.specs.declared.{calls.{Call.Call, Reply.Reply}, events.Event.Event, handles.{HandleRow.HandleRow, Owner.Owner}}
-use Rattle.std.proofs.Common.{Err, IfOk, List, None, Ok, Option, Result, Some, [], ap, append-nil, arith, false, if◌then◌else◌, inl, inr, map, refl, subst, suc, sym, true, zero, ℕ, ◌++◌, ◌+◌, ◌==◌, ◌∙◌, ◌∷◌, ◌≡◌, ◌<◌, ◌≤◌}
+use Rattle.std.proofs.Common.{Err, IfOk, List, Ok, Option, Result, Some, [], ap, append-nil, arith, if◌then◌else◌, inl, inr, map, refl, subst, suc, sym, true, zero, ℕ, ◌++◌, ◌==◌, ◌∙◌, ◌∷◌, ◌≡◌, ◌<◌, ◌≤◌}
 use Rattle.std.proofs.lemmas.{Bool.{Decides.nat_tests, cases_Bool}, List.map-append}
-use Rattle.std.specs.Prelude.{slice_get}
 
 -- what is so of each of both lists is so of each of them together
 both-all : {X : Type 0} {P : X → Type 0} (xs ys : List X) → ((x : X) → Among xs x → P x) → ((x : X) → Among ys x → P x) → (x : X) → Among (xs ++ ys) x → P x

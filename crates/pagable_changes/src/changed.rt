@@ -82,7 +82,8 @@ fn page_out_root<E: Env<Node: NodeSet<E>>, S: PagableStorage<E>>(
 /// # Errors
 /// - NoSuchHandle: nothing live has this number.
 /// - WrongMode: the handle is Shared.
-/// - TooDeep: a path of references that are read together is longer than 128, or what is written refers to itself.
+/// - TooDeep: a path of references that are read together is longer than 128, or a cell that has no key is no older than
+///   what refers to it, as where that refers to itself.
 /// - as `Pager::clone`, `Pager::pin`, `Pager::store` and the writing of a value. What was stored by then stays, as do
 ///   the keys of its cells; all handles that were taken are given up.
 pub fn page_out_changed<E: Env<Node: NodeSet<E>>, S: PagableStorage<E>>(

@@ -93,10 +93,14 @@ fn place_below(node: &OpenNode, reference: ArcRef) -> u64 {
     }
 }
 
-// Tells whether a reference lies too deep at its place, or leads to a node that isn't older: what a node refers to was
-// there before it.
+// Tells whether a reference lies too deep at its place, or is a loose one to a node that isn't older: a cell that has no
+// key was there before what refers to it.
 fn is_too_deep(node: &OpenNode, reference: ArcRef, place: u64) -> bool {
-    place > LONGEST_PATH || reference.node.0 >= node.reference.node.0
+    if reference.kind.0 % 3 == 1 {
+        reference.node.0 >= node.reference.node.0
+    } else {
+        place > LONGEST_PATH
+    }
 }
 
 // Comes to a reference that has no key.

@@ -1,5 +1,5 @@
 use Rattle.{pagable_changes.specs.Changes.AllHave, pagable_pager.specs.View.{core_in, telling}, pagable_tables.specs.Rows.row_by}
-use Rattle.std.proofs.Common.{length, take, ◌-◌, ◌≡◌, ◌≤◌}
+use Rattle.std.proofs.Common.{length, take, ◌-◌, ◌≤◌}
 use Rattle.pagable_changes.proofs.keys.collect_keys.Given as goal
 
 -- the first references have these keys
