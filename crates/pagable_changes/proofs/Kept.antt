@@ -1,0 +1,462 @@
+-- Turn by turn the pager stands for the trees that it stood for; what was written of each open node is a form of its tree; and each key that was found reads as
+-- its node's tree.
+use Rattle.pagable_changes.specs.{Changes.{AllHave, EnterFails, Enters, FoundKeys, GivesUp, GoesNowhere, HasKey, LeaveFails, Leaves, LetsGo, PagesOutChanged, PagesOutKeyless, PinsLoosely, SetsFor, Stage, StoresBlob}, Keys.ChangedLaw}
+use Rattle.pagable_changes.specs.Changes.{TakeFails, Takes, Turn, TurnFails, Turns, Walks, all-is-stored, blob-is-refused, both-go, cell-gets-key, cell-has-key, cell-is-away}
+use Rattle.pagable_changes.specs.Changes.{cell-is-not-pinned, cell-is-pinned, cell-is-taken, clone-is-refused, goes-down, goes-up, has-key, isnt-entered, isnt-left, isnt-taken, isnt-written}
+use Rattle.pagable_changes.specs.Changes.{key-is-found, key-is-refused, key-was-found, no-turn, node-is-refused, node-is-taken, none-are-asked, none-is-open, nothing-is-begun, nothing-is-done}
+use Rattle.pagable_changes.specs.Changes.{nothing-is-stored, nothing_found, one-goes, one-goes-first, one-more-has, one-more-turn, pin-is-refused, root-has-key, root-has-none, root-is-refused}
+use Rattle.pagable_changes.specs.Changes.{no-handle, root-is-walked, stage, walk-is-refused, way-is-refused, written_of}
+use Rattle.pagable_changes.specs.declared.{keys.FoundKey.FoundKey, nodes.OpenNode.OpenNode}
+use Rattle.pagable_laws.proofs.{Answered.{After, after-then, rows-stay}, Called.calls-go, Decoding.{among-left, among-right}, Following.{given-of, leads-on, wrote}, Goes.{among-found, found-number}}
+use Rattle.pagable_laws.proofs.{Moments.{Stands, call-stays, no-value, still-settled}, ReadingSteps.caller-free, Related.keeps_forms, Taking.{pushed, row-held, tree-stays}}
+use Rattle.pagable_laws.proofs.{Again.{Looked, all-looked, form-again, one-looked}, Trees.{same-number, same_some}}
+use Rattle.pagable_laws.specs.{CallerLaws.IsCall, FormLaws.rest}
+use Rattle.pagable_laws.specs.TreeSteps.{FollowsTo, Ground, KeepsStored, WroteTree, followed-leads, pair-leads, reference-leads, variant-leads}
+use Rattle.pagable_model.specs.{Canonical.IsReadableType, Merkle.{StoredAs, blob_of, key_of_ref, kind_of_ref}, Meaning.{Meaning, rename}, Reading.{deepest, read}, Writing.kind_of_arc}
+use Rattle.pagable_model.specs.Trees.{IsFollowed, KeyRef, ReadsAs, ReadsTree, Tree, Types, integer-followed, key_ref, none-followed, number-followed, pair-followed, pattern-followed, reference-followed, text-followed, type_of, variant-followed}
+use Rattle.pagable_world.specs.{Access.Called, Events.Does, Pager.{NodeStands, PagerState, away, here}, Runs.{AsksWell, KeepsOpen}}
+use Rattle.pagable_world.specs.Plain.{Among, ArcRef, Blob, Error, HandleNumber, OptionalDataKey, if_there, is_loose_kind}
+use Rattle.pagable_world.specs.{Calls.{KeyCall, NodeCall}, Kinds.{held, is_loose}, Refusals.Owns}
+use Rattle.pagable_world.specs.World.{Core, IsLawful, Seen, Values, Written, key_at, row_at}
+use Rattle.pagable_world.specs.declared.{calls.{Call.Call, Reply.Reply}, events.Event.Event, handles.{HandleRow.HandleRow, Owner.Owner}}
+use Rattle.std.proofs.Common.{Err, IfOk, List, Ok, Option, Result, Some, [], ap, append-nil, arith, if◌then◌else◌, inl, inr, map, refl, subst, suc, sym, true, zero, ℕ, ◌++◌, ◌==◌, ◌∙◌, ◌∷◌, ◌≡◌, ◌<◌, ◌≤◌}
+use Rattle.std.proofs.lemmas.{Bool.{Decides.nat_tests, cases_Bool}, List.map-append}
+
+-- what is so of each of both lists is so of each of them together
+both-all : {X : Type 0} {P : X → Type 0} (xs ys : List X) → ((x : X) → Among xs x → P x) → ((x : X) → Among ys x → P x) → (x : X) → Among (xs ++ ys) x → P x
+both-all [] ys f g x among = g x among
+both-all (y ∷ xs) ys f g x (zero, is) = f x (zero, is)
+both-all (y ∷ xs) ys f g x (suc i, is) = both-all xs ys (λ z (j, at). f z (suc j, at)) g x (i, is)
+
+alone : {X : Type 0} (P : X → Type 0) (y : X) → P y → (x : X) → Among (y ∷ []) x → P x
+alone P y p x (zero, is) = subst P (same_some _ _ is) p
+alone P y p x (suc i, is) = absurd cc
+
+looked-keys : (refs : List KeyRef) → Looked (λ kind key. Ok (key_ref kind key)) kind_of_ref (map key_of_ref refs) refs (Ok [])
+looked-keys [] = all-looked []
+looked-keys (r ∷ refs) = one-looked r.key (map key_of_ref refs) r refs (Ok []) refl (looked-keys refs)
+
+-- what is stored as a form reads as its meaning
+stored-reads : (store : ℕ → Option Blob) (types : Types) (type key : ℕ) (m : Meaning KeyRef) → IsReadableType types type → StoredAs store types type key m → ReadsAs store types type key m
+unfolding read
+stored-reads store types type key m can h =
+    let whole = rw append-nil at (form-again [] h.form (looked-keys h.refs) (can h.shape h.is)) in
+    record { blob = blob_of h.bytes (map key_of_ref h.refs); stored = h.stored; rest = rest [] []; reads = rw h.is whole }
+
+-- ---- the keys that references have now
+
+abbrev number_of : OptionalDataKey → ℕ
+number_of (OptionalDataKey.Some key) = key
+number_of OptionalDataKey.None = 0
+
+abbrev key_now : FoundKeys → Core → ArcRef → ℕ
+key_now found w r = if is_loose_kind r.kind.0 then number_of (key_at w r.node.0) else if_there (λ (k : FoundKey). k.key) 0 (found r.node.0)
+
+abbrev keyed : FoundKeys → Core → ArcRef → KeyRef
+keyed found w r = key_ref r.kind.0 (key_now found w r)
+
+-- the cell of the reference has this key
+cell-key : {w : Core} (r : ArcRef) {key : ℕ} → NodeCall w r.handle (Ok r.node) → KeyCall w r.handle (Ok (OptionalDataKey.Some key)) → key_at w r.node.0 ≡ OptionalDataKey.Some key
+cell-key {w} r at keys =
+    let rows : keys.found.0 ≡ at.found.0 = same_some _ _ (sym keys.found.1 ∙ at.found.1) in
+    ap (λ n. key_at w n.0) (at.found.2 ∙ ap (λ (q : HandleRow). q.node) (sym rows)) ∙ sym keys.found.2
+
+has-now : {found : FoundKeys} {w : Core} {r : ArcRef} {key : ℕ} → HasKey found w r key → key_now found w r ≡ key
+has-now {r = r} (cell-has-key key loose at keys) = rw (loose) (ap number_of (cell-key r at keys))
+has-now (key-was-found k eager is) = rw (eager) (ap (λ o. if_there (λ (k : FoundKey). k.key) 0 o) is)
+
+keys-now : {found : FoundKeys} {w : Core} {rs : List ArcRef} {keys : List ℕ} → AllHave found w rs keys → keys ≡ map key_of_ref (map (keyed found w) rs)
+keys-now none-are-asked = refl
+keys-now {found} {w} (one-more-has rs keys r key all one) =
+    ap (λ ks. ks ++ key ∷ []) (keys-now all) ∙ ap (λ k. map key_of_ref (map (keyed found w) rs) ++ k ∷ []) (sym (has-now one))
+    ∙ sym (map-append key_of_ref (map (keyed found w) rs) (keyed found w r ∷ [])) ∙ ap (λ ks. map key_of_ref ks) (sym (map-append (keyed found w) rs (r ∷ [])))
+
+each-has : {found : FoundKeys} {w : Core} {rs : List ArcRef} {keys : List ℕ} → AllHave found w rs keys → (r : ArcRef) → Among rs r → (key : ℕ) × HasKey found w r key
+each-has none-are-asked r among = absurd cc
+each-has {found} {w} (one-more-has rs keys q key all one) r (i, is) = elim (pushed rs q i r is) [
+  | inl old ↦ each-has all r (i, old)
+  | inr new ↦ (key, subst (λ x. HasKey found w x key) new.1 one)
+]
+
+module _ {stored : ℕ → Option Blob} {types : Types} {trees : ℕ → Tree} (f : ArcRef → ℕ) (rs : List ArcRef)
+    (reads : (r : ArcRef) → Among rs r → ((trees r.node.0).type ≡ type_of r.kind.0) × ReadsTree stored types (f r) (trees r.node.0)) where
+  follows-keys : {x : Meaning ArcRef} {a : Meaning ⊥} → FollowsTo trees rs x a → IsFollowed (ReadsAs stored types) (rename (λ (r : ArcRef). key_ref r.kind.0 (f r)) x) a
+  unfolding rename
+  follows-keys (pair-leads x y a b h k) = pair-followed _ _ a b (follows-keys h) (follows-keys k)
+  follows-keys (variant-leads i x a h) = variant-followed i _ a (follows-keys h)
+  follows-keys (reference-leads r a among is) =
+      let p = reads r among in
+      let under : ReadsAs stored types (type_of r.kind.0) (f r) p.1.own = subst (λ t. ReadsAs stored types t (f r) p.1.own) p.0 p.1.reads in
+      reference-followed (key_ref r.kind.0 (f r)) p.1.own a under (subst (λ m. IsFollowed (ReadsAs stored types) p.1.own m) is p.1.follows)
+  follows-keys (followed-leads kind x a none h) = absurd none
+  follows-keys h = search (number-followed, integer-followed, text-followed, pattern-followed, none-followed)
+
+-- a form of a tree, stored over keys that read as what its references lead to, reads as the tree
+blob-reads : {types : Types} {g : Ground} {n key : ℕ} {written : Written} {keys : List ℕ} {found : FoundKeys} {w : Core} → WroteTree types g n written
+    → AllHave found w written.references keys
+    → ((r : ArcRef) → Among written.references r → ((g.trees r.node.0).type ≡ type_of r.kind.0) × ReadsTree g.stored types (key_now found w r) (g.trees r.node.0))
+    → g.stored key ≡ Some (blob_of written.bytes keys) → ReadsTree g.stored types key (g.trees n)
+blob-reads {types} {g} {n} {key} {written} {keys} {found} {w} wrote_it have reads is_stored =
+    let form = keeps_forms (keyed found w) kind_of_arc kind_of_ref types.parts deepest wrote_it.shape wrote_it.own written.bytes written.references (λ r. refl) wrote_it.form in
+    let under : StoredAs g.stored types (g.trees n).type key (rename (keyed found w) wrote_it.own) = record {
+      shape = wrote_it.shape;
+      is = wrote_it.is;
+      bytes = written.bytes;
+      refs = map (keyed found w) written.references;
+      form = form;
+      stored = is_stored ∙ ap (λ ks. Some (blob_of written.bytes ks)) (keys-now have);
+    } in
+    record {
+      own = rename (keyed found w) wrote_it.own;
+      reads = stored-reads g.stored types (g.trees n).type key _ wrote_it.can under;
+      follows = follows-keys (key_now found w) written.references reads wrote_it.follows;
+    }
+
+-- the node that was entered first
+abbrev first_of : List OpenNode → OpenNode → OpenNode
+first_of [] o = o
+first_of (x ∷ xs) o = x
+
+first-down : (path : List OpenNode) (o child : OpenNode) → first_of (path ++ o ∷ []) child ≡ first_of path o
+first-down [] o child = refl
+first-down (x ∷ xs) o child = refl
+
+first-same : (path : List OpenNode) (o : OpenNode) (next : ℕ) → (first_of path (record o { keyed = next })).reference ≡ (first_of path o).reference
+first-same [] o next = refl
+first-same (x ∷ xs) o next = refl
+
+ok-map : {X Y : Type 0} {P Q : X → Type 0} (r : Result X Y) → ((x : X) → P x → Q x) → IfOk r P → IfOk r Q
+ok-map (Ok x) f p = f x p
+ok-map (Err y) f p = tt
+
+self-equal : (n : ℕ) → (n == n) ≡ true
+self-equal n = grind (arith, nat_tests)
+
+abbrev seen_in : {N : Type 0} → Values N → Seen N Blob Written
+seen_in v = record { values = v; blob_of = λ b. b; written_of = λ w. w }
+
+module _ {N E : Type 0} (v : Values N) (lawful : IsLawful v) where
+  -- ---- what calls leave
+
+  record Went (s : PagerState N E) (trees : ℕ → Tree) (s' : PagerState N E) : Type 0 where
+    pub trees' : ℕ → Tree
+    pub after : After v s trees s' trees'
+    pub now : Stands v s' trees'
+    pub kept : KeepsStored s.core.stored s'.core.stored
+
+  abbrev went-same : {s : PagerState N E} {trees : ℕ → Tree} → Stands v s trees → Went s trees s
+  went-same {s} {trees} at = record {
+    trees' = trees;
+    after = record { same = λ n within. refl; nodes = omega arith; stands = at.stands; handles = omega arith; rows = rows-stay s.core.last.handle s.core.rows };
+    now = at;
+    kept = λ q b is. is;
+  }
+
+  abbrev went-then : {s mid s' : PagerState N E} {trees : ℕ → Tree} (a : Went s trees mid) → Went mid a.trees' s' → Went s trees s'
+  went-then a b = record { trees' = b.trees'; after = after-then a.after b.after; now = b.now; kept = λ q x is. b.kept q x (a.kept q x is) }
+
+  by-call : {does : Core → Type 0} {s s' : PagerState N E} {trees : ℕ → Tree} (call : Call N Blob) (reply : Reply N Blob) → KeepsOpen {N = N} {B = Blob} {W = Written} (Event.Call call)
+      → Called v does s s' → (does s'.core → Does (seen_in v) s.core Owner.Caller call reply s'.core) → AsksWell v s trees call reply → Stands v s trees → Went s trees s'
+  by-call {s = s} {s'} call reply stays_open c is asks at =
+      let one : IsCall (seen_in v) s call reply s' = record { step = record { does = is c.step }; moves = no-value (seen_in v) lawful call c.moves; whole = c.whole } in
+      let r = (call-stays (seen_in v) lawful call reply at one stays_open asks (still-settled (seen_in v) lawful at c)).0 in
+      let g = calls-go (seen_in v) s.core Owner.Caller caller-free s'.core call reply stays_open (is c.step) in
+      record { trees' = r.trees'; after = r.after; now = r.now; kept = g.does.goes.stored }
+
+  lets-go : {s s' : PagerState N E} {trees : ℕ → Tree} {c k : HandleNumber} → LetsGo v c k s s' → Stands v s trees → Went s trees s'
+  lets-go {c = c} {k} (both-go told freed mid s' first last) at =
+      let a = by-call (Call.Release k) (Reply.Done told) tt first (λ d. d) tt at in
+      went-then a (by-call (Call.Release c) (Reply.Done freed) tt last (λ d. d) tt a.now)
+  lets-go {k = k} (one-goes told s' same first) at = by-call (Call.Release k) (Reply.Done told) tt first (λ d. d) tt at
+
+  pins-go : {s s' : PagerState N E} {trees : ℕ → Tree} {c : HandleNumber} {r : Result HandleNumber Error} → PinsLoosely v c s r s' → Stands v s trees → Went s trees s'
+  pins-go {c = c} (cell-is-pinned k s' call) at = by-call (Call.Pin c) (Reply.Pin _) tt call (λ d. d) tt at
+  pins-go {c = c} (cell-is-away key s' call) at = by-call (Call.Pin c) (Reply.Pin _) tt call (λ d. d) tt at
+  pins-go {c = c} (cell-is-not-pinned e s' call) at = by-call (Call.Pin c) (Reply.Pin _) tt call (λ d. d) tt at
+
+  takes-go : {s s' : PagerState N E} {trees : ℕ → Tree} {r : ArcRef} {c k : HandleNumber} → Takes v r s c k s' → Stands v s trees → Went s trees s'
+  takes-go {r = r} (cell-is-taken c k told mid low s' loose clones loosens pins) at =
+      let a = by-call (Call.Clone r.handle) (Reply.Handle (Ok c)) tt clones (λ d. d) tt at in
+      let b = by-call (Call.IntoPagable c) (Reply.Handle told) tt loosens (λ d. d) tt a.now in
+      went-then a (went-then b (pins-go pins b.now))
+  takes-go {r = r} (node-is-taken c s' loose clones) at = by-call (Call.Clone r.handle) (Reply.Handle (Ok c)) tt clones (λ d. d) tt at
+
+  fails-to-take : {s s' : PagerState N E} {trees : ℕ → Tree} {r : ArcRef} {e : Error} → TakeFails v r s e s' → Stands v s trees → Went s trees s'
+  fails-to-take {r = r} (clone-is-refused e s' clones) at = by-call (Call.Clone r.handle) (Reply.Handle (Err e)) tt clones (λ d. d) tt at
+  fails-to-take {r = r} (pin-is-refused c told freed e mid low late s' clones loosens pins releases) at =
+      let a = by-call (Call.Clone r.handle) (Reply.Handle (Ok c)) tt clones (λ d. d) tt at in
+      let b = by-call (Call.IntoPagable c) (Reply.Handle told) tt loosens (λ d. d) tt a.now in
+      let d = pins-go pins b.now in
+      went-then a (went-then b (went-then d (by-call (Call.Release c) (Reply.Done freed) tt releases (λ x. x) tt d.now)))
+
+  fails-to-enter : {s s' : PagerState N E} {trees : ℕ → Tree} {r : ArcRef} {e : Error} → EnterFails v r s e s' → Stands v s trees → Went s trees s'
+  fails-to-enter (isnt-taken e s' fails) at = fails-to-take fails at
+  fails-to-enter (isnt-written e c k mid s' takes lets) at = let a = takes-go takes at in went-then a (lets-go lets a.now)
+
+  goes-nowhere : {s s' : PagerState N E} {trees : ℕ → Tree} {r : ArcRef} {e : Error} → GoesNowhere v r s e s' → Stands v s trees → Went s trees s'
+  goes-nowhere (way-is-refused e) at = went-same at
+  goes-nowhere (node-is-refused e s' fails) at = fails-to-enter fails at
+
+  -- ---- what was written and found fits the trees
+
+  abbrev ground : PagerState N E → (ℕ → Tree) → Ground
+  ground s trees = record { stored = s.core.stored; last = s.core.last.node; trees = trees }
+
+  -- the key reads as the node's tree
+  record KeyReads (s : PagerState N E) (trees : ℕ → Tree) (n key : ℕ) : Type 0 where
+    pub given : n ≤ s.core.last.node
+    pub reads : ReadsTree s.core.stored v.types key (trees n)
+
+  -- what was written of the node is a form of its tree, and the handle by which its key is set is the node's
+  record OpenFits (s : PagerState N E) (trees : ℕ → Tree) (o : OpenNode) : Type 0 where
+    pub given : o.reference.node.0 ≤ s.core.last.node
+    pub wrote : WroteTree v.types (ground s trees) o.reference.node.0 (written_of o.written)
+    pub typed : (r : ArcRef) → Among (written_of o.written).references r → (trees r.node.0).type ≡ type_of r.kind.0
+    pub small : o.through.0 ≤ s.core.last.handle
+    pub through : (row : HandleRow) → row_at s.core o.through ≡ Some row → row.node ≡ o.reference.node
+
+  abbrev FoundFits : PagerState N E → (ℕ → Tree) → FoundKeys → Type 0
+  FoundFits s trees found = (n : ℕ) (k : FoundKey) → found n ≡ Some k → KeyReads s trees n k.key
+
+  key-on : {s s' : PagerState N E} {trees : ℕ → Tree} (a : Went s trees s') {n key : ℕ} → KeyReads s trees n key → KeyReads s' a.trees' n key
+  key-on {s' = s'} a {n} {key} k = record {
+    given = let more = a.after.nodes in let g = k.given in omega (arith, more, g);
+    reads = subst (λ t. ReadsTree s'.core.stored v.types key t) (sym (a.after.same n k.given)) (tree-stays a.kept k.reads);
+  }
+
+  wrote-on : {s s' : PagerState N E} {trees : ℕ → Tree} (a : Went s trees s') {n : ℕ} {written : Written} → n ≤ s.core.last.node → WroteTree v.types (ground s trees) n written
+      → WroteTree v.types (ground s' a.trees') n written
+  wrote-on {s} {s'} {trees} a {n} {written} given w =
+      let same = a.after.same n given in
+      let inside : (r : ArcRef) → Among written.references r → r.node.0 ≤ s'.core.last.node = λ r among. let le = w.given r among in let more = a.after.nodes in omega (arith, le, more) in
+      let follows : FollowsTo a.trees' written.references w.own (a.trees' n).meaning =
+      leads-on (subst (λ (t : Tree). FollowsTo trees written.references w.own t.meaning) (sym same) w.follows) (λ r own among. (among, a.after.same r.node.0 (w.given r among))) in
+      let can = subst (λ (t : Tree). IsReadableType v.types t.type) (sym same) w.can in
+      record { shape = w.shape; own = w.own; is = ap (λ (t : Tree). v.types.nodes t.type) same ∙ w.is; can = can; form = w.form; follows = follows; given = inside; once = w.once }
+
+  open-on : {s s' : PagerState N E} {trees : ℕ → Tree} (a : Went s trees s') {o : OpenNode} → OpenFits s trees o → OpenFits s' a.trees' o
+  open-on {s} {s'} {trees} a {o} f = record {
+    given = let more = a.after.nodes in let g = f.given in omega (arith, more, g);
+    wrote = wrote-on a f.given f.wrote;
+    typed = λ r among. ap (λ (t : Tree). t.type) (a.after.same r.node.0 (f.wrote.given r among)) ∙ f.typed r among;
+    small = let more = a.after.handles in let g = f.small in omega (arith, more, g);
+    through = λ row live. let was = a.after.rows o.through.0 row live f.small in sym was.at ∙ f.through was.was was.live;
+  }
+
+  module _ (readable : (t : ℕ) → IsReadableType v.types t) where
+    enters-fit : {s s' : PagerState N E} {trees : ℕ → Tree} {r : ArcRef} {o : OpenNode} → Enters v r s o s' → Stands v s trees
+        → (a : Went s trees s') × OpenFits s' a.trees' o
+    enters-fit {s} {s'} {trees} {r} {o} e at =
+        let a = takes-go e.takes at in
+        let w = e.writes in
+        let at_node = w.pin_at.found in
+        let shows = w.writes.shown.found in
+        let x = w.writes.x in
+        let rows : at_node.0 ≡ shows.0 = same_some _ _ (sym at_node.1 ∙ shows.1) in
+        let nodes : shows.0.node ≡ r.node = ap (λ (row : HandleRow). row.node) (sym rows) ∙ sym at_node.2 in
+        let has : s'.values r.node.0 ≡ Some x = ap (λ n. s'.values n.0) (sym nodes) ∙ shows.2.1 in
+        let well = a.now.well in
+        let typed = well.typed r.node.0 x has in
+        let live = given-of well.whole.handles r.node.0 typed in
+        let o_is = e.of in
+        let through = w.at.found in
+        let written : WroteTree v.types (ground s' a.trees') r.node.0 (written_of o.written) =
+        wrote a.now.stands well a.now.settled lawful r.node.0 (written_of o.written) (readable _) (record { x = x; held = has; form = w.writes.form.form; listed = w.writes.form.listed }) in (
+          a,
+          record {
+            given = subst (λ (q : ArcRef). q.node.0 ≤ s'.core.last.node) (sym o_is) live.1;
+            wrote = subst (λ (q : ArcRef). WroteTree v.types (ground s' a.trees') q.node.0 (written_of o.written)) (sym o_is) written;
+            typed = λ q among.
+                let is = well.references r.node.0 x q has (subst (λ rs. Among rs q) w.writes.form.listed among) in
+                same_some _ _ (sym (a.now.stands.typed q.node.0 (given-of well.whole.handles q.node.0 is.typed).0) ∙ is.typed);
+            small = subst (λ n. n ≤ s'.core.last.handle) (found-number o.through.0 s'.core.rows through.0 through.1)
+                (well.whole.handles.numbered through.0 (among-found o.through.0 s'.core.rows through.0 through.1)).1;
+            through = λ row is. ap (λ (q : HandleRow). q.node) (same_some _ _ (sym is ∙ through.1)) ∙ sym through.2 ∙ ap (λ (q : ArcRef). q.node) (sym o_is);
+          },
+        )
+
+    key-fits : {s : PagerState N E} {n : ℕ} {t : Tree} → NodeStands v s n t → (key : ℕ) → key_at s.core n ≡ OptionalDataKey.Some key → ReadsTree s.core.stored v.types key t
+    key-fits (here n x own t there typed means stands fits) key set = fits key set
+    key-fits (away n key2 t none keyed2 fits) key set = fits key set
+
+    -- ---- the blob over the keys that are there reads as the node's tree
+
+    has-reads : {s : PagerState N E} {trees : ℕ → Tree} {found : FoundKeys} {r : ArcRef} {key : ℕ} → Stands v s trees → FoundFits s trees found → HasKey found s.core r key
+        → KeyReads s trees r.node.0 key
+    has-reads {s} {trees} {r = r} {key} at fits (cell-has-key key2 loose node keys) =
+        let live = subst (λ n. 0 < held n.0 s.core.rows) (sym node.found.2) (row-held s.core r.handle node.found.0 node.found.1) in
+        record {
+          given = (given-of at.well.whole.handles r.node.0 (at.stands.typed r.node.0 live)).1;
+          reads = key-fits (at.stands.stands r.node.0 live) key2 (cell-key r node keys);
+        }
+    has-reads at fits (key-was-found k eager is) = fits _ k is
+
+    found-on : {s s' : PagerState N E} {trees : ℕ → Tree} (a : Went s trees s') {found : FoundKeys} → FoundFits s trees found → FoundFits s' a.trees' found
+    found-on a fits = λ n k is. key-on a (fits n k is)
+
+    -- the blob is stored
+    record Stored (s : PagerState N E) (trees : ℕ → Tree) (o : OpenNode) (key : ℕ) (mid : PagerState N E) : Type 0 where
+      pub went : Went s trees mid
+      pub fits : OpenFits mid went.trees' o
+      pub reads : KeyReads mid went.trees' o.reference.node.0 key
+
+    stores-fit : {s mid : PagerState N E} {trees : ℕ → Tree} {o : OpenNode} {found : FoundKeys} {key : ℕ} {keys : List ℕ} → AllHave found s.core (written_of o.written).references keys
+        → StoresBlob v s (blob_of (written_of o.written).bytes keys) (Ok key) mid → Stands v s trees → OpenFits s trees o → FoundFits s trees found → Stored s trees o key mid
+    stores-fit {s} {mid} {trees} {o} {found} {key} {keys} have stores at fits founds =
+        let blob = blob_of (written_of o.written).bytes keys in
+        let a = by-call (Call.Store blob) (Reply.Stored (Ok key)) tt stores (λ d. d) tt at in
+        let f = open-on a fits in
+        let is_stored : mid.core.stored key ≡ Some blob = stores.step.stores.1.adds.each key ∙ ap (λ b. if b then Some blob else s.core.stored key) (self-equal key) in
+        let each : (r : ArcRef) → Among (written_of o.written).references r
+        → ((a.trees' r.node.0).type ≡ type_of r.kind.0) × ReadsTree mid.core.stored v.types (key_now found s.core r) (a.trees' r.node.0) = λ r among.
+        let h = each-has have r among in
+        (f.typed r among, subst (λ q. ReadsTree mid.core.stored v.types q (a.trees' r.node.0)) (sym (has-now h.1)) (key-on a (has-reads at founds h.1)).reads) in
+        record { went = a; fits = f; reads = record { given = f.given; reads = blob-reads f.wrote have each is_stored } }
+
+    -- its key is set, or found from now on
+    record Set (s : PagerState N E) (trees : ℕ → Tree) (found' : FoundKeys) (s' : PagerState N E) : Type 0 where
+      pub went : Went s trees s'
+      pub found : FoundFits s' went.trees' found'
+
+    sets-fit : {s s' : PagerState N E} {trees : ℕ → Tree} {o : OpenNode} {found found' : FoundKeys} {key : ℕ} → SetsFor v found o key s found' s' → Stands v s trees → OpenFits s trees o
+        → FoundFits s trees found → KeyReads s trees o.reference.node.0 key → Set s trees found' s'
+    sets-fit {s} {trees = trees} {o} {key = key} (cell-gets-key found' s' loose sets same) at f founds k =
+        let b = by-call (Call.SetDataKey o.through key) (Reply.Done (Ok tt)) tt sets (λ d. d)
+        (λ row owns. subst (λ n. ReadsTree s.core.stored v.types key (trees n.0)) (sym (f.through row owns.live)) k.reads) at in
+        record { went = b; found = λ n x is. key-on b (founds n x (sym (same n) ∙ is)) }
+    sets-fit {s} {trees = trees} {o} {key = key} (key-is-found x found' eager is there others) at f founds k = record {
+      went = went-same at;
+      found = λ n y was. elim (cases_Bool (n == o.reference.node.0)) [
+        | inl e ↦
+            let same = same-number n o.reference.node.0 e in
+            let y_is : y ≡ x = same_some _ _ (sym was ∙ ap found' same ∙ there) in
+            let keys : key ≡ y.key = sym is ∙ ap (λ (z : FoundKey). z.key) (sym y_is) in
+            subst (λ q. KeyReads s trees q y.key) (sym same) (subst (λ q. KeyReads s trees o.reference.node.0 q) keys k)
+        | inr e ↦ founds n y (sym (others n (λ same. absurd (grind (arith, nat_tests)))) ∙ was)
+      ];
+    }
+
+    record Left (s : PagerState N E) (trees : ℕ → Tree) (o : OpenNode) (key : ℕ) (found' : FoundKeys) (s' : PagerState N E) : Type 0 where
+      pub went : Went s trees s'
+      pub found : FoundFits s' went.trees' found'
+      pub reads : KeyReads s' went.trees' o.reference.node.0 key
+
+    leaves-fit : {s s' : PagerState N E} {trees : ℕ → Tree} {o : OpenNode} {found found' : FoundKeys} {key : ℕ} → Leaves v found s o key found' s' → Stands v s trees → OpenFits s trees o
+        → FoundFits s trees found → Left s trees o key found' s'
+    leaves-fit l at fits founds =
+        let a = stores-fit l.have l.stores at fits founds in
+        let b = sets-fit l.sets a.went.now a.fits (found-on a.went founds) a.reads in
+        let d = lets-go l.lets b.went.now in
+        record { went = went-then a.went (went-then b.went d); found = found-on d b.found; reads = key-on d (key-on b.went a.reads) }
+
+    leave-fails : {s s' : PagerState N E} {trees : ℕ → Tree} {o : OpenNode} {found : FoundKeys} {e : Error} → LeaveFails v found s o e s' → Stands v s trees → OpenFits s trees o
+        → FoundFits s trees found → Went s trees s'
+    leave-fails (nothing-is-stored e) at fits founds = went-same at
+    leave-fails (blob-is-refused e keys s' have stores) at fits founds = by-call (Call.Store _) (Reply.Stored (Err e)) tt stores (λ d. d) tt at
+    leave-fails {o = o} (key-is-refused e key keys mid s' have stores unset) at fits founds =
+        let a = stores-fit have stores at fits founds in
+        let asks = λ (row : HandleRow) (owns : Owns mid.core Owner.Caller o.through is_loose row).
+        subst (λ n. ReadsTree mid.core.stored v.types key (a.went.trees' n.0)) (sym (a.fits.through row owns.live)) a.reads.reads in
+        went-then a.went (by-call (Call.SetDataKey o.through key) (Reply.Done (Err e)) tt unset.refused (λ d. d) asks a.went.now)
+
+    -- ---- turn by turn
+
+    -- what stands open, what was found and the pager fit the trees, and the walk began at this reference
+    record Fits (a : Stage N E) (trees : ℕ → Tree) (r : ArcRef) : Type 0 where
+      pub at : Stands v a.pager trees
+      pub node : OpenFits a.pager trees a.node
+      pub path : (o : OpenNode) → Among a.path o → OpenFits a.pager trees o
+      pub found : FoundFits a.pager trees a.found
+      pub first : (first_of a.path a.node).reference ≡ r
+
+    looks-further : {s : PagerState N E} {trees : ℕ → Tree} {o : OpenNode} (next : ℕ) → OpenFits s trees o → OpenFits s trees (record o { keyed = next })
+    looks-further next f = record { given = f.given; wrote = f.wrote; typed = f.typed; small = f.small; through = f.through }
+
+    turn-fits : {a b : Stage N E} {trees : ℕ → Tree} {r : ArcRef} → Turn v a b → Fits a trees r → (w : Went a.pager trees b.pager) × Fits b w.trees' r
+    turn-fits {a} {b} {trees} {r} (has-key b2 next is) f =
+        subst (λ c. (w : Went a.pager trees c.pager) × Fits c w.trees' r) (sym is)
+        (went-same f.at, record { at = f.at; node = looks-further next f.node; path = f.path; found = f.found; first = first-same a.path a.node next ∙ f.first })
+    turn-fits {a} {b} {trees} {r} (goes-down b2 q among none waits same enters) f =
+        let (w, node) = enters-fit enters f.at in (
+          w,
+          record {
+            at = w.now;
+            node = node;
+            path = subst (λ p. (o : OpenNode) → Among p o → OpenFits b.pager w.trees' o) (sym waits)
+                (both-all a.path (a.node ∷ []) (λ o in_it. open-on w (f.path o in_it)) (alone (OpenFits b.pager w.trees') a.node (open-on w f.node)));
+            found = subst (FoundFits b.pager w.trees') (sym same) (found-on w f.found);
+            first = ap (λ p. (first_of p b.node).reference) waits ∙ ap (λ (o : OpenNode). o.reference) (first-down a.path a.node b.node) ∙ f.first;
+          },
+        )
+    turn-fits {a} {b} {trees} {r} (goes-up b2 key waits leaves) f =
+        let l = leaves-fit leaves f.at f.node f.found in
+        let path = subst (λ p. (o : OpenNode) → Among p o → OpenFits a.pager trees o) waits f.path in (
+          l.went,
+          record {
+            at = l.went.now;
+            node = open-on l.went (path b.node (among-right b.path (b.node ∷ []) 0 b.node refl));
+            path = λ o among. open-on l.went (path o (among-left b.path (b.node ∷ []) among.0 o among.1));
+            found = l.found;
+            first = sym (ap (λ (o : OpenNode). o.reference) (first-down b.path b.node a.node)) ∙ ap (λ p. (first_of p a.node).reference) (sym waits) ∙ f.first;
+          },
+        )
+
+    turns-fit : {a b : Stage N E} {trees : ℕ → Tree} {r : ArcRef} → Turns v a b → Fits a trees r → (w : Went a.pager trees b.pager) × Fits b w.trees' r
+    turns-fit (no-turn a) f = (went-same f.at, f)
+    turns-fit (one-more-turn a b c more last) f =
+        let (w, g) = turns-fit more f in
+        let (u, h) = turn-fits last g in (went-then w u, h)
+
+    turn-fails : {a : Stage N E} {s' : PagerState N E} {trees : ℕ → Tree} {r : ArcRef} {e : Error} → TurnFails v a e s' → Fits a trees r → Went a.pager trees s'
+    turn-fails (nothing-is-done e) f = went-same f.at
+    turn-fails (isnt-entered e q s' among none fails) f = goes-nowhere fails f.at
+    turn-fails (isnt-left e s' fails) f = leave-fails fails f.at f.node f.found
+
+    gives-up : {path : List OpenNode} {s s' : PagerState N E} {trees : ℕ → Tree} → GivesUp v path s s' → Stands v s trees → Went s trees s'
+    gives-up (none-is-open s) at = went-same at
+    gives-up (one-goes-first path o s mid s' lets more) at = let a = lets-go lets at in went-then a (gives-up more a.now)
+
+    begun : {s : PagerState N E} {trees : ℕ → Tree} {first : OpenNode} → Stands v s trees → OpenFits s trees first → Fits (stage [] first nothing_found s) trees first.reference
+    begun at fits = record { at = at; node = fits; path = λ o among. absurd cc; found = λ n k is. absurd cc; first = refl }
+
+    walks-fit : {s s' : PagerState N E} {trees : ℕ → Tree} {first : OpenNode} {answer : Result ℕ Error} → Walks v first s answer s' → Stands v s trees → OpenFits s trees first
+        → (w : Went s trees s') × IfOk answer (λ key. KeyReads s' w.trees' first.reference.node.0 key)
+    walks-fit {first = first} (all-is-stored a b key turns none leaves) at fits =
+        let (w, g) = turns-fit turns (begun at fits) in
+        let l = leaves-fit leaves g.at g.node g.found in
+        let is : a.node.reference ≡ first.reference = sym (ap (λ p. (first_of p a.node).reference) none) ∙ g.first in
+        (went-then w l.went, subst (λ (q : ArcRef). KeyReads b.pager l.went.trees' q.node.0 key) is l.reads)
+    walks-fit (walk-is-refused a e mid low s' turns fails lets gives) at fits =
+        let (w, g) = turns-fit turns (begun at fits) in
+        let t = turn-fails fails g in
+        let u = lets-go lets t.now in
+        (went-then w (went-then t (went-then u (gives-up gives u.now))), tt)
+
+    keyless-fits : {s s' : PagerState N E} {trees : ℕ → Tree} {h : HandleNumber} {r : Result ℕ Error} (row : HandleRow) → PagesOutKeyless v s h r s' → Stands v s trees
+        → row_at s.core h ≡ Some row
+        → (w : Went s trees s') × IfOk r (λ key. ReadsTree s'.core.stored v.types key (w.trees' row.node.0))
+    keyless-fits row (nothing-is-begun e) at live = (went-same at, tt)
+    keyless-fits row (root-is-refused q e s' root fails) at live = (fails-to-enter fails at, tt)
+    keyless-fits {s} {s'} row (root-is-walked q first answer mid s2 root enters walks) at live =
+        let (w, fits) = enters-fit enters at in
+        let (u, reads) = walks-fit walks w.now fits in
+        let rows : root.at.found.0 ≡ row = same_some _ _ (sym root.at.found.1 ∙ live) in
+        let nodes : first.reference.node ≡ row.node = ap (λ (x : ArcRef). x.node) enters.of ∙ root.at.found.2 ∙ ap (λ (x : HandleRow). x.node) rows in
+        (went-then w u, ok-map answer (λ key k. subst (λ n. ReadsTree s'.core.stored v.types key (u.trees' n.0)) nodes k.reads) reads)
+
+    pages-fit : {s s' : PagerState N E} {trees : ℕ → Tree} {h : HandleNumber} {r : Result ℕ Error} (row : HandleRow) → PagesOutChanged v s h r s' → Stands v s trees
+        → row_at s.core h ≡ Some row
+        → (w : Went s trees s') × IfOk r (λ key. ReadsTree s'.core.stored v.types key (w.trees' row.node.0))
+    pages-fit row (no-handle e keys) at live = (went-same at, tt)
+    pages-fit {s} {h = h} row (root-has-key key keys) at live =
+        let rows : keys.found.0 ≡ row = same_some _ _ (sym keys.found.1 ∙ live) in
+        let set : key_at s.core row.node.0 ≡ OptionalDataKey.Some key = ap (λ (q : HandleRow). key_at s.core q.node.0) (sym rows) ∙ sym keys.found.2 in
+        (went-same at, key-fits (at.stands.stands row.node.0 (row-held s.core h row live)) key set)
+    pages-fit row (root-has-none answer s' keys pages) at live = keyless-fits row pages at live
+
+pub changed_law : {N : Type 0} (E : Type 0) (v : Values N) → ChangedLaw E v
+changed_law E v s s' h r run well lawful = record {
+  reads = λ nobody settled readable row trees stands live.
+      let (w, reads) = pages-fit v lawful readable row run (record { well = well; nobody = nobody; settled = settled; stands = stands }) live in
+      (w.trees', w.after.same, w.after.stands, reads);
+}

@@ -1,0 +1,2 @@
+mod Changing
+mod Kept

@@ -1,0 +1,14 @@
+use Rattle.{pagable_changes.specs.Changes.AllHave, pagable_pager.specs.View.{core_in, telling}, pagable_tables.specs.Rows.row_by}
+use Rattle.std.proofs.Common.{length, take, ◌-◌, ◌≤◌}
+use Rattle.pagable_changes.proofs.keys.collect_keys.Given as goal
+
+-- the first references have these keys
+abbrev pub invariant-loop-at : goal.invariant-loop-at
+invariant-loop-at g l = record {
+  within : l.at ≤ length l.references.items;
+  so : AllHave (λ n. row_by l.found n) (core_in (telling g.S.PagableStorage.stored g.S.PagableStorage.is_closed g.S.PagableStorage.failed) l.pager)
+      (take l.at l.references.items) l.keys.items;
+}
+
+abbrev pub decreases-loop-at : goal.decreases-loop-at
+decreases-loop-at g l = length l.references.items - l.at

@@ -1,0 +1,16 @@
+use Rattle.pagable_changes.specs.Changes.{Turns, stage}
+use Rattle.{pagable_loads.specs.Telling.values_at, pagable_pager.specs.View.{state_in, telling}, pagable_tables.specs.Rows.row_by, std.proofs.Common.{IsTrue, ◌≡◌}}
+use Rattle.pagable_changes.proofs.turns.make_turns.Given as goal
+
+-- turns led here, if the storage is honest here
+abbrev pub invariant-loop-left : goal.invariant-loop-left
+invariant-loop-left g l = record {
+  so : IsTrue (g.S.PagableStorage.is_honest l.pager.storage) → Turns (values_at g.E.Node.NodeSet g.E.Env g.E.Hash.KeyHash l.fn.pager.environment)
+      (stage l.fn.path.items l.fn.node (λ n. row_by l.fn.found n) (state_in (telling g.S.PagableStorage.stored g.S.PagableStorage.is_closed g.S.PagableStorage.failed) l.fn.pager))
+      (stage l.path.items l.node (λ n. row_by l.found n) (state_in (telling g.S.PagableStorage.stored g.S.PagableStorage.is_closed g.S.PagableStorage.failed) l.pager));
+  honest : IsTrue (g.S.PagableStorage.is_honest l.pager.storage) → IsTrue (g.S.PagableStorage.is_honest l.fn.pager.storage);
+  environment : l.pager.environment ≡ l.fn.pager.environment;
+}
+
+abbrev pub decreases-loop-left : goal.decreases-loop-left
+decreases-loop-left g l = l.left

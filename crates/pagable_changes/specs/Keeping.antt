@@ -1,0 +1,7 @@
+-- What calls leave of a pager.
+use Rattle.{pagable_pager.specs.View.PagerView, std.specs.Prelude.◌≡◌}
+
+-- storage and environment are the same
+pub record KeepsStorage {N S E : Type 0} (old new : PagerView N S E) : Type 0 where
+  pub storage : new.storage ≡ old.storage
+  pub environment : new.environment ≡ old.environment

@@ -1,0 +1,133 @@
+//! The pager's calls that a page-out makes, each with the state of the pager that it leaves whole.
+
+ghost use Rattle.std.specs.Prelude.{IsTrue, Ok, true, ◌≡◌};
+ghost use Rattle.pagable_changes.specs.{Changes.LetsGo, Keeping.KeepsStorage};
+ghost use Rattle.{pagable_core.specs.Data.blob_of, pagable_loads.specs.Telling.values_at, pagable_model.specs.Blob.key_of};
+ghost use Rattle.pagable_pager.specs.View.{core_in, state_in, telling};
+ghost use Rattle.pagable_world.specs.Access.{Called};
+ghost use Rattle.pagable_world.specs.Calls.{CloneCall, LoosenCall, NodeCall, PinCall, ReleaseCall, SetKeyCall, StoreCall};
+ghost use Rattle.pagable_world.specs.declared.handles.Owner.TheVariants as owners;
+
+use pagable_codec::{Env, NodeSet};
+use pagable_core::{PagableData, PagableStorage};
+use pagable_model::{DataKey, Error, HandleNumber, NodeNumber};
+use pagable_pager::Pager;
+use pagable_world::Pinning;
+use std::alloc::Global;
+
+// Tells whether the handle is live, and of this node.
+pub(crate) fn is_at<E: Env<Node: NodeSet<E>>, S: PagableStorage<E>>(
+    pager: &Pager<E, S>,
+    handle: HandleNumber,
+    node: NodeNumber,
+) -> bool
+    ensures { result ≡ true → NodeCall (core_in (telling S.stored S.is_closed S.failed) pager.now) handle (Ok node) }
+{
+    match pager.node_of(handle) {
+        Ok(found) => found.0 == node.0,
+        Err(_) => false,
+    }
+}
+
+pub(crate) fn clone<E: Env<Node: NodeSet<E>>, S: PagableStorage<E>>(
+    pager: &mut Pager<E, S>,
+    handle: HandleNumber,
+) -> Result<HandleNumber, Error>
+    ensures called { Called (values_at E.Node.NodeSet E.Env E.Hash.KeyHash pager.old.environment)
+        (λ w'. CloneCall (core_in (telling S.stored S.is_closed S.failed) pager.old) owners.Caller handle result w')
+        (state_in (telling S.stored S.is_closed S.failed) pager.old) (state_in (telling S.stored S.is_closed S.failed) pager.new) }
+    ensures keeps { KeepsStorage pager.old pager.new }
+{
+    let cloned = pager.clone(handle);
+    pager.is_whole();
+    cloned
+}
+
+pub(crate) fn loosen<E: Env<Node: NodeSet<E>>, S: PagableStorage<E>>(
+    pager: &mut Pager<E, S>,
+    handle: HandleNumber,
+) -> Result<HandleNumber, Error>
+    ensures called { Called (values_at E.Node.NodeSet E.Env E.Hash.KeyHash pager.old.environment)
+        (λ w'. LoosenCall (core_in (telling S.stored S.is_closed S.failed) pager.old) owners.Caller handle result w')
+        (state_in (telling S.stored S.is_closed S.failed) pager.old) (state_in (telling S.stored S.is_closed S.failed) pager.new) }
+    ensures keeps { KeepsStorage pager.old pager.new }
+{
+    let turned = pager.into_pagable(handle);
+    pager.is_whole();
+    turned
+}
+
+pub(crate) fn pin<E: Env<Node: NodeSet<E>>, S: PagableStorage<E>>(
+    pager: &mut Pager<E, S>,
+    handle: HandleNumber,
+) -> Result<Pinning, Error>
+    ensures called { Called (values_at E.Node.NodeSet E.Env E.Hash.KeyHash pager.old.environment)
+        (λ w'. PinCall (core_in (telling S.stored S.is_closed S.failed) pager.old) owners.Caller handle result w')
+        (state_in (telling S.stored S.is_closed S.failed) pager.old) (state_in (telling S.stored S.is_closed S.failed) pager.new) }
+    ensures keeps { KeepsStorage pager.old pager.new }
+{
+    let pinned = pager.pin(handle);
+    pager.is_whole();
+    pinned
+}
+
+pub(crate) fn release<E: Env<Node: NodeSet<E>>, S: PagableStorage<E>>(
+    pager: &mut Pager<E, S>,
+    handle: HandleNumber,
+) -> Result<(), Error>
+    ensures called { Called (values_at E.Node.NodeSet E.Env E.Hash.KeyHash pager.old.environment)
+        (λ w'. ReleaseCall (core_in (telling S.stored S.is_closed S.failed) pager.old) owners.Caller handle result w')
+        (state_in (telling S.stored S.is_closed S.failed) pager.old) (state_in (telling S.stored S.is_closed S.failed) pager.new) }
+    ensures keeps { KeepsStorage pager.old pager.new }
+{
+    let released = pager.release(handle);
+    pager.is_whole();
+    released
+}
+
+pub(crate) fn set_key<E: Env<Node: NodeSet<E>>, S: PagableStorage<E>>(
+    pager: &mut Pager<E, S>,
+    handle: HandleNumber,
+    key: DataKey,
+) -> Result<(), Error>
+    ensures called { Called (values_at E.Node.NodeSet E.Env E.Hash.KeyHash pager.old.environment)
+        (λ w'. SetKeyCall (core_in (telling S.stored S.is_closed S.failed) pager.old) owners.Caller handle key result w')
+        (state_in (telling S.stored S.is_closed S.failed) pager.old) (state_in (telling S.stored S.is_closed S.failed) pager.new) }
+    ensures keeps { KeepsStorage pager.old pager.new }
+{
+    let set = pager.set_data_key(handle, key);
+    pager.is_whole();
+    set
+}
+
+pub(crate) fn store<E: Env<Node: NodeSet<E>>, S: PagableStorage<E>>(
+    alloc: Global,
+    pager: &mut Pager<E, S>,
+    blob: PagableData,
+) -> Result<DataKey, Error>
+    ensures called { IsTrue (S.is_honest pager.new.storage) → Called (values_at E.Node.NodeSet E.Env E.Hash.KeyHash pager.old.environment)
+        (λ w'. StoreCall (key_of E.Hash.digest) (core_in (telling S.stored S.is_closed S.failed) pager.old) (blob_of blob) result w')
+        (state_in (telling S.stored S.is_closed S.failed) pager.old) (state_in (telling S.stored S.is_closed S.failed) pager.new) }
+    ensures honest { IsTrue (S.is_honest pager.new.storage) → IsTrue (S.is_honest pager.old.storage) }
+    ensures environment { pager.new.environment ≡ pager.old.environment }
+{
+    let stored = pager.store(alloc, blob);
+    pager.is_whole();
+    stored
+}
+
+// Gives up the two handles of a node that was taken, which are one where its reference isn't loose.
+pub(crate) fn let_go<E: Env<Node: NodeSet<E>>, S: PagableStorage<E>>(
+    pager: &mut Pager<E, S>,
+    through: HandleNumber,
+    pin: HandleNumber,
+)
+    ensures lets { LetsGo (values_at E.Node.NodeSet E.Env E.Hash.KeyHash pager.old.environment) through pin
+        (state_in (telling S.stored S.is_closed S.failed) pager.old) (state_in (telling S.stored S.is_closed S.failed) pager.new) }
+    ensures keeps { KeepsStorage pager.old pager.new }
+{
+    let _unpinned = release(pager, pin);
+    if pin.0 != through.0 {
+        let _released = release(pager, through);
+    }
+}

@@ -1,0 +1,146 @@
+//! The keys that references have: of a cell its own, and of any other node the one that was found in this page-out.
+
+ghost use Rattle.std.specs.Prelude.{[], IfOk, Ok, OnOk, slice_get, ◌++◌, ◌∷◌, ◌≡◌};
+ghost use Rattle.{pagable_changes.specs.Changes.{AllHave, IsFound, TakesKey}, pagable_world.specs.Calls.{KeyCall, NodeCall}};
+ghost use Rattle.{pagable_pager.specs.View.{core_in, telling}, pagable_tables.specs.Rows.row_by};
+
+use crate::calls::is_at;
+use pagable_codec::{Env, NodeSet};
+use pagable_core::PagableStorage;
+use pagable_model::{ArcRef, DataKey, Error, NodeNumber, OptionalDataKey};
+use pagable_pager::Pager;
+use pagable_tables::number_table::NumberTable;
+use std::alloc::Global;
+
+/// The greatest number of references on a path that are read together.
+pub(crate) const LONGEST_PATH: u64 = 128;
+
+/// The key that was found of a node, and the length of the longest path below it.
+#[derive(Clone, Copy)]
+pub struct FoundKey {
+    pub key: DataKey,
+    pub height: u64,
+}
+
+/// What was found of nodes that have no cell of their own, by their numbers.
+pub(crate) type FoundKeys = NumberTable<FoundKey>;
+
+// Returns what was found of a node.
+fn found_at(found: &FoundKeys, node: NodeNumber) -> Option<FoundKey>
+    ensures { result ≡ row_by found.now node.0 }
+{
+    found.get(node.0).copied()
+}
+
+// Returns the key that a loose reference's cell has. Refused with NoSuchHandle alone.
+fn cell_key<E: Env<Node: NodeSet<E>>, S: PagableStorage<E>>(
+    pager: &Pager<E, S>,
+    reference: ArcRef,
+) -> Result<OptionalDataKey, Error>
+    ensures at { IfOk result (λ key. NodeCall (core_in (telling S.stored S.is_closed S.failed) pager.now) reference.handle (Ok reference.node)) }
+    ensures key { IfOk result (λ key. KeyCall (core_in (telling S.stored S.is_closed S.failed) pager.now) reference.handle (Ok key)) }
+{
+    if !is_at(pager, reference.handle, reference.node) {
+        return Err(Error::NoSuchHandle);
+    }
+    match pager.key(reference.handle) {
+        Ok(key) => Ok(key),
+        Err(e) => Err(e),
+    }
+}
+
+/// Finds the key of what a reference names: of a loose one that of its cell, and of any other what was found before.
+/// None where it has none yet. Refused with NoSuchHandle alone.
+pub(crate) fn find<E: Env<Node: NodeSet<E>>, S: PagableStorage<E>>(
+    pager: &Pager<E, S>,
+    found: &FoundKeys,
+    reference: ArcRef,
+) -> Result<Option<FoundKey>, Error>
+    ensures { IfOk result (λ key. IsFound (λ n. row_by found.now n) (core_in (telling S.stored S.is_closed S.failed) pager.now) reference key) }
+{
+    if reference.kind.0 % 3 != 1 {
+        return Ok(found_at(found, reference.node));
+    }
+    let keyed = match cell_key(pager, reference) {
+        Ok(keyed) => keyed,
+        Err(e) => return Err(e),
+    };
+    match keyed {
+        OptionalDataKey::Some(key) => Ok(Some(FoundKey { key, height: 0 })),
+        OptionalDataKey::None => Ok(None),
+    }
+}
+
+// What a reference of this kind adds to the height, if what it leads to is so high.
+fn height_above(reference: ArcRef, height: u64) -> u64 {
+    if reference.kind.0 % 3 == 1 {
+        0
+    } else {
+        height.saturating_add(1)
+    }
+}
+
+// Adds a key at the end.
+fn add_key(keys: &mut Vec<DataKey>, key: DataKey) -> Result<(), Error>
+    ensures { OnOk result (keys.new.items ≡ keys.old.items ++ key ∷ []) }
+{
+    keys.push(key)?;
+    Ok(())
+}
+
+// Returns the reference at this place, if there is one.
+fn reference_at(references: &Vec<ArcRef>, at: usize) -> Option<ArcRef>
+    ensures { result ≡ slice_get references.now.items at }
+{
+    references.get(at).copied()
+}
+
+// Adds the key of the reference at this place, which has one, and answers what it adds to the height.
+fn take_key<E: Env<Node: NodeSet<E>>, S: PagableStorage<E>>(
+    pager: &Pager<E, S>,
+    found: &FoundKeys,
+    references: &Vec<ArcRef>,
+    at: usize,
+    keys: &mut Vec<DataKey>,
+) -> Result<u64, Error>
+    ensures { OnOk result (TakesKey (λ n. row_by found.now n) (core_in (telling S.stored S.is_closed S.failed) pager.now) references.now.items at keys.old.items keys.new.items) }
+{
+    let Some(reference) = reference_at(references, at) else {
+        return Err(Error::TooDeep);
+    };
+    let known = match find(pager, found, reference) {
+        Ok(known) => known,
+        Err(e) => return Err(e),
+    };
+    match known {
+        Some(key) => match add_key(keys, key.key) {
+            Ok(()) => Ok(height_above(reference, key.height)),
+            Err(e) => Err(e),
+        },
+        None => Err(Error::TooDeep),
+    }
+}
+
+/// Collects the keys of these references, each of which has one; and answers the length of the longest path from what
+/// holds them. Refused with TooDeep where one has no key yet: then what it names holds what holds it.
+pub(crate) fn collect_keys<E: Env<Node: NodeSet<E>>, S: PagableStorage<E>>(
+    alloc: Global,
+    pager: &Pager<E, S>,
+    found: &FoundKeys,
+    references: &Vec<ArcRef>,
+) -> Result<(Vec<DataKey>, u64), Error>
+    ensures { IfOk result (λ r. AllHave (λ n. row_by found.now n) (core_in (telling S.stored S.is_closed S.failed) pager.now) references.now.items r.0.items) }
+{
+    let mut keys = Vec::with_capacity(alloc, references.len())?;
+    let mut height = 0;
+    let mut at = 0;
+    while at < references.len() {
+        let above = match take_key(pager, found, references, at, &mut keys) {
+            Ok(above) => above,
+            Err(e) => return Err(e),
+        };
+        height = above.max(height);
+        at += 1;
+    }
+    Ok((keys, height))
+}

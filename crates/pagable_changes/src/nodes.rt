@@ -1,0 +1,179 @@
+//! Nodes that are being written: how they are taken, and what is written of them.
+
+ghost use Rattle.std.specs.Prelude.{IfErr, IfOk, true, ◌≡◌};
+ghost use Rattle.pagable_changes.specs.Changes.{EnterFails, Enters, IsFormOf, PinsLoosely, TakeFails, Takes, Writes, WritesTaken, written_of};
+ghost use Rattle.{pagable_changes.specs.Keeping.KeepsStorage, pagable_loads.specs.Telling.values_at};
+ghost use Rattle.{pagable_pager.specs.View.{state_in, telling}, pagable_world.specs.Plain.is_loose_kind};
+
+use crate::calls::{clone, is_at, let_go, loosen, pin, release};
+use pagable_codec::{Env, NodeSet};
+use pagable_core::{PagableStorage, SerializedData, SerializerForPaging, SessionOf};
+use pagable_model::{ArcRef, Error, HandleNumber};
+use pagable_pager::Pager;
+use pagable_world::Pinning;
+use std::alloc::Global;
+
+/// A node that is being written.
+#[derive(Drop)]
+pub struct OpenNode {
+    /// The reference by which it was come to.
+    pub reference: ArcRef,
+    /// How many references lead to it on the path from the last cell, none of them loose.
+    pub place: u64,
+    /// A handle of the reference's mode, and one that pins the node; they are one where the reference isn't loose.
+    pub through: HandleNumber,
+    pub pin: HandleNumber,
+    /// What was written of its value.
+    pub written: SerializedData,
+    /// How many of its references have a key, from the first on.
+    pub keyed: usize,
+}
+
+// Pins a cell whose value is in memory.
+fn pin_loosely<E: Env<Node: NodeSet<E>>, S: PagableStorage<E>>(
+    pager: &mut Pager<E, S>,
+    handle: HandleNumber,
+) -> Result<HandleNumber, Error>
+    ensures pins { PinsLoosely (values_at E.Node.NodeSet E.Env E.Hash.KeyHash pager.old.environment) handle
+        (state_in (telling S.stored S.is_closed S.failed) pager.old) result (state_in (telling S.stored S.is_closed S.failed) pager.new) }
+    ensures keeps { KeepsStorage pager.old pager.new }
+{
+    match pin(pager, handle) {
+        Ok(Pinning::Pinned(pinned)) => Ok(pinned),
+        Ok(Pinning::NeedsLoad(_)) => Err(Error::WrongMode),
+        Err(e) => Err(e),
+    }
+}
+
+// Takes a loose reference's cell: a clone of its handle, and a pin. A Pinned handle's clone is made loose.
+fn take_loose<E: Env<Node: NodeSet<E>>, S: PagableStorage<E>>(
+    pager: &mut Pager<E, S>,
+    reference: ArcRef,
+) -> Result<(HandleNumber, HandleNumber), Error>
+    requires loose { is_loose_kind reference.kind.0 ≡ true }
+    ensures takes { IfOk result (λ t. Takes (values_at E.Node.NodeSet E.Env E.Hash.KeyHash pager.old.environment) reference
+        (state_in (telling S.stored S.is_closed S.failed) pager.old) t.0 t.1 (state_in (telling S.stored S.is_closed S.failed) pager.new)) }
+    ensures fails { IfErr result (λ e. TakeFails (values_at E.Node.NodeSet E.Env E.Hash.KeyHash pager.old.environment) reference
+        (state_in (telling S.stored S.is_closed S.failed) pager.old) e (state_in (telling S.stored S.is_closed S.failed) pager.new)) }
+    ensures keeps { KeepsStorage pager.old pager.new }
+{
+    let through = clone(pager, reference.handle)?;
+    let _turned = loosen(pager, through);
+    match pin_loosely(pager, through) {
+        Ok(pin) => Ok((through, pin)),
+        Err(e) => {
+            let _released = release(pager, through);
+            Err(e)
+        }
+    }
+}
+
+// Takes a reference's node. A handle that isn't loose is cloned, and so pins it.
+fn take<E: Env<Node: NodeSet<E>>, S: PagableStorage<E>>(
+    pager: &mut Pager<E, S>,
+    reference: ArcRef,
+) -> Result<(HandleNumber, HandleNumber), Error>
+    ensures takes { IfOk result (λ t. Takes (values_at E.Node.NodeSet E.Env E.Hash.KeyHash pager.old.environment) reference
+        (state_in (telling S.stored S.is_closed S.failed) pager.old) t.0 t.1 (state_in (telling S.stored S.is_closed S.failed) pager.new)) }
+    ensures fails { IfErr result (λ e. TakeFails (values_at E.Node.NodeSet E.Env E.Hash.KeyHash pager.old.environment) reference
+        (state_in (telling S.stored S.is_closed S.failed) pager.old) e (state_in (telling S.stored S.is_closed S.failed) pager.new)) }
+    ensures keeps { KeepsStorage pager.old pager.new }
+{
+    if reference.kind.0 % 3 == 1 {
+        return take_loose(pager, reference);
+    }
+    match clone(pager, reference.handle) {
+        Ok(through) => Ok((through, through)),
+        Err(e) => Err(e),
+    }
+}
+
+// Writes a value.
+fn write<E: Env<Node: NodeSet<E>>>(
+    env: &E,
+    session: &SessionOf<E>,
+    alloc: Global,
+    node: &E::Node,
+) -> Result<SerializedData, Error>
+    ensures { IfOk result (λ d. IsFormOf (values_at E.Node.NodeSet E.Env E.Hash.KeyHash env.now) node.now (written_of d)) }
+{
+    let mut serializer = SerializerForPaging::new(alloc, env, session);
+    node.write(&mut serializer)?;
+    let (bytes, arcs) = serializer.finish();
+    Ok(SerializedData { bytes, arcs })
+}
+
+// Writes the value that a handle pins, of this reference's type.
+fn write_pinned<E: Env<Node: NodeSet<E>>, S: PagableStorage<E>>(
+    alloc: Global,
+    pager: &Pager<E, S>,
+    reference: ArcRef,
+    pin: HandleNumber,
+) -> Result<SerializedData, Error>
+    ensures { IfOk result (λ d. Writes (values_at E.Node.NodeSet E.Env E.Hash.KeyHash pager.now.environment)
+        (state_in (telling S.stored S.is_closed S.failed) pager.now) reference pin (written_of d)) }
+{
+    match pager.value(pin) {
+        Ok(Some(node)) => {
+            if node.node_type() != reference.kind.0 / 3 {
+                return Err(Error::WrongKind);
+            }
+            write(pager.env(), pager.session_context(), alloc, node)
+        }
+        Ok(None) => Err(Error::WrongMode),
+        Err(e) => Err(e),
+    }
+}
+
+// The same, where both handles are of the reference's node.
+fn write_taken<E: Env<Node: NodeSet<E>>, S: PagableStorage<E>>(
+    alloc: Global,
+    pager: &Pager<E, S>,
+    reference: ArcRef,
+    through: HandleNumber,
+    pin: HandleNumber,
+) -> Result<SerializedData, Error>
+    ensures { IfOk result (λ d. WritesTaken (values_at E.Node.NodeSet E.Env E.Hash.KeyHash pager.now.environment)
+        (state_in (telling S.stored S.is_closed S.failed) pager.now) reference through pin (written_of d)) }
+{
+    if !is_at(pager, through, reference.node) {
+        return Err(Error::NoSuchHandle);
+    }
+    if !is_at(pager, pin, reference.node) {
+        return Err(Error::NoSuchHandle);
+    }
+    write_pinned(alloc, pager, reference, pin)
+}
+
+/// Takes a reference's node and writes it. What was taken is given up where it can't be written.
+pub(crate) fn enter<E: Env<Node: NodeSet<E>>, S: PagableStorage<E>>(
+    alloc: Global,
+    pager: &mut Pager<E, S>,
+    reference: ArcRef,
+    place: u64,
+) -> Result<OpenNode, Error>
+    ensures enters { IfOk result (λ o. Enters (values_at E.Node.NodeSet E.Env E.Hash.KeyHash pager.old.environment) reference
+        (state_in (telling S.stored S.is_closed S.failed) pager.old) o (state_in (telling S.stored S.is_closed S.failed) pager.new)) }
+    ensures fails { IfErr result (λ e. EnterFails (values_at E.Node.NodeSet E.Env E.Hash.KeyHash pager.old.environment) reference
+        (state_in (telling S.stored S.is_closed S.failed) pager.old) e (state_in (telling S.stored S.is_closed S.failed) pager.new)) }
+    ensures keeps { KeepsStorage pager.old pager.new }
+{
+    let (through, pin) = match take(pager, reference) {
+        Ok(taken) => taken,
+        Err(e) => return Err(e),
+    };
+    match write_taken(alloc, pager, reference, through, pin) {
+        Ok(written) => Ok(OpenNode {
+            reference,
+            place,
+            through,
+            pin,
+            written,
+            keyed: 0,
+        }),
+        Err(e) => {
+            let_go(pager, through, pin);
+            Err(e)
+        }
+    }
+}

@@ -1,0 +1,299 @@
+//! The turns of a page-out over the nodes that have no key.
+
+ghost use Rattle.std.specs.Prelude.{[], IfErr, IfNone, IfOk, IfSome, IsSome, IsTrue, OnErr, OnOk, Some, slice_get, ◌++◌, ◌∷◌, ◌≡◌};
+ghost use Rattle.pagable_changes.specs.Changes.{GivesUp, GoesDown, GoesNowhere, IsOver, IsUnset, LeaveFails, Leaves, SetsFor, Turn, TurnFails, Turned, TurnsFail, TurnsOut, Walks, stage};
+ghost use Rattle.{pagable_changes.specs.Keeping.KeepsStorage, pagable_core.specs.Data.blob_of, pagable_loads.specs.Telling.values_at};
+ghost use Rattle.{pagable_pager.specs.View.{core_in, state_in, telling}, pagable_tables.specs.Rows.{place_at, row_by}};
+
+use crate::calls::{let_go, set_key, store};
+use crate::keys::{FoundKey, FoundKeys, LONGEST_PATH, collect_keys, find};
+use crate::nodes::{OpenNode, enter};
+use pagable_codec::{Env, NodeSet};
+use pagable_core::{PagableData, PagableStorage};
+use pagable_model::{ArcRef, DataKey, Error};
+use pagable_pager::Pager;
+use pagable_tables::number_table::NumberTable;
+use std::alloc::Global;
+use std::mem;
+
+// The blob of a node whose references all have keys, with the length of the longest path below it.
+fn blob_of_node<E: Env<Node: NodeSet<E>>, S: PagableStorage<E>>(
+    alloc: Global,
+    pager: &Pager<E, S>,
+    found: &FoundKeys,
+    node: &OpenNode,
+) -> Result<(PagableData, u64), Error>
+    ensures { IfOk result (λ r. IsOver (λ n. row_by found.now n) (core_in (telling S.stored S.is_closed S.failed) pager.now) node.now (blob_of r.0)) }
+{
+    let (arcs, height) = collect_keys(alloc, pager, found, &node.written.arcs)?;
+    if height > LONGEST_PATH || node.place > LONGEST_PATH - height {
+        return Err(Error::TooDeep);
+    }
+    let bytes = Vec::from_slice(alloc, node.written.bytes.as_slice())?;
+    Ok((PagableData { bytes, arcs }, height))
+}
+
+// Sets the key of a cell. Of a node that was come to by no loose reference it is kept for this page-out.
+fn set_for<E: Env<Node: NodeSet<E>>, S: PagableStorage<E>>(
+    pager: &mut Pager<E, S>,
+    found: &mut FoundKeys,
+    node: &OpenNode,
+    known: FoundKey,
+) -> Result<(), Error>
+    requires ready { IsSome (place_at found.old node.now.reference.node.0) }
+    ensures sets { OnOk result (SetsFor (values_at E.Node.NodeSet E.Env E.Hash.KeyHash pager.old.environment) (λ n. row_by found.old n) node.now known.key
+        (state_in (telling S.stored S.is_closed S.failed) pager.old) (λ n. row_by found.new n) (state_in (telling S.stored S.is_closed S.failed) pager.new)) }
+    ensures refused { IfErr result (λ e. IsUnset (values_at E.Node.NodeSet E.Env E.Hash.KeyHash pager.old.environment) node.now known.key (state_in (telling S.stored S.is_closed S.failed) pager.old) e (state_in (telling S.stored S.is_closed S.failed) pager.new)) }
+    ensures keeps { KeepsStorage pager.old pager.new }
+{
+    if node.reference.kind.0 % 3 == 1 {
+        return set_key(pager, node.through, known.key);
+    }
+    found.put(node.reference.node.0, known);
+    Ok(())
+}
+
+// Stores a node whose references all have keys, sets its key, and gives its handles up.
+fn leave<E: Env<Node: NodeSet<E>>, S: PagableStorage<E>>(
+    alloc: Global,
+    pager: &mut Pager<E, S>,
+    found: &mut FoundKeys,
+    node: &OpenNode,
+) -> Result<DataKey, Error>
+    ensures leaves { IsTrue (S.is_honest pager.new.storage) → IfOk result (λ key. Leaves (values_at E.Node.NodeSet E.Env E.Hash.KeyHash pager.old.environment) (λ n. row_by found.old n)
+        (state_in (telling S.stored S.is_closed S.failed) pager.old) node.now key (λ n. row_by found.new n) (state_in (telling S.stored S.is_closed S.failed) pager.new)) }
+    ensures fails { IsTrue (S.is_honest pager.new.storage) → IfErr result (λ e. LeaveFails (values_at E.Node.NodeSet E.Env E.Hash.KeyHash pager.old.environment) (λ n. row_by found.old n)
+        (state_in (telling S.stored S.is_closed S.failed) pager.old) node.now e (state_in (telling S.stored S.is_closed S.failed) pager.new)) }
+    ensures honest { IsTrue (S.is_honest pager.new.storage) → IsTrue (S.is_honest pager.old.storage) }
+    ensures environment { pager.new.environment ≡ pager.old.environment }
+{
+    let (blob, height) = match blob_of_node(alloc, pager, found, node) {
+        Ok(over) => over,
+        Err(e) => return Err(e),
+    };
+    found.reserve(node.reference.node.0)?;
+    let key = match store(alloc, pager, blob) {
+        Ok(key) => key,
+        Err(e) => return Err(e),
+    };
+    match set_for(pager, found, node, FoundKey { key, height }) {
+        Ok(()) => {}
+        Err(e) => return Err(e),
+    }
+    let_go(pager, node.through, node.pin);
+    Ok(key)
+}
+
+// Returns the place of a node that this reference of a node leads to.
+fn place_below(node: &OpenNode, reference: ArcRef) -> u64 {
+    if reference.kind.0 % 3 == 1 {
+        0
+    } else {
+        node.place.saturating_add(1)
+    }
+}
+
+// Tells whether a reference lies too deep at its place, or is a loose one to a node that isn't older: a cell that has no
+// key was there before what refers to it.
+fn is_too_deep(node: &OpenNode, reference: ArcRef, place: u64) -> bool {
+    if reference.kind.0 % 3 == 1 {
+        reference.node.0 >= node.reference.node.0
+    } else {
+        place > LONGEST_PATH
+    }
+}
+
+// Comes to a reference that has no key.
+fn go_down<E: Env<Node: NodeSet<E>>, S: PagableStorage<E>>(
+    alloc: Global,
+    pager: &mut Pager<E, S>,
+    path: &mut Vec<OpenNode>,
+    node: &mut OpenNode,
+    reference: ArcRef,
+) -> Result<(), Error>
+    ensures goes { OnOk result (GoesDown (values_at E.Node.NodeSet E.Env E.Hash.KeyHash pager.old.environment) reference path.old.items node.old (state_in (telling S.stored S.is_closed S.failed) pager.old) path.new.items node.new (state_in (telling S.stored S.is_closed S.failed) pager.new)) }
+    ensures fails { IfErr result (λ e. GoesNowhere (values_at E.Node.NodeSet E.Env E.Hash.KeyHash pager.old.environment) reference (state_in (telling S.stored S.is_closed S.failed) pager.old) e (state_in (telling S.stored S.is_closed S.failed) pager.new)) }
+    ensures stays { OnErr result ((path.new.items ≡ path.old.items) × (node.new ≡ node.old)) }
+    ensures keeps { KeepsStorage pager.old pager.new }
+{
+    let place = place_below(node, reference);
+    if is_too_deep(node, reference, place) {
+        return Err(Error::TooDeep);
+    }
+    path.reserve(1)?;
+    let child = match enter(alloc, pager, reference, place) {
+        Ok(child) => child,
+        Err(e) => return Err(e),
+    };
+    path.push_reserved(mem::replace(node, child));
+    Ok(())
+}
+
+// Returns the next of a node's references that wasn't found to have a key.
+fn next_of(node: &OpenNode) -> Option<ArcRef>
+    ensures { result ≡ slice_get node.now.written.arcs.items node.now.keyed }
+{
+    node.written.arcs.get(node.keyed).copied()
+}
+
+// Goes on at the next reference: past it where it has a key, and down to it where it has none.
+fn go_on<E: Env<Node: NodeSet<E>>, S: PagableStorage<E>>(
+    alloc: Global,
+    pager: &mut Pager<E, S>,
+    found: &FoundKeys,
+    path: &mut Vec<OpenNode>,
+    node: &mut OpenNode,
+    reference: ArcRef,
+) -> Result<(), Error>
+    requires next { Some reference ≡ slice_get node.old.written.arcs.items node.old.keyed }
+    ensures turns { OnOk result (Turn (values_at E.Node.NodeSet E.Env E.Hash.KeyHash pager.old.environment) (stage path.old.items node.old (λ n. row_by found.now n) (state_in (telling S.stored S.is_closed S.failed) pager.old))
+        (stage path.new.items node.new (λ n. row_by found.now n) (state_in (telling S.stored S.is_closed S.failed) pager.new))) }
+    ensures fails { IfErr result (λ e. TurnFails (values_at E.Node.NodeSet E.Env E.Hash.KeyHash pager.old.environment) (stage path.old.items node.old (λ n. row_by found.now n) (state_in (telling S.stored S.is_closed S.failed) pager.old))
+        e (state_in (telling S.stored S.is_closed S.failed) pager.new)) }
+    ensures stays { OnErr result ((path.new.items ≡ path.old.items) × (node.new ≡ node.old)) }
+    ensures keeps { KeepsStorage pager.old pager.new }
+{
+    let known = match find(pager, found, reference) {
+        Ok(known) => known,
+        Err(e) => return Err(e),
+    };
+    match known {
+        Some(_) => {
+            node.keyed = node.keyed.saturating_add(1);
+            Ok(())
+        }
+        None => go_down(alloc, pager, path, node, reference),
+    }
+}
+
+// Takes the last node off the path.
+fn pop_node(path: &mut Vec<OpenNode>) -> Option<OpenNode>
+    ensures some { IfSome result (λ node. path.old.items ≡ path.new.items ++ node ∷ []) }
+    ensures none { IfNone result (path.old.items ≡ []) }
+{
+    if path.is_empty() {
+        return None;
+    }
+    path.pop()
+}
+
+// Leaves a node whose references all have keys, for the one that waits for it. Answers the key of the last one.
+fn go_up<E: Env<Node: NodeSet<E>>, S: PagableStorage<E>>(
+    alloc: Global,
+    pager: &mut Pager<E, S>,
+    found: &mut FoundKeys,
+    path: &mut Vec<OpenNode>,
+    node: &mut OpenNode,
+) -> Result<Option<DataKey>, Error>
+    ensures turns { IsTrue (S.is_honest pager.new.storage) → IfOk result (λ key. Turned (values_at E.Node.NodeSet E.Env E.Hash.KeyHash pager.old.environment) (stage path.old.items node.old (λ n. row_by found.old n) (state_in (telling S.stored S.is_closed S.failed) pager.old))
+        key (stage path.new.items node.new (λ n. row_by found.new n) (state_in (telling S.stored S.is_closed S.failed) pager.new))) }
+    ensures fails { IsTrue (S.is_honest pager.new.storage) → IfErr result (λ e. TurnFails (values_at E.Node.NodeSet E.Env E.Hash.KeyHash pager.old.environment) (stage path.old.items node.old (λ n. row_by found.old n) (state_in (telling S.stored S.is_closed S.failed) pager.old))
+        e (state_in (telling S.stored S.is_closed S.failed) pager.new)) }
+    ensures stays { OnErr result ((path.new.items ≡ path.old.items) × (node.new ≡ node.old)) }
+    ensures honest { IsTrue (S.is_honest pager.new.storage) → IsTrue (S.is_honest pager.old.storage) }
+    ensures environment { pager.new.environment ≡ pager.old.environment }
+{
+    let key = match leave(alloc, pager, found, node) {
+        Ok(key) => key,
+        Err(e) => return Err(e),
+    };
+    match pop_node(path) {
+        Some(parent) => {
+            *node = parent;
+            Ok(None)
+        }
+        None => Ok(Some(key)),
+    }
+}
+
+// Goes on at the node: at its next reference, or back to the one that refers to it. Answers the key of the last one.
+fn turn<E: Env<Node: NodeSet<E>>, S: PagableStorage<E>>(
+    alloc: Global,
+    pager: &mut Pager<E, S>,
+    found: &mut FoundKeys,
+    path: &mut Vec<OpenNode>,
+    node: &mut OpenNode,
+) -> Result<Option<DataKey>, Error>
+    ensures turns { IsTrue (S.is_honest pager.new.storage) → IfOk result (λ key. Turned (values_at E.Node.NodeSet E.Env E.Hash.KeyHash pager.old.environment) (stage path.old.items node.old (λ n. row_by found.old n) (state_in (telling S.stored S.is_closed S.failed) pager.old))
+        key (stage path.new.items node.new (λ n. row_by found.new n) (state_in (telling S.stored S.is_closed S.failed) pager.new))) }
+    ensures fails { IsTrue (S.is_honest pager.new.storage) → IfErr result (λ e. TurnFails (values_at E.Node.NodeSet E.Env E.Hash.KeyHash pager.old.environment) (stage path.old.items node.old (λ n. row_by found.old n) (state_in (telling S.stored S.is_closed S.failed) pager.old))
+        e (state_in (telling S.stored S.is_closed S.failed) pager.new)) }
+    ensures stays { OnErr result ((path.new.items ≡ path.old.items) × (node.new ≡ node.old)) }
+    ensures honest { IsTrue (S.is_honest pager.new.storage) → IsTrue (S.is_honest pager.old.storage) }
+    ensures environment { pager.new.environment ≡ pager.old.environment }
+{
+    match next_of(node) {
+        None => go_up(alloc, pager, found, path, node),
+        Some(reference) => match go_on(alloc, pager, found, path, node, reference) {
+            Ok(()) => Ok(None),
+            Err(e) => Err(e),
+        },
+    }
+}
+
+// Makes turns up to the key of the last node, or to a refusal.
+fn make_turns<E: Env<Node: NodeSet<E>>, S: PagableStorage<E>>(
+    alloc: Global,
+    pager: &mut Pager<E, S>,
+    found: &mut FoundKeys,
+    path: &mut Vec<OpenNode>,
+    node: &mut OpenNode,
+) -> Result<DataKey, Error>
+    ensures turns { IsTrue (S.is_honest pager.new.storage) → IfOk result (λ key. TurnsOut (values_at E.Node.NodeSet E.Env E.Hash.KeyHash pager.old.environment) (stage path.old.items node.old (λ n. row_by found.old n) (state_in (telling S.stored S.is_closed S.failed) pager.old))
+        key (stage path.new.items node.new (λ n. row_by found.new n) (state_in (telling S.stored S.is_closed S.failed) pager.new))) }
+    ensures fails { IsTrue (S.is_honest pager.new.storage) → IfErr result (λ e. TurnsFail (values_at E.Node.NodeSet E.Env E.Hash.KeyHash pager.old.environment) (stage path.old.items node.old (λ n. row_by found.old n) (state_in (telling S.stored S.is_closed S.failed) pager.old))
+        e path.new.items node.new (state_in (telling S.stored S.is_closed S.failed) pager.new)) }
+    ensures honest { IsTrue (S.is_honest pager.new.storage) → IsTrue (S.is_honest pager.old.storage) }
+    ensures environment { pager.new.environment ≡ pager.old.environment }
+{
+    let mut left = u64::MAX;
+    while left > 0 {
+        left -= 1;
+        let turned = match turn(alloc, pager, found, path, node) {
+            Ok(turned) => turned,
+            Err(e) => return Err(e),
+        };
+        match turned {
+            Some(key) => return Ok(key),
+            None => {}
+        }
+    }
+    Err(Error::TooDeep)
+}
+
+// Gives up the handles of all nodes.
+fn give_up<E: Env<Node: NodeSet<E>>, S: PagableStorage<E>>(
+    pager: &mut Pager<E, S>,
+    path: &mut Vec<OpenNode>,
+)
+    ensures gives { GivesUp (values_at E.Node.NodeSet E.Env E.Hash.KeyHash pager.old.environment) path.old.items (state_in (telling S.stored S.is_closed S.failed) pager.old) (state_in (telling S.stored S.is_closed S.failed) pager.new) }
+    ensures keeps { KeepsStorage pager.old pager.new }
+{
+    while let Some(node) = pop_node(path) {
+        let_go(pager, node.through, node.pin);
+    }
+}
+
+/// Writes a node and all that it refers to and that has no key, and answers its key.
+pub(crate) fn walk<E: Env<Node: NodeSet<E>>, S: PagableStorage<E>>(
+    alloc: Global,
+    pager: &mut Pager<E, S>,
+    first: OpenNode,
+) -> Result<DataKey, Error>
+    ensures walks { IsTrue (S.is_honest pager.new.storage) → Walks (values_at E.Node.NodeSet E.Env E.Hash.KeyHash pager.old.environment) first
+        (state_in (telling S.stored S.is_closed S.failed) pager.old) result (state_in (telling S.stored S.is_closed S.failed) pager.new) }
+    ensures honest { IsTrue (S.is_honest pager.new.storage) → IsTrue (S.is_honest pager.old.storage) }
+    ensures environment { pager.new.environment ≡ pager.old.environment }
+{
+    let mut path = Vec::new(alloc);
+    let mut found = NumberTable::new(alloc);
+    let mut node = first;
+    match make_turns(alloc, pager, &mut found, &mut path, &mut node) {
+        Ok(key) => Ok(key),
+        Err(e) => {
+            let_go(pager, node.through, node.pin);
+            give_up(pager, &mut path);
+            Err(e)
+        }
+    }
+}
