@@ -6,13 +6,69 @@ ghost use Rattle.{pagable_walk.specs.{Over.{answer_of, PagesItem, PagesList}, Sl
 ghost use Rattle.pagable_world.specs.declared.handles.Owner.TheVariants as owners;
 
 use pagable_codec::{Env, NodeSet, OfNode};
-use pagable_core::{PagableStorage, SerializedData};
-use pagable_loads::{pin_over, read_over};
-use pagable_model::{DataKey, Error, HandleNumber};
-use pagable_pager::{Lent, Pager};
+use pagable_core::{PagableData, PagableStorage, SerializedData};
+use pagable_loads::{Access, Frame, Reading, pin_over, read_over};
+use pagable_model::{DataKey, Error, HandleNumber, Kind, LoadNumber};
+use pagable_pager::{LeafPin, Lent, Pager};
 use pagable_walk::{LentTable, PageOutError, page_out_item_over, page_out_pending_over};
+use pagable_world::LoadAnswer;
 use std::alloc::Global;
 use std::sync::Arc;
+
+// The reading of a cell whose load has got its root's blob.
+fn rooted(
+    alloc: Global,
+    load: LoadNumber,
+    key: DataKey,
+    node_type: u32,
+    blob: Arc<PagableData>,
+) -> Reading {
+    let top = Frame {
+        kind: Kind(3),
+        key,
+        node_type,
+        blob,
+        got: Vec::new(alloc),
+    };
+    Reading {
+        load,
+        key,
+        node_type,
+        for_cell: true,
+        top: Some(top),
+        below: Vec::new(alloc),
+        steps: 1,
+    }
+}
+
+// Reads a cell to its end.
+fn read_rest<'a, E: Env<Node: NodeSet<E>>, S: PagableStorage<E>>(
+    lent: &mut Lent<'a, E, S>,
+    alloc: Global,
+    mut reading: Reading,
+) -> Result<HandleNumber, Error> {
+    match reading.run(lent, alloc) {
+        LoadAnswer::Pinned(pinned) => Ok(pinned),
+        LoadAnswer::Refused(e) => Err(e),
+        LoadAnswer::Read(_) => Err(Error::NoSuchHandle),
+    }
+}
+
+// The value that a new pin shares; a pin whose value can't be shared is taken back, from a handle that pinned nothing before.
+fn share_new<'a, E: Env<Node: NodeSet<E>>, S: PagableStorage<E>>(
+    lent: &mut Lent<'a, E, S>,
+    handle: HandleNumber,
+    pinned: HandleNumber,
+) -> Result<(HandleNumber, Arc<E::Node>), Error> {
+    match lent.share(pinned) {
+        Ok(Some(value)) => Ok((pinned, value)),
+        _ => {
+            let _told = lent.unpin(handle);
+            let _told = lent.release(pinned);
+            Err(Error::OutOfMemory)
+        }
+    }
+}
 
 // A pin by a lent pager: the borrow checker takes a lent struct where its own type is asked, and not where any access is.
 fn pin_by<'a, E: Env<Node: NodeSet<E>>, S: PagableStorage<E>>(
@@ -26,7 +82,14 @@ fn pin_by<'a, E: Env<Node: NodeSet<E>>, S: PagableStorage<E>>(
     ensures honest { IsTrue (S.is_honest lent.new.pager.now.storage) → IsTrue (S.is_honest lent.old.pager.now.storage) }
     ensures lender { lent.new.pager.ghost_name ≡ lent.old.pager.ghost_name }
 {
-    pin_over(lent, alloc, handle)
+    match lent.pin_leaf(alloc, handle)? {
+        Some(LeafPin::Pinned(pinned)) => share_new(lent, handle, pinned),
+        Some(LeafPin::Load(load, key, node_type, blob)) => {
+            let pinned = read_rest(lent, alloc, rooted(alloc, load, key, node_type, blob))?;
+            share_new(lent, handle, pinned)
+        }
+        None => pin_over(lent, alloc, handle),
+    }
 }
 
 /// Pins a loose handle's cell, reading its value from the storage where it isn't in memory, with all that it refers to and that is read

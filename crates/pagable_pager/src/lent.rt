@@ -1,12 +1,13 @@
 //! A pager that is lent, as an access, and as that of a page-out worker; and the cache of one.
 #![tactic(auto, using(crate::proofs::Keeping::lending))]
 
-ghost use Rattle.std.specs.Prelude.{IfErr, IfOk, true, ◌≡◌};
-ghost use Rattle.{pagable_loads.specs.Telling.values_at, pagable_pager.specs.View.{Calls, OnlyLess, OnlyTables, core_in, is_at_work, state_in, telling}};
+ghost use Rattle.std.specs.Prelude.{IfErr, IfOk, IsTrue, true, ◌≡◌};
+ghost use Rattle.{pagable_loads.specs.Telling.values_at, pagable_pager.specs.{Leaf.PinsAtOnce, View.{Calls, OnlyLess, OnlyTables, core_in, is_at_work, state_in, telling}}};
 ghost use Rattle.pagable_tables.specs.Sound.{is_sound};
 ghost use Rattle.pagable_world.specs.{Calls.{ClearCall, OfferCall, RecallCall}, Pager.WellFormed, World.seen_as};
 
 use crate::pager::Pager;
+use crate::pager::leaf::{LeafPin, read_leaf};
 use either::Either;
 use pagable_codec::{Env, NodeSet};
 use pagable_core::{PagableData, PagableStorage, SessionOf};
@@ -85,6 +86,41 @@ impl<'a, E: Env<Node: NodeSet<E>>, S: PagableStorage<E>> Lent<'a, E, S> {
         ensures { result ≡ is_sound self.now.pager.now.tables self.now.pager.now.values }
     {
         self.pager.is_sound()
+    }
+
+    /// Pins the cell of a loose handle of the caller's, where its value isn't in memory and its blob refers to nothing: what a load leaves that
+    /// begins, gets the blob, reads it and ends. Where that can't be at once, the load has begun and has got the blob. None where nothing was
+    /// done, as where the value is in memory.
+    ///
+    /// # Errors
+    /// - OutOfMemory: there is no room for the handle, the blob or its value. No load is left.
+    /// - NoData, Storage: as the storage refuses the blob. No load is left.
+    pub fn pin_leaf(
+        &mut self,
+        alloc: Global,
+        handle: HandleNumber,
+    ) -> Result<Option<LeafPin>, Error>
+        requires caller { self.old.me ≡ Owner.Caller }
+        ensures goes { IsTrue (S.is_honest self.new.pager.now.storage) → PinsAtOnce (values_at E.Node.NodeSet E.Env E.Hash.KeyHash self.old.pager.now.environment)
+            (state_in (telling S.stored S.is_closed S.failed) self.old.pager.now) handle result (state_in (telling S.stored S.is_closed S.failed) self.new.pager.now) }
+        ensures honest { IsTrue (S.is_honest self.new.pager.now.storage) → IsTrue (S.is_honest self.old.pager.now.storage) }
+        ensures lender { self.new.pager.ghost_name ≡ self.old.pager.ghost_name }
+        ensures me { self.new.me ≡ self.old.me }
+        ensures environment { self.new.pager.now.environment ≡ self.old.pager.now.environment }
+    {
+        let Some((leaf, blob)) = self.pager.start_leaf(alloc, handle)? else {
+            return Ok(None);
+        };
+        match read_leaf(self, alloc, blob.as_ref(), leaf.node_type) {
+            Some(value) => {
+                let pinned = self.pager.pin_leaf(alloc, leaf, value)?;
+                Ok(Some(LeafPin::Pinned(pinned)))
+            }
+            None => {
+                let load = self.pager.begin_leaf(leaf)?;
+                Ok(Some(LeafPin::Load(load, leaf.key, leaf.node_type, blob)))
+            }
+        }
     }
 }
 

@@ -7,3 +7,4 @@ mod setting;
 
 pub use lent::{ArcCell, DeserializedArcCache, Lent};
 pub use pager::Pager;
+pub use pager::leaf::LeafPin;

@@ -1,0 +1,351 @@
+-- Cells that are pinned at once: the loads that this stands for leave the pager well-formed at each step, and are a pin's run.
+use Rattle.pagable_pager.proofs.Keeping.{here-in, here-told, in-step}
+use Rattle.pagable_pager.specs.{Leaf.{LeafBegun, LeafDropped, LeafFetched, LeafPinned, LoadsRoot, rooted_reading}, View.{IsPager, PagerView, Telling, ValuesByNode, core_in, state_in, value_in, with_value}}
+use Rattle.{pagable_leaf.specs.{Leaf.{DropsLeaf, IsLeaf, PinsLeaf}, declared.leaf.Leaf.Leaf}, pagable_loads.specs.{Decoding.IsReadAs, Telling.Brings}, pagable_steps.proofs.Owning.{IsShut, Leaves, begins, installed_away, load_closed, spared}}
+use Rattle.{pagable_laws.proofs.Trees.same_some, pagable_model.specs.{Stored.RefusesFetch, declared.{error.Error.Error, numbers.{ArcRef.ArcRef, HandleNumber.HandleNumber, LoadNumber.LoadNumber}}}, pagable_tables.proofs.{Calls.begin-whole, Told.opened, Worlds.still}}
+use Rattle.pagable_tables.specs.{Core.{AreLater, ArePlaced, Does, IsWhole, OnlyRoom, core_of}, Falling.{counts_at, has_value}, Ready.has_come, declared.tables.Tables.Tables}
+use Rattle.pagable_world.specs.{Access.{Called, LoadRun, LoadStarts, PinRun, ReadingStep, load-ends, load-fails, load-goes-on, load-pins}, Calls.{FetchCall, row_of}, Kinds.{is_pin, pins}, LoadCalls.{AskCall, BeginCall, EndCall}}
+use Rattle.pagable_world.specs.{LoadCalls.{Installs, LoadCloses, MayEnd, from_store}, Loads.{GivesUp, IsDecoded, ReadsRoot, gone_on, root_frame}, Pager.{HoldsItsNodes, IsCellOf, Moves, PagerState, WellFormed}, Plain.{Blob, one, updated}}
+use Rattle.pagable_world.specs.{Events.reading_of_load, Workers.fresh, World.{Core, Frame, OpenLoad, Reading, Values, is_here, of_cell}, declared.{answers.Beginning.Beginning, calls.Want.Want, events.LoadAnswer.LoadAnswer, handles.{HandleRow.HandleRow, Owner.Owner}, rows.Mode.Mode}}
+use Rattle.std.proofs.Common.{Bool, Err, List, None, Ok, Option, Result, Some, [], ap, arith, false, if◌then◌else◌, inl, inr, refl, rules, subst, sym, true, ℕ, ◌&&◌, ◌++◌, ◌+◌, ◌<◌, ◌==◌, ◌∙◌, ◌∷◌, ◌≡◌, ◌≤◌}
+use Rattle.std.{proofs.lemmas.{Bool.{Decides.nat_tests, cases_eq}, List.Sums.sum_by_push}, specs.Prelude.{IfErr, is_some, slice_get, ◌⊎◌}}
+use Rattle.pagable_world.specs.Pager as pager
+
+-- whole while its storage is taken to be open, and nothing is listed or known once it is closed
+opened-whole : (w : Core) → IsShut w → pager.IsWhole (opened w) → pager.IsWhole w
+opened-whole w shut is =
+    let h = is.handles in
+    let o = is.owners_there in
+    let l = is.loads in
+    record {
+      handles = record { ordered = h.ordered; numbered = h.numbered; nodes_numbered = h.nodes_numbered; within = h.within; live = h.live; uniform = h.uniform; unkeyed = h.unkeyed; places = h.places };
+      owners_there = record { listed = o.listed; waiting = o.waiting; loads = o.loads; workers = o.workers };
+      loads = record { numbered = l.numbered; owned = l.owned; roots = λ n load node k q e root. let r = l.roots n load node k q e root in record { typed = r.typed; begun = r.begun; given = r.given } };
+      cache = λ kind key n known. let c = is.cache kind key n known in record { given = c.given; typed = c.typed; shares = c.shares };
+      workers_numbered = is.workers_numbered;
+      shut = shut;
+    }
+
+-- ---- what the pager's calls stand for
+
+module _ {N S E : Type 0} {tells : Telling S} {says : E → Values N} {p : PagerView N S E} (is : IsPager tells says p) where
+  abbrev w : Core
+  w = core_in tells p
+
+  -- the state with this plain world
+  abbrev at-core : Core → PagerState N E
+  at-core b = record (state_in tells p) { core = b }
+
+  begun-whole : (b : Core) (h : HandleNumber) (l : LoadNumber) (key : ℕ) → BeginCall w Owner.Caller h (Ok (Beginning.Load l key)) b → ArePlaced b → WellFormed (says p.environment) (at-core b)
+  begun-whole b h l key call placed =
+      let (row, owns, (away, keyed, next, left, (t, typed, a))) = call.begins in
+      spared is.state (begins is.state.whole (Ok (Beginning.Load l key)) call) (λ n. refl) (record {
+        counted = λ n. is.state.counted n ∙ (let rows = ap (pins n) a.rows in
+            let more = sum_by_push (λ x. one (is_pin n x)) w.rows (row_of (w.last.handle + 1) row.node Mode.LooseUnpinned (Owner.Load l)) in grind (arith, nat_tests));
+        whole = λ shut. opened-whole b shut (begin-whole Owner.Caller h is.state.whole tt call (record { rows = placed.rows; list = placed.list }));
+      })
+
+  leaf-begun : (leaf : Leaf) (b : Core) (l : LoadNumber) → BeginCall w Owner.Caller leaf.row.number (Ok (Beginning.Load l leaf.key)) b
+      → b.loads l.0 ≡ Some (record { owner = Owner.Caller; key = leaf.key; root = of_cell leaf.row.node leaf.node_type leaf.row.number }) → ArePlaced b
+      → LeafBegun (says p.environment) (state_in tells p) leaf l (at-core b)
+  leaf-begun leaf b l call open_load placed = record {
+    begins = record { step = call; moves = record { each = λ n x has. inl has; environment = refl }; whole = begun-whole b leaf.row.number l leaf.key call placed };
+    opened = open_load;
+  }
+
+  -- a load that is given up
+  module _ (t : Tables) (values : ValuesByNode N) (sames : (n : ℕ) → value_in values n ≡ value_in p.values n) (leaf : Leaf) (does : Does p.tables (λ w w'. DropsLeaf w Owner.Caller leaf.row leaf.key leaf.node_type w') t)
+      (same : t ≡ record p.tables { holdings = record p.tables.holdings { last_handle = p.tables.holdings.last_handle + 1 }; last_load = p.tables.last_load + 1 }) where
+    abbrev given : PagerView N S E
+    given = record p { tables = t; values = values }
+
+    drops : DropsLeaf w Owner.Caller leaf.row leaf.key leaf.node_type (core_in tells given)
+    drops = does.does (tells.stored p.storage) (tells.closed p.storage) (tells.failed p.storage)
+
+    kept : (n : ℕ) → value_in values n ≡ (if is_some ((core_in tells given).cells n) && is_here (core_in tells given) n then value_in p.values n else None)
+    kept n =
+        let e = is.state.valued n in
+        let cells = ap (λ (u : Tables). (core_of u (tells.stored p.storage) (tells.closed p.storage) (tells.failed p.storage)).cells n) same in
+        let here = ap (λ (u : Tables). is_here (core_of u (tells.stored p.storage) (tells.closed p.storage) (tells.failed p.storage)) n) same in
+        let is-same = sames n in
+        grind (arith, nat_tests)
+
+    pub given-so : IsPager tells says given
+    given-so = in-step given does.whole (does.later is.later) (λ right. load_closed {s = at-core drops.begun} {s' = state_in tells given}
+        (begun-whole drops.begun leaf.row.number _ leaf.key drops.begins drops.placed) (record { swept = kept; right = right }) _ drops.closes)
+
+    pub given-told : LeafDropped (says p.environment) (state_in tells p) leaf (state_in tells given)
+    given-told = record {
+      l = record { 0 = w.last.load + 1 };
+      mid = at-core drops.begun;
+      begun = leaf-begun leaf drops.begun (record { 0 = w.last.load + 1 }) drops.begins drops.opened drops.placed;
+      closes = record { step = drops.closes; moves = record { each = λ n x has. inl (sym (sames n) ∙ has); environment = refl }; whole = given-so.state };
+    }
+
+  -- a load that ends with a value
+  module _ (t : Tables) (values : ValuesByNode N) (leaf : Leaf) (x : N) (k : HandleNumber) (found : IsLeaf w Owner.Caller leaf) (typed : (says p.environment).node_type x ≡ leaf.node_type)
+      (bare : (says p.environment).references x ≡ []) (ends : (stored : ℕ → Option Blob) (closed : Bool) (failures : ℕ)
+      → PinsLeaf (core_of p.tables stored closed failures) Owner.Caller leaf.row leaf.key leaf.node_type k (core_of t stored closed failures))
+      (come : (n : ℕ) → has_value (counts_at t.holdings.nodes n) ≡ has_come (counts_at p.tables.holdings.nodes) leaf.row.node n) (whole : IsWhole t) (later : AreLater t)
+      (placed : (n : ℕ) → value_in values n ≡ with_value true leaf.row.node.0 x (value_in p.values) n) where
+    abbrev after : PagerView N S E
+    after = record p { tables = t; values = values }
+
+    abbrev w' : Core
+    w' = core_in tells after
+
+    abbrev v : Values N
+    v = says p.environment
+
+    abbrev l : LoadNumber
+    l = record { 0 = w.last.load + 1 }
+
+    leaf-ends : PinsLeaf w Owner.Caller leaf.row leaf.key leaf.node_type k w'
+    leaf-ends = ends (tells.stored p.storage) (tells.closed p.storage) (tells.failed p.storage)
+
+    abbrev mid : PagerState N E
+    mid = at-core leaf-ends.begun
+
+    mid-whole : WellFormed v mid
+    mid-whole = begun-whole leaf-ends.begun leaf.row.number l leaf.key leaf-ends.begins leaf-ends.placed
+
+    may : MayEnd leaf-ends.begun Owner.Caller l leaf.row.node leaf.row.number (v.node_type x) (v.references x)
+    may = subst (λ q. MayEnd leaf-ends.begun Owner.Caller l leaf.row.node leaf.row.number q (v.references x)) (sym typed)
+        (subst (λ rs. MayEnd leaf-ends.begun Owner.Caller l leaf.row.node leaf.row.number leaf.node_type rs) (sym bare) leaf-ends.may)
+
+    installs : Installs leaf-ends.begun Owner.Caller l leaf.row.node leaf.row.number k (v.references x) w'
+    installs = subst (λ rs. Installs leaf-ends.begun Owner.Caller l leaf.row.node leaf.row.number k rs w') (sym bare) leaf-ends.ends
+
+    swept : (n : ℕ) → value_in values n ≡ (if is_some (w'.cells n) && is_here w' n then updated leaf.row.node.0 (Some x) (value_in p.values) n else None)
+    swept n =
+        let here = here-told (counts_at t.holdings.nodes n) w' n refl (sym (whole.steady.fits.pinned n)) in
+        let was = is.state.valued n ∙ here-in is n in
+        let comes = come n in
+        let is-placed = placed n in
+        grind (arith, nat_tests, cases_eq)
+
+    pub pinned-so : IsPager tells says after
+    pinned-so = in-step after whole later (λ right. installed_away {s = mid} {s' = state_in tells after} mid-whole may installs leaf-ends.away (record { swept = swept; right = right }))
+
+    comes : (n : ℕ) (y : N) → value_in values n ≡ Some y → (value_in p.values n ≡ Some y) ⊎ ((value_in p.values n ≡ None) × ((y ≡ x) × IsCellOf mid.core l n))
+    comes n y some =
+        let cell : leaf.row.node.0 ≡ n → IsCellOf mid.core l n = λ m.
+        record { load = may.load; node = leaf.row.node; t = v.node_type x; h = leaf.row.number; open_load = may.owned.stands_open; root = may.of_node; is = m } in
+        let none : value_in p.values leaf.row.node.0 ≡ None = (let a = is.state.valued leaf.row.node.0 in let b = found.away in grind (arith, nat_tests)) in
+        let s = placed n in
+        grind (arith, nat_tests, cases_eq)
+
+    pub pinned-told : LeafPinned v (state_in tells p) leaf x k (state_in tells after)
+    pinned-told = record {
+      l = l;
+      mid = mid;
+      begun = leaf-begun leaf leaf-ends.begun l leaf-ends.begins leaf-ends.opened leaf-ends.placed;
+      ends = record { step = record { installs = (leaf.row.node, leaf.row.number, may, installs); refused = tt }; moves = record { each = comes; environment = refl }; whole = pinned-so.state };
+    }
+
+-- ---- a load that begins once the blob has come is one that began before, and got it
+
+module _ {N E : Type 0} (v : Values N) (s s1 mid1 : PagerState N E) (leaf : Leaf) (l : LoadNumber) (r : Result Blob Error) (fetched : FetchCall s.core leaf.key r s1.core)
+    (values : (n : ℕ) → s1.values n ≡ s.values n) (same : s1.environment ≡ s.environment) (begun : LeafBegun v s1 leaf l mid1) where
+  -- as it was before the storage was asked
+  abbrev core : Core
+  core = record mid1.core { stored = s.core.stored; closed = s.core.closed; failures = s.core.failures }
+
+  abbrev mid : PagerState N E
+  mid = record { core = core; counts = mid1.counts; values = mid1.values; environment = mid1.environment }
+
+  began-before : BeginCall s.core Owner.Caller leaf.row.number (Ok (Beginning.Load l leaf.key)) core
+  began-before =
+      let (row, owns, (away, keyed, next, left, (t, typed, a))) = begun.begins.step.begins in
+      let f = fetched.asked.leaves in
+      record {
+        begins = (row, record { live = grind (arith, nat_tests, f.rows); own = owns.own; as_asked = owns.as_asked }, (grind (arith, nat_tests, f.rows, f.cells), grind (arith, nat_tests, f.cells),
+            record { above = grind (arith, nat_tests, f.last); is_left = grind (arith, nat_tests, f.last) }, grind (arith, nat_tests, f.last), (t, grind (arith, nat_tests, f.cells), record {
+          rows = grind (arith, nat_tests, f.rows, f.last, a.rows);
+          cells = λ n. a.cells n ∙ f.cells n;
+          list = a.list ∙ f.list;
+          cache = record { gives = λ kind key. grind (arith, nat_tests, a.cache.gives, f.cache.gives); only = λ kind key n here. f.cache.only kind key n (a.cache.only kind key n here) };
+          stored = λ key. refl;
+          closed = refl;
+          failures = refl;
+          loads = λ q. grind (arith, nat_tests, a.loads, f.loads, f.last);
+          workers = λ u. a.workers u ∙ f.workers u;
+          last = grind (arith, nat_tests, a.last, f.last);
+          places = record { handles = grind (arith, a.places.handles, f.places.handles); entries = grind (arith, a.places.entries, f.places.entries) };
+        })));
+        refused = tt;
+      }
+
+  abbrev load : OpenLoad
+  load = record { owner = Owner.Caller; key = leaf.key; root = of_cell leaf.row.node leaf.node_type leaf.row.number }
+
+  closed-is : mid1.core.closed ≡ s.core.closed
+  closed-is = let (row, owns, (away, keyed, next, left, (t, typed, a))) = begun.begins.step.begins in a.closed ∙ fetched.asked.leaves.closed
+
+  failures-are : mid1.core.failures ≡ s1.core.failures
+  failures-are = let (row, owns, (away, keyed, next, left, (t, typed, a))) = begun.begins.step.begins in a.failures
+
+  stored-is : (key : ℕ) → mid1.core.stored key ≡ s.core.stored key
+  stored-is key = let (row, owns, (away, keyed, next, left, (t, typed, a))) = begun.begins.step.begins in a.stored key ∙ fetched.asked.leaves.stored key
+
+  mid-before : WellFormed v mid
+  mid-before =
+      let b = begun.begins.whole in
+      let is = b.whole in
+      let h = is.handles in
+      let o = is.owners_there in
+      let n = is.loads in
+      record {
+        whole = record {
+          handles = record { ordered = h.ordered; numbered = h.numbered; nodes_numbered = h.nodes_numbered; within = h.within; live = h.live; uniform = h.uniform; unkeyed = h.unkeyed; places = h.places };
+          owners_there = record { listed = o.listed; waiting = o.waiting; loads = o.loads; workers = o.workers };
+          loads = record { numbered = n.numbered; owned = n.owned; roots = λ m open_load node k q e root. let r = n.roots m open_load node k q e root in record { typed = r.typed; begun = r.begun; given = r.given } };
+          cache = λ kind key m known. let c = is.cache kind key m known in record { given = c.given; typed = c.typed; shares = c.shares };
+          workers_numbered = is.workers_numbered;
+          shut = λ shut. is.shut (closed-is ∙ shut);
+        };
+        counted = b.counted;
+        valued = b.valued;
+        typed = b.typed;
+        inside = b.inside;
+        bare = b.bare;
+        references = λ m x ref has among. let q = b.references m x ref has among in record { row = q.row; live = q.live; at = q.at; owned = q.owned; fits = q.fits; typed = q.typed };
+      }
+
+  got : FetchCall core leaf.key r mid1.core
+  got = record {
+    asked = record {
+      fails = subst (λ n. s.core.failures ≤ n) (sym failures-are) fetched.asked.fails;
+      leaves = record {
+        rows = refl;
+        cells = λ n. refl;
+        list = refl;
+        cache = record { gives = λ kind key. refl; only = λ kind key n here. here };
+        stored = stored-is;
+        closed = closed-is;
+        failures = refl;
+        loads = λ q. refl;
+        workers = λ u. refl;
+        last = refl;
+        places = record { handles = omega arith; entries = omega arith };
+      };
+    };
+    found = fetched.found;
+    refused = subst (λ n. IfErr r (λ e. RefusesFetch leaf.key (s.core.stored leaf.key) s.core.failures n e)) (sym failures-are) fetched.refused;
+  }
+
+  starts : LoadStarts v s leaf.row.number (fresh l leaf.node_type) mid
+  starts = record {
+    key = leaf.key;
+    begins = record {
+      step = began-before;
+      moves = record { each = λ n x has. elim (begun.begins.moves.each n x has) [ inl was ↦ inl (sym (values n) ∙ was) | inr (none, never) ↦ absurd never ]; environment = begun.begins.moves.environment ∙ same };
+      whole = mid-before;
+    };
+    is = ap (reading_of_load l) begun.opened;
+  }
+
+  -- the blob has come
+  module _ (blob : Blob) (of_blob : r ≡ Ok blob) where
+    abbrev frames : List Frame
+    frames = root_frame leaf.key leaf.node_type blob ∷ []
+
+    abbrev rooted : Reading
+    rooted = gone_on (fresh l leaf.node_type) frames
+
+    is-rooted : rooted ≡ rooted_reading l leaf.key leaf.node_type blob
+    is-rooted = ap (λ n. record { load = l; node_type = leaf.node_type; frames = frames; steps = n }) (grind (arith, nat_tests))
+
+    step-root : ReadingStep v Owner.Caller (fresh l leaf.node_type) mid None frames mid1
+    step-root = record {
+      does = record { does = inl (record {
+        load = load;
+        blob = blob;
+        first = refl;
+        open_load = begun.opened;
+        asked = record { gives = (load, record { stands_open = begun.opened; own = refl }, subst (λ q. FetchCall core leaf.key q mid1.core) of_blob got); refused = tt };
+        goes = refl;
+      }) };
+      moves = record { each = λ n x has. inl has; environment = refl };
+      holds = λ well. record { each = λ n x has. inl has; environment = refl };
+      answers = tt;
+      whole = begun.begins.whole;
+    }
+
+    goes : (answer : LoadAnswer N) (u : PagerState N E) → LoadRun v Owner.Caller rooted mid1 answer u → LoadRun v Owner.Caller (fresh l leaf.node_type) mid answer u
+    goes answer u run = load-goes-on (fresh l leaf.node_type) frames answer mid mid1 u step-root run
+
+    pub loads-root : LoadsRoot v s leaf.row.number l leaf.key leaf.node_type blob mid1
+    loads-root = record {
+      node = leaf.row.node;
+      opened = begun.opened;
+      pins = λ k u run. load-pins k (fresh l leaf.node_type) mid u starts (goes (LoadAnswer.Pinned k) u (subst (λ q. LoadRun v Owner.Caller q mid1 (LoadAnswer.Pinned k) u) (sym is-rooted) run));
+      fails = λ e u run. load-fails e (fresh l leaf.node_type) mid u starts (goes (LoadAnswer.Refused e) u (subst (λ q. LoadRun v Owner.Caller q mid1 (LoadAnswer.Refused e) u) (sym is-rooted) run));
+    }
+
+    -- it is read, and the load ends with its value
+    module _ (x : N) (k : HandleNumber) (u : PagerState N E) (read : IsReadAs v leaf.node_type blob [] x) (bare : v.references x ≡ [])
+        (ends : Brings v (λ w'. EndCall mid1.core Owner.Caller l x (v.node_type x) (v.references x) (Ok k) w') (λ n y. (y ≡ x) × IsCellOf mid1.core l n) mid1 u) where
+      reads-root : ReadsRoot v rooted x
+      reads-root = record { root = root_frame leaf.key leaf.node_type blob; frames = refl; decoded = record { own = read.own; read = read.read; typed = read.typed; means = read.means } }
+
+      holds-none : (y : N) → y ≡ x → HoldsItsNodes v mid1 y
+      holds-none y is ref among eager = absurd (let rs : v.references y ≡ [] = ap v.references is ∙ bare in let (i, at) = among in let none : slice_get [] i ≡ Some ref = subst (λ (zs : List ArcRef). slice_get zs i ≡ Some ref) rs at in cc)
+
+      step-end : ReadingStep v Owner.Caller rooted mid1 (Some (LoadAnswer.Pinned k)) [] u
+      step-end = record {
+        does = record { does = (record { x = x; reads_root = reads-root; of_cell_load = record { load = load; open_load = begun.opened; sort = tt }; ended = ends.step }, refl) };
+        moves = record {
+          each = λ n y some. elim (ends.moves.each n y some) [
+            | inl was ↦ inl was
+            | inr (none, (is, cell)) ↦ inr (none, inr (subst (λ z. ReadsRoot v rooted z) (sym is) reads-root, cell))
+          ];
+          environment = ends.moves.environment;
+        };
+        holds = λ well. record {
+          each = λ n y some. elim (ends.moves.each n y some) [
+            | inl was ↦ inl was
+            | inr (none, (is, cell)) ↦ inr (none, holds-none y is)
+          ];
+          environment = ends.moves.environment;
+        };
+        answers = tt;
+        whole = ends.whole;
+      }
+
+      pub pins-run : PinRun v s leaf.row.number (Ok k) u
+      pins-run = load-pins k (fresh l leaf.node_type) mid u starts (goes (LoadAnswer.Pinned k) u (load-ends rooted (LoadAnswer.Pinned k) mid1 u step-end))
+
+    -- memory is wanting for it
+    module _ (u : PagerState N E) (closes : Called v (λ w'. LoadCloses mid1.core l (Ok tt) w') mid1 u) where
+      step-wanting : ReadingStep v Owner.Caller rooted mid1 (Some (LoadAnswer.Refused Error.OutOfMemory)) [] u
+      step-wanting = record {
+        does = record { does = (inl (record { mid = mid1.core; meets = inl (inr (inr refl), still mid1.core); told = Ok tt; closes = closes.step }), refl) };
+        moves = record { each = λ n y some. elim (closes.moves.each n y some) [ inl was ↦ inl was | inr (none, never) ↦ absurd never ]; environment = closes.moves.environment };
+        holds = λ well. record { each = λ n y some. elim (closes.moves.each n y some) [ inl was ↦ inl was | inr (none, never) ↦ absurd never ]; environment = closes.moves.environment };
+        answers = tt;
+        whole = closes.whole;
+      }
+
+      pub wanting-run : PinRun v s leaf.row.number (Err Error.OutOfMemory) u
+      wanting-run = load-fails Error.OutOfMemory (fresh l leaf.node_type) mid u starts
+          (goes (LoadAnswer.Refused Error.OutOfMemory) u (load-ends rooted (LoadAnswer.Refused Error.OutOfMemory) mid1 u step-wanting))
+
+  -- the storage refuses the blob
+  module _ (e : Error) (u : PagerState N E) (of_error : r ≡ Err e) (closes : Called v (λ w'. LoadCloses mid1.core l (Ok tt) w') mid1 u) where
+    step-refused : ReadingStep v Owner.Caller (fresh l leaf.node_type) mid (Some (LoadAnswer.Refused e)) [] u
+    step-refused = record {
+      does = record { does = (inl (record {
+        mid = mid1.core;
+        meets = inr (inl (refl, record { gives = tt; refused = inr (load, record { stands_open = begun.opened; own = refl }, subst (λ q. FetchCall core leaf.key q mid1.core) of_error got) }));
+        told = Ok tt;
+        closes = closes.step;
+      }), refl) };
+      moves = record { each = λ n y some. elim (closes.moves.each n y some) [ inl was ↦ inl was | inr (none, never) ↦ absurd never ]; environment = closes.moves.environment };
+      holds = λ well. record { each = λ n y some. elim (closes.moves.each n y some) [ inl was ↦ inl was | inr (none, never) ↦ absurd never ]; environment = closes.moves.environment };
+      answers = tt;
+      whole = closes.whole;
+    }
+
+    pub refused-run : PinRun v s leaf.row.number (Err e) u
+    refused-run = load-fails e (fresh l leaf.node_type) mid u starts (load-ends (fresh l leaf.node_type) (LoadAnswer.Refused e) mid u step-refused)
