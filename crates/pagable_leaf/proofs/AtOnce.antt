@@ -9,7 +9,7 @@ use Rattle.pagable_tables.proofs.{Worlds.{alike-on, moved-nobody, named-none, ow
 use Rattle.pagable_leaf.proofs.Words.{times, true, type_at, updated, with_handle, with_load, with_mode, with_pin, with_tables, without_load, ℕ, ◌&&◌, ◌++◌, ◌+◌, ◌<◌, ◌==◌, ◌∙◌, ◌∷◌, ◌≡◌, ◌≤◌}
 use Rattle.pagable_tables.proofs.{Told.none-named}
 use Rattle.pagable_leaf.proofs.Words.{Last, length-append, length-map}
-use Rattle.pagable_tables.specs.Core.ArePlaced
+use Rattle.pagable_tables.specs.Core.{ArePlaced}
 use Rattle.{pagable_leaf.specs.Leaf.{PinsLeaf, with_numbers}, pagable_tables.specs.Core.IsWhole}
 use Rattle.pagable_world.specs.{declared.answers.Beginning.Beginning, World.key_at}
 
@@ -218,6 +218,9 @@ module _ (t t1 : Tables) (stored : ℕ → Option Blob) (closed lists : Bool) (f
         refused = tt;
       }
 
+      opened : begun.loads (w.last.load + 1) ≡ Some (record { owner = me; key = key; root = of_cell row.node type row.number })
+      opened = grind (arith, nat_tests)
+
       may : MayEnd begun me l row.node row.number type []
       may = record { load = record { owner = me; key = key; root = of_cell row.node type row.number }; owned = record { stands_open = grind (arith, nat_tests); own = refl }; of_node = refl; good = none-named begun (Owner.Load l) [] refl }
 
@@ -237,4 +240,4 @@ module _ (t t1 : Tables) (stored : ℕ → Option Blob) (closed lists : Bool) (f
           live-still = found-append row.number.0 w.rows (guard ∷ []) ∙ ap (λ o. or_else o (find_row row.number.0 (guard ∷ []))) owned.live
 
       pub pins-leaf : (k : HandleNumber) → k.0 ≡ g + 1 → PinsLeaf w me row key type k w'
-      pins-leaf k is = record { begun = begun; begins = begins; opened = may.owned.stands_open; placed = placed; away = away-still; may = may; ends = ends k is }
+      pins-leaf k is = record { begun = begun; begins = begins; opened = opened; placed = placed; away = away-still; may = may; ends = ends k is }

@@ -3,7 +3,7 @@ use Rattle.{pagable_leaf.specs.declared.leaf.Leaf.Leaf, pagable_core.specs.Data.
 use Rattle.pagable_world.specs.{Access.{Called, LoadRun, PinRun}, Calls.FetchCall, LoadCalls.{BeginCall, EndCall, LoadCloses}, Loads.root_frame, Pager.{IsCellOf, PagerState}, World.{Reading, Values, of_cell}}
 use Rattle.{pagable_model.specs.declared.error.Error.Error, pagable_world.specs.declared.{answers.Beginning.Beginning, events.LoadAnswer.LoadAnswer, handles.Owner.Owner}}
 use Rattle.std.specs.{Arc.arc_value, Prelude.{Err, IfErr, IfOk, None, Ok, Option, Result, Some, [], true, ℕ, ◌∷◌, ◌≡◌}}
-use Rattle.pagable_pager.specs.declared.pager.leaf.LeafPin.LeafPin
+use Rattle.pagable_pager.specs.declared.pager.leaf.LeafPin.{LeafPin}
 
 -- the blob of the cell has come, and no value with it
 pub record LeafFetched {N E : Type 0} (v : Values N) (s : PagerState N E) (leaf : Leaf) (blob : Blob) (s' : PagerState N E) : Type 0 where

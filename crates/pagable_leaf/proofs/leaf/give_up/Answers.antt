@@ -1,4 +1,4 @@
-use Rattle.pagable_leaf.proofs.GivenUp.drops-leaf
+use Rattle.pagable_leaf.proofs.GivenUp.{drops-leaf}
 use Rattle.pagable_leaf.proofs.Words.{Tables, core_of, not, refl, subst, sym}
 use Rattle.pagable_leaf.proofs.leaf.give_up.Goals as goal
 use Rattle.{pagable_leaf.specs.Leaf.DropsLeaf, pagable_tables.specs.Core.IsWhole}
