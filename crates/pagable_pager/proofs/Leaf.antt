@@ -1,12 +1,12 @@
 -- Cells that are pinned at once: the loads that this stands for leave the pager well-formed at each step, and are a pin's run.
 use Rattle.pagable_pager.proofs.Keeping.{here-in, here-told, in-step}
-use Rattle.pagable_pager.specs.{Leaf.{LeafBegun, LeafDropped, LeafFetched, LeafPinned, LoadsRoot, rooted_reading}, View.{IsPager, PagerView, Telling, ValuesByNode, core_in, state_in, value_in, with_value}}
-use Rattle.{pagable_leaf.specs.{Leaf.{DropsLeaf, IsLeaf, PinsLeaf}, declared.leaf.Leaf.Leaf}, pagable_loads.specs.{Decoding.IsReadAs, Telling.Brings}, pagable_steps.proofs.Owning.{IsShut, Leaves, begins, installed_away, load_closed, spared}}
-use Rattle.{pagable_laws.proofs.Trees.same_some, pagable_model.specs.{Stored.RefusesFetch, declared.{error.Error.Error, numbers.{ArcRef.ArcRef, HandleNumber.HandleNumber, LoadNumber.LoadNumber}}}, pagable_tables.proofs.{Calls.begin-whole, Told.opened, Worlds.still}}
+use Rattle.pagable_pager.specs.{Leaf.{LeafBegun, LeafDropped, LeafFetched, LeafPinned, LeafUnbegun, LoadsRoot, rooted_reading}, View.{IsPager, OnlyStorage, PagerView, Telling, ValuesByNode, core_in, state_in, value_in, with_value}}
+use Rattle.{pagable_leaf.specs.{Leaf.{DropsLeaf, IsLeaf, PinsLeaf}, declared.leaf.Leaf.Leaf}, pagable_loads.specs.{Decoding.IsReadAs, Starting.is_unpinned_at, Telling.Brings}, pagable_steps.proofs.Owning.{IsShut, Leaves, begins, installed_away, load_closed, pinned-here, spared}}
+use Rattle.{pagable_laws.proofs.{Taking.row-pins, Trees.same_some}, pagable_model.specs.{Stored.RefusesFetch, declared.{error.Error.Error, numbers.{ArcRef.ArcRef, HandleNumber.HandleNumber, LoadNumber.LoadNumber, NodeNumber.NodeNumber}}}, pagable_tables.proofs.{Calls.begin-whole, Told.opened, Worlds.{alike-on, still}}}
 use Rattle.pagable_tables.specs.{Core.{AreLater, ArePlaced, Does, IsWhole, OnlyRoom, core_of}, Falling.{counts_at, has_value}, Ready.has_come, declared.tables.Tables.Tables}
-use Rattle.pagable_world.specs.{Access.{Called, LoadRun, LoadStarts, PinRun, ReadingStep, load-ends, load-fails, load-goes-on, load-pins}, Calls.{FetchCall, row_of}, Kinds.{is_pin, pins}, LoadCalls.{AskCall, BeginCall, EndCall}}
+use Rattle.pagable_world.specs.{Access.{Called, LoadRun, LoadStarts, PinRun, ReadingStep, load-ends, load-fails, load-goes-on, load-is-refused, load-pins}, Calls.{FetchCall, row_of, with_handle}, Kinds.{is_pin, pins}, LoadCalls.{AskCall, BeginCall, EndCall, with_load}}
 use Rattle.pagable_world.specs.{LoadCalls.{Installs, LoadCloses, MayEnd, from_store}, Loads.{GivesUp, IsDecoded, ReadsRoot, gone_on, root_frame}, Pager.{HoldsItsNodes, IsCellOf, Moves, PagerState, WellFormed}, Plain.{Blob, one, updated}}
-use Rattle.pagable_world.specs.{Events.reading_of_load, Workers.fresh, World.{Core, Frame, OpenLoad, Reading, Values, is_here, of_cell}, declared.{answers.Beginning.Beginning, calls.Want.Want, events.LoadAnswer.LoadAnswer, handles.{HandleRow.HandleRow, Owner.Owner}, rows.Mode.Mode}}
+use Rattle.pagable_world.specs.{Events.reading_of_load, Workers.fresh, World.{Alike, Core, Frame, OpenLoad, Reading, Root, Values, is_here, of_cell, usable}, declared.{answers.Beginning.Beginning, calls.Want.Want, events.LoadAnswer.LoadAnswer, handles.{HandleRow.HandleRow, Owner.Owner}, rows.Mode.Mode}}
 use Rattle.std.proofs.Common.{Bool, Err, List, None, Ok, Option, Result, Some, [], ap, arith, false, if◌then◌else◌, inl, inr, refl, rules, subst, sym, true, ℕ, ◌&&◌, ◌++◌, ◌+◌, ◌<◌, ◌==◌, ◌∙◌, ◌∷◌, ◌≡◌, ◌≤◌}
 use Rattle.std.{proofs.lemmas.{Bool.{Decides.nat_tests, cases_eq}, List.Sums.sum_by_push}, specs.Prelude.{IfErr, is_some, slice_get, ◌⊎◌}}
 use Rattle.pagable_world.specs.Pager as pager
@@ -145,14 +145,21 @@ module _ {N S E : Type 0} {tells : Telling S} {says : E → Values N} {p : Pager
 
 -- ---- a load that begins once the blob has come is one that began before, and got it
 
+-- what the cache gives is the same once a load of a cell is open
+loaded-usable : (w : Core) (node : NodeNumber) (l : LoadNumber) (key : ℕ) (root : Root) (kind q : ℕ) → usable (with_load (with_handle w node Mode.LooseUnpinned (Owner.Load l)) key root Owner.Caller) kind q ≡ usable w kind q
+loaded-usable w node l key root kind q =
+    let guard = row_of (w.last.handle + 1) node Mode.LooseUnpinned (Owner.Load l) in
+    let more : (n : ℕ) → pins n (w.rows ++ guard ∷ []) ≡ pins n w.rows = λ n. (let s = sum_by_push (λ x. one (is_pin n x)) w.rows guard in grind (arith, nat_tests)) in
+    grind (arith, nat_tests, more)
+
 module _ {N E : Type 0} (v : Values N) (s s1 mid1 : PagerState N E) (leaf : Leaf) (l : LoadNumber) (r : Result Blob Error) (fetched : FetchCall s.core leaf.key r s1.core)
     (values : (n : ℕ) → s1.values n ≡ s.values n) (same : s1.environment ≡ s.environment) (begun : LeafBegun v s1 leaf l mid1) where
   -- as it was before the storage was asked
   abbrev core : Core
   core = record mid1.core { stored = s.core.stored; closed = s.core.closed; failures = s.core.failures }
 
-  abbrev mid : PagerState N E
-  mid = record { core = core; counts = mid1.counts; values = mid1.values; environment = mid1.environment }
+  abbrev before : PagerState N E
+  before = record { core = core; counts = mid1.counts; values = mid1.values; environment = mid1.environment }
 
   began-before : BeginCall s.core Owner.Caller leaf.row.number (Ok (Beginning.Load l leaf.key)) core
   began-before =
@@ -164,7 +171,8 @@ module _ {N E : Type 0} (v : Values N) (s s1 mid1 : PagerState N E) (leaf : Leaf
           rows = grind (arith, nat_tests, f.rows, f.last, a.rows);
           cells = λ n. a.cells n ∙ f.cells n;
           list = a.list ∙ f.list;
-          cache = record { gives = λ kind key. grind (arith, nat_tests, a.cache.gives, f.cache.gives); only = λ kind key n here. f.cache.only kind key n (a.cache.only kind key n here) };
+          cache = record { gives = λ kind key. a.cache.gives kind key ∙ loaded-usable s1.core row.node l leaf.key (of_cell row.node t leaf.row.number) kind key ∙ f.cache.gives kind key
+              ∙ sym (loaded-usable s.core row.node l leaf.key (of_cell row.node t leaf.row.number) kind key); only = λ kind key n here. f.cache.only kind key n (a.cache.only kind key n here) };
           stored = λ key. refl;
           closed = refl;
           failures = refl;
@@ -188,8 +196,8 @@ module _ {N E : Type 0} (v : Values N) (s s1 mid1 : PagerState N E) (leaf : Leaf
   stored-is : (key : ℕ) → mid1.core.stored key ≡ s.core.stored key
   stored-is key = let (row, owns, (away, keyed, next, left, (t, typed, a))) = begun.begins.step.begins in a.stored key ∙ fetched.asked.leaves.stored key
 
-  mid-before : WellFormed v mid
-  mid-before =
+  before-whole : WellFormed v before
+  before-whole =
       let b = begun.begins.whole in
       let is = b.whole in
       let h = is.handles in
@@ -234,13 +242,13 @@ module _ {N E : Type 0} (v : Values N) (s s1 mid1 : PagerState N E) (leaf : Leaf
     refused = subst (λ n. IfErr r (λ e. RefusesFetch leaf.key (s.core.stored leaf.key) s.core.failures n e)) (sym failures-are) fetched.refused;
   }
 
-  starts : LoadStarts v s leaf.row.number (fresh l leaf.node_type) mid
+  starts : LoadStarts v s leaf.row.number (fresh l leaf.node_type) before
   starts = record {
     key = leaf.key;
     begins = record {
       step = began-before;
       moves = record { each = λ n x has. elim (begun.begins.moves.each n x has) [ inl was ↦ inl (sym (values n) ∙ was) | inr (none, never) ↦ absurd never ]; environment = begun.begins.moves.environment ∙ same };
-      whole = mid-before;
+      whole = before-whole;
     };
     is = ap (reading_of_load l) begun.opened;
   }
@@ -256,7 +264,7 @@ module _ {N E : Type 0} (v : Values N) (s s1 mid1 : PagerState N E) (leaf : Leaf
     is-rooted : rooted ≡ rooted_reading l leaf.key leaf.node_type blob
     is-rooted = ap (λ n. record { load = l; node_type = leaf.node_type; frames = frames; steps = n }) (grind (arith, nat_tests))
 
-    step-root : ReadingStep v Owner.Caller (fresh l leaf.node_type) mid None frames mid1
+    step-root : ReadingStep v Owner.Caller (fresh l leaf.node_type) before None frames mid1
     step-root = record {
       does = record { does = inl (record {
         load = load;
@@ -272,15 +280,15 @@ module _ {N E : Type 0} (v : Values N) (s s1 mid1 : PagerState N E) (leaf : Leaf
       whole = begun.begins.whole;
     }
 
-    goes : (answer : LoadAnswer N) (u : PagerState N E) → LoadRun v Owner.Caller rooted mid1 answer u → LoadRun v Owner.Caller (fresh l leaf.node_type) mid answer u
-    goes answer u run = load-goes-on (fresh l leaf.node_type) frames answer mid mid1 u step-root run
+    goes : (answer : LoadAnswer N) (u : PagerState N E) → LoadRun v Owner.Caller rooted mid1 answer u → LoadRun v Owner.Caller (fresh l leaf.node_type) before answer u
+    goes answer u run = load-goes-on (fresh l leaf.node_type) frames answer before mid1 u step-root run
 
     pub loads-root : LoadsRoot v s leaf.row.number l leaf.key leaf.node_type blob mid1
     loads-root = record {
       node = leaf.row.node;
       opened = begun.opened;
-      pins = λ k u run. load-pins k (fresh l leaf.node_type) mid u starts (goes (LoadAnswer.Pinned k) u (subst (λ q. LoadRun v Owner.Caller q mid1 (LoadAnswer.Pinned k) u) (sym is-rooted) run));
-      fails = λ e u run. load-fails e (fresh l leaf.node_type) mid u starts (goes (LoadAnswer.Refused e) u (subst (λ q. LoadRun v Owner.Caller q mid1 (LoadAnswer.Refused e) u) (sym is-rooted) run));
+      pins = λ k u run. load-pins k (fresh l leaf.node_type) before u starts (goes (LoadAnswer.Pinned k) u (subst (λ q. LoadRun v Owner.Caller q mid1 (LoadAnswer.Pinned k) u) (sym is-rooted) run));
+      fails = λ e u run. load-fails e (fresh l leaf.node_type) before u starts (goes (LoadAnswer.Refused e) u (subst (λ q. LoadRun v Owner.Caller q mid1 (LoadAnswer.Refused e) u) (sym is-rooted) run));
     }
 
     -- it is read, and the load ends with its value
@@ -314,7 +322,7 @@ module _ {N E : Type 0} (v : Values N) (s s1 mid1 : PagerState N E) (leaf : Leaf
       }
 
       pub pins-run : PinRun v s leaf.row.number (Ok k) u
-      pins-run = load-pins k (fresh l leaf.node_type) mid u starts (goes (LoadAnswer.Pinned k) u (load-ends rooted (LoadAnswer.Pinned k) mid1 u step-end))
+      pins-run = load-pins k (fresh l leaf.node_type) before u starts (goes (LoadAnswer.Pinned k) u (load-ends rooted (LoadAnswer.Pinned k) mid1 u step-end))
 
     -- memory is wanting for it
     module _ (u : PagerState N E) (closes : Called v (λ w'. LoadCloses mid1.core l (Ok tt) w') mid1 u) where
@@ -328,12 +336,12 @@ module _ {N E : Type 0} (v : Values N) (s s1 mid1 : PagerState N E) (leaf : Leaf
       }
 
       pub wanting-run : PinRun v s leaf.row.number (Err Error.OutOfMemory) u
-      wanting-run = load-fails Error.OutOfMemory (fresh l leaf.node_type) mid u starts
+      wanting-run = load-fails Error.OutOfMemory (fresh l leaf.node_type) before u starts
           (goes (LoadAnswer.Refused Error.OutOfMemory) u (load-ends rooted (LoadAnswer.Refused Error.OutOfMemory) mid1 u step-wanting))
 
   -- the storage refuses the blob
   module _ (e : Error) (u : PagerState N E) (of_error : r ≡ Err e) (closes : Called v (λ w'. LoadCloses mid1.core l (Ok tt) w') mid1 u) where
-    step-refused : ReadingStep v Owner.Caller (fresh l leaf.node_type) mid (Some (LoadAnswer.Refused e)) [] u
+    step-refused : ReadingStep v Owner.Caller (fresh l leaf.node_type) before (Some (LoadAnswer.Refused e)) [] u
     step-refused = record {
       does = record { does = (inl (record {
         mid = mid1.core;
@@ -348,4 +356,102 @@ module _ {N E : Type 0} (v : Values N) (s s1 mid1 : PagerState N E) (leaf : Leaf
     }
 
     pub refused-run : PinRun v s leaf.row.number (Err e) u
-    refused-run = load-fails e (fresh l leaf.node_type) mid u starts (load-ends (fresh l leaf.node_type) (LoadAnswer.Refused e) mid u step-refused)
+    refused-run = load-fails e (fresh l leaf.node_type) before u starts (load-ends (fresh l leaf.node_type) (LoadAnswer.Refused e) before u step-refused)
+
+-- ---- what the pager's calls are told by
+
+pub leaf-in : {N S E : Type 0} (tells : Telling S) {p q : PagerView N S E} {leaf : Leaf} → p ≡ q → IsLeaf (core_in tells q) Owner.Caller leaf → IsLeaf (core_in tells p) Owner.Caller leaf
+leaf-in tells {leaf = leaf} viewed is = subst (λ x. IsLeaf (core_in tells x) Owner.Caller leaf) (sym viewed) is
+
+pub not-begun : {N S E : Type 0} (tells : Telling S) {says : E → Values N} (p : PagerView N S E) {t : Tables} {h : HandleNumber} {e : Error} → IsPager tells says (record p { tables = t })
+    → BeginCall (core_in tells p) Owner.Caller h (Err e) (core_in tells (record p { tables = t })) → PinRun (says p.environment) (state_in tells p) h (Err e) (state_in tells (record p { tables = t }))
+not-begun tells p {t} {e = e} is call = load-is-refused e (state_in tells (record p { tables = t })) (record { step = call; moves = record { each = λ n x has. inl has; environment = refl }; whole = is.state })
+
+unpinned-so : {w : Core} {leaf : Leaf} → pager.IsWhole w → IsLeaf w Owner.Caller leaf → is_unpinned_at w leaf.row.number ≡ true
+unpinned-so whole is = let live = is.owned.live in let away = is.away in grind (arith, nat_tests, pinned-here, row-pins)
+
+module _ {N S E : Type 0} {tells : Telling S} {says : E → Values N} {p p1 : PagerView N S E} (is : IsPager tells says p) (is1 : IsPager tells says p1) (t0 : Tables) (room : Does p.tables OnlyRoom t0) (leaf : Leaf)
+    (found : (stored : ℕ → Option Blob) (closed : Bool) (failures : ℕ) → IsLeaf (core_of t0 stored closed failures) Owner.Caller leaf) (r : Result Blob Error)
+    (asks : FetchCall (core_in tells (record p { tables = t0 })) leaf.key r (core_in tells p1)) (only : OnlyStorage (record p { tables = t0 }) p1) where
+  abbrev w0 : Core
+  w0 = core_in tells (record p { tables = t0 })
+
+  roomier-so : OnlyRoom (core_in tells p) w0
+  roomier-so = room.does (tells.stored p.storage) (tells.closed p.storage) (tells.failed p.storage)
+
+  fetched : FetchCall (core_in tells p) leaf.key r (core_in tells p1)
+  fetched =
+      let wider : FetchCall (record (core_in tells p) { places = w0.places }) leaf.key r (core_in tells p1) = subst (λ u. FetchCall u leaf.key r (core_in tells p1)) roomier-so.same asks in
+      let a = wider.asked.leaves in
+      let more = roomier-so.more in
+      record {
+        asked = record {
+          fails = wider.asked.fails;
+          leaves = record {
+            rows = a.rows;
+            cells = a.cells;
+            list = a.list;
+            cache = record { gives = a.cache.gives; only = a.cache.only };
+            stored = a.stored;
+            closed = a.closed;
+            failures = a.failures;
+            loads = a.loads;
+            workers = a.workers;
+            last = a.last;
+            places = record { handles = omega (arith, more.handles, a.places.handles); entries = omega (arith, more.entries, a.places.entries) };
+          };
+        };
+        found = wider.found;
+        refused = wider.refused;
+      }
+
+  sames : (n : ℕ) → value_in p1.values n ≡ value_in p.values n
+  sames n = ap (λ (values : ValuesByNode N). value_in values n) only.values
+
+  leaf-still : IsLeaf (core_in tells p) Owner.Caller leaf
+  leaf-still =
+      let f : IsLeaf w0 Owner.Caller leaf = found (tells.stored p.storage) (tells.closed p.storage) (tells.failed p.storage) in
+      let g : IsLeaf (record (core_in tells p) { places = w0.places }) Owner.Caller leaf = subst (λ u. IsLeaf u Owner.Caller leaf) roomier-so.same f in
+      record { owned = record { live = g.owned.live; own = g.owned.own; as_asked = g.owned.as_asked }; away = g.away; keyed = g.keyed; typed = g.typed; load_left = g.load_left; handles_left = g.handles_left }
+
+  pub fetch-told : (blob : Blob) → r ≡ Ok blob → LeafFetched (says p.environment) (state_in tells p) leaf blob (state_in tells p1)
+  fetch-told blob of_blob = record {
+    fetched = record {
+      step = subst (λ q. FetchCall (core_in tells p) leaf.key q (core_in tells p1)) of_blob fetched;
+      moves = record { each = λ n x has. inl (sym (sames n) ∙ has); environment = only.environment };
+      whole = subst (λ e. WellFormed (says e) (state_in tells p1)) only.environment is1.state;
+    };
+    values = sames;
+    unpinned = unpinned-so is.state.whole leaf-still;
+  }
+
+  pub fetch-refused : (e : Error) (u : PagerState N E) → r ≡ Err e → LeafDropped (says p1.environment) (state_in tells p1) leaf u → PinRun (says p.environment) (state_in tells p) leaf.row.number (Err e) u
+  fetch-refused e u of_error d =
+      let dropped : LeafDropped (says p.environment) (state_in tells p1) leaf u = subst (λ e. LeafDropped (says e) (state_in tells p1) leaf u) only.environment d in
+      refused-run (says p.environment) (state_in tells p) (state_in tells p1) dropped.mid leaf dropped.l r fetched sames only.environment dropped.begun e u of_error dropped.closes
+
+-- ---- one after the other, a pin's run
+
+module _ {N E : Type 0} {v : Values N} {s s1 u : PagerState N E} {leaf : Leaf} {blob : Blob} (f : LeafFetched v s leaf blob s1) where
+  pub pinned-run : {x : N} {k : HandleNumber} → IsReadAs v leaf.node_type blob [] x → v.references x ≡ [] → LeafPinned v s1 leaf x k u → PinRun v s leaf.row.number (Ok k) u
+  pinned-run {x} {k} read bare p = pins-run v s s1 p.mid leaf p.l (Ok blob) f.fetched.step f.values f.fetched.moves.environment p.begun blob refl x k u read bare p.ends
+
+  pub dropped-run : LeafDropped v s1 leaf u → PinRun v s leaf.row.number (Err Error.OutOfMemory) u
+  dropped-run d = wanting-run v s s1 d.mid leaf d.l (Ok blob) f.fetched.step f.values f.fetched.moves.environment d.begun blob refl u d.closes
+
+  pub begun-run : {l : LoadNumber} → LeafBegun v s1 leaf l u → LoadsRoot v s leaf.row.number l leaf.key leaf.node_type blob u
+  begun-run {l} b = loads-root v s s1 u leaf l (Ok blob) f.fetched.step f.values f.fetched.moves.environment b blob refl
+
+  pub unbegun-run : LeafUnbegun v s1 leaf u → PinRun v s leaf.row.number (Err Error.OutOfMemory) u
+  unbegun-run d =
+      let a = d.stays.step in
+      let g = f.fetched.step in
+      let again : FetchCall s.core leaf.key (Ok blob) d.between.core = record {
+        asked = record {
+          fails = subst (λ n. s.core.failures ≤ n) (sym a.failures) g.asked.fails;
+          leaves = subst (λ n. Alike (record s.core { failures = n }) d.between.core) (sym a.failures) (alike-on g.asked.leaves a);
+        };
+        found = g.found;
+        refused = tt;
+      } in
+      wanting-run v s d.between d.dropped.mid leaf d.dropped.l (Ok blob) again (λ n. d.same n ∙ f.values n) (d.stays.moves.environment ∙ f.fetched.moves.environment) d.dropped.begun blob refl u d.dropped.closes

@@ -1,6 +1,6 @@
 -- Cells that are pinned at once, and the loads of them that this stands for.
 use Rattle.{pagable_leaf.specs.declared.leaf.Leaf.Leaf, pagable_core.specs.Data.blob_of, pagable_loads.specs.{Starting.is_unpinned_at, Telling.Brings}, pagable_model.specs.{Blob.Blob, declared.numbers.{HandleNumber.HandleNumber, LoadNumber.LoadNumber, NodeNumber.NodeNumber}}}
-use Rattle.pagable_world.specs.{Access.{Called, LoadRun, PinRun}, Calls.FetchCall, LoadCalls.{BeginCall, EndCall, LoadCloses}, Loads.root_frame, Pager.{IsCellOf, PagerState}, World.{Reading, Values, of_cell}}
+use Rattle.pagable_world.specs.{Access.{Called, LoadRun, PinRun}, Calls.FetchCall, LoadCalls.{BeginCall, EndCall, LoadCloses}, Loads.root_frame, Pager.{IsCellOf, PagerState}, World.{Alike, Reading, Values, of_cell}}
 use Rattle.{pagable_model.specs.declared.error.Error.Error, pagable_world.specs.declared.{answers.Beginning.Beginning, events.LoadAnswer.LoadAnswer, handles.Owner.Owner}}
 use Rattle.std.specs.{Arc.arc_value, Prelude.{Err, IfErr, IfOk, None, Ok, Option, Result, Some, [], true, ℕ, ◌∷◌, ◌≡◌}}
 use Rattle.pagable_pager.specs.declared.pager.leaf.LeafPin.{LeafPin}
@@ -29,6 +29,13 @@ pub record LeafDropped {N E : Type 0} (v : Values N) (s : PagerState N E) (leaf 
   pub mid : PagerState N E
   pub begun : LeafBegun v s leaf l mid
   pub closes : Called v (λ w'. LoadCloses mid.core l (Ok tt) w') mid s'
+
+-- memory is wanting, and it began and was given up all the same
+pub record LeafUnbegun {N E : Type 0} (v : Values N) (s : PagerState N E) (leaf : Leaf) (s' : PagerState N E) : Type 0 where
+  pub between : PagerState N E
+  pub stays : Called v (λ w'. Alike s.core w') s between
+  pub same : (n : ℕ) → between.values n ≡ s.values n
+  pub dropped : LeafDropped v between leaf s'
 
 -- the reading of a load that has got its root's blob, by its first step
 abbrev pub rooted_reading : LoadNumber → ℕ → ℕ → Blob → Reading

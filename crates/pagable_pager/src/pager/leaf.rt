@@ -2,8 +2,8 @@
 
 ghost use Rattle.std.specs.{Arc.arc_value, Prelude.{Err, IfErr, IfNone, IfOk, IfSome, IsTrue, [], ◌≡◌, ◌≤◌}};
 ghost use Rattle.{pagable_core.specs.Data.blob_of, pagable_leaf.specs.Leaf.IsLeaf, pagable_loads.specs.{Decoding.IsReadAs, Telling.values_at}, pagable_tables.specs.Falling.room};
-ghost use Rattle.pagable_pager.specs.{Leaf.{LeafBegun, LeafDropped, LeafFetched, LeafPinned}, View.{core_in, state_in, telling}};
-ghost use Rattle.pagable_world.specs.Access.PinRun;
+ghost use Rattle.pagable_pager.specs.{Leaf.{LeafBegun, LeafDropped, LeafFetched, LeafPinned, LeafUnbegun}, View.{core_in, state_in, telling}};
+ghost use Rattle.pagable_world.specs.Access.{PinRun};
 
 use crate::pager::Pager;
 use crate::pager::births::place;
@@ -39,7 +39,10 @@ pub(crate) fn read_leaf<E: Env<Node: NodeSet<E>>, A: Access<E>>(
     if !blob.arcs.is_empty() {
         return None;
     }
-    let Decoded::Read(value) = decode(access, alloc, blob, node_type, &[], &[]) else {
+    let got = Vec::new(alloc);
+    let lent = Vec::new(alloc);
+    let read = decode(access, alloc, blob, node_type, got.as_slice(), lent.as_slice());
+    let Decoded::Read(value) = read else {
         return None;
     };
     let references = value.refs(alloc).ok()?;
@@ -68,8 +71,10 @@ impl<E: Env<Node: NodeSet<E>>, S: PagableStorage<E>> Pager<E, S> {
         ensures honest { IsTrue (S.is_honest self.new.storage) → IsTrue (S.is_honest self.old.storage) }
         ensures environment { self.new.environment ≡ self.old.environment }
     {
-        let Some(leaf) = leaf::prepare(&mut self.tables, Owner::Caller, handle)? else {
-            return Ok(None);
+        let leaf = match leaf::prepare(&mut self.tables, Owner::Caller, handle) {
+            Ok(Some(leaf)) => leaf,
+            Ok(None) => return Ok(None),
+            Err(e) => return Err(e),
         };
         match self.fetch(alloc, leaf.key) {
             Ok(blob) => Ok(Some((leaf, blob))),
@@ -89,14 +94,18 @@ impl<E: Env<Node: NodeSet<E>>, S: PagableStorage<E>> Pager<E, S> {
         requires place { 1 ≤ room self.old.tables.holdings.handles }
         ensures begun { IfOk result (λ l. LeafBegun (values_at E.Node.NodeSet E.Env E.Hash.KeyHash self.old.environment) (state_in (telling S.stored S.is_closed S.failed) self.old) leaf l
             (state_in (telling S.stored S.is_closed S.failed) self.new)) }
-        ensures dropped { IfErr result (λ e. (e ≡ Error.OutOfMemory) × LeafDropped (values_at E.Node.NodeSet E.Env E.Hash.KeyHash self.old.environment)
+        ensures dropped { IfErr result (λ e. (e ≡ Error.OutOfMemory) × LeafUnbegun (values_at E.Node.NodeSet E.Env E.Hash.KeyHash self.old.environment)
             (state_in (telling S.stored S.is_closed S.failed) self.old) leaf (state_in (telling S.stored S.is_closed S.failed) self.new)) }
         ensures storage { self.new.storage ≡ self.old.storage }
         ensures environment { self.new.environment ≡ self.old.environment }
     {
         match self.load_begin_by(Owner::Caller, leaf.row.number) {
-            Ok(Beginning::Load(load, _)) => Ok(load),
-            _ => {
+            Ok(Beginning::Load(load, _)) => {
+                self.is_whole();
+                Ok(load)
+            }
+            Ok(Beginning::InMemory) => unreachable!(),
+            Err(_) => {
                 leaf::give_up(&mut self.tables, Owner::Caller, leaf);
                 Err(Error::OutOfMemory)
             }
