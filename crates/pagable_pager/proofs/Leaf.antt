@@ -1,14 +1,14 @@
 -- Cells that are pinned at once: the loads that this stands for leave the pager well-formed at each step, and are a pin's run.
 use Rattle.pagable_pager.proofs.Keeping.{here-in, here-told, in-step}
-use Rattle.pagable_pager.specs.{Leaf.{LeafBegun, LeafDropped, LeafFetched, LeafPinned, LeafUnbegun, LoadsRoot, rooted_reading}, View.{IsPager, OnlyStorage, PagerView, Telling, ValuesByNode, core_in, state_in, value_in, with_value}}
-use Rattle.{pagable_leaf.specs.{Leaf.{DropsLeaf, IsLeaf, PinsLeaf}, declared.leaf.Leaf.Leaf}, pagable_loads.specs.{Decoding.IsReadAs, Starting.is_unpinned_at, Telling.Brings}, pagable_steps.proofs.Owning.{IsShut, Leaves, begins, installed_away, load_closed, pinned-here, spared}}
+use Rattle.pagable_pager.specs.{Leaf.{LeafBegun, LeafDropped, LeafFetched, LeafPinned, LeafUnbegun, LoadsRoot, rooted_reading}, View.{IsPager, OnlyStorage, OnlyTables, PagerView, Telling, ValuesByNode, core_in, state_in, value_in, with_value}}
+use Rattle.{pagable_leaf.specs.{Leaf.{DropsLeaf, IsLeaf, PinsLeaf}, declared.leaf.Leaf.Leaf}, pagable_loads.{proofs.Stepped.begun_is, specs.{Decoding.IsReadAs, Starting.is_unpinned_at, Telling.Brings}}, pagable_steps.proofs.Owning.{IsShut, Leaves, begins, installed_away, load_closed, pinned-here, spared}}
 use Rattle.{pagable_laws.proofs.{Taking.row-pins, Trees.same_some}, pagable_model.specs.{Stored.RefusesFetch, declared.{error.Error.Error, numbers.{ArcRef.ArcRef, HandleNumber.HandleNumber, LoadNumber.LoadNumber, NodeNumber.NodeNumber}}}, pagable_tables.proofs.{Calls.begin-whole, Told.opened, Worlds.{alike-on, still}}}
-use Rattle.pagable_tables.specs.{Core.{AreLater, ArePlaced, Does, IsWhole, OnlyRoom, core_of}, Falling.{counts_at, has_value}, Ready.has_come, declared.tables.Tables.Tables}
+use Rattle.pagable_tables.specs.{Core.{AreLater, ArePlaced, Does, IsWhole, OnlyRoom, core_of, plain_of}, Falling.{counts_at, has_value, room}, Ready.has_come, declared.tables.Tables.Tables}
 use Rattle.pagable_world.specs.{Access.{Called, LoadRun, LoadStarts, PinRun, ReadingStep, load-ends, load-fails, load-goes-on, load-is-refused, load-pins}, Calls.{FetchCall, row_of, with_handle}, Kinds.{is_pin, pins}, LoadCalls.{AskCall, BeginCall, EndCall, with_load}}
 use Rattle.pagable_world.specs.{LoadCalls.{Installs, LoadCloses, MayEnd, from_store}, Loads.{GivesUp, IsDecoded, ReadsRoot, gone_on, root_frame}, Pager.{HoldsItsNodes, IsCellOf, Moves, PagerState, WellFormed}, Plain.{Blob, one, updated}}
-use Rattle.pagable_world.specs.{Events.reading_of_load, Workers.fresh, World.{Alike, Core, Frame, OpenLoad, Reading, Root, Values, is_here, of_cell, usable}, declared.{answers.Beginning.Beginning, calls.Want.Want, events.LoadAnswer.LoadAnswer, handles.{HandleRow.HandleRow, Owner.Owner}, rows.Mode.Mode}}
+use Rattle.pagable_world.specs.{Events.reading_of_load, Workers.fresh, World.{Alike, Core, Frame, OpenLoad, Reading, Root, Values, is_here, of_cell, type_at, usable}, declared.{answers.Beginning.Beginning, calls.Want.Want, events.LoadAnswer.LoadAnswer, handles.{HandleRow.HandleRow, Owner.Owner}, rows.Mode.Mode}}
 use Rattle.std.proofs.Common.{Bool, Err, List, None, Ok, Option, Result, Some, [], ap, arith, false, if◌then◌else◌, inl, inr, refl, rules, subst, sym, true, ℕ, ◌&&◌, ◌++◌, ◌+◌, ◌<◌, ◌==◌, ◌∙◌, ◌∷◌, ◌≡◌, ◌≤◌}
-use Rattle.std.{proofs.lemmas.{Bool.{Decides.nat_tests, cases_eq}, List.Sums.sum_by_push}, specs.Prelude.{IfErr, is_some, slice_get, ◌⊎◌}}
+use Rattle.std.{proofs.lemmas.{Bool.{Decides.nat_tests, cases_eq}, List.Sums.sum_by_push}, specs.Prelude.{IfErr, is_some, length, slice_get, ◌⊎◌}}
 use Rattle.pagable_world.specs.Pager as pager
 
 -- whole while its storage is taken to be open, and nothing is listed or known once it is closed
@@ -455,3 +455,69 @@ module _ {N E : Type 0} {v : Values N} {s s1 u : PagerState N E} {leaf : Leaf} {
         refused = tt;
       } in
       wanting-run v s d.between d.dropped.mid leaf d.dropped.l (Ok blob) again (λ n. d.same n ∙ f.values n) (d.stays.moves.environment ∙ f.fetched.moves.environment) d.dropped.begun blob refl u d.dropped.closes
+
+-- ---- a load of the cell that begins by itself, or is refused
+
+begun-leaf : {w w' : Core} {leaf : Leaf} {l : LoadNumber} {key : ℕ} → IsLeaf w Owner.Caller leaf → BeginCall w Owner.Caller leaf.row.number (Ok (Beginning.Load l key)) w'
+    → (key ≡ leaf.key) × (w'.loads l.0 ≡ Some (record { owner = Owner.Caller; key = leaf.key; root = of_cell leaf.row.node leaf.node_type leaf.row.number }))
+begun-leaf {w} {w'} {leaf} {l} {key} is call =
+    let (row, owns, (away, keyed, next, left, (t, typed, a))) = call.begins in
+    let same : row ≡ leaf.row = same_some _ _ (sym owns.live ∙ is.owned.live) in
+    let key-is : key ≡ leaf.key = (let k = is.keyed in grind (arith, nat_tests)) in
+    let type-is : t ≡ leaf.node_type = same_some _ _ (sym typed ∙ ap (λ (r : HandleRow). type_at w r.node.0) same ∙ is.typed) in
+    let opened = begun_is (with_handle w row.node Mode.LooseUnpinned (Owner.Load l)) w' l key (of_cell row.node t leaf.row.number) Owner.Caller next.above a in
+    (key-is, opened ∙ ap Some (λ i. record { owner = Owner.Caller; key = key-is i; root = of_cell (same i).node (type-is i) leaf.row.number }))
+
+pub in-memory-never : {w w' : Core} {leaf : Leaf} → IsLeaf w Owner.Caller leaf → BeginCall w Owner.Caller leaf.row.number (Ok Beginning.InMemory) w' → ⊥
+in-memory-never {w} {w'} {leaf} is call =
+    let (row, owns, (here, a)) = call.begins in
+    let same : row ≡ leaf.row = same_some _ _ (sym owns.live ∙ is.owned.live) in
+    let away = is.away in
+    let there = sym (ap (λ (r : HandleRow). is_here w r.node.0) same) ∙ here in
+    let never : true ≡ false = sym there ∙ away in
+    absurd cc
+
+pub begin-told : {N S E : Type 0} (tells : Telling S) (says : E → Values N) {p p1 : PagerView N S E} (leaf : Leaf) {l : LoadNumber} {key : ℕ} → IsLeaf (core_in tells p) Owner.Caller leaf
+    → BeginCall (core_in tells p) Owner.Caller leaf.row.number (Ok (Beginning.Load l key)) (core_in tells p1) → OnlyTables p p1 → WellFormed (says p1.environment) (state_in tells p1)
+    → LeafBegun (says p.environment) (state_in tells p) leaf l (state_in tells p1)
+begin-told tells says {p} {p1} leaf {l} {key} is call only well =
+    let b = begun-leaf is call in
+    record {
+      begins = record {
+        step = subst (λ k. BeginCall (core_in tells p) Owner.Caller leaf.row.number (Ok (Beginning.Load l k)) (core_in tells p1)) b.0 call;
+        moves = record { each = λ n x has. inl (subst (λ (values : ValuesByNode _). value_in values n ≡ Some x) only.values has); environment = only.environment };
+        whole = subst (λ e. WellFormed (says e) (state_in tells p1)) only.environment well;
+      };
+      opened = b.1;
+    }
+
+leaf-alike : {w w1 : Core} {leaf : Leaf} → Alike w w1 → IsLeaf w Owner.Caller leaf → IsLeaf w1 Owner.Caller leaf
+leaf-alike a is = grind (arith, nat_tests, a.rows, a.cells, a.last)
+
+module _ {N S E : Type 0} {tells : Telling S} {says : E → Values N} {p p1 : PagerView N S E} (is : IsPager tells says p) (is1 : IsPager tells says p1) (leaf : Leaf) (e : Error)
+    (found : IsLeaf (core_in tells p) Owner.Caller leaf) (call : BeginCall (core_in tells p) Owner.Caller leaf.row.number (Err e) (core_in tells p1)) (only : OnlyTables p p1) where
+  pub unbegun-leaf : IsLeaf (plain_of p1.tables) Owner.Caller leaf
+  unbegun-leaf =
+      let g = leaf-alike call.refused.stays found in
+      record { owned = record { live = g.owned.live; own = g.owned.own; as_asked = g.owned.as_asked }; away = g.away; keyed = g.keyed; typed = g.typed; load_left = g.load_left; handles_left = g.handles_left }
+
+  pub unbegun-place : 1 ≤ room p.tables.holdings.handles → 1 ≤ room p1.tables.holdings.handles
+  unbegun-place place =
+      let a = call.refused.stays in
+      let rows = ap (λ (rs : List HandleRow). length rs) a.rows in
+      let c = is.tables.steady.sound.counted in
+      let d = is1.tables.steady.sound.counted in
+      let more = a.places.handles in
+      omega arith
+
+  pub unbegun-told : {u : PagerState N E} → LeafDropped (says p1.environment) (state_in tells p1) leaf u → LeafUnbegun (says p.environment) (state_in tells p) leaf u
+  unbegun-told {u} d = record {
+    between = state_in tells p1;
+    stays = record {
+      step = call.refused.stays;
+      moves = record { each = λ n x has. inl (subst (λ (values : ValuesByNode N). value_in values n ≡ Some x) only.values has); environment = only.environment };
+      whole = subst (λ e. WellFormed (says e) (state_in tells p1)) only.environment is1.state;
+    };
+    same = λ n. ap (λ (values : ValuesByNode N). value_in values n) only.values;
+    dropped = subst (λ e. LeafDropped (says e) (state_in tells p1) leaf u) only.environment d;
+  }

@@ -108,19 +108,17 @@ impl<'a, E: Env<Node: NodeSet<E>>, S: PagableStorage<E>> Lent<'a, E, S> {
         ensures me { self.new.me ≡ self.old.me }
         ensures environment { self.new.pager.now.environment ≡ self.old.pager.now.environment }
     {
-        let Some((leaf, blob)) = self.pager.start_leaf(alloc, handle)? else {
+        let Some(started) = self.pager.start_leaf(alloc, handle)? else {
             return Ok(None);
         };
-        match read_leaf(self, alloc, blob.as_ref(), leaf.node_type) {
-            Some(value) => {
-                let pinned = self.pager.pin_leaf(alloc, leaf, value)?;
-                Ok(Some(LeafPin::Pinned(pinned)))
-            }
-            None => {
-                let load = self.pager.begin_leaf(leaf)?;
-                Ok(Some(LeafPin::Load(load, leaf.key, leaf.node_type, blob)))
-            }
-        }
+        let (leaf, blob) = started;
+        let read = read_leaf(self, alloc, blob.as_ref(), leaf.node_type);
+        let Some(value) = read else {
+            let load = self.pager.begin_leaf(leaf)?;
+            return Ok(Some(LeafPin::Load(load, leaf.key, leaf.node_type, blob)));
+        };
+        let pinned = self.pager.pin_leaf(alloc, leaf, value)?;
+        Ok(Some(LeafPin::Pinned(pinned)))
     }
 }
 
