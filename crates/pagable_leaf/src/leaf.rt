@@ -6,10 +6,10 @@ ghost use Rattle.pagable_world.specs.{LoadCalls.BeginCall, Pager.{MayOwnLoad}, P
 ghost use Rattle.std.specs.Prelude.{Bool, Err, IfErr, IfNone, IfOk, IfSome, Option, ℕ, ◌+◌, ◌<◌, ◌≡◌, ◌≤◌};
 
 use pagable_model::{DataKey, Error, HandleNumber};
+use pagable_tables::handles;
 use pagable_tables::lookups::is_loose_mode;
 use pagable_tables::making::{own, pin_here};
 use pagable_tables::tables::{self, Tables};
-use pagable_tables::handles;
 use pagable_world::handles::{HandleRow, Owner};
 
 /// A cell whose value is away, with the handle that is to be pinned.
