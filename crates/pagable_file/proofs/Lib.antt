@@ -1,8 +1,11 @@
 mod Committing
+mod Copying
 mod Fetching
+mod Flawed
 mod Keys
 mod Named
 mod Opening
 mod Places
 mod Putting
+mod Scanning
 mod Settling

@@ -38,6 +38,17 @@ fn close_store<D: Disk + Drop>(alloc: Global, store: FileStore<D>) -> Result<Fil
 }
 
 impl<E: Env, D: Disk + Drop> FileBlobs<E, FileStore<D>> {
+    /// Closes the file, with the log beside it copied into it, and gives both back. What waits for a flush is let go.
+    ///
+    /// # Errors
+    /// As [`OpenError`] names them; what was committed stays so.
+    pub fn close_files(self, alloc: Global) -> Result<Files<D>, OpenError>
+        ensures { IfOk result (λ files. AreClean D.Disk files.log files.db → IsHeldIn D.Disk files (view self.store).committed) }
+    {
+        let files = close_store(alloc, self.into_store())?;
+        Ok(files)
+    }
+
     /// Closes the file, with the log beside it copied into it, and opens it again. What waits for a flush is let go.
     ///
     /// # Errors

@@ -1,18 +1,76 @@
-//! Goes over all names of roots.
+//! Goes over all rows of a table.
 
-ghost use Rattle.std.specs.Prelude.{OnErr, OnOk, ◌≤◌};
-ghost use Rattle.sqlite_trees.specs.{Tree.Trees, View.{IsClean, KeepsCommitted, doubt}};
-ghost use Rattle.pagable_file.specs.Blobs.{MovesOnly, Settled, StaysPut};
+ghost use Rattle.std.specs.Prelude.{IfOk, IsTrue, OnErr, OnOk, map, ◌≡◌, ◌≤◌};
+ghost use Rattle.sqlite_value.specs.declared.value.Value.TheVariants.{Int};
+ghost use Rattle.sqlite_trees.specs.{Tree.{Trees, rowid}, View.{IsClean, KeepsCommitted, doubt}, declared.store.Shape.TheVariants.Table};
+ghost use Rattle.pagable_file.specs.Blobs.{MovesOnly, Settled, StaysPut, is_sure};
 
 use crate::tables::ROOTS;
 use sqlite_trees::error::StoreError;
 use sqlite_trees::sound::bytes_of;
 use sqlite_trees::store::{Direction, Store};
 use sqlite_value::row::Row;
+use sqlite_value::value::ValueRef;
 use std::alloc::Global;
 
 /// The cursor that goes over a table.
 const CURSOR: u16 = 0;
+
+/// Collects the places of all rows of a table, in their order.
+#[tactic(auto, using(crate::proofs::Settling::scanning))]
+fn places<S: Store>(
+    alloc: Global,
+    store: &mut S,
+    row: &mut Row,
+    table: u32,
+) -> Result<Vec<i64>, StoreError>
+    requires table { IsClean (S.view store.old) → (S.view store.old).shape table ≡ Table }
+    ensures found { IfOk result (λ places. IsClean (S.view store.new) → map Int places.items ≡ map rowid ((S.view store.old).trees table)) }
+    ensures ok { OnOk result (IsClean (S.view store.new) → MovesOnly (S.view store.old) (S.view store.new)) }
+    ensures err { OnErr result (IsClean (S.view store.new) → KeepsCommitted (S.view store.old) (S.view store.new)) }
+    ensures clean { doubt (S.view store.old).is_clean ≤ doubt (S.view store.new).is_clean }
+    ensures crash { (db : Trees) → S.recovers store.new db → S.recovers store.old db }
+{
+    let mut places = Vec::new(alloc);
+    row.clear();
+    store.seek(CURSOR, table, row, Direction::Forward)?;
+    'rows: for _ in 0..u64::MAX {
+        if !store.next(CURSOR, row)? {
+            return Ok(places);
+        }
+        let ValueRef::Int(place) = row.get(0) else {
+            return Err(StoreError::Corrupt);
+        };
+        places.push(place)?;
+    }
+    Err(StoreError::Full)
+}
+
+/// Collects the places of all rows of a table, in their order. A failure is rolled back.
+#[tactic(auto, using(crate::proofs::Settling::scanning, crate::proofs::Settling::reading))]
+pub fn all_places<S: Store>(
+    alloc: Global,
+    store: &mut S,
+    row: &mut Row,
+    table: u32,
+) -> Result<Vec<i64>, StoreError>
+    requires settled { Settled (S.view store.old) }
+    requires table { IsTrue (is_sure (S.view store.old)) → (S.view store.old).shape table ≡ Table }
+    ensures found { IsTrue (is_sure (S.view store.new)) → IfOk result (λ places. map Int places.items ≡ map rowid ((S.view store.old).committed table)) }
+    ensures stays { StaysPut (S.view store.old) (S.view store.new) }
+    ensures crash { (db : Trees) → S.recovers store.new db → S.recovers store.old db }
+{
+    if store.is_broken() {
+        return Err(StoreError::Broken);
+    }
+    match places(alloc, store, row, table) {
+        Ok(places) => Ok(places),
+        Err(error) => {
+            store.rollback();
+            Err(error)
+        }
+    }
+}
 
 /// Collects the names of all rows of the table of roots that are texts, in the order of their places.
 #[tactic(auto, using(crate::proofs::Settling::scanning))]

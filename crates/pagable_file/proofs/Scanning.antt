@@ -1,0 +1,54 @@
+-- Going over all rows of a table.
+use Rattle.std.proofs.Common.{◌≡◌, ◌≢◌, ◌∙◌, ℕ, ℤ, true, false, Bool, List, [], ◌∷◌, ◌++◌, map, Option, Some, None, refl, sym, ap, append_assoc, append-nil}
+use Rattle.sqlite_value.specs.{declared.value.Value.{Value}, declared.value.Value.TheVariants.Int, Order.{Row}}
+use Rattle.sqlite_trees.specs.{Tree.{from_key, order_of, rowid, sought}, View.{Advances, View, with_cursor}, declared.{store.Shape.Shape, store.Direction.TheVariants.Forward}}
+use Rattle.sqlite_value.specs.declared.keys.Order.{Order}
+use Rattle.pagable_file.specs.Blobs.{MovesOnly}
+use Rattle.pagable_file.proofs.Settling.{moved_then}
+
+-- the places so far go before those of the rows that the cursor has left
+pub record Listing (first now : View) (rows : List Row) (places : List ℤ) : Type 0 where
+  pub left : List Row
+  pub moved : MovesOnly first now
+  pub at : now.cursors 0 ≡ Some left
+  pub rest : map Int places ++ map rowid left ≡ map rowid rows
+
+-- with no column in its key, a seek finds all rows
+all_sought : (o : Order) (rows : List Row) → from_key o [] rows ≡ rows
+all_sought o [] = refl
+all_sought o ([] ∷ rows) = refl
+all_sought o ((v ∷ row) ∷ rows) = refl
+
+pub listing_starts : (first now : View) (o : Order) (key : Row) (rows : List Row) (places : List ℤ) → key ≡ [] → places ≡ [] → now ≡ with_cursor first 0 (sought o Forward key rows) → Listing first now rows places
+listing_starts first now o key rows places none empty is = record {
+  left = rows;
+  moved = is ∙ ap (λ (v : View). record first { cursors = v.cursors }) (sym is);
+  at = ap (λ (v : View). v.cursors 0) is ∙ ap Some (ap (λ (k : Row). from_key o k rows) none ∙ all_sought o rows);
+  rest = ap (λ (p : List ℤ). map Int p ++ map rowid rows) empty;
+}
+
+-- the places with one more
+more : (places : List ℤ) (place : ℤ) (rest : List Value) → map Int (places ++ place ∷ []) ++ rest ≡ map Int places ++ Int place ∷ rest
+more [] place rest = refl
+more (p ∷ places) place rest = ap (λ l. Int p ∷ l) (more places place rest)
+
+some_same : {A : Type 0} (a b : A) → Some a ≡ Some b → a ≡ b
+some_same a b e = cc
+
+pub listing_goes_on : (first now next : View) (rows : List Row) (places after : List ℤ) (row : Row) (place : ℤ) → Listing first now rows places → Advances now next 0 row true → rowid row ≡ Int place → after ≡ places ++ place ∷ [] → Listing first next rows after
+listing_goes_on first now next rows places after row place l (left, here, is) id all =
+    let same : l.left ≡ row ∷ left = some_same l.left (row ∷ left) (sym l.at ∙ here) in
+    let go : MovesOnly now next = is ∙ ap (λ (v : View). record now { cursors = v.cursors }) (sym is) in
+    let rest : map Int (places ++ place ∷ []) ++ map rowid left ≡ map rowid rows =
+    more places place (map rowid left) ∙ ap (λ v. map Int places ++ v ∷ map rowid left) (sym id) ∙ ap (λ (r : List Row). map Int places ++ map rowid r) (sym same) ∙ l.rest in
+    record {
+      left = left;
+      moved = moved_then first now next l.moved go;
+      at = ap (λ (v : View). v.cursors 0) is;
+      rest = ap (λ (p : List ℤ). map Int p ++ map rowid left) all ∙ rest;
+    }
+
+pub listing_ends : (first now next : View) (rows : List Row) (places : List ℤ) (row : Row) → Listing first now rows places → Advances now next 0 row false → (map Int places ≡ map rowid rows) × MovesOnly first next
+listing_ends first now next rows places row l (here, is) =
+    let same : l.left ≡ [] = some_same l.left [] (sym l.at ∙ here) in
+    (sym (append-nil (map Int places)) ∙ ap (λ (r : List Row). map Int places ++ map rowid r) (sym same) ∙ l.rest, moved_then first now next l.moved (is ∙ ap (λ (v : View). record now { cursors = v.cursors }) (sym is)))

@@ -1,0 +1,109 @@
+//! What the rows of blobs are, without their bytes.
+
+ghost use Rattle.std.specs.Prelude.{IfErr, IsTrue, ◌≡◌, ◌≤◌};
+ghost use Rattle.pagable_model.specs.Stored.{RefusesFlush};
+ghost use Rattle.pagable_file.specs.Blobs.{Settled, StaysPut, is_sure};
+
+use crate::file_blobs::FileBlobs;
+use crate::lookup::look;
+use crate::rows::key_at;
+use crate::scan::all_places;
+use crate::stats::refuse;
+use crate::tables::BLOBS;
+use pagable_codec::Env;
+use pagable_flavors::{DataKey, Error};
+use sqlite_trees::error::StoreError;
+use sqlite_trees::sound::bytes_of;
+use sqlite_trees::store::Store;
+use sqlite_value::row::Row;
+use std::alloc::Global;
+
+/// A blob of the file, without its bytes.
+#[derive(Clone, Copy, Debug, PartialEq, Eq)]
+pub struct Listed {
+    pub key: DataKey,
+    /// How many bytes it has, without its child keys.
+    pub bytes: u64,
+    /// How many child keys it has.
+    pub children: u64,
+}
+
+/// Reads what is listed of the row at a place; None where the row has no key.
+#[tactic(auto, using(crate::proofs::Named::stays_then))]
+fn list_row<S: Store>(
+    store: &mut S,
+    row: &mut Row,
+    place: i64,
+) -> Result<Option<Listed>, StoreError>
+    requires settled { Settled (S.view store.old) }
+    ensures stays { StaysPut (S.view store.old) (S.view store.new) }
+{
+    if !look(store, BLOBS, place, row)? {
+        return Ok(None);
+    }
+    let Some(key) = key_at(row, 2) else {
+        return Ok(None);
+    };
+    let bytes = bytes_of(row.get(3)).len() as u64;
+    let children = (bytes_of(row.get(4)).len() / 16) as u64;
+    Ok(Some(Listed {
+        key,
+        bytes,
+        children,
+    }))
+}
+
+/// Reads what is listed of the rows at these places.
+#[tactic(auto, using(crate::proofs::Named::stays_then))]
+fn list_rows<S: Store>(
+    alloc: Global,
+    store: &mut S,
+    row: &mut Row,
+    places: &[i64],
+) -> Result<Vec<Listed>, StoreError>
+    requires settled { Settled (S.view store.old) }
+    ensures stays { StaysPut (S.view store.old) (S.view store.new) }
+{
+    let mut all = Vec::new(alloc);
+    for place in places {
+        if let Some(listed) = list_row(store, row, *place)? {
+            all.push(listed)?;
+        }
+    }
+    Ok(all)
+}
+
+/// Reads what is listed of all rows.
+#[tactic(auto, using(crate::proofs::Named::stays_then))]
+fn list_all<S: Store>(
+    alloc: Global,
+    store: &mut S,
+    row: &mut Row,
+) -> Result<Vec<Listed>, StoreError>
+    requires settled { Settled (S.view store.old) }
+    ensures stays { StaysPut (S.view store.old) (S.view store.new) }
+{
+    let places = all_places(alloc, store, row, BLOBS)?;
+    let all = list_rows(alloc, store, row, places.as_slice())?;
+    Ok(all)
+}
+
+impl<E: Env, S: Store> FileBlobs<E, S> {
+    /// Lists the blobs of the file, in the order of their places. What waits for a flush isn't listed.
+    ///
+    /// # Errors
+    /// OutOfMemory, or Storage with the failure counted.
+    pub fn list(&mut self, alloc: Global) -> Result<Vec<Listed>, Error>
+        ensures same { IsTrue (is_sure (S.view self.new.store)) → (S.view self.new.store).committed ≡ (S.view self.old.store).committed }
+        ensures waits { (self.new.waiting ≡ self.old.waiting) × (self.new.waiting_roots ≡ self.old.waiting_roots) }
+        ensures sure { IsTrue (is_sure (S.view self.new.store)) → IsTrue (is_sure (S.view self.old.store)) }
+        ensures only { IfErr result (RefusesFlush self.old.stats.failures self.new.stats.failures) }
+        ensures later { self.old.stats.failures ≤ self.new.stats.failures }
+        ensures open { self.new.closed ≡ self.old.closed }
+    {
+        match list_all(alloc, &mut self.store, &mut self.row) {
+            Ok(all) => Ok(all),
+            Err(error) => Err(refuse(&mut self.stats, error)),
+        }
+    }
+}
