@@ -6,6 +6,7 @@ use pagable_file::Watch;
 const STEP: u64 = 10_000;
 
 /// Counts blobs, and shows a line after each 10,000.
+#[derive(Drop)]
 pub struct Progress<'a> {
     rt: &'a HostRuntime,
     done: u64,

@@ -5,9 +5,10 @@ use Rattle.std.specs.declared.alloc.Global.{Global}
 use Rattle.std.specs.{List.{All, AllByRecursion as Each, Contains}, Ordering.int_eq, Cmp.signed_Decides, Prelude.{◌==◌, is_some, if◌then◌else◌, slice_get, option_map}, Str.bytes_eq}
 use Rattle.std.proofs.lemmas.{Bool.Decides.nat_tests, Slice.Eq.bytes_eq-Decides}
 use Rattle.sqlite_value.specs.{declared.value.Value.{Value}, declared.value.Value.TheVariants.Int, Order.{Row, bytes, column}}
-use Rattle.sqlite_trees.specs.Tree.{has_rowid, rowid}
+use Rattle.sqlite_trees.specs.{Tree.{Trees, has_rowid, rowid}, View.View}
+use Rattle.pagable_file.specs.Blobs.{StaysPut, is_sure}
 use Rattle.pagable_model.specs.Blob.{Blob}
-use Rattle.pagable_file.specs.Rows.{blob_in, blob_of_row, blobs_in, is_key, is_row_of, key_in, place_of, place_of_name, root_in, root_of_row, roots_in, row_at}
+use Rattle.pagable_file.specs.Rows.{blob_in, blob_of_row, blob_tree, blobs_in, root_tree, is_key, is_row_of, key_in, place_of, place_of_name, root_in, root_of_row, roots_in, row_at}
 use Rattle.pagable_file.specs.Flaws.{IsChild, IsFlaw, IsNameAt, IsSoundBlob, IsSoundPlace, IsSoundRoot, IsThere, IsWhole, Tested, blob_at, keyed, keyed_at}
 use Rattle.pagable_file.specs.declared.fsck.Flaw.{Flaw}
 use Rattle.pagable_file.specs.declared.fsck.Flaw.TheVariants as flaw
@@ -111,6 +112,7 @@ second_of d None = d
 second_of d (Some p) = p.1
 
 some_pair : (a b : ℕ) (x y : Blob) → Some (keyed a x) ≡ Some (keyed b y) → (a ≡ b) × (x ≡ y)
+unfolding first_of second_of
 some_pair a b x y e = (ap (first_of a) e, ap (second_of x) e)
 
 -- the blob that a key's row has at the key's place
@@ -265,6 +267,81 @@ root_none rows roots place row at is other here k e =
     let same = one_row roots place row other at here in
     let no : None ≡ Some k = sym is ∙ ap (λ (r : Row). key_in (bytes (column r 3))) same ∙ e in
     absurd (cc)
+
+-- the row at a place was read, and its blob tested
+pub row_found : (of : Blob → ℕ) (a b e : View) (place : ℤ) (row : Row) (key : ℕ) (blob : Blob) (old new : List Flaw) → StaysPut a b → StaysPut b e → IsTrue (is_sure e) → (IsTrue (is_sure b) → row_at (a.committed blob_tree) place ≡ Some row)
+    → blob_at place row ≡ Some (keyed key blob)
+    → (IsTrue (is_sure e) → blobs_in (b.committed blob_tree) key ≡ Some blob → Tested (IsFlaw of (b.committed blob_tree) (b.committed root_tree)) old new (IsSoundBlob of (b.committed blob_tree) key blob))
+    → Tested (IsFlaw of (a.committed blob_tree) (a.committed root_tree)) old new (IsSoundPlace of (a.committed blob_tree) place)
+row_found of a b e place row key blob old new first next sure found is test =
+    let early = next.sure sure in
+    let same : b.committed ≡ a.committed = first.same early in
+    let at = found early in
+    let here : blobs_in (a.committed blob_tree) key ≡ Some blob = at_is_in (a.committed blob_tree) place row key blob at is in
+    let there : blobs_in (b.committed blob_tree) key ≡ Some blob = ap (λ (t : Trees). blobs_in (t blob_tree) key) same ∙ here in
+    let moved = subst (λ (t : Trees). Tested (IsFlaw of (t blob_tree) (t root_tree)) old new (IsSoundBlob of (t blob_tree) key blob)) same (test sure there) in
+    tested_as (IsFlaw of (a.committed blob_tree) (a.committed root_tree)) old new (IsSoundBlob of (a.committed blob_tree) key blob) (IsSoundPlace of (a.committed blob_tree) place) (place_sound of (a.committed blob_tree) place row key blob at is) moved
+
+-- the row of a root was read, and what it stands for looked for
+pub root_found : (of : Blob → ℕ) (a b e : View) (place : ℤ) (row : Row) (name : String Global) (key : ℕ) (old new : List Flaw) → StaysPut a b → StaysPut b e → IsTrue (is_sure e) → (IsTrue (is_sure b) → row_at (a.committed root_tree) place ≡ Some row)
+    → IsNameAt place row (Some name) → key_in (bytes (column row 3)) ≡ Some key
+    → (IsTrue (is_sure e) → roots_in (b.committed root_tree) (string_bytes name) ≡ Some key → Tested (IsFlaw of (b.committed blob_tree) (b.committed root_tree)) old new (IsThere (b.committed blob_tree) key))
+    → Tested (IsFlaw of (a.committed blob_tree) (a.committed root_tree)) old new (IsSoundRoot (a.committed blob_tree) (a.committed root_tree) place)
+root_found of a b e place row name key old new first next sure found own is test =
+    let early = next.sure sure in
+    let same : b.committed ≡ a.committed = first.same early in
+    let at = found early in
+    let here : roots_in (a.committed root_tree) (string_bytes name) ≡ Some key = name_is_in (a.committed root_tree) place row (string_bytes name) key at own.0 own.1 is in
+    let there : roots_in (b.committed root_tree) (string_bytes name) ≡ Some key = ap (λ (t : Trees). roots_in (t root_tree) (string_bytes name)) same ∙ here in
+    let moved = subst (λ (t : Trees). Tested (IsFlaw of (t blob_tree) (t root_tree)) old new (IsThere (t blob_tree) key)) same (test sure there) in
+    tested_as (IsFlaw of (a.committed blob_tree) (a.committed root_tree)) old new (IsThere (a.committed blob_tree) key) (IsSoundRoot (a.committed blob_tree) (a.committed root_tree) place) (root_sound (a.committed blob_tree) (a.committed root_tree) place row key at is) moved
+
+-- one more element was tested, by a call behind others
+pub next_found : {A : Type 0} (of : Blob → ℕ) (T : List Row → List Row → A → Type 0) (a b e : View) (old mid new : List Flaw) (xs : List A) (i : ℕ) (x : A) → i < length xs → x ≡ get_or xs i x → StaysPut a b → StaysPut b e → IsTrue (is_sure e)
+    → (IsTrue (is_sure b) → Tested (IsFlaw of (a.committed blob_tree) (a.committed root_tree)) old mid (Each (T (a.committed blob_tree) (a.committed root_tree)) (take i xs)))
+    → (IsTrue (is_sure e) → Tested (IsFlaw of (b.committed blob_tree) (b.committed root_tree)) mid new (T (b.committed blob_tree) (b.committed root_tree) x))
+    → Tested (IsFlaw of (a.committed blob_tree) (a.committed root_tree)) old new (Each (T (a.committed blob_tree) (a.committed root_tree)) (take (i + 1) xs))
+next_found of T a b e old mid new xs i x h is first next sure so_far test =
+    let early = next.sure sure in
+    let same : b.committed ≡ a.committed = first.same early in
+    let moved = subst (λ (t : Trees). Tested (IsFlaw of (t blob_tree) (t root_tree)) mid new (T (t blob_tree) (t root_tree) x)) same (test sure) in
+    each_next (IsFlaw of (a.committed blob_tree) (a.committed root_tree)) (T (a.committed blob_tree) (a.committed root_tree)) old mid new xs i x h is (so_far early) moved
+
+pub child_found : (of : Blob → ℕ) (a b e : View) (key : ℕ) (old mid new : List Flaw) (xs : List ℕ) (i x : ℕ) → i < length xs → x ≡ get_or xs i x → StaysPut a b → StaysPut b e → IsTrue (is_sure e)
+    → (IsTrue (is_sure b) → Each (IsChild (a.committed blob_tree) key) (take i xs) → Tested (IsFlaw of (a.committed blob_tree) (a.committed root_tree)) old mid (Each (IsThere (a.committed blob_tree)) (take i xs)))
+    → (IsTrue (is_sure e) → IsChild (b.committed blob_tree) key x → Tested (IsFlaw of (b.committed blob_tree) (b.committed root_tree)) mid new (IsThere (b.committed blob_tree) x))
+    → Each (IsChild (a.committed blob_tree) key) (take (i + 1) xs) → Tested (IsFlaw of (a.committed blob_tree) (a.committed root_tree)) old new (Each (IsThere (a.committed blob_tree)) (take (i + 1) xs))
+child_found of a b e key old mid new xs i x h is first next sure so_far test all =
+    let early = next.sure sure in
+    let same : b.committed ≡ a.committed = first.same early in
+    let test_here : (IsChild (a.committed blob_tree) key x → Tested (IsFlaw of (a.committed blob_tree) (a.committed root_tree)) mid new (IsThere (a.committed blob_tree) x)) =
+    subst (λ (t : Trees). IsChild (t blob_tree) key x → Tested (IsFlaw of (t blob_tree) (t root_tree)) mid new (IsThere (t blob_tree) x)) same (test sure) in
+    child_next (IsFlaw of (a.committed blob_tree) (a.committed root_tree)) (IsChild (a.committed blob_tree) key) (IsThere (a.committed blob_tree)) old mid new xs i x h is (so_far early) test_here all
+
+-- all places of the two tables were tested
+pub whole_found : (of : Blob → ℕ) (a b c d e : View) (places names : List ℤ) (start mid end : List Flaw) → start ≡ [] → StaysPut a b → StaysPut b c → StaysPut c d → StaysPut d e → IsTrue (is_sure e)
+    → (IsTrue (is_sure b) → map Int places ≡ map rowid (a.committed blob_tree))
+    → (IsTrue (is_sure c) → Tested (IsFlaw of (b.committed blob_tree) (b.committed root_tree)) start mid (Each (IsSoundPlace of (b.committed blob_tree)) places))
+    → (IsTrue (is_sure d) → map Int names ≡ map rowid (c.committed root_tree))
+    → (IsTrue (is_sure e) → Tested (IsFlaw of (d.committed blob_tree) (d.committed root_tree)) mid end (Each (IsSoundRoot (d.committed blob_tree) (d.committed root_tree)) names))
+    → Tested (IsFlaw of (a.committed blob_tree) (a.committed root_tree)) [] end (IsWhole of (blobs_in (a.committed blob_tree)) (roots_in (a.committed root_tree)))
+whole_found of a b c d e places names start mid end empty ab bc cd de sure found_blobs test_blobs found_names test_names =
+    let sure_d = de.sure sure in
+    let sure_c = cd.sure sure_d in
+    let sure_b = bc.sure sure_c in
+    let same_b : b.committed ≡ a.committed = ab.same sure_b in
+    let same_c : c.committed ≡ a.committed = bc.same sure_c ∙ same_b in
+    let same_d : d.committed ≡ a.committed = cd.same sure_d ∙ same_c in
+    let rows = a.committed blob_tree in
+    let roots = a.committed root_tree in
+    let blobs : Tested (IsFlaw of rows roots) start mid (Each (IsSoundPlace of rows) places) =
+    subst (λ (t : Trees). Tested (IsFlaw of (t blob_tree) (t root_tree)) start mid (Each (IsSoundPlace of (t blob_tree)) places)) same_b (test_blobs sure_c) in
+    let named : Tested (IsFlaw of rows roots) mid end (Each (IsSoundRoot rows roots) names) =
+    subst (λ (t : Trees). Tested (IsFlaw of (t blob_tree) (t root_tree)) mid end (Each (IsSoundRoot (t blob_tree) (t root_tree)) names)) same_d (test_names sure) in
+    let both = tested_then (IsFlaw of rows roots) start mid end (Each (IsSoundPlace of rows) places) (Each (IsSoundRoot rows roots) names) blobs named in
+    let whole = tested_as (IsFlaw of rows roots) start end (Each (IsSoundPlace of rows) places × Each (IsSoundRoot rows roots) names) (IsWhole of (blobs_in rows) (roots_in roots))
+    (λ h. is_whole of rows roots places names (found_blobs sure_b) (found_names sure_d ∙ ap (λ (t : Trees). map rowid (t root_tree)) same_c) h.0 h.1) both in
+    subst (λ (l : List Flaw). Tested (IsFlaw of rows roots) l end (IsWhole of (blobs_in rows) (roots_in roots))) empty whole
 
 pub ruleset testing = (flawed, passed, child_tested, missing, are_children, at_is_in, stays_then, blob_tested, place_empty, root_empty, child_flaw, root_flaw, key_flaw, stray_blob, stray_root, name_is_in, row_there, no_row, place_sound, root_sound, root_none)
 
