@@ -1,0 +1,138 @@
+//! Runs of a machine, each of which ends with a snapshot that the next one begins with.
+
+use crate::instruction::{Instruction, read_program};
+use crate::machine::Machine;
+use crate::value::{read_values, spell_values};
+use anyhow::{Context, Result};
+use pagable::{HandleNumber, PagableStorage};
+use pagable_file::Roots;
+use record_store::{RecordEnv, RecordStore, TEXT};
+
+/// The name of the root that stands for the record of the last snapshot.
+const ROOT: &str = "machine";
+
+/// The tag of a record of a machine: its text is the place and the stack, and it refers to the program's text and to
+/// the pairs of the stack.
+const MACHINE: u32 = 2;
+
+/// How many pairs stay in memory beside those that are new.
+const KEPT_PAIRS: u64 = 1000;
+
+/// A machine at work on a program, whose text is a record.
+#[derive(Drop)]
+struct Run {
+    text: HandleNumber,
+    program: Vec<Instruction>,
+    machine: Machine,
+}
+
+/// Begins a program, or goes on where the last snapshot stopped, runs at most so many steps, and lets the root stand
+/// for the snapshot that comes of them. Where that is refused, the root stands for what it stood for.
+pub fn run<S: Roots<RecordEnv> + Drop>(
+    rt: &HostRuntime,
+    storage: S,
+    text: Option<&str>,
+    steps: u64,
+) -> Result<()> {
+    let (mut store, root) = RecordStore::open(rt.alloc(), storage, ROOT, KEPT_PAIRS)?;
+    let mut run = match text {
+        Some(text) => begin(&mut store, text)?,
+        None => read_run(
+            &mut store,
+            root.context("no machine is saved in this store")?,
+        )?,
+    };
+    run_steps(rt, &mut store, &mut run, steps)?;
+    let root = insert_run(&mut store, &run)?;
+    let _storage = store.save(ROOT, root)?;
+    Ok(())
+}
+
+/// Puts a machine at the first instruction of a program.
+fn begin<S: PagableStorage<RecordEnv>>(store: &mut RecordStore<S>, text: &str) -> Result<Run> {
+    let program = read_program(store.alloc, text)?;
+    let machine = Machine {
+        place: 0,
+        halted: false,
+        stack: Vec::new(store.alloc),
+    };
+    let text = store.insert(TEXT, text, &[])?;
+    Ok(Run {
+        text,
+        program,
+        machine,
+    })
+}
+
+/// Reads the machine of a record, and its program. The pairs of its stack aren't read.
+fn read_run<S: PagableStorage<RecordEnv>>(
+    store: &mut RecordStore<S>,
+    root: HandleNumber,
+) -> Result<Run> {
+    let saved = store.read(root)?;
+    let (place, stack) = saved
+        .text()
+        .split_once("\n")
+        .context("no machine is stored here")?;
+    let (text, pairs) = saved
+        .refs
+        .as_slice()
+        .split_first()
+        .context("no program is stored here")?;
+    let machine = Machine {
+        place: place.parse::<usize>().context("no place is stored here")?,
+        halted: false,
+        stack: read_values(store.alloc, stack, pairs)?,
+    };
+    let program = read_program(store.alloc, store.read(*text)?.text())?;
+    Ok(Run {
+        text: *text,
+        program,
+        machine,
+    })
+}
+
+/// Inserts the record of a machine.
+fn insert_run<S: PagableStorage<RecordEnv>>(
+    store: &mut RecordStore<S>,
+    run: &Run,
+) -> Result<HandleNumber> {
+    let (stack, pairs) = spell_values(store.alloc, run.machine.stack.as_slice())?;
+    let text = format!(in store.alloc; "{}\n{}", run.machine.place, stack.as_str())?;
+    let mut refs = vec![in store.alloc; run.text]?;
+    refs.extend(pairs)?;
+    Ok(store.insert(MACHINE, text.as_str(), refs.as_slice())?)
+}
+
+/// Runs at most so many steps, and prints what they show. Pairs that nothing refers to any more are let go.
+fn run_steps<S: PagableStorage<RecordEnv>>(
+    rt: &HostRuntime,
+    store: &mut RecordStore<S>,
+    run: &mut Run,
+    steps: u64,
+) -> Result<()> {
+    for step in 0..steps {
+        if run.machine.halted {
+            break;
+        }
+        let place = run.machine.place;
+        let instruction = run.program.get(place).copied().unwrap_or(Instruction::Halt);
+        let shown = run
+            .machine
+            .step(store, instruction)
+            .context(format_args!("at {place}"))?;
+        if let Some(number) = shown {
+            println!(rt; "{number}")?;
+        }
+        if step % 1000 == 999 {
+            store.release_waiting()?;
+        }
+    }
+    let word = if run.machine.halted {
+        "halted"
+    } else {
+        "stopped"
+    };
+    println!(rt; "{word} at {}", run.machine.place)?;
+    Ok(())
+}

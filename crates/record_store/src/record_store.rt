@@ -1,0 +1,179 @@
+//! A pager of records and its budget.
+
+use crate::node::{RecordEnv, RecordNode};
+use crate::view::RecordView;
+use pagable::cell_page_out::page_out;
+use pagable::cells::{cell_of, insert};
+use pagable::typed_references::loose;
+use pagable::{
+    DataKey, Error, HandleNumber, OptionalDataKey, PagableData, PagableStorage, Pager, Record,
+    RecordRef, Sha256Key, to_bytes,
+};
+use pagable_budget::Budget;
+use pagable_file::Roots;
+use std::alloc::Global;
+use std::sync::Arc;
+
+/// The tag of a record that is a text alone.
+pub const TEXT: u32 = 0;
+
+/// A pager of records over a storage, and a budget of those that stay in memory.
+#[derive(Drop)]
+pub struct RecordStore<S: PagableStorage<RecordEnv>> {
+    /// What allocates.
+    pub alloc: Global,
+    pager: Pager<RecordEnv, S>,
+    budget: Budget,
+}
+
+impl<S: PagableStorage<RecordEnv>> RecordStore<S> {
+    /// Inserts a record over others, whose handles stay the caller's. Answers its handle, which pins nothing.
+    ///
+    /// # Errors
+    /// - as `Pager::clone`, `typed_references::loose` and `cells::insert`.
+    pub fn insert(
+        &mut self,
+        tag: u32,
+        text: &str,
+        over: &[HandleNumber],
+    ) -> Result<HandleNumber, Error> {
+        let mut refs = Vec::new(self.alloc);
+        for handle in over {
+            refs.push(self.reference(*handle)?)?;
+        }
+        let record = Record::new(self.alloc, tag, text, refs)?;
+        let node = RecordNode(Arc::new(self.alloc, record)?);
+        Ok(insert(self.alloc, &mut self.pager, node)?)
+    }
+
+    /// Makes a reference by a clone of a handle, which becomes the new record's.
+    fn reference(&mut self, handle: HandleNumber) -> Result<RecordRef, Error> {
+        let clone = self.pager.clone(handle)?;
+        let reference = loose::<Record, _, _>(&self.pager, clone)?;
+        match RecordRef::from_reference(reference.reference::<RecordEnv>()) {
+            Some(reference) => Ok(reference),
+            None => Err(Error::WrongKind),
+        }
+    }
+
+    /// Reads the record of a handle that pins nothing, from the storage where it isn't in memory, and leaves the handle
+    /// so. The budget keeps the record in memory, as one of those that were read last.
+    ///
+    /// # Errors
+    /// - as `paging::pin`.
+    pub fn read(&mut self, handle: HandleNumber) -> Result<RecordView, Error> {
+        let (pinned, node) = self.budget.pin(self.alloc, &mut self.pager, handle, 1)?;
+        let record = node.as_ref().0.clone()?;
+        let refs = self.clone_references(record.as_ref())?;
+        self.pager.release(pinned)?;
+        self.pager.unpin(handle)?;
+        Ok(RecordView { record, refs })
+    }
+
+    /// Clones the handles of a record's references.
+    fn clone_references(&mut self, record: &Record) -> Result<Vec<HandleNumber>, Error> {
+        let mut clones = Vec::new(self.alloc);
+        for reference in &record.refs {
+            clones.push(self.pager.clone(reference.reference().handle)?)?;
+        }
+        Ok(clones)
+    }
+
+    /// Answers one more handle of a handle's record.
+    ///
+    /// # Errors
+    /// - as `Pager::clone`.
+    pub fn clone_handle(&mut self, handle: HandleNumber) -> Result<HandleNumber, Error> {
+        self.pager.clone(handle)
+    }
+
+    /// Gives up handles.
+    ///
+    /// # Errors
+    /// - as `Pager::release`, at the first one that is refused.
+    pub fn release(&mut self, handles: &[HandleNumber]) -> Result<(), Error> {
+        for handle in handles {
+            self.pager.release(*handle)?;
+        }
+        Ok(())
+    }
+
+    /// Gives up the handles of the list of those that wait for page-out: a record to which nothing else refers is gone
+    /// and isn't written; another is written with what refers to it.
+    ///
+    /// # Errors
+    /// - as `Pager::release`.
+    pub fn release_waiting(&mut self) -> Result<(), Error> {
+        for place in (0..self.pager.pending()).rev() {
+            if let Some(handle) = self.pager.take_pending(place) {
+                self.pager.release(handle)?;
+            }
+        }
+        Ok(())
+    }
+
+    /// Answers the key of a handle's record, which is paged out for it with all that it reaches, if it has none yet.
+    ///
+    /// # Errors
+    /// - as `cell_page_out::page_out`.
+    pub fn key(&mut self, handle: HandleNumber) -> Result<DataKey, Error> {
+        match self.pager.key(handle)? {
+            OptionalDataKey::Some(key) => Ok(key),
+            OptionalDataKey::None => Ok(page_out(self.alloc, &mut self.pager, handle)?),
+        }
+    }
+
+    /// Computes the key of a record with the tag `TEXT`, this text and no references, and inserts nothing.
+    ///
+    /// # Errors
+    /// - TooLong, OutOfMemory.
+    pub fn key_of_text(&self, text: &str) -> Result<DataKey, Error> {
+        let record = Record::new(self.alloc, TEXT, text, Vec::new(self.alloc))?;
+        let bytes = to_bytes(self.alloc, self.pager.env(), &record)?;
+        let arcs = Vec::new(self.alloc);
+        Ok(PagableData { bytes, arcs }.compute_key::<Sha256Key>())
+    }
+}
+
+impl<S: Roots<RecordEnv> + Drop> RecordStore<S> {
+    /// Opens the records of a storage: the handle of the one that a root's name stands for, if it stands for one, pins
+    /// nothing, and nothing of it is read. The budget keeps so many records in memory.
+    ///
+    /// # Errors
+    /// - as `Roots::root` and `cells::cell_of`.
+    pub fn open(
+        alloc: Global,
+        mut storage: S,
+        name: &str,
+        kept: u64,
+    ) -> Result<(RecordStore<S>, Option<HandleNumber>), Error> {
+        let root = storage.root(name)?;
+        let mut store = RecordStore {
+            alloc,
+            pager: Pager::new(alloc, storage, RecordEnv),
+            budget: Budget::new(alloc, kept)?,
+        };
+        match root {
+            None => Ok((store, None)),
+            Some(key) => {
+                let handle = cell_of::<Record, _, _>(alloc, &mut store.pager, key)?;
+                Ok((store, Some(handle)))
+            }
+        }
+    }
+
+    /// Pages out a handle's record with all that it reaches, lets a root's name stand for it, makes sure of both in one
+    /// flush, and gives the storage back.
+    ///
+    /// # Errors
+    /// - as `cell_page_out::page_out`, `Roots::set_root` and `flush`: the name stands for what it stood for at the last
+    ///   flush.
+    pub fn save(mut self, name: &str, handle: HandleNumber) -> Result<S, Error> {
+        let key = self.key(handle)?;
+        let alloc = self.alloc;
+        let mut storage = self.pager.into_storage();
+        storage.set_root(alloc, name, Some(key))?;
+        storage.flush()?;
+        Ok(storage)
+    }
+}

@@ -1,0 +1,103 @@
+//! Lines about a sheet, and their answers.
+
+use crate::formula::is_name;
+use crate::sheet::Sheet;
+use crate::sums::Sums;
+use anyhow::{Result, bail, ensure};
+use pagable::{HandleNumber, PagableStorage};
+use pagable_file::Roots;
+use record_store::{RecordEnv, RecordStore, TEXT};
+
+/// The name of the root that stands for the record of the sheet.
+const ROOT: &str = "sheet";
+
+/// The tag of a record of a sheet, which refers to its version and to the text of its sums.
+const SHEET: u32 = 2;
+
+/// How many records stay in memory beside those that are new.
+const KEPT_RECORDS: u64 = 1000;
+
+/// Answers the lines of standard input, and lets the root stand for the sheet that comes of them. Where that is
+/// refused, the root stands for what it stood for.
+pub fn serve<S: Roots<RecordEnv> + Drop>(rt: &HostRuntime, storage: S) -> Result<()> {
+    let (mut store, root) = RecordStore::open(rt.alloc(), storage, ROOT, KEPT_RECORDS)?;
+    let mut sheet = read_sheet(&mut store, root)?;
+    answer_all(rt, &mut store, &mut sheet)?;
+    let root = insert_sheet(&mut store, &sheet)?;
+    let _storage = store.save(ROOT, root)?;
+    Ok(())
+}
+
+/// Answers all lines, each with one line.
+fn answer_all<S: PagableStorage<RecordEnv>>(
+    rt: &HostRuntime,
+    store: &mut RecordStore<S>,
+    sheet: &mut Sheet,
+) -> Result<()> {
+    for line in rt.lines(rt.alloc()) {
+        match answer(store, sheet, line?.as_str()) {
+            Ok(answer) => println!(rt; "{}", answer.as_str())?,
+            Err(error) => println!(rt; "refused: {error}")?,
+        }
+    }
+    Ok(())
+}
+
+/// Answers a line.
+fn answer<S: PagableStorage<RecordEnv>>(
+    store: &mut RecordStore<S>,
+    sheet: &mut Sheet,
+    line: &str,
+) -> Result<String> {
+    let alloc = store.alloc;
+    let words: Vec<&str> = line.split_whitespace().collect(alloc)?;
+    match words.as_slice() {
+        ["set", name, formula] => {
+            ensure!(
+                is_name(name),
+                "a name is a letter, and letters and digits behind it"
+            );
+            sheet.set(store, name, formula)?;
+            Ok(String::from_str(alloc, "ok")?)
+        }
+        ["get", name] => Ok(format!(in alloc; "{}", sheet.get(store, name)?)?),
+        ["undo"] => match sheet.undo(store)? {
+            true => Ok(String::from_str(alloc, "ok")?),
+            false => bail!("there is no version before this one"),
+        },
+        ["stats"] => Ok(format!(in alloc;
+            "{} added, {} known",
+            sheet.sums.added, sheet.sums.known
+        )?),
+        _ => bail!("a line is set NAME 5, set NAME =A+B, get NAME, undo or stats"),
+    }
+}
+
+/// Reads the sheet of a record, or makes one without cells.
+fn read_sheet<S: PagableStorage<RecordEnv>>(
+    store: &mut RecordStore<S>,
+    root: Option<HandleNumber>,
+) -> Result<Sheet> {
+    let alloc = store.alloc;
+    let Some(root) = root else {
+        return Ok(Sheet::new(alloc, Sums::read(alloc, "")?));
+    };
+    let view = store.read(root)?;
+    let [version, sums] = view.refs.as_slice() else {
+        bail!("no sheet is stored here");
+    };
+    let sums = Sums::read(alloc, store.read(*sums)?.text())?;
+    let mut sheet = Sheet::new(alloc, sums);
+    sheet.go_to(store, *version)?;
+    Ok(sheet)
+}
+
+/// Inserts the record of a sheet.
+fn insert_sheet<S: PagableStorage<RecordEnv>>(
+    store: &mut RecordStore<S>,
+    sheet: &Sheet,
+) -> Result<HandleNumber> {
+    let version = sheet.insert_version(store)?;
+    let sums = store.insert(TEXT, sheet.sums.spell(store.alloc)?.as_str(), &[])?;
+    Ok(store.insert(SHEET, "", &[version, sums])?)
+}
