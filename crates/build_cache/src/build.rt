@@ -3,7 +3,7 @@
 use crate::rule::{Rule, read_rules};
 use anyhow::{Context, Result};
 use indexmap::IndexMap;
-use pagable::{HandleNumber, PagableStorage};
+use pagable::{DataKey, HandleNumber, PagableStorage};
 use pagable_file::Roots;
 use record_store::{RecordEnv, RecordStore, TEXT};
 use std::collections::BTreeMap;
@@ -44,10 +44,10 @@ struct Build<'a, S: PagableStorage<RecordEnv> + Drop> {
 
 /// Builds the targets of a folder, and lets the root stand for this build. Where that is refused, the root stands for
 /// the last build that wasn't.
-pub fn build_folder<S: Roots<RecordEnv> + Drop>(
-    rt: &HostRuntime,
+pub fn build_folder<'a, S: Roots<RecordEnv> + Drop>(
+    rt: &'a HostRuntime,
     storage: S,
-    folder: &str,
+    folder: &'a str,
 ) -> Result<()> {
     let alloc = rt.alloc();
     let (mut store, root) = RecordStore::open(alloc, storage, ROOT, KEPT_RECORDS)?;
@@ -62,9 +62,15 @@ pub fn build_folder<S: Roots<RecordEnv> + Drop>(
         ran: 0,
     };
     build.build_targets()?;
-    keep_others(&mut build.steps, &build.last)?;
-    let root = insert_build(&mut build.store, &build.steps)?;
-    let _storage = build.store.save(ROOT, root)?;
+    let Build {
+        mut store,
+        mut steps,
+        last,
+        ..
+    } = build;
+    keep_others(&mut steps, &last)?;
+    let root = insert_build(&mut store, &steps)?;
+    let _storage = store.save(ROOT, root)?;
     Ok(())
 }
 
@@ -143,13 +149,19 @@ impl<'a, S: PagableStorage<RecordEnv> + Drop> Build<'a, S> {
     fn spell_step(&mut self, rule: &Rule<'_>) -> Result<String> {
         let mut step = String::from_str(self.store.alloc, rule.word)?;
         for input in &rule.inputs {
-            let key = match self.targets.get(*input) {
-                Some(output) => self.store.key(*output)?,
-                None => self.store.key_of_text(self.read_file(input)?.as_str())?,
-            };
+            let key = self.input_key(input)?;
             write!(step, " {:032x}", key.get())?;
         }
         Ok(step)
+    }
+
+    /// Finds the key of an input's text.
+    fn input_key(&mut self, input: &str) -> Result<DataKey> {
+        if let Some(output) = self.targets.get(input).copied() {
+            return Ok(self.store.key(output)?);
+        }
+        let text = self.read_file(input)?;
+        Ok(self.store.key_of_text(text.as_str())?)
     }
 
     /// Finds the output of a step of this build or of those before it.
@@ -161,9 +173,12 @@ impl<'a, S: PagableStorage<RecordEnv> + Drop> Build<'a, S> {
     fn run_command(&mut self, rule: &Rule<'_>) -> Result<HandleNumber> {
         let mut text = String::new(self.store.alloc);
         for input in &rule.inputs {
-            match self.targets.get(*input) {
-                Some(output) => text.push_str(self.store.read(*output)?.text())?,
-                None => text.push_str(self.read_file(input)?.as_str())?,
+            if let Some(output) = self.targets.get(*input).copied() {
+                let view = self.store.read(output)?;
+                text.push_str(view.text())?;
+            } else {
+                let file = self.read_file(input)?;
+                text.push_str(file.as_str())?;
             }
         }
         self.ran = self.ran.saturating_add(1);

@@ -35,11 +35,14 @@ impl Machine {
             Instruction::Cdr => self.take_part(store, false)?,
             Instruction::Copy(depth) => self.copy(store, depth)?,
             Instruction::Lift(depth) => self.lift(depth)?,
-            Instruction::Drop => release_value(store, self.pop()?)?,
+            Instruction::Drop => self.drop_value(store)?,
             Instruction::IsPair => self.test_pair()?,
             Instruction::Jump => self.jump(false)?,
             Instruction::IfZero => self.jump(true)?,
-            Instruction::Show => return Ok(Some(self.pop_number()?)),
+            Instruction::Show => {
+                let number = self.pop_number()?;
+                return Ok(Some(number));
+            }
             Instruction::Halt => self.halt(),
         }
         Ok(None)
@@ -139,6 +142,15 @@ impl Machine {
             }
             None => bail!("the stack has too few values"),
         }
+    }
+
+    /// Lets a value go.
+    fn drop_value<S: PagableStorage<RecordEnv>>(
+        &mut self,
+        store: &mut RecordStore<S>,
+    ) -> Result<()> {
+        let value = self.pop()?;
+        release_value(store, value)
     }
 
     /// Pushes 1 if a pair is on top, else 0.

@@ -84,7 +84,8 @@ fn read_run<S: PagableStorage<RecordEnv>>(
         halted: false,
         stack: read_values(store.alloc, stack, pairs)?,
     };
-    let program = read_program(store.alloc, store.read(*text)?.text())?;
+    let source = store.read(*text)?;
+    let program = read_program(store.alloc, source.text())?;
     Ok(Run {
         text: *text,
         program,

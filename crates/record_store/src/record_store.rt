@@ -1,5 +1,7 @@
 //! A pager of records and its budget.
 
+ghost use Rattle.std.specs.Prelude.{IfOk, IsTrue, ◌≡◌};
+
 use crate::node::{RecordEnv, RecordNode};
 use crate::view::RecordView;
 use pagable::cell_page_out::page_out;
@@ -148,10 +150,12 @@ impl<S: Roots<RecordEnv> + Drop> RecordStore<S> {
         kept: u64,
     ) -> Result<(RecordStore<S>, Option<HandleNumber>), Error> {
         let root = storage.root(name)?;
+        let budget = Budget::new(alloc, kept)?;
+        let pager = Pager::new(alloc, storage, RecordEnv);
         let mut store = RecordStore {
             alloc,
-            pager: Pager::new(alloc, storage, RecordEnv),
-            budget: Budget::new(alloc, kept)?,
+            pager,
+            budget,
         };
         match root {
             None => Ok((store, None)),
@@ -163,12 +167,14 @@ impl<S: Roots<RecordEnv> + Drop> RecordStore<S> {
     }
 
     /// Pages out a handle's record with all that it reaches, lets a root's name stand for it, makes sure of both in one
-    /// flush, and gives the storage back.
+    /// flush, and gives the storage back: as long as that is honest, all that is stored in it is flushed.
     ///
     /// # Errors
     /// - as `cell_page_out::page_out`, `Roots::set_root` and `flush`: the name stands for what it stood for at the last
     ///   flush.
-    pub fn save(mut self, name: &str, handle: HandleNumber) -> Result<S, Error> {
+    pub fn save(mut self, name: &str, handle: HandleNumber) -> Result<S, Error>
+        ensures flushed { IfOk result (λ s. IsTrue (S.PagableStorage.is_honest s) → S.PagableStorage.flushed s ≡ S.PagableStorage.stored s) }
+    {
         let key = self.key(handle)?;
         let alloc = self.alloc;
         let mut storage = self.pager.into_storage();

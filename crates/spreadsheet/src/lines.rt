@@ -60,7 +60,10 @@ fn answer<S: PagableStorage<RecordEnv>>(
             sheet.set(store, name, formula)?;
             Ok(String::from_str(alloc, "ok")?)
         }
-        ["get", name] => Ok(format!(in alloc; "{}", sheet.get(store, name)?)?),
+        ["get", name] => {
+            let value = sheet.get(store, name)?;
+            Ok(format!(in alloc; "{value}")?)
+        }
         ["undo"] => match sheet.undo(store)? {
             true => Ok(String::from_str(alloc, "ok")?),
             false => bail!("there is no version before this one"),
@@ -86,7 +89,8 @@ fn read_sheet<S: PagableStorage<RecordEnv>>(
     let [version, sums] = view.refs.as_slice() else {
         bail!("no sheet is stored here");
     };
-    let sums = Sums::read(alloc, store.read(*sums)?.text())?;
+    let text = store.read(*sums)?;
+    let sums = Sums::read(alloc, text.text())?;
     let mut sheet = Sheet::new(alloc, sums);
     sheet.go_to(store, *version)?;
     Ok(sheet)
@@ -98,6 +102,7 @@ fn insert_sheet<S: PagableStorage<RecordEnv>>(
     sheet: &Sheet,
 ) -> Result<HandleNumber> {
     let version = sheet.insert_version(store)?;
-    let sums = store.insert(TEXT, sheet.sums.spell(store.alloc)?.as_str(), &[])?;
+    let text = sheet.sums.spell(store.alloc)?;
+    let sums = store.insert(TEXT, text.as_str(), &[])?;
     Ok(store.insert(SHEET, "", &[version, sums])?)
 }

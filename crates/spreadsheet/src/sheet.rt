@@ -129,7 +129,8 @@ impl Sheet {
             return Ok(*value);
         }
         let cell = self.cells.get(name).copied();
-        let view = store.read(cell.context(format_args!("no cell is called {name}"))?)?;
+        let cell = cell.context(format_args!("no cell is called {name}"))?;
+        let view = store.read(cell)?;
         let value = match read_formula(view.text())? {
             Formula::Number(number) => number,
             Formula::Sum(names) => self.evaluate_sum(store, names, levels)?,
@@ -153,7 +154,8 @@ impl Sheet {
         );
         let mut numbers = Vec::new(store.alloc);
         for name in names.split("+") {
-            numbers.push(self.evaluate(store, name, levels - 1)?)?;
+            let number = self.evaluate(store, name, levels - 1)?;
+            numbers.push(number)?;
         }
         self.sums.add_up(store.alloc, numbers.as_slice())
     }
