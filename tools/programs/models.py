@@ -1,4 +1,5 @@
 """Plain models of the three programs whose files last."""
+import operator
 import random
 
 
@@ -34,6 +35,8 @@ def build(cache, folder):
 
 # ---- heap_snapshot: pairs are tuples
 
+OPERATIONS = {"add": operator.add, "sub": operator.sub, "mul": operator.mul}
+
 
 class Machine:
     def __init__(self, text):
@@ -51,7 +54,7 @@ class Machine:
         stack, self.place = self.stack, self.place + 1
         if word in ("add", "sub", "mul", "cons"):
             right, left = stack.pop(), stack.pop()
-            stack.append({"add": lambda: left + right, "sub": lambda: left - right, "mul": lambda: left * right, "cons": lambda: (left, right)}[word]())
+            stack.append((left, right) if word == "cons" else OPERATIONS[word](left, right))
         elif word in ("car", "cdr"):
             stack.append(stack.pop()[word == "cdr"])
         elif word in ("dup", "over"):
@@ -91,7 +94,8 @@ NAMES = ["A", "B", "C", "D", "E"]
 def line():
     """A drawn line."""
     name = random.choice(NAMES)
-    formula = random.choice([str(random.randrange(-3, 4)), "=" + "+".join(random.choices(NAMES, k=random.randrange(1, 4)))])
+    number, names = random.randrange(-3, 4), random.choices(NAMES, k=random.randrange(1, 4))
+    formula = random.choice([str(number), "=" + "+".join(names)])
     if random.random() < 0.1:
         formula = "5x"
     return random.choice([f"set {name} {formula}"] * 3 + [f"get {name}"] * 3 + ["undo", "stats", f"put {name}"])

@@ -52,7 +52,8 @@ def built_once(program, store, folder, cache):
 
 
 def build_cache(program, work):
-    """A first build, a second one, edits that change all, a part and nothing, a lost target, and a rule file that is none."""
+    """A first build, a second one, edits that change a part and nothing, a lost target, a rule file that is none, and
+    drawn edits."""
     folder, store, cache = work / "folder", work / "build.store", set()
     shutil.copytree(TOP / "crates" / "build_cache" / "data", folder)
     ended = lambda: built_once(program, store, folder, cache).splitlines()[-1]

@@ -173,7 +173,8 @@ impl<S: Roots<RecordEnv> + Drop> RecordStore<S> {
     /// - as `cell_page_out::page_out`, `Roots::set_root` and `flush`: the name stands for what it stood for at the last
     ///   flush.
     pub fn save(mut self, name: &str, handle: HandleNumber) -> Result<S, Error>
-        ensures flushed { IfOk result (λ s. IsTrue (S.PagableStorage.is_honest s) → S.PagableStorage.flushed s ≡ S.PagableStorage.stored s) }
+        ensures flushed { IfOk result (λ s. IsTrue (S.PagableStorage.is_honest s)
+            → S.PagableStorage.flushed s ≡ S.PagableStorage.stored s) }
     {
         let key = self.key(handle)?;
         let alloc = self.alloc;
