@@ -20,7 +20,7 @@ const KEPT_PAIRS: u64 = 1000;
 
 /// A machine at work on a program, whose text is a record.
 #[derive(Drop)]
-struct Run {
+struct Execution {
     text: HandleNumber,
     program: Vec<Instruction>,
     machine: Machine,
@@ -35,21 +35,24 @@ pub fn run<S: Roots<RecordEnv> + Drop>(
     steps: u64,
 ) -> Result<()> {
     let (mut store, root) = RecordStore::open(rt.alloc(), storage, ROOT, KEPT_PAIRS)?;
-    let mut run = match text {
+    let mut execution = match text {
         Some(text) => begin(&mut store, text)?,
-        None => read_run(
+        None => read_execution(
             &mut store,
             root.context("no machine is saved in this store")?,
         )?,
     };
-    run_steps(rt, &mut store, &mut run, steps)?;
-    let root = insert_run(&mut store, &run)?;
+    run_steps(rt, &mut store, &mut execution, steps)?;
+    let root = insert_execution(&mut store, &execution)?;
     let _storage = store.save(ROOT, root)?;
     Ok(())
 }
 
 /// Puts a machine at the first instruction of a program.
-fn begin<S: PagableStorage<RecordEnv>>(store: &mut RecordStore<S>, text: &str) -> Result<Run> {
+fn begin<S: PagableStorage<RecordEnv>>(
+    store: &mut RecordStore<S>,
+    text: &str,
+) -> Result<Execution> {
     let program = read_program(store.alloc, text)?;
     let machine = Machine {
         place: 0,
@@ -57,7 +60,7 @@ fn begin<S: PagableStorage<RecordEnv>>(store: &mut RecordStore<S>, text: &str) -
         stack: Vec::new(store.alloc),
     };
     let text = store.insert(TEXT, text, &[])?;
-    Ok(Run {
+    Ok(Execution {
         text,
         program,
         machine,
@@ -65,10 +68,10 @@ fn begin<S: PagableStorage<RecordEnv>>(store: &mut RecordStore<S>, text: &str) -
 }
 
 /// Reads the machine of a record, and its program. The pairs of its stack aren't read.
-fn read_run<S: PagableStorage<RecordEnv>>(
+fn read_execution<S: PagableStorage<RecordEnv>>(
     store: &mut RecordStore<S>,
     root: HandleNumber,
-) -> Result<Run> {
+) -> Result<Execution> {
     let saved = store.read(root)?;
     let (place, stack) = saved
         .text()
@@ -86,7 +89,7 @@ fn read_run<S: PagableStorage<RecordEnv>>(
     };
     let source = store.read(*text)?;
     let program = read_program(store.alloc, source.text())?;
-    Ok(Run {
+    Ok(Execution {
         text: *text,
         program,
         machine,
@@ -94,13 +97,13 @@ fn read_run<S: PagableStorage<RecordEnv>>(
 }
 
 /// Inserts the record of a machine.
-fn insert_run<S: PagableStorage<RecordEnv>>(
+fn insert_execution<S: PagableStorage<RecordEnv>>(
     store: &mut RecordStore<S>,
-    run: &Run,
+    execution: &Execution,
 ) -> Result<HandleNumber> {
-    let (stack, pairs) = spell_values(store.alloc, run.machine.stack.as_slice())?;
-    let text = format!(in store.alloc; "{}\n{}", run.machine.place, stack.as_str())?;
-    let mut refs = vec![in store.alloc; run.text]?;
+    let (stack, pairs) = spell_values(store.alloc, execution.machine.stack.as_slice())?;
+    let text = format!(in store.alloc; "{}\n{}", execution.machine.place, stack.as_str())?;
+    let mut refs = vec![in store.alloc; execution.text]?;
     refs.extend(pairs)?;
     Ok(store.insert(MACHINE, text.as_str(), refs.as_slice())?)
 }
@@ -109,16 +112,20 @@ fn insert_run<S: PagableStorage<RecordEnv>>(
 fn run_steps<S: PagableStorage<RecordEnv>>(
     rt: &HostRuntime,
     store: &mut RecordStore<S>,
-    run: &mut Run,
+    execution: &mut Execution,
     steps: u64,
 ) -> Result<()> {
     for step in 0..steps {
-        if run.machine.halted {
+        if execution.machine.halted {
             break;
         }
-        let place = run.machine.place;
-        let instruction = run.program.get(place).copied().unwrap_or(Instruction::Halt);
-        let shown = run
+        let place = execution.machine.place;
+        let instruction = execution
+            .program
+            .get(place)
+            .copied()
+            .unwrap_or(Instruction::Halt);
+        let shown = execution
             .machine
             .step(store, instruction)
             .context(format_args!("at {place}"))?;
@@ -129,11 +136,11 @@ fn run_steps<S: PagableStorage<RecordEnv>>(
             store.release_waiting()?;
         }
     }
-    let word = if run.machine.halted {
+    let word = if execution.machine.halted {
         "halted"
     } else {
         "stopped"
     };
-    println!(rt; "{word} at {}", run.machine.place)?;
+    println!(rt; "{word} at {}", execution.machine.place)?;
     Ok(())
 }
