@@ -8,6 +8,7 @@ use pagable_flavors::{Error, Reason};
 use pagable_traits::SavedRegex;
 use serde_json::Value;
 use std::alloc::{AllocError, Global};
+use std::fmt::Write;
 
 /// What the JSON value of a text is written as.
 fn json(alloc: Global, text: &str) -> Result<String, AllocError> {
@@ -54,12 +55,22 @@ fn find(alloc: Global, pattern: &str, text: &str) -> anyhow::Result<String> {
     }
 }
 
+/// The reason that is this text, whole or written to it in two parts, as a refusal shows it.
+fn reason(alloc: Global, input: &str) -> anyhow::Result<String> {
+    let (front, rest) = input.split_at(input.floor_char_boundary(30));
+    let mut written = Reason::new(front);
+    if write!(written, "{rest}").is_err() || written != Reason::new(input) {
+        return Ok(String::from_str(alloc, "unlike what is written in parts")?);
+    }
+    Ok(format!(in alloc; "\"{}\"", Error::Custom(written))?)
+}
+
 /// The answer to an input of a verb that doesn't read.
 pub fn answer(alloc: Global, name: &str, verb: &str, input: &str) -> anyhow::Result<String> {
     match verb {
         "write" => Ok(json(alloc, input)?),
         "drawn" => drawn(alloc, name, input.parse::<u32>()?),
         "find" => find(alloc, name, input),
-        _ => Ok(format!(in alloc; "\"{}\"", Error::Custom(Reason::new(input)))?),
+        _ => reason(alloc, input),
     }
 }
