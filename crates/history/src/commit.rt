@@ -1,7 +1,7 @@
 //! A type of one's own: commits, and their environment.
 
 ghost use Rattle.std.specs.{Arc.arc_value, Prelude.{Some, ◌≡◌}};
-ghost use Rattle.{history.specs.History.commit_spelled, pagable_traits.specs.ReadBack.IsReadThroughout};
+ghost use Rattle.{history.specs.Commits.commit_spelled, pagable_traits.specs.ReadBack.IsReadThroughout};
 ghost use Rattle.pagable_nodes.specs.Nodes.{one_held, zero_is_small};
 
 use pagable_core::Sha256Key;
@@ -132,7 +132,7 @@ impl OfNode<History> for Commit {
 }
 
 /// The forms of a commit are read again.
-#[tactic(auto, using(crate::specs::History::commit_is_read))]
+#[tactic(auto, using(crate::specs::Commits::commit_is_read))]
 pub fn commits_are_read<E: Env>()
     ensures { (e : E) → IsReadThroughout (E.parts e) (⟦<Commit as Carried<E>>⟧.shape e) }
 {}

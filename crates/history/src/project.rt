@@ -1,7 +1,7 @@
 //! An environment of three types: commits, folders and files, which refer to each other.
 
 ghost use Rattle.std.specs.{Arc.arc_value, Prelude.{Some, ◌≡◌}};
-ghost use Rattle.history.specs.History.{file_spelled, folder_spelled};
+ghost use Rattle.history.specs.Projects.{file_spelled, folder_spelled};
 ghost use Rattle.pagable_nodes.specs.Nodes.{first_held, second_held, third_held, three_are_small};
 
 use crate::commit::Commit;
