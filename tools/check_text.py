@@ -11,7 +11,8 @@ In `pagable_locked` a function that locks the pager takes that lock once and mak
 and behind which it may ask the node of the handle that it got, or the blob that the cache didn't know. It has no loop and no macro from there on, and hands the
 guard to nothing but that access, so no value is decoded or written, nothing is waited for and no other lock is taken meanwhile.
 
-What README.md shows of a file (`This is`, its name, and the code) is that file, without the comment at its head and its tests.
+What README.md shows of a file (`This is`, its name, and the code) is that file, without the comment at its head and its tests; and what it shows of what a
+program prints (`This is`, the name of its file `stdout`, and indented lines) is that file.
 """
 import re
 import sys
@@ -47,6 +48,7 @@ INSERTS = {"new_loose", "new_shared", "new_pinned"}
 GUARD = re.compile(r"(?<![.\w])pager\b(?!\s*\.)")
 # A file that README.md shows, and what it shows.
 SHOWN = re.compile(r"This is\s`(crates/\S+\.rt)`[^`]*\n\n```rust\n(.*?)```", re.S)
+PRINTED = re.compile(r"This is\s`(crates/\S+/stdout)`(?:.|\n(?!\n))*\n\n((?: {4}.*\n)+)")
 KEPT = re.compile(r"let (?:mut )?pager = |Lent::(?:new|for_owner)\(&mut \*pager\b")
 
 
@@ -93,6 +95,9 @@ def stale_code():
         lines = (CRATES.parent / shown[1]).read_text(encoding="utf-8").partition("\n#[cfg(test)]")[0].splitlines(keepends=True)
         code = "".join(line for line in lines if not line.startswith("//!")).lstrip("\n")
         if code.rstrip("\n") != shown[2].rstrip("\n"):
+            found.append((readme, text[: shown.start(2)].count("\n") + 1))
+    for shown in PRINTED.finditer(text):
+        if re.sub(r"(?m)^ {4}", "", shown[2]) != (CRATES.parent / shown[1]).read_text(encoding="utf-8"):
             found.append((readme, text[: shown.start(2)].count("\n") + 1))
     return found
 
