@@ -1,12 +1,15 @@
-//! Cells by one call each: inserted, looked at, referred to by each sort of references, found by their key, and
-//! followed.
+//! Cells by one call each: inserted, looked at, referred to by each sort of references, found by their key, followed,
+//! and refused.
 
 use crate::calls::let_go;
 use pagable::cell_page_out::page_out;
 use pagable::cells::{cell_of, contains, follow, insert, look};
 use pagable::paging::page_out_pending;
 use pagable::typed_references::{holding, loose};
-use pagable::{DataKey, HandleNumber, InMemoryBlobs, OfNode, PagableStorage, Pager};
+use pagable::{
+    ArcRef, DataKey, Error, HandleNumber, InMemoryBlobs, Kind, NodeNumber, OfKind, OfNode,
+    PagableStorage, Pager,
+};
 use pagable_rows::linked::bundle::Bundle;
 use pagable_rows::linked::chain::{ArcLink, Link};
 use pagable_rows::linked::{Linked, LinkedNode};
@@ -69,10 +72,43 @@ fn is_kept<S: PagableStorage<Linked>>(alloc: Global, pager: &mut Pager<Linked, S
     Some(Some(key) == DataKey::new(1) && !pager.is_paged_out(pinned).ok()?)
 }
 
+/// Inserts a link to what was never there. The link comes back, and `?` drops it.
+fn insert_unknown<S: PagableStorage<Linked>>(
+    alloc: Global,
+    pager: &mut Pager<Linked, S>,
+) -> Result<HandleNumber, Error> {
+    let unknown = ArcRef {
+        kind: Kind(1),
+        node: NodeNumber(99),
+        handle: HandleNumber(99),
+    };
+    let link = Link {
+        next: OfKind::from_reference(unknown),
+    };
+    let link = Arc::new(alloc, link)?;
+    Ok(insert(alloc, pager, Link::into_node(link))?)
+}
+
+/// Pages out the cell of a Shared handle, which has no key of its own.
+fn page_out_shared<S: PagableStorage<Linked>>(
+    alloc: Global,
+    pager: &mut Pager<Linked, S>,
+) -> Result<DataKey, Error> {
+    let link = Arc::new(alloc, ArcLink { next: None })?;
+    let shared = pager.new_shared(alloc, ArcLink::into_node(link))?;
+    Ok(page_out(alloc, pager, shared)?)
+}
+
+/// Whether `?` makes the refusal of what gives values back, and of a page-out.
+fn are_refused<S: PagableStorage<Linked>>(alloc: Global, pager: &mut Pager<Linked, S>) -> bool {
+    let is_unknown = insert_unknown(alloc, pager) == Err(Error::NoSuchHandle);
+    is_unknown && page_out_shared(alloc, pager) == Err(Error::WrongMode)
+}
+
 /// Whether a bundle that was paged out is found by its key, and its loose link by the reference in it; and whether each
 /// look leaves its cell away and unpinned.
 fn hold_in<S: PagableStorage<Linked>>(alloc: Global, pager: &mut Pager<Linked, S>) -> Option<bool> {
-    let is_kept = is_kept(alloc, pager)?;
+    let is_kept = is_kept(alloc, pager)? && are_refused(alloc, pager);
     let value = bundle(alloc, pager)?;
     let value = node(alloc, value)?;
     let_go(insert(alloc, pager, value).ok()?);

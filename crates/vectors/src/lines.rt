@@ -1,11 +1,13 @@
 //! Lines, and their answers.
 
 use crate::calls::Calls;
+use pagable::Reason;
 use pagable_examples::carried::text;
 use pagable_examples::{own, values};
 use pagable_rows::blobs::{bytes_of, weighed};
 use pagable_rows::served;
 use std::alloc::{AllocError, Global};
+use std::fmt::Write;
 
 /// What comes of the bytes of a type.
 fn read_bytes(alloc: Global, name: &str, bytes: &[u8]) -> Result<String, AllocError> {
@@ -30,6 +32,13 @@ fn cut(alloc: Global, name: &str, input: &str) -> anyhow::Result<String> {
     Ok(common)
 }
 
+/// Whether the reason that is a text is the same where the text is written to it in two parts.
+fn is_reason_in_parts(text: &str) -> bool {
+    let (front, rest) = text.split_at(text.floor_char_boundary(30));
+    let mut reason = Reason::new(front);
+    write!(reason, "{rest}").is_ok() && reason == Reason::new(text)
+}
+
 /// The answers to the inputs of a line, in their order.
 fn answer_all(alloc: Global, name: &str, verb: &str, inputs: &str) -> anyhow::Result<String> {
     let mut answers = String::new(alloc);
@@ -42,6 +51,7 @@ fn answer_all(alloc: Global, name: &str, verb: &str, inputs: &str) -> anyhow::Re
             "cut" => cut(alloc, name, input)?,
             "weigh" => weighed(alloc, input)?,
             "serve" => served::answer(alloc, name, input)?,
+            "reason" if !is_reason_in_parts(input) => String::from_str(alloc, "unlike in parts")?,
             _ => values::answer(alloc, name, verb, input)?,
         };
         answers.push_str(answer.as_str())?;
