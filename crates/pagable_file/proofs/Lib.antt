@@ -1,5 +1,7 @@
 mod Committing
+mod Copying
 mod Fetching
+mod Flawed
 mod Keys
 mod Named
 mod Opening

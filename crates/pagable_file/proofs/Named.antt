@@ -21,7 +21,7 @@ has_held waiting rows key it e = rw (sym e) (go (it.key == key) refl)
     go true h = rw h refl
     go false h = rw h refl
 
-row_has_blob : (rows : List Row) (key : ℕ) (found : Option Reading) → IsFoundAs rows key found → reads_blob found ≡ is_some (blobs_in rows key)
+pub row_has_blob : (rows : List Row) (key : ℕ) (found : Option Reading) → IsFoundAs rows key found → reads_blob found ≡ is_some (blobs_in rows key)
 unfolding blobs_in blob_in
 row_has_blob rows key None f = rw f refl
 row_has_blob rows key (Some reading.Other) f = rw (f.1, f.2) refl

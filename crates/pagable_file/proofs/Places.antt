@@ -11,7 +11,7 @@ use Rattle.pagable_file.specs.declared.pending.{Pending.Pending, PendingRoot.Pen
 use Rattle.pagable_file.proofs.Keys.{key_back, all_back}
 
 -- whether a row of one place is that of another
-has_place : (row : Row) (p id : ℤ) → rowid row ≡ Int p → has_rowid id row ≡ int_eq p id
+pub has_place : (row : Row) (p id : ℤ) → rowid row ≡ Int p → has_rowid id row ≡ int_eq p id
 has_place row p id is = ap (λ v. is_eq (value_cmp v (Int id))) is ∙ ap is_eq (value_cmp-Int p id)
 
 -- a row that is compared with another as different isn't at its place

@@ -1,3 +1,5 @@
 pub mod Rows
 pub mod Blobs
 pub mod Closing
+pub mod Flaws
+pub mod Copies

@@ -5,8 +5,10 @@
 #![tactic(auto)]
 
 pub mod blob_env;
+pub mod copy;
 pub mod fault;
 pub mod file_blobs;
+pub mod fsck;
 pub mod laws;
 pub mod listing;
 mod lookup;
@@ -20,11 +22,14 @@ mod saving;
 mod scan;
 pub mod stats;
 pub mod tables;
+pub mod watch;
 
 pub use blob_env::BlobEnv;
 pub use fault::Fault;
 pub use file_blobs::FileBlobs;
+pub use fsck::Flaw;
 pub use listing::Listed;
 pub use open_error::OpenError;
 pub use roots::Roots;
 pub use stats::Stats;
+pub use watch::Watch;

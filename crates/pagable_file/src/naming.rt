@@ -17,7 +17,7 @@ use sqlite_value::row::Row;
 use std::alloc::Global;
 
 /// Whether a blob was read.
-fn is_blob(found: &Option<Reading>) -> bool
+pub fn is_blob(found: &Option<Reading>) -> bool
     ensures { result ≡ reads_blob found.now }
 {
     matches!(found, Some(Reading::Blob(_)))

@@ -1,0 +1,14 @@
+use Rattle.std.proofs.Common.{IsTrue, ℕ, take}
+use Rattle.std.specs.List.{AllByRecursion}
+use Rattle.pagable_model.specs.Blob.{Blob}
+use Rattle.pagable_file.specs.{Blobs.{StaysPut, is_sure}, Flaws.{IsChild, IsFlaw, IsThere, Tested}, Rows.{blob_tree, root_tree}}
+use Rattle.pagable_file.proofs.fsck.test_children.Given as goal
+
+-- the children so far were tested
+abbrev pub invariant-loop-child : goal.invariant-loop-child
+invariant-loop-child g l =
+    let first = g.S.Store.view l.fn.store in
+    let now = g.S.Store.view l.store in
+    let rows = first.committed blob_tree in
+    let so_far = take l.child-index l.children in
+    StaysPut first now × ((of : Blob → ℕ) → IsTrue (is_sure now) → AllByRecursion (IsChild rows l.key) so_far → Tested (IsFlaw of rows (first.committed root_tree)) l.fn.flaws.items l.flaws.items (AllByRecursion (IsThere rows) so_far))

@@ -1,0 +1,14 @@
+use Rattle.std.proofs.Common.{IsTrue, ℕ, take}
+use Rattle.std.specs.List.{AllByRecursion}
+use Rattle.pagable_model.specs.Blob.{Blob}
+use Rattle.pagable_file.specs.{Blobs.{StaysPut, is_sure}, Flaws.{IsFlaw, IsSoundRoot, Tested}, Rows.{blob_tree, root_tree}}
+use Rattle.pagable_file.proofs.fsck.test_roots.Given as goal
+
+-- the rows so far were tested
+abbrev pub invariant-loop-place : goal.invariant-loop-place
+invariant-loop-place g l =
+    let first = g.S.Store.view l.fn.store in
+    let now = g.S.Store.view l.store in
+    let rows = first.committed blob_tree in
+    let roots = first.committed root_tree in
+    StaysPut first now × ((of : Blob → ℕ) → IsTrue (is_sure now) → Tested (IsFlaw of rows roots) l.fn.flaws.items l.flaws.items (AllByRecursion (IsSoundRoot rows roots) (take l.place-index l.places)))

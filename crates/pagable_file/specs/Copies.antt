@@ -1,0 +1,51 @@
+-- What a copy of one storage's blobs into another has.
+use Rattle.std.specs.Prelude.{◌≡◌, ℕ, List, [], ◌∷◌, Option, Some, IsSome, nat_eq}
+use Rattle.std.specs.{HashMap.{HashMap, get}, List.{AllByRecursion, Contains}, declared.hash.{BuildHasherDefault.BuildHasherDefault, FoldHasher.FoldHasher}}
+use Rattle.pagable_model.specs.Blob.{Blob}
+
+-- the keys that were copied
+abbrev pub Copied : Type 0
+Copied = HashMap ℕ (Unit {0}) (BuildHasherDefault FoldHasher)
+
+abbrev pub HasCopied : Copied → ℕ → Type 0
+HasCopied copied key = IsSome (get nat_eq copied key)
+
+-- one blob stands under the key in both, and its children were copied
+pub record IsCopied (from to : ℕ → Option Blob) (copied : Copied) (key : ℕ) : Type 0 where
+  pub blob : Blob
+  pub there : from key ≡ Some blob
+  pub stored : to key ≡ Some blob
+  pub children : AllByRecursion (HasCopied copied) blob.keys
+
+abbrev pub AreCopied : (ℕ → Option Blob) → (ℕ → Option Blob) → Copied → Type 0
+AreCopied from to copied = (key : ℕ) → HasCopied copied key → IsCopied from to copied key
+
+-- each key of a path is a child of the one before it
+abbrev pub IsPath : (ℕ → Option Blob) → ℕ → List ℕ → Type 0
+IsPath stored key [] = Unit {0}
+IsPath stored key (child ∷ path) = ((blob : Blob) × (stored key ≡ Some blob) × Contains blob.keys child) × IsPath stored child path
+
+-- the last key of a path
+abbrev pub end_of : ℕ → List ℕ → ℕ
+end_of key [] = key
+end_of key (child ∷ path) = end_of child path
+
+-- there is a path from the first key to the second
+abbrev pub Reaches : (ℕ → Option Blob) → ℕ → ℕ → Type 0
+Reaches stored root key = (path : List ℕ) × IsPath stored root path × (end_of root path ≡ key)
+
+-- one blob stands under the key in both
+abbrev pub IsInBoth : (ℕ → Option Blob) → (ℕ → Option Blob) → ℕ → Type 0
+IsInBoth from to key = (blob : Blob) × (from key ≡ Some blob) × (to key ≡ Some blob)
+
+-- a name stands for the key that is wanted, if one is, and that was copied
+abbrev pub Matches : Copied → (List ℕ → Option ℕ) → (List ℕ → Option ℕ) → List ℕ → Type 0
+Matches copied wanted roots name = (root : ℕ) → wanted name ≡ Some root → (roots name ≡ Some root) × HasCopied copied root
+
+-- a name stands for the same key in both, and all that this reaches stands under its key in both
+pub record IsSameRoot (from to : ℕ → Option Blob) (copies : List ℕ → Option ℕ) (name : List ℕ) (root : ℕ) : Type 0 where
+  pub set : copies name ≡ Some root
+  pub blobs : (key : ℕ) → Reaches from root key → IsInBoth from to key
+
+abbrev pub IsCopiedRoot : (ℕ → Option Blob) → (ℕ → Option Blob) → (List ℕ → Option ℕ) → (List ℕ → Option ℕ) → List ℕ → Type 0
+IsCopiedRoot from to roots copies name = (root : ℕ) → roots name ≡ Some root → IsSameRoot from to copies name root

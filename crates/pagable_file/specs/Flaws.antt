@@ -1,0 +1,72 @@
+-- What is wrong with a file of blobs.
+use Rattle.std.specs.Prelude.{◌≡◌, ◌≢◌, ℕ, ℤ, List, String, [], Option, Some, None, IsSome, option_map, if◌then◌else◌}
+use Rattle.std.specs.declared.alloc.Global.{Global}
+use Rattle.std.specs.{List.{AllByRecursion, Contains}, Ordering.int_eq, Str.IsUtf8, String.string_bytes}
+use Rattle.sqlite_value.specs.Order.{Row, bytes, column}
+use Rattle.pagable_model.specs.Blob.{Blob}
+use Rattle.pagable_file.specs.Rows.{blob_in, blobs_in, key_in, place_of, place_of_name, roots_in, row_at}
+use Rattle.pagable_file.specs.declared.fsck.Flaw.{Flaw}
+use Rattle.pagable_file.specs.declared.fsck.Flaw.TheVariants as flaw
+
+abbrev pub keyed : ℕ → Blob → ℕ × Blob
+keyed key blob = (key, blob)
+
+-- a key's blob, where the key's place is this one
+abbrev pub keyed_at : ℤ → Row → Option ℕ → Option (ℕ × Blob)
+keyed_at place row None = None
+keyed_at place row (Some key) = if int_eq (place_of key) place then option_map (keyed key) (blob_in key row) else None
+
+-- the key and the blob of a row that stands at this place; none where no key's blob is found there
+unfoldable pub blob_at : ℤ → Row → Option (ℕ × Blob)
+blob_at place row = keyed_at place row (key_in (bytes (column row 2)))
+
+-- a blob stands under the key
+abbrev pub IsThere : List Row → ℕ → Type 0
+IsThere rows key = IsSome (blobs_in rows key)
+
+-- the second key is a child of the first one's blob
+abbrev pub IsChild : List Row → ℕ → ℕ → Type 0
+IsChild rows key child = (blob : Blob) × (blobs_in rows key ≡ Some blob) × Contains blob.keys child
+
+-- a flaw that the two tables have
+abbrev pub IsFlaw : (Blob → ℕ) → List Row → List Row → Flaw → Type 0
+IsFlaw key_of rows roots (flaw.StrayBlob place) = (row : Row) × (row_at rows place ≡ Some row) × (blob_at place row ≡ None)
+IsFlaw key_of rows roots (flaw.WrongKey key) = (blob : Blob) × (blobs_in rows key ≡ Some blob) × (key_of blob ≢ key)
+IsFlaw key_of rows roots (flaw.MissingChild key child) = IsChild rows key child × (blobs_in rows child ≡ None)
+IsFlaw key_of rows roots (flaw.StrayRoot place) = (row : Row) × (row_at roots place ≡ Some row) × (IsUtf8 (bytes (column row 2)) → place_of_name (bytes (column row 2)) ≢ place)
+IsFlaw key_of rows roots (flaw.MissingRoot name key) = (roots_in roots (string_bytes name) ≡ Some key) × (blobs_in rows key ≡ None)
+
+-- a row of the table of roots has a name, whose place is this one
+abbrev pub IsNamed : ℤ → Row → Type 0
+IsNamed place row = IsUtf8 (bytes (column row 2)) × (place_of_name (bytes (column row 2)) ≡ place)
+
+-- each row stands at its key's or its name's place, each blob has the key that it stands under, and each of its children is there, and what each name stands for
+pub record IsWhole (key_of : Blob → ℕ) (rows roots : List Row) : Type 0 where
+  pub placed : (place : ℤ) (row : Row) → row_at rows place ≡ Some row → IsSome (blob_at place row)
+  pub keyed : (key : ℕ) (blob : Blob) → blobs_in rows key ≡ Some blob → key_of blob ≡ key
+  pub children : (key : ℕ) (blob : Blob) → blobs_in rows key ≡ Some blob → AllByRecursion (IsThere rows) blob.keys
+  pub names_placed : (place : ℤ) (row : Row) → row_at roots place ≡ Some row → IsNamed place row
+  pub named : (name : List ℕ) (key : ℕ) → roots_in roots name ≡ Some key → IsThere rows key
+
+-- the text that a row has as its name, where the name's place is this one
+abbrev pub IsNameAt : ℤ → Row → Option (String Global) → Type 0
+IsNameAt place row None = IsUtf8 (bytes (column row 2)) → place_of_name (bytes (column row 2)) ≢ place
+IsNameAt place row (Some name) = (string_bytes name ≡ bytes (column row 2)) × (place_of_name (string_bytes name) ≡ place)
+
+-- the flaws that a test added are flaws, and where there is none at all, this holds
+pub record Tested (P : Flaw → Type 0) (old new : List Flaw) (Q : Type 0) : Type 0 where
+  pub real : AllByRecursion P old → AllByRecursion P new
+  pub clear : new ≡ [] → (old ≡ []) × Q
+
+-- a key's blob has this key, and its children are there
+pub record IsSoundBlob (key_of : Blob → ℕ) (rows : List Row) (key : ℕ) (blob : Blob) : Type 0 where
+  pub keyed : key_of blob ≡ key
+  pub children : AllByRecursion (IsThere rows) blob.keys
+
+-- the row at a place, if there is one, is a sound blob's
+abbrev pub IsSoundPlace : (Blob → ℕ) → List Row → ℤ → Type 0
+IsSoundPlace key_of rows place = (row : Row) → row_at rows place ≡ Some row → (key : ℕ) × (blob : Blob) × (blob_at place row ≡ Some (key, blob)) × IsSoundBlob key_of rows key blob
+
+-- the root at a place, if there is one, is a name's, and what it stands for is there
+abbrev pub IsSoundRoot : List Row → List Row → ℤ → Type 0
+IsSoundRoot rows roots place = (row : Row) → row_at roots place ≡ Some row → IsNamed place row × ((key : ℕ) → key_in (bytes (column row 3)) ≡ Some key → IsThere rows key)

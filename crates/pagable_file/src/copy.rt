@@ -1,0 +1,288 @@
+//! Copies what roots reach from one storage into another.
+
+ghost use Rattle.std.specs.{Arc.arc_value, List.AllByRecursion, Prelude.{◌≡◌, ◌≤◌, IfOk, IsTrue, ℕ, List, OnOk, Option, Some, map}, String.string_bytes};
+ghost use Rattle.{pagable_core.specs.Data.blob_of, pagable_model.specs.{Blob.{Blob, key_of}, Stored.Keeps}};
+ghost use Rattle.pagable_file.specs.Copies.{AreCopied, HasCopied, IsCopiedRoot, Matches};
+
+use crate::roots::Roots;
+use crate::watch::Watch;
+use pagable_codec::Env;
+use pagable_core::{PagableData, PagableStorage};
+use pagable_flavors::{DataKey, Error};
+use std::alloc::Global;
+use std::collections::HashMap;
+
+/// How many blobs are copied between two flushes.
+const BATCH: usize = 1_000;
+
+/// The keys whose blobs were copied, with all that they reach.
+pub type Copied = HashMap<DataKey, ()>;
+
+/// What is still to be done with a key: children come before the blob that refers to them.
+#[derive(Drop)]
+enum Visit {
+    /// Its children are due.
+    Enter(DataKey),
+    /// Its children were copied, and its blob is due.
+    Leave(DataKey),
+}
+
+/// Tests that each child was copied: only in a ring of references one wasn't.
+fn test_children(copied: &Copied, children: &[DataKey]) -> Result<(), Error>
+    ensures { OnOk result (AllByRecursion (HasCopied copied.now) children.now) }
+{
+    for child in children {
+        if !copied.contains_key(child) {
+            return Err(Error::TooDeep);
+        }
+    }
+    Ok(())
+}
+
+/// Stores a copy of a blob.
+fn store_copy<E: Env, T: PagableStorage<E>>(
+    alloc: Global,
+    to: &mut T,
+    blob: &PagableData,
+) -> Result<(), Error>
+    ensures stored { IsTrue (T.is_honest to.new) → OnOk result (T.stored to.new (key_of E.Hash.digest (blob_of blob.now)) ≡ Some (blob_of blob.now)) }
+    ensures keeps { IsTrue (T.is_honest to.new) → Keeps (T.stored to.old) (T.stored to.new) }
+    ensures honest { IsTrue (T.is_honest to.new) → IsTrue (T.is_honest to.old) }
+{
+    let bytes = Vec::from_slice(alloc, blob.bytes.as_slice())?;
+    let arcs = Vec::from_slice(alloc, blob.arcs.as_slice())?;
+    to.store_data(alloc, PagableData { bytes, arcs })?;
+    Ok(())
+}
+
+/// Copies the blob of a key whose children were copied.
+#[tactic(auto, using(crate::proofs::Copying::copying))]
+fn copy_blob<E: Env, S: PagableStorage<E>, T: PagableStorage<E>>(
+    alloc: Global,
+    from: &mut S,
+    to: &mut T,
+    copied: &mut Copied,
+    key: DataKey,
+) -> Result<(), Error>
+    ensures copied { IsTrue (S.is_honest from.new) → IsTrue (T.is_honest to.new) → OnOk result (AreCopied (S.stored from.old) (T.stored to.old) copied.old → AreCopied (S.stored from.old) (T.stored to.new) copied.new) }
+    ensures same { IsTrue (S.is_honest from.new) → S.stored from.new ≡ S.stored from.old }
+    ensures keeps { IsTrue (T.is_honest to.new) → Keeps (T.stored to.old) (T.stored to.new) }
+    ensures honest { IsTrue (S.is_honest from.new) → IsTrue (S.is_honest from.old) }
+    ensures honest_copy { IsTrue (T.is_honest to.new) → IsTrue (T.is_honest to.old) }
+{
+    let blob = from.fetch_data_blocking(alloc, key)?;
+    test_children(copied, blob.arcs.as_slice())?;
+    store_copy::<E, T>(alloc, to, &blob)?;
+    copied.insert(key, ())?;
+    Ok(())
+}
+
+/// Lets a key's children come before its blob, unless it was seen.
+fn enter<E: Env, S: PagableStorage<E>>(
+    alloc: Global,
+    from: &mut S,
+    seen: &mut Copied,
+    due: &mut Vec<Visit>,
+    key: DataKey,
+) -> Result<(), Error>
+    ensures same { IsTrue (S.is_honest from.new) → S.stored from.new ≡ S.stored from.old }
+    ensures honest { IsTrue (S.is_honest from.new) → IsTrue (S.is_honest from.old) }
+{
+    if seen.insert(key, ())?.is_some() {
+        return Ok(());
+    }
+    let blob = from.fetch_data_blocking(alloc, key)?;
+    due.push(Visit::Leave(key))?;
+    push_children(due, blob.arcs.as_slice())
+}
+
+/// Lets these keys be entered next.
+fn push_children(due: &mut Vec<Visit>, children: &[DataKey]) -> Result<(), Error> {
+    for child in children {
+        due.push(Visit::Enter(*child))?;
+    }
+    Ok(())
+}
+
+/// Flushes after each so many blobs.
+fn flush_batch<E: Env, T: PagableStorage<E>>(to: &mut T, count: usize) -> Result<(), Error>
+    ensures same { IsTrue (T.is_honest to.new) → T.stored to.new ≡ T.stored to.old }
+    ensures honest { IsTrue (T.is_honest to.new) → IsTrue (T.is_honest to.old) }
+{
+    if count % BATCH == 0 {
+        to.flush()?;
+    }
+    Ok(())
+}
+
+/// Does what is due with one key.
+#[tactic(auto, using(crate::proofs::Copying::copying))]
+fn make_visit<E: Env, S: PagableStorage<E>, T: PagableStorage<E>, W: Watch>(
+    alloc: Global,
+    from: &mut S,
+    to: &mut T,
+    seen: &mut Copied,
+    copied: &mut Copied,
+    due: &mut Vec<Visit>,
+    next: Visit,
+    watch: &mut W,
+) -> Result<(), Error>
+    ensures copied { IsTrue (S.is_honest from.new) → IsTrue (T.is_honest to.new) → OnOk result (AreCopied (S.stored from.old) (T.stored to.old) copied.old → AreCopied (S.stored from.old) (T.stored to.new) copied.new) }
+    ensures same { IsTrue (S.is_honest from.new) → S.stored from.new ≡ S.stored from.old }
+    ensures keeps { IsTrue (T.is_honest to.new) → Keeps (T.stored to.old) (T.stored to.new) }
+    ensures honest { IsTrue (S.is_honest from.new) → IsTrue (S.is_honest from.old) }
+    ensures honest_copy { IsTrue (T.is_honest to.new) → IsTrue (T.is_honest to.old) }
+{
+    match next {
+        Visit::Enter(key) => {
+            enter::<E, S>(alloc, from, seen, due, key)?;
+            Ok(())
+        }
+        Visit::Leave(key) => {
+            copy_blob::<E, S, T>(alloc, from, to, copied, key)?;
+            watch.note();
+            flush_batch::<E, T>(to, copied.len())?;
+            Ok(())
+        }
+    }
+}
+
+/// Copies all that these keys reach, children before the blobs that refer to them.
+#[tactic(auto, using(crate::proofs::Copying::copying))]
+fn copy_reached<E: Env, S: PagableStorage<E>, T: PagableStorage<E>, W: Watch>(
+    alloc: Global,
+    from: &mut S,
+    to: &mut T,
+    keys: Vec<Visit>,
+    watch: &mut W,
+) -> Result<Copied, Error>
+    ensures copied { IsTrue (S.is_honest from.new) → IsTrue (T.is_honest to.new) → IfOk result (AreCopied (S.stored from.old) (T.stored to.new)) }
+    ensures same { IsTrue (S.is_honest from.new) → S.stored from.new ≡ S.stored from.old }
+    ensures keeps { IsTrue (T.is_honest to.new) → Keeps (T.stored to.old) (T.stored to.new) }
+    ensures honest { IsTrue (S.is_honest from.new) → IsTrue (S.is_honest from.old) }
+    ensures honest_copy { IsTrue (T.is_honest to.new) → IsTrue (T.is_honest to.old) }
+{
+    let mut due = keys;
+    let mut seen = HashMap::new(alloc);
+    let mut copied = HashMap::new(alloc);
+    'keys: for _ in 0..u64::MAX {
+        let Some(next) = due.pop() else {
+            break;
+        };
+        make_visit::<E, S, T, W>(
+            alloc,
+            from,
+            to,
+            &mut seen,
+            &mut copied,
+            &mut due,
+            next,
+            watch,
+        )?;
+    }
+    Ok(copied)
+}
+
+/// Finds the key that each name stands for.
+#[tactic(auto, using(crate::proofs::Copying::naming))]
+fn read_roots<E: Env, S: Roots<E>>(
+    alloc: Global,
+    from: &mut S,
+    names: &[String],
+) -> Result<Vec<Option<DataKey>>, Error>
+    ensures read { IsTrue (S.PagableStorage.is_honest from.new) → IfOk result (λ keys. keys.items ≡ map (λ name. S.Roots.roots from.old (string_bytes name)) names.now) }
+    ensures same { IsTrue (S.PagableStorage.is_honest from.new) → S.PagableStorage.stored from.new ≡ S.PagableStorage.stored from.old }
+    ensures honest { IsTrue (S.PagableStorage.is_honest from.new) → IsTrue (S.PagableStorage.is_honest from.old) }
+{
+    let mut keys = Vec::new(alloc);
+    for name in names {
+        keys.push(from.root(name.as_str())?)?;
+    }
+    Ok(keys)
+}
+
+/// Lets these keys be entered.
+fn begin(alloc: Global, keys: &[Option<DataKey>]) -> Result<Vec<Visit>, Error> {
+    let mut due = Vec::new(alloc);
+    for key in keys {
+        if let Some(key) = key {
+            due.push(Visit::Enter(*key))?;
+        }
+    }
+    Ok(due)
+}
+
+/// Lets a name stand for a key whose blob was copied.
+#[tactic(auto, using(crate::proofs::Copying::naming))]
+fn set_copied<E: Env, T: Roots<E>>(
+    alloc: Global,
+    to: &mut T,
+    copied: &Copied,
+    name: &str,
+    key: Option<DataKey>,
+) -> Result<(), Error>
+    ensures set { IsTrue (T.PagableStorage.is_honest to.new) → (wanted : List ℕ → Option ℕ) → key ≡ wanted name.now → OnOk result (Matches copied.now wanted (T.Roots.roots to.new) name.now) }
+    ensures others { IsTrue (T.PagableStorage.is_honest to.new) → (wanted : List ℕ → Option ℕ) → key ≡ wanted name.now → OnOk result ((q : List ℕ) → Matches copied.now wanted (T.Roots.roots to.old) q → Matches copied.now wanted (T.Roots.roots to.new) q) }
+    ensures same { IsTrue (T.PagableStorage.is_honest to.new) → T.PagableStorage.stored to.new ≡ T.PagableStorage.stored to.old }
+    ensures honest { IsTrue (T.PagableStorage.is_honest to.new) → IsTrue (T.PagableStorage.is_honest to.old) }
+{
+    let Some(root) = key else {
+        return Ok(());
+    };
+    if !copied.contains_key(&root) {
+        return Err(Error::NoData(root));
+    }
+    to.set_root(alloc, name, Some(root))?;
+    Ok(())
+}
+
+/// Lets names stand for keys whose blobs were copied.
+#[tactic(auto, using(crate::proofs::Copying::naming))]
+fn set_all<E: Env, T: Roots<E>>(
+    alloc: Global,
+    to: &mut T,
+    copied: &Copied,
+    names: &[String],
+    keys: &[Option<DataKey>],
+) -> Result<(), Error>
+    ensures set { IsTrue (T.PagableStorage.is_honest to.new) → (wanted : List ℕ → Option ℕ) → keys.now ≡ map (λ name. wanted (string_bytes name)) names.now
+        → OnOk result (AllByRecursion (λ name. Matches copied.now wanted (T.Roots.roots to.new) (string_bytes name)) names.now) }
+    ensures same { IsTrue (T.PagableStorage.is_honest to.new) → T.PagableStorage.stored to.new ≡ T.PagableStorage.stored to.old }
+    ensures honest { IsTrue (T.PagableStorage.is_honest to.new) → IsTrue (T.PagableStorage.is_honest to.old) }
+{
+    for at in 0..names.len().min(keys.len()) {
+        set_copied::<E, T>(alloc, to, copied, names[at].as_str(), keys[at])?;
+    }
+    Ok(())
+}
+
+/// Copies all that the roots of these names reach, children before the blobs that refer to them and the roots last, and
+/// answers how many blobs these are. It flushes after each 1,000 blobs, and the roots wait for the caller's flush. A name
+/// that stands for nothing is left out.
+///
+/// # Errors
+/// - What the one storage refuses a fetch by, or the other a store, a flush or a root.
+/// - TooDeep where the references make a ring.
+///
+/// Some blobs may have been copied then, and some roots set.
+#[tactic(auto, using(crate::proofs::Copying::whole))]
+pub fn copy<E: Env, S: Roots<E>, T: Roots<E>, W: Watch>(
+    alloc: Global,
+    from: &mut S,
+    to: &mut T,
+    names: &[String],
+    watch: &mut W,
+) -> Result<usize, Error>
+    ensures copied { IsTrue (S.PagableStorage.is_honest from.new) → IsTrue (T.PagableStorage.is_honest to.new)
+        → OnOk result (AllByRecursion (λ name. IsCopiedRoot (S.PagableStorage.stored from.old) (T.PagableStorage.stored to.new) (S.Roots.roots from.old) (T.Roots.roots to.new) (string_bytes name)) names.now) }
+    ensures same { IsTrue (S.PagableStorage.is_honest from.new) → S.PagableStorage.stored from.new ≡ S.PagableStorage.stored from.old }
+    ensures keeps { IsTrue (T.PagableStorage.is_honest to.new) → Keeps (T.PagableStorage.stored to.old) (T.PagableStorage.stored to.new) }
+    ensures honest { IsTrue (S.PagableStorage.is_honest from.new) → IsTrue (S.PagableStorage.is_honest from.old) }
+    ensures honest_copy { IsTrue (T.PagableStorage.is_honest to.new) → IsTrue (T.PagableStorage.is_honest to.old) }
+{
+    let keys = read_roots::<E, S>(alloc, from, names)?;
+    let due = begin(alloc, keys.as_slice())?;
+    let copied = copy_reached::<E, S, T, W>(alloc, from, to, due, watch)?;
+    set_all::<E, T>(alloc, to, &copied, names, keys.as_slice())?;
+    Ok(copied.len())
+}

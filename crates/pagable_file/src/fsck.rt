@@ -1,0 +1,335 @@
+//! Whether a file of blobs is whole.
+
+ghost use Rattle.std.specs.{List.AllByRecursion, Prelude.{[], ℕ, IfErr, IfOk, IsTrue, List, OnOk, Some, is_some, option_map, ◌≡◌, ◌≤◌, ◌↔◌}, String.string_bytes};
+ghost use Rattle.sqlite_value.specs.Order.{Row as SqlRow};
+ghost use Rattle.{pagable_core.specs.Data.blob_of, pagable_model.specs.{Blob.{Blob, key_of}, Stored.RefusesFlush}};
+ghost use Rattle.pagable_file.specs.{Blobs.{Settled, StaysPut, is_sure}, Flaws.{IsChild, IsFlaw, IsNameAt, IsSoundBlob, IsSoundPlace, IsSoundRoot, IsThere, IsWhole, Tested, blob_at, keyed}};
+ghost use Rattle.pagable_file.specs.Rows.{blob_tree, blobs_in, root_tree, roots_in};
+
+use crate::file_blobs::FileBlobs;
+use crate::lookup::{look, read};
+use crate::naming::is_blob;
+use crate::rows::{Reading, key_at, place_of, place_of_name, read_blob};
+use crate::scan::all_places;
+use crate::stats::refuse;
+use crate::tables::{BLOBS, ROOTS};
+use crate::watch::Watch;
+use pagable_codec::{Env, KeyHash};
+use pagable_core::PagableData;
+use pagable_flavors::{DataKey, Error};
+use sqlite_trees::error::StoreError;
+use sqlite_trees::sound::bytes_of;
+use sqlite_trees::store::Store;
+use sqlite_value::row::Row;
+use std::alloc::{AllocError, Global};
+
+/// What is wrong with a file of blobs.
+#[derive(Debug, PartialEq, Drop)]
+pub enum Flaw {
+    /// The row at this place of the table of blobs is no key's, so that no fetch finds it.
+    StrayBlob(i64),
+    /// The blob under this key has another key.
+    WrongKey(DataKey),
+    /// The first key's blob refers to the second, under which no blob stands.
+    MissingChild(DataKey, DataKey),
+    /// The row at this place of the table of roots is no name's, so that nothing finds what it stands for.
+    StrayRoot(i64),
+    /// The name stands for the key, under which no blob stands.
+    MissingRoot(String, DataKey),
+}
+
+/// Reads the key and the blob of a row that stands at a place; None where no key's blob is found there.
+#[tactic(auto, unfolding(crate::specs::Flaws::blob_at, crate::specs::Rows::blob_in))]
+fn read_at(
+    alloc: Global,
+    row: &Row,
+    place: i64,
+) -> Result<Option<(DataKey, PagableData)>, AllocError>
+    ensures { IfOk result (λ it. option_map (λ found. keyed found.0 (blob_of found.1)) it ≡ blob_at place row.now) }
+{
+    let Some(key) = key_at(row, 2) else {
+        return Ok(None);
+    };
+    if place_of(key) != place {
+        return Ok(None);
+    }
+    match read_blob(alloc, row, key)? {
+        Reading::Blob(blob) => Ok(Some((key, blob))),
+        Reading::Other | Reading::Damaged => Ok(None),
+    }
+}
+
+/// Tells whether a blob stands under a key in its table.
+#[tactic(auto, using(crate::proofs::Named::row_has_blob))]
+fn is_there<S: Store>(
+    alloc: Global,
+    store: &mut S,
+    row: &mut Row,
+    key: DataKey,
+) -> Result<bool, StoreError>
+    requires settled { Settled (S.view store.old) }
+    ensures ok { IsTrue (is_sure (S.view store.new)) → IfOk result (λ there. there ≡ is_some (blobs_in ((S.view store.old).committed blob_tree) key)) }
+    ensures stays { StaysPut (S.view store.old) (S.view store.new) }
+{
+    let found = read(alloc, store, row, key)?;
+    Ok(is_blob(&found))
+}
+
+/// Tests that a child of a key's blob is there.
+#[tactic(auto, using(crate::proofs::Flawed::testing))]
+fn test_child<S: Store>(
+    alloc: Global,
+    store: &mut S,
+    row: &mut Row,
+    flaws: &mut Vec<Flaw>,
+    key: DataKey,
+    child: DataKey,
+) -> Result<(), StoreError>
+    requires settled { Settled (S.view store.old) }
+    ensures tested { (of : Blob → ℕ) → IsTrue (is_sure (S.view store.new)) → IsChild ((S.view store.old).committed blob_tree) key child
+        → OnOk result (Tested (IsFlaw of ((S.view store.old).committed blob_tree) ((S.view store.old).committed root_tree)) flaws.old.items flaws.new.items (IsThere ((S.view store.old).committed blob_tree) child)) }
+    ensures stays { StaysPut (S.view store.old) (S.view store.new) }
+{
+    if is_there(alloc, store, row, child)? {
+        return Ok(());
+    }
+    flaws.push(Flaw::MissingChild(key, child))?;
+    Ok(())
+}
+
+/// Tests that each child of a key's blob is there.
+#[tactic(auto, using(crate::proofs::Flawed::looping))]
+fn test_children<S: Store>(
+    alloc: Global,
+    store: &mut S,
+    row: &mut Row,
+    flaws: &mut Vec<Flaw>,
+    key: DataKey,
+    children: &[DataKey],
+) -> Result<(), StoreError>
+    requires settled { Settled (S.view store.old) }
+    ensures tested { (of : Blob → ℕ) → IsTrue (is_sure (S.view store.new)) → AllByRecursion (IsChild ((S.view store.old).committed blob_tree) key) children.now
+        → OnOk result (Tested (IsFlaw of ((S.view store.old).committed blob_tree) ((S.view store.old).committed root_tree)) flaws.old.items flaws.new.items (AllByRecursion (IsThere ((S.view store.old).committed blob_tree)) children.now)) }
+    ensures stays { StaysPut (S.view store.old) (S.view store.new) }
+{
+    for child in children {
+        test_child(alloc, store, row, flaws, key, *child)?;
+    }
+    Ok(())
+}
+
+/// Tests that a key's blob has this key.
+#[tactic(auto, using(crate::proofs::Flawed::testing))]
+fn test_key<H: KeyHash>(
+    flaws: &mut Vec<Flaw>,
+    key: DataKey,
+    blob: &PagableData,
+) -> Result<(), StoreError>
+    ensures { (rows roots : List SqlRow) → blobs_in rows key ≡ Some (blob_of blob.now)
+        → OnOk result (Tested (IsFlaw (key_of H.digest) rows roots) flaws.old.items flaws.new.items (key_of H.digest (blob_of blob.now) ≡ key)) }
+{
+    if blob.compute_key::<H>() == key {
+        return Ok(());
+    }
+    flaws.push(Flaw::WrongKey(key))?;
+    Ok(())
+}
+
+/// Tests that a key's blob has this key, and that its children are there.
+#[tactic(auto, using(crate::proofs::Flawed::testing))]
+fn test_blob<H: KeyHash, S: Store>(
+    alloc: Global,
+    store: &mut S,
+    row: &mut Row,
+    flaws: &mut Vec<Flaw>,
+    key: DataKey,
+    blob: &PagableData,
+) -> Result<(), StoreError>
+    requires settled { Settled (S.view store.old) }
+    ensures tested { IsTrue (is_sure (S.view store.new)) → blobs_in ((S.view store.old).committed blob_tree) key ≡ Some (blob_of blob.now)
+        → OnOk result (Tested (IsFlaw (key_of H.digest) ((S.view store.old).committed blob_tree) ((S.view store.old).committed root_tree)) flaws.old.items flaws.new.items (IsSoundBlob (key_of H.digest) ((S.view store.old).committed blob_tree) key (blob_of blob.now))) }
+    ensures stays { StaysPut (S.view store.old) (S.view store.new) }
+{
+    test_key::<H>(flaws, key, blob)?;
+    test_children(alloc, store, row, flaws, key, blob.arcs.as_slice())?;
+    Ok(())
+}
+
+/// Tests the row at a place of the table of blobs.
+#[tactic(auto, using(crate::proofs::Flawed::testing))]
+fn test_row<H: KeyHash, S: Store>(
+    alloc: Global,
+    store: &mut S,
+    row: &mut Row,
+    flaws: &mut Vec<Flaw>,
+    place: i64,
+) -> Result<(), StoreError>
+    requires settled { Settled (S.view store.old) }
+    ensures tested { IsTrue (is_sure (S.view store.new))
+        → OnOk result (Tested (IsFlaw (key_of H.digest) ((S.view store.old).committed blob_tree) ((S.view store.old).committed root_tree)) flaws.old.items flaws.new.items (IsSoundPlace (key_of H.digest) ((S.view store.old).committed blob_tree) place)) }
+    ensures stays { StaysPut (S.view store.old) (S.view store.new) }
+{
+    if !look(store, BLOBS, place, row)? {
+        return Ok(());
+    }
+    match read_at(alloc, row, place)? {
+        Some(found) => {
+            test_blob::<H, S>(alloc, store, row, flaws, found.0, &found.1)?;
+            Ok(())
+        }
+        None => {
+            flaws.push(Flaw::StrayBlob(place))?;
+            Ok(())
+        }
+    }
+}
+
+/// Tests the rows at these places of the table of blobs.
+#[tactic(auto, using(crate::proofs::Flawed::looping))]
+fn test_rows<H: KeyHash, S: Store, W: Watch>(
+    alloc: Global,
+    store: &mut S,
+    row: &mut Row,
+    flaws: &mut Vec<Flaw>,
+    places: &[i64],
+    watch: &mut W,
+) -> Result<(), StoreError>
+    requires settled { Settled (S.view store.old) }
+    ensures tested { IsTrue (is_sure (S.view store.new))
+        → OnOk result (Tested (IsFlaw (key_of H.digest) ((S.view store.old).committed blob_tree) ((S.view store.old).committed root_tree)) flaws.old.items flaws.new.items (AllByRecursion (IsSoundPlace (key_of H.digest) ((S.view store.old).committed blob_tree)) places.now)) }
+    ensures stays { StaysPut (S.view store.old) (S.view store.new) }
+{
+    for place in places {
+        watch.note();
+        test_row::<H, S>(alloc, store, row, flaws, *place)?;
+    }
+    Ok(())
+}
+
+/// Reads the name of a root's row that stands at a place; None where no name is found there.
+fn read_name_at(alloc: Global, row: &Row, place: i64) -> Result<Option<String>, AllocError>
+    ensures { IfOk result (IsNameAt place row.now) }
+{
+    let Ok(name) = str::from_utf8(bytes_of(row.get(2))) else {
+        return Ok(None);
+    };
+    if place_of_name(name) != place {
+        return Ok(None);
+    }
+    let name = String::from_str(alloc, name)?;
+    Ok(Some(name))
+}
+
+/// Tests that what a name stands for is there.
+#[tactic(auto, using(crate::proofs::Flawed::testing))]
+fn test_named<S: Store>(
+    alloc: Global,
+    store: &mut S,
+    row: &mut Row,
+    flaws: &mut Vec<Flaw>,
+    name: String,
+    key: DataKey,
+) -> Result<(), StoreError>
+    requires settled { Settled (S.view store.old) }
+    ensures tested { (of : Blob → ℕ) → IsTrue (is_sure (S.view store.new)) → roots_in ((S.view store.old).committed root_tree) (string_bytes name) ≡ Some key
+        → OnOk result (Tested (IsFlaw of ((S.view store.old).committed blob_tree) ((S.view store.old).committed root_tree)) flaws.old.items flaws.new.items (IsThere ((S.view store.old).committed blob_tree) key)) }
+    ensures stays { StaysPut (S.view store.old) (S.view store.new) }
+{
+    if is_there(alloc, store, row, key)? {
+        return Ok(());
+    }
+    flaws.push(Flaw::MissingRoot(name, key))?;
+    Ok(())
+}
+
+/// Tests the row at a place of the table of roots.
+#[tactic(auto, using(crate::proofs::Flawed::testing))]
+fn test_root<S: Store>(
+    alloc: Global,
+    store: &mut S,
+    row: &mut Row,
+    flaws: &mut Vec<Flaw>,
+    place: i64,
+) -> Result<(), StoreError>
+    requires settled { Settled (S.view store.old) }
+    ensures tested { (of : Blob → ℕ) → IsTrue (is_sure (S.view store.new))
+        → OnOk result (Tested (IsFlaw of ((S.view store.old).committed blob_tree) ((S.view store.old).committed root_tree)) flaws.old.items flaws.new.items (IsSoundRoot ((S.view store.old).committed blob_tree) ((S.view store.old).committed root_tree) place)) }
+    ensures stays { StaysPut (S.view store.old) (S.view store.new) }
+{
+    if !look(store, ROOTS, place, row)? {
+        return Ok(());
+    }
+    let Some(name) = read_name_at(alloc, row, place)? else {
+        flaws.push(Flaw::StrayRoot(place))?;
+        return Ok(());
+    };
+    let Some(key) = key_at(row, 3) else {
+        return Ok(());
+    };
+    test_named(alloc, store, row, flaws, name, key)?;
+    Ok(())
+}
+
+/// Tests the rows at these places of the table of roots.
+#[tactic(auto, using(crate::proofs::Flawed::looping))]
+fn test_roots<S: Store>(
+    alloc: Global,
+    store: &mut S,
+    row: &mut Row,
+    flaws: &mut Vec<Flaw>,
+    places: &[i64],
+) -> Result<(), StoreError>
+    requires settled { Settled (S.view store.old) }
+    ensures tested { (of : Blob → ℕ) → IsTrue (is_sure (S.view store.new))
+        → OnOk result (Tested (IsFlaw of ((S.view store.old).committed blob_tree) ((S.view store.old).committed root_tree)) flaws.old.items flaws.new.items (AllByRecursion (IsSoundRoot ((S.view store.old).committed blob_tree) ((S.view store.old).committed root_tree)) places.now)) }
+    ensures stays { StaysPut (S.view store.old) (S.view store.new) }
+{
+    for place in places {
+        test_root(alloc, store, row, flaws, *place)?;
+    }
+    Ok(())
+}
+
+/// Finds all that is wrong with the two tables.
+#[tactic(auto, using(crate::proofs::Flawed::finding))]
+fn find_flaws<H: KeyHash, S: Store, W: Watch>(
+    alloc: Global,
+    store: &mut S,
+    row: &mut Row,
+    watch: &mut W,
+) -> Result<Vec<Flaw>, StoreError>
+    requires settled { Settled (S.view store.old) }
+    ensures exact { IsTrue (is_sure (S.view store.new)) → IfOk result (λ flaws. (flaws.items ≡ []) ↔ IsWhole (key_of H.digest) ((S.view store.old).committed blob_tree) ((S.view store.old).committed root_tree)) }
+    ensures real { IsTrue (is_sure (S.view store.new)) → IfOk result (λ flaws. AllByRecursion (IsFlaw (key_of H.digest) ((S.view store.old).committed blob_tree) ((S.view store.old).committed root_tree)) flaws.items) }
+    ensures stays { StaysPut (S.view store.old) (S.view store.new) }
+{
+    let mut flaws = Vec::new(alloc);
+    let places = all_places(alloc, store, row, BLOBS)?;
+    test_rows::<H, S, W>(alloc, store, row, &mut flaws, places.as_slice(), watch)?;
+    let places = all_places(alloc, store, row, ROOTS)?;
+    test_roots(alloc, store, row, &mut flaws, places.as_slice())?;
+    Ok(flaws)
+}
+
+impl<E: Env, S: Store> FileBlobs<E, S> {
+    /// Finds all that is wrong with the file: each row is read, the key of each blob is computed again, and each child
+    /// key and each root is looked for. What waits for a flush isn't looked at.
+    ///
+    /// # Errors
+    /// OutOfMemory, or Storage with the failure counted; then nothing is said of the file.
+    pub fn fsck<W: Watch>(&mut self, alloc: Global, watch: &mut W) -> Result<Vec<Flaw>, Error>
+        ensures exact { IsTrue (is_sure (S.view self.new.store)) → IfOk result (λ flaws. (flaws.items ≡ []) ↔ IsWhole (key_of E.Hash.digest) ((S.view self.old.store).committed blob_tree) ((S.view self.old.store).committed root_tree)) }
+        ensures real { IsTrue (is_sure (S.view self.new.store)) → IfOk result (λ flaws. AllByRecursion (IsFlaw (key_of E.Hash.digest) ((S.view self.old.store).committed blob_tree) ((S.view self.old.store).committed root_tree)) flaws.items) }
+        ensures same { IsTrue (is_sure (S.view self.new.store)) → (S.view self.new.store).committed ≡ (S.view self.old.store).committed }
+        ensures waits { (self.new.waiting ≡ self.old.waiting) × (self.new.waiting_roots ≡ self.old.waiting_roots) }
+        ensures sure { IsTrue (is_sure (S.view self.new.store)) → IsTrue (is_sure (S.view self.old.store)) }
+        ensures only { IfErr result (RefusesFlush self.old.stats.failures self.new.stats.failures) }
+        ensures later { self.old.stats.failures ≤ self.new.stats.failures }
+        ensures open { self.new.closed ≡ self.old.closed }
+    {
+        match find_flaws::<E::Hash, S, W>(alloc, &mut self.store, &mut self.row, watch) {
+            Ok(flaws) => Ok(flaws),
+            Err(error) => Err(refuse(&mut self.stats, error)),
+        }
+    }
+}
