@@ -2,47 +2,18 @@
 
 ghost use Rattle.std.specs.{Arc.arc_value, Prelude.{IfErr, IsTrue, ◌≡◌}};
 ghost use Rattle.{pagable.specs.Paged.{IsRefusal, PagesOutItem, PagesOutList, ReadsValue}, pagable_loads.specs.Telling.values_at, pagable_pager.specs.View.{state_in, telling}};
-ghost use Rattle.{pagable_walk.specs.{Over.{answer_of, PagesItem, PagesList}, Slots.written_of, Table.shelf_of}, pagable_world.specs.{Access.{PinsOver, ReadsOver}, World.seen_as}};
+ghost use Rattle.{pagable_walk.specs.{Over.{answer_of, PagesItem, PagesList}, Slots.written_of, Table.shelf_of}, pagable_world.specs.Access.ReadsOver};
 ghost use Rattle.pagable_world.specs.declared.handles.Owner.TheVariants as owners;
 
 use pagable_codec::{Env, NodeSet, OfNode};
 use pagable_core::{PagableStorage, SerializedData};
-use pagable_loads::{pin_over, read_over};
-use pagable_model::{DataKey, Error, HandleNumber};
+use pagable_loads::read_over;
+use pagable_model::{DataKey, Error};
+pub use pagable_pager::pin;
 use pagable_pager::{Lent, Pager};
 use pagable_walk::{LentTable, PageOutError, page_out_item_over, page_out_pending_over};
 use std::alloc::Global;
 use std::sync::Arc;
-
-// A pin by a lent pager: the borrow checker takes a lent struct where its own type is asked, and not where any access is.
-fn pin_by<'a, E: Env<Node: NodeSet<E>>, S: PagableStorage<E>>(
-    lent: &mut Lent<'a, E, S>,
-    alloc: Global,
-    handle: HandleNumber,
-) -> Result<(HandleNumber, Arc<E::Node>), Error>
-    requires caller { lent.old.me ≡ owners.Caller }
-    ensures pins { IsTrue (S.is_honest lent.new.pager.now.storage) → PinsOver (values_at E.Node.NodeSet E.Env E.Hash.KeyHash lent.old.pager.now.environment) (state_in (telling S.stored S.is_closed S.failed) lent.old.pager.now)
-        handle (seen_as (λ a. (a.0, arc_value a.1)) result) (state_in (telling S.stored S.is_closed S.failed) lent.new.pager.now) }
-    ensures honest { IsTrue (S.is_honest lent.new.pager.now.storage) → IsTrue (S.is_honest lent.old.pager.now.storage) }
-    ensures lender { lent.new.pager.ghost_name ≡ lent.old.pager.ghost_name }
-{
-    pin_over(lent, alloc, handle)
-}
-
-/// Pins a loose handle's cell, reading its value from the storage where it isn't in memory, with all that it refers to and that is read
-/// together with it. Answers the Pinned handle and the value, shared. A refusal leaves the handle as it was, and no load open.
-pub fn pin<E: Env<Node: NodeSet<E>>, S: PagableStorage<E>>(
-    alloc: Global,
-    pager: &mut Pager<E, S>,
-    handle: HandleNumber,
-) -> Result<(HandleNumber, Arc<E::Node>), Error>
-    ensures pins { IsTrue (S.is_honest pager.new.storage) → PinsOver (values_at E.Node.NodeSet E.Env E.Hash.KeyHash pager.old.environment) (state_in (telling S.stored S.is_closed S.failed) pager.old)
-        handle (seen_as (λ a. (a.0, arc_value a.1)) result) (state_in (telling S.stored S.is_closed S.failed) pager.new) }
-    ensures honest { IsTrue (S.is_honest pager.new.storage) → IsTrue (S.is_honest pager.old.storage) }
-{
-    let mut lent = Lent::new(pager);
-    pin_by(&mut lent, alloc, handle)
-}
 
 fn read_by<'a, E: Env<Node: NodeSet<E>>, S: PagableStorage<E>>(
     lent: &mut Lent<'a, E, S>,

@@ -1,15 +1,19 @@
 //! A pager that is lent, as an access, and as that of a page-out worker; and the cache of one.
 #![tactic(auto, using(crate::proofs::Keeping::lending))]
 
-ghost use Rattle.std.specs.Prelude.{IfErr, IfOk, true, ◌≡◌};
-ghost use Rattle.{pagable_loads.specs.Telling.values_at, pagable_pager.specs.View.{Calls, OnlyLess, OnlyTables, core_in, is_at_work, state_in, telling}};
-ghost use Rattle.pagable_tables.specs.Sound.{is_sound};
+ghost use Rattle.std.specs.{Arc.arc_value, Prelude.{IfErr, IfOk, IsTrue, true, ◌≡◌, ◌≤◌}};
+ghost use Rattle.{pagable_core.specs.Data.blob_of, pagable_leaf.specs.Leaf.IsLeaf, pagable_loads.specs.Telling.values_at};
+ghost use Rattle.pagable_pager.specs.{Leaf.{LeafLoads, PinsAway}, View.{Calls, OnlyLess, OnlyTables, core_in, is_at_work, state_in, telling}};
+ghost use Rattle.pagable_tables.specs.{Falling.room, Sound.is_sound};
 ghost use Rattle.pagable_world.specs.{Calls.{ClearCall, OfferCall, RecallCall}, Pager.WellFormed, World.seen_as};
 
 use crate::pager::Pager;
+use crate::pager::leaf::read_leaf;
+use crate::pins::{read_rest, rooted};
 use either::Either;
 use pagable_codec::{Env, NodeSet};
 use pagable_core::{PagableData, PagableStorage, SessionOf};
+use pagable_leaf::Leaf;
 use pagable_loads::{Access, PinStart, Taken, TakenValue, WorkerAccess, WorkerNode};
 use pagable_model::{
     ArcRef, DataKey, Error, HandleNumber, Kind, LoadNumber, NodeNumber, OptionalDataKey,
@@ -85,6 +89,62 @@ impl<'a, E: Env<Node: NodeSet<E>>, S: PagableStorage<E>> Lent<'a, E, S> {
         ensures { result ≡ is_sound self.now.pager.now.tables self.now.pager.now.values }
     {
         self.pager.is_sound()
+    }
+
+    /// Pins the cell of a loose handle of the caller's whose value isn't in memory: at once where its blob refers to nothing, which leaves what a load
+    /// does that begins, gets the blob, reads it and ends; and else by such a load. None where nothing was done, as where the value is in memory.
+    ///
+    /// # Errors
+    /// - OutOfMemory: there is no room for the handle, the blob or its value. No load is left.
+    /// - as the storage refuses the blob, and as the load's steps refuse it. No load is left.
+    pub(crate) fn pin_away(
+        &mut self,
+        alloc: Global,
+        handle: HandleNumber,
+    ) -> Result<Option<HandleNumber>, Error>
+        requires caller { self.old.me ≡ Owner.Caller }
+        ensures goes { IsTrue (S.is_honest self.new.pager.now.storage) → PinsAway (values_at E.Node.NodeSet E.Env E.Hash.KeyHash self.old.pager.now.environment)
+            (state_in (telling S.stored S.is_closed S.failed) self.old.pager.now) handle result (state_in (telling S.stored S.is_closed S.failed) self.new.pager.now) }
+        ensures honest { IsTrue (S.is_honest self.new.pager.now.storage) → IsTrue (S.is_honest self.old.pager.now.storage) }
+        ensures lender { self.new.pager.ghost_name ≡ self.old.pager.ghost_name }
+        ensures me { self.new.me ≡ self.old.me }
+        ensures environment { self.new.pager.now.environment ≡ self.old.pager.now.environment }
+    {
+        let Some(started) = self.pager.start_leaf(alloc, handle)? else {
+            return Ok(None);
+        };
+        let (leaf, blob) = started;
+        let read = read_leaf(self, alloc, blob.as_ref(), leaf.node_type);
+        let Some(value) = read else {
+            let pinned = self.pin_by_load(alloc, leaf, blob)?;
+            return Ok(Some(pinned));
+        };
+        let pinned = self.pager.pin_leaf(alloc, leaf, value)?;
+        Ok(Some(pinned))
+    }
+
+    // Begins a load of the cell, whose blob has come, and makes its steps up to its end.
+    fn pin_by_load(
+        &mut self,
+        alloc: Global,
+        leaf: Leaf,
+        blob: Arc<PagableData>,
+    ) -> Result<HandleNumber, Error>
+        requires caller { self.old.me ≡ Owner.Caller }
+        requires leaf { IsLeaf (core_in (telling S.stored S.is_closed S.failed) self.old.pager.now) Owner.Caller leaf }
+        requires place { 1 ≤ room self.old.pager.now.tables.holdings.handles }
+        ensures loads { IsTrue (S.is_honest self.new.pager.now.storage) → LeafLoads (values_at E.Node.NodeSet E.Env E.Hash.KeyHash self.old.pager.now.environment)
+            (state_in (telling S.stored S.is_closed S.failed) self.old.pager.now) leaf (blob_of (arc_value blob)) result (state_in (telling S.stored S.is_closed S.failed) self.new.pager.now) }
+        ensures honest { IsTrue (S.is_honest self.new.pager.now.storage) → IsTrue (S.is_honest self.old.pager.now.storage) }
+        ensures lender { self.new.pager.ghost_name ≡ self.old.pager.ghost_name }
+        ensures me { self.new.me ≡ self.old.me }
+        ensures environment { self.new.pager.now.environment ≡ self.old.pager.now.environment }
+    {
+        let key = leaf.key;
+        let node_type = leaf.node_type;
+        let load = self.pager.begin_leaf(leaf)?;
+        let reading = rooted(alloc, load, key, node_type, blob);
+        read_rest(self, alloc, reading)
     }
 }
 

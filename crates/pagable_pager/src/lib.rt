@@ -3,7 +3,9 @@
 
 pub mod lent;
 pub mod pager;
+pub mod pins;
 mod setting;
 
 pub use lent::{ArcCell, DeserializedArcCache, Lent};
 pub use pager::Pager;
+pub use pins::pin;

@@ -10,6 +10,7 @@ ghost use Rattle.pagable_world.specs.{Refusals.load_fault, World.{greatest, seen
 // What ends in `_by` is the call of that name for an owner, who is the caller or a worker at work.
 pub mod births;
 pub mod handles;
+pub mod leaf;
 
 use crate::setting::PagerSetting;
 use either::Either;

@@ -18,7 +18,7 @@ use std::alloc::Global;
 use std::sync::Arc;
 
 /// A value is in memory from now on, if it comes, and else it is dropped. Refused with OutOfMemory, and the value comes back.
-fn place<N: Drop>(
+pub(crate) fn place<N: Drop>(
     values: &mut NumberTable<Arc<N>>,
     alloc: Global,
     node: u64,

@@ -1,0 +1,4 @@
+mod Words
+pub mod AtOnce
+pub mod GivenUp
+pub mod Prepared

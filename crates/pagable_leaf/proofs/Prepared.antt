@@ -1,0 +1,22 @@
+-- Room for the pin of a cell: what was found there is still so, and where there is none no load begins.
+use Rattle.{pagable_leaf.specs.{Leaf.IsLeaf, declared.leaf.Leaf.Leaf}, pagable_tables.{proofs.{Worlds.{owner-self, room-alike}}, specs.Core.OnlyRoom}}
+use Rattle.pagable_leaf.proofs.Words.{Core, HandleNumber, None, Owner, arith, inl, inr, nat_tests, refl, subst, ◌≡◌}
+use Rattle.{pagable_model.specs.declared.error.Error.Error, pagable_world.specs.{Calls.is_handle_here, LoadCalls.{BeginCall, begin_fault}}, std.specs.Prelude.{Err, false}}
+
+pub leaf-roomier : {w w' : Core} {me : Owner} {leaf : Leaf} → OnlyRoom w w' → IsLeaf w me leaf → IsLeaf w' me leaf
+leaf-roomier room is = grind (arith, nat_tests)
+
+no-fault : {w : Core} {me : Owner} {leaf : Leaf} → IsLeaf w me leaf → begin_fault w me leaf.row.number ≡ None
+no-fault {w} {me} is = grind (arith, nat_tests, owner-self)
+
+-- so where one is refused, memory is wanting
+pub begin-wants : {w w' : Core} {me : Owner} {leaf : Leaf} {e : Error} → IsLeaf w me leaf → BeginCall w me leaf.row.number (Err e) w' → e ≡ Error.OutOfMemory
+begin-wants {me = me} {leaf = leaf} is call = elim call.refused.why [
+  | inl fault ↦ absurd (let none = no-fault is in cc)
+  | inr (wanting, before, away) ↦ wanting
+]
+
+pub begin-refused : {w w' : Core} {me : Owner} {leaf : Leaf} (h : HandleNumber) → leaf.row.number ≡ h → OnlyRoom w w' → IsLeaf w me leaf → BeginCall w me h (Err Error.OutOfMemory) w'
+begin-refused {w} {w'} {me} {leaf} h same room is =
+    let away : is_handle_here w leaf.row.number ≡ false = (let live = is.owned.live in let none = is.away in grind (arith, nat_tests)) in
+    subst (λ q. BeginCall w me q (Err Error.OutOfMemory) w') same (record { begins = tt; refused = record { why = inr (refl, no-fault is, away); stays = room-alike room } })

@@ -1,0 +1,107 @@
+//! Cells that are read at once, from blobs that refer to nothing: what a load leaves that begins, gets the blob and ends,
+//! without its row and its handle.
+
+ghost use Rattle.{pagable_leaf.specs.Leaf.{DropsLeaf, IsLeaf, PinsLeaf, with_numbers}, pagable_tables.specs.{Core.{AreLater, Does, IsWhole, OnlyRoom, core_of, plain_of}, Falling.{counts_at, has_value, room}, Ready.has_come}};
+ghost use Rattle.pagable_world.specs.{LoadCalls.BeginCall, Pager.{MayOwnLoad}, Plain.{Blob}, World.{greatest}};
+ghost use Rattle.std.specs.Prelude.{Bool, Err, IfErr, IfNone, IfOk, IfSome, Option, ℕ, ◌+◌, ◌<◌, ◌≡◌, ◌≤◌};
+
+use pagable_model::{DataKey, Error, HandleNumber};
+use pagable_tables::handles;
+use pagable_tables::lookups::is_loose_mode;
+use pagable_tables::making::{own, pin_here};
+use pagable_tables::tables::{self, Tables};
+use pagable_world::handles::{HandleRow, Owner};
+
+/// A cell whose value is away, with the handle that is to be pinned.
+#[derive(Clone, Copy)]
+pub struct Leaf {
+    pub row: HandleRow,
+    pub key: DataKey,
+    pub node_type: u32,
+}
+
+/// The cell of an own loose handle, if its value is away and numbers are left for a load, its handle and a pin.
+pub fn find(t: &Tables, me: Owner, handle: HandleNumber) -> Option<Leaf>
+    requires { IsWhole t.now }
+    ensures leaf { (stored : ℕ → Option Blob) (closed : Bool) (failures : ℕ) → IfSome result (IsLeaf (core_of t.now stored closed failures) me) }
+    ensures number { IfSome result (λ leaf. leaf.row.number ≡ handle) }
+{
+    let at = own(t, me, handle).ok()?;
+    let counts = tables::counts_of(&t.holdings.nodes, at.row.node.0)?;
+    if !is_loose_mode(at.row.mode) || counts.pins > 0 {
+        return None;
+    }
+    if t.last_load == u64::MAX || t.holdings.last_handle >= u64::MAX - 1 {
+        return None;
+    }
+    Some(Leaf {
+        row: at.row,
+        key: DataKey::new(counts.key)?,
+        node_type: counts.node_type,
+    })
+}
+
+/// Finds the cell of an own loose handle whose value is away, and makes room for a pin of it. None where there is none, and nothing changes.
+///
+/// # Errors
+/// - OutOfMemory: there is no room, and nothing changes.
+pub fn prepare(t: &mut Tables, me: Owner, handle: HandleNumber) -> Result<Option<Leaf>, Error>
+    requires { IsWhole t.old }
+    ensures leaf { (stored : ℕ → Option Blob) (closed : Bool) (failures : ℕ) → IfOk result (λ found. IfSome found (IsLeaf (core_of t.new stored closed failures) me)) }
+    ensures number { IfOk result (λ found. IfSome found (λ leaf. leaf.row.number ≡ handle)) }
+    ensures place { IfOk result (λ found. IfSome found (λ leaf. 1 ≤ room t.new.holdings.handles)) }
+    ensures none { IfOk result (λ found. IfNone found (t.new ≡ t.old)) }
+    ensures does { Does t.old OnlyRoom t.new }
+    ensures nodes { t.new.holdings.nodes ≡ t.old.holdings.nodes }
+    ensures refused { (stored : ℕ → Option Blob) (closed : Bool) (failures : ℕ) → IfErr result (λ e. BeginCall (core_of t.old stored closed failures) me handle (Err e) (core_of t.new stored closed failures)) }
+{
+    let Some(leaf) = find(t, me, handle) else {
+        return Ok(None);
+    };
+    match handles::reserve(&mut t.holdings.handles, 1) {
+        Ok(()) => Ok(Some(leaf)),
+        Err(refused) => Err(Error::from(refused)),
+    }
+}
+
+/// The numbers of a load and of its handle are taken.
+pub fn take_numbers(t: &mut Tables)
+    requires whole { IsWhole t.old }
+    requires load_left { t.old.last_load < greatest }
+    requires handle_left { t.old.holdings.last_handle < greatest }
+    ensures does { Does t.old (λ w w'. w' ≡ with_numbers w) t.new }
+    ensures same { t.new ≡ record t.old { holdings = record t.old.holdings { last_handle = t.old.holdings.last_handle + 1 }; last_load = t.old.last_load + 1 } }
+{
+    t.last_load += 1;
+    t.holdings.last_handle += 1;
+}
+
+/// The cell is pinned, as by a load that begins and ends with a value that refers to nothing. The value itself stands among the values already.
+pub fn install(t: &mut Tables, me: Owner, leaf: Leaf) -> HandleNumber
+    requires whole { IsWhole t.old }
+    requires leaf { IsLeaf (plain_of t.old) me leaf }
+    requires may { MayOwnLoad (plain_of t.old) me }
+    requires place { 1 ≤ room t.old.holdings.handles }
+    ensures pins { (stored : ℕ → Option Blob) (closed : Bool) (failures : ℕ) → PinsLeaf (core_of t.old stored closed failures) me leaf.row leaf.key leaf.node_type result (core_of t.new stored closed failures) }
+    ensures come { (n : ℕ) → has_value (counts_at t.new.holdings.nodes n) ≡ has_come (counts_at t.old.holdings.nodes) leaf.row.node n }
+    ensures whole { IsWhole t.new }
+    ensures later { AreLater t.old → AreLater t.new }
+{
+    take_numbers(t);
+    let Ok(handle) = pin_here(t, me, leaf.row) else {
+        unreachable!();
+    };
+    handle
+}
+
+/// The cell stays away, as after a load that begins and is given up: no more is left of it than its numbers.
+pub fn give_up(t: &mut Tables, me: Owner, leaf: Leaf)
+    requires whole { IsWhole t.old }
+    requires leaf { IsLeaf (plain_of t.old) me leaf }
+    requires may { MayOwnLoad (plain_of t.old) me }
+    requires place { 1 ≤ room t.old.holdings.handles }
+    ensures does { Does t.old (λ w w'. DropsLeaf w me leaf.row leaf.key leaf.node_type w') t.new }
+    ensures same { t.new ≡ record t.old { holdings = record t.old.holdings { last_handle = t.old.holdings.last_handle + 1 }; last_load = t.old.last_load + 1 } }
+{
+    take_numbers(t);
+}

@@ -1,0 +1,140 @@
+//! Cells whose blobs refer to nothing, which are pinned at once: what a load leaves that begins, gets the blob, reads it and ends, without its row.
+
+ghost use Rattle.std.specs.{Arc.arc_value, Prelude.{Err, IfErr, IfNone, IfOk, IfSome, IsTrue, [], ◌≡◌, ◌≤◌}};
+ghost use Rattle.{pagable_core.specs.Data.blob_of, pagable_leaf.specs.Leaf.IsLeaf, pagable_loads.specs.{Decoding.IsReadAs, Telling.values_at}, pagable_tables.specs.Falling.room};
+ghost use Rattle.pagable_pager.specs.{Leaf.{LeafBegun, LeafDropped, LeafFetched, LeafPinned, LeafUnbegun}, View.{core_in, state_in, telling}};
+ghost use Rattle.pagable_world.specs.Access.{PinRun};
+
+use crate::pager::Pager;
+use crate::pager::births::place;
+use pagable_codec::{Env, NodeSet};
+use pagable_core::{PagableData, PagableStorage};
+use pagable_leaf::leaf::{self, Leaf};
+use pagable_loads::{Access, Decoded, decode};
+use pagable_model::{Error, HandleNumber, LoadNumber};
+use pagable_tables::loading;
+use pagable_world::Beginning;
+use pagable_world::handles::Owner;
+use std::alloc::Global;
+use std::sync::Arc;
+
+/// Reads a blob that refers to nothing as a value of this type that refers to nothing. None where it refers to something, or isn't read.
+pub(crate) fn read_leaf<E: Env<Node: NodeSet<E>>, A: Access<E>>(
+    access: &A,
+    alloc: Global,
+    blob: &PagableData,
+    node_type: u32,
+) -> Option<E::Node>
+    ensures read { IfSome result (IsReadAs (values_at E.Node.NodeSet E.Env E.Hash.KeyHash (A.acting access.now).environment) node_type (blob_of blob.now) []) }
+    ensures bare { IfSome result (λ x. E.Node.refs_of x ≡ []) }
+{
+    if !blob.arcs.is_empty() {
+        return None;
+    }
+    let got = Vec::new(alloc);
+    let lent = Vec::new(alloc);
+    let read = decode(
+        access,
+        alloc,
+        blob,
+        node_type,
+        got.as_slice(),
+        lent.as_slice(),
+    );
+    let Decoded::Read(value) = read else {
+        return None;
+    };
+    let references = value.refs(alloc).ok()?;
+    references.is_empty().then_some(value)
+}
+
+impl<E: Env<Node: NodeSet<E>>, S: PagableStorage<E>> Pager<E, S> {
+    /// Finds the cell of a loose handle of the caller's whose value is away, makes room for a pin, and gets its blob.
+    ///
+    /// # Errors
+    /// - OutOfMemory: there is no room, or none for the blob.
+    /// - NoData, Storage: as the storage refuses the blob. No load is left.
+    pub(crate) fn start_leaf(
+        &mut self,
+        alloc: Global,
+        handle: HandleNumber,
+    ) -> Result<Option<(Leaf, Arc<PagableData>)>, Error>
+        ensures none { IfOk result (λ found. IfNone found (self.new ≡ self.old)) }
+        ensures number { IfOk result (λ found. IfSome found (λ f. f.0.row.number ≡ handle)) }
+        ensures leaf { IfOk result (λ found. IfSome found (λ f. IsLeaf (core_in (telling S.stored S.is_closed S.failed) self.new) Owner.Caller f.0)) }
+        ensures place { IfOk result (λ found. IfSome found (λ f. 1 ≤ room self.new.tables.holdings.handles)) }
+        ensures fetched { IsTrue (S.is_honest self.new.storage) → IfOk result (λ found. IfSome found (λ f. LeafFetched (values_at E.Node.NodeSet E.Env E.Hash.KeyHash self.old.environment)
+            (state_in (telling S.stored S.is_closed S.failed) self.old) f.0 (blob_of (arc_value f.1)) (state_in (telling S.stored S.is_closed S.failed) self.new))) }
+        ensures refused { IsTrue (S.is_honest self.new.storage) → IfErr result (λ e. PinRun (values_at E.Node.NodeSet E.Env E.Hash.KeyHash self.old.environment)
+            (state_in (telling S.stored S.is_closed S.failed) self.old) handle (Err e) (state_in (telling S.stored S.is_closed S.failed) self.new)) }
+        ensures honest { IsTrue (S.is_honest self.new.storage) → IsTrue (S.is_honest self.old.storage) }
+        ensures environment { self.new.environment ≡ self.old.environment }
+    {
+        let leaf = match leaf::prepare(&mut self.tables, Owner::Caller, handle) {
+            Ok(Some(leaf)) => leaf,
+            Ok(None) => return Ok(None),
+            Err(e) => return Err(e),
+        };
+        match self.fetch(alloc, leaf.key) {
+            Ok(blob) => Ok(Some((leaf, blob))),
+            Err(e) => {
+                leaf::give_up(&mut self.tables, Owner::Caller, leaf);
+                Err(e)
+            }
+        }
+    }
+
+    /// Begins a load of the cell, which has got its blob, and answers its number.
+    ///
+    /// # Errors
+    /// - OutOfMemory: no load is left.
+    pub(crate) fn begin_leaf(&mut self, leaf: Leaf) -> Result<LoadNumber, Error>
+        requires leaf { IsLeaf (core_in (telling S.stored S.is_closed S.failed) self.old) Owner.Caller leaf }
+        requires place { 1 ≤ room self.old.tables.holdings.handles }
+        ensures begun { IfOk result (λ l. LeafBegun (values_at E.Node.NodeSet E.Env E.Hash.KeyHash self.old.environment) (state_in (telling S.stored S.is_closed S.failed) self.old) leaf l
+            (state_in (telling S.stored S.is_closed S.failed) self.new)) }
+        ensures dropped { IfErr result (λ e. (e ≡ Error.OutOfMemory) × LeafUnbegun (values_at E.Node.NodeSet E.Env E.Hash.KeyHash self.old.environment)
+            (state_in (telling S.stored S.is_closed S.failed) self.old) leaf (state_in (telling S.stored S.is_closed S.failed) self.new)) }
+        ensures storage { self.new.storage ≡ self.old.storage }
+        ensures environment { self.new.environment ≡ self.old.environment }
+    {
+        match loading::load_begin(&mut self.tables, Owner::Caller, leaf.row.number) {
+            Ok(Beginning::Load(load, _)) => Ok(load),
+            Ok(Beginning::InMemory) => unreachable!(),
+            Err(e) => {
+                leaf::give_up(&mut self.tables, Owner::Caller, leaf);
+                Err(e)
+            }
+        }
+    }
+
+    /// Pins the cell, with this value.
+    ///
+    /// # Errors
+    /// - OutOfMemory: no load is left.
+    pub(crate) fn pin_leaf(
+        &mut self,
+        alloc: Global,
+        leaf: Leaf,
+        value: E::Node,
+    ) -> Result<HandleNumber, Error>
+        requires leaf { IsLeaf (core_in (telling S.stored S.is_closed S.failed) self.old) Owner.Caller leaf }
+        requires place { 1 ≤ room self.old.tables.holdings.handles }
+        requires typed { E.Node.type_of value ≡ leaf.node_type }
+        requires bare { E.Node.refs_of value ≡ [] }
+        ensures pinned { IfOk result (λ k. LeafPinned (values_at E.Node.NodeSet E.Env E.Hash.KeyHash self.old.environment) (state_in (telling S.stored S.is_closed S.failed) self.old) leaf value k
+            (state_in (telling S.stored S.is_closed S.failed) self.new)) }
+        ensures dropped { IfErr result (λ e. (e ≡ Error.OutOfMemory) × LeafDropped (values_at E.Node.NodeSet E.Env E.Hash.KeyHash self.old.environment)
+            (state_in (telling S.stored S.is_closed S.failed) self.old) leaf (state_in (telling S.stored S.is_closed S.failed) self.new)) }
+        ensures storage { self.new.storage ≡ self.old.storage }
+        ensures environment { self.new.environment ≡ self.old.environment }
+    {
+        match place(&mut self.values, alloc, leaf.row.node.0, true, value) {
+            Ok(()) => Ok(leaf::install(&mut self.tables, Owner::Caller, leaf)),
+            Err((e, _value)) => {
+                leaf::give_up(&mut self.tables, Owner::Caller, leaf);
+                Err(e)
+            }
+        }
+    }
+}

@@ -1,0 +1,134 @@
+//! Pins of a lent pager, whose cells are read where their values aren't in memory. What they do is told as long as the storage is honest afterwards.
+
+ghost use Rattle.std.specs.{Arc.arc_value, Prelude.{IsTrue, true, ◌≡◌}};
+ghost use Rattle.{pagable_core.specs.Data.blob_of, pagable_loads.specs.{Frames.reading_of, Starting.SharesPinned, Telling.{Acts, Tells, values_at}}};
+ghost use Rattle.pagable_pager.specs.{Leaf.{EndsCell, SharesNew, rooted_reading}, View.{state_in, telling}};
+ghost use Rattle.pagable_world.specs.{Access.PinsOver, World.seen_as};
+
+use crate::lent::Lent;
+use crate::pager::Pager;
+use pagable_codec::{Env, NodeSet};
+use pagable_core::{PagableData, PagableStorage};
+use pagable_loads::{Access, Frame, Reading, pin_over};
+use pagable_model::{DataKey, Error, HandleNumber, Kind, LoadNumber};
+use pagable_world::LoadAnswer;
+use pagable_world::handles::Owner;
+use std::alloc::Global;
+use std::sync::Arc;
+
+// The reading of a cell's load that has got its root's blob, by its first step.
+#[tactic(auto, using(pagable_loads::proofs::Stepped::stacking))]
+pub(crate) fn rooted(
+    alloc: Global,
+    load: LoadNumber,
+    key: DataKey,
+    node_type: u32,
+    blob: Arc<PagableData>,
+) -> Reading
+    ensures reading { reading_of result ≡ rooted_reading load key node_type (blob_of (arc_value blob)) }
+    ensures load { result.load ≡ load }
+    ensures key { result.key ≡ key }
+    ensures of_cell { result.for_cell ≡ true }
+{
+    let top = Frame {
+        kind: Kind(3),
+        key,
+        node_type,
+        blob,
+        got: Vec::new(alloc),
+    };
+    Reading {
+        load,
+        key,
+        node_type,
+        for_cell: true,
+        top: Some(top),
+        below: Vec::new(alloc),
+        steps: 1,
+    }
+}
+
+// Makes the steps of a cell's load up to its end.
+#[tactic(auto, using(pagable_loads::proofs::Stepped::acts_map, crate::proofs::Pinned::ending))]
+pub(crate) fn read_rest<E: Env<Node: NodeSet<E>>, A: Access<E>>(
+    access: &mut A,
+    alloc: Global,
+    reading: Reading,
+) -> Result<HandleNumber, Error>
+    requires of_cell { reading.for_cell ≡ true }
+    ensures { Acts A.told A.acting access.old access.new (λ a s t. EndsCell (values_at E.Node.NodeSet E.Env E.Hash.KeyHash a.environment) a.me reading s result t) }
+{
+    let mut reading = reading;
+    match reading.run(access, alloc) {
+        LoadAnswer::Pinned(pinned) => Ok(pinned),
+        LoadAnswer::Refused(e) => Err(e),
+        LoadAnswer::Read(_) => unreachable!(),
+    }
+}
+
+// The value that a new pin shares. A handle that pins nothing, which no pin is where the access tells its state, has none: NoSuchHandle.
+#[tactic(auto, using(pagable_loads::proofs::Stepped::pinning))]
+fn share_pinned<E: Env<Node: NodeSet<E>>, A: Access<E>>(
+    access: &A,
+    pinned: HandleNumber,
+) -> Result<Arc<E::Node>, Error>
+    ensures { Tells (A.told access.now) (λ s. SharesPinned arc_value s pinned result) }
+{
+    match access.share(pinned)? {
+        Some(value) => Ok(value),
+        None => Err(Error::NoSuchHandle),
+    }
+}
+
+// The new handle of a pin, from a handle that pinned nothing before, with its value; where that can't be shared, the pin is taken back.
+fn share_new<E: Env<Node: NodeSet<E>>, A: Access<E>>(
+    access: &mut A,
+    handle: HandleNumber,
+    pinned: HandleNumber,
+) -> Result<(HandleNumber, Arc<E::Node>), Error>
+    requires caller { (A.acting access.old).me ≡ Owner.Caller }
+    ensures { Acts A.told A.acting access.old access.new (λ a s t. SharesNew (values_at E.Node.NodeSet E.Env E.Hash.KeyHash a.environment) handle pinned s (seen_as (λ a. (a.0, arc_value a.1)) result) t) }
+{
+    match share_pinned(access, pinned) {
+        Ok(value) => Ok((pinned, value)),
+        Err(e) => {
+            let _told = access.unpin(handle);
+            let _told = access.release(pinned);
+            Err(e)
+        }
+    }
+}
+
+// A pin by a lent pager: the borrow checker takes a lent struct where its own type is asked, and not where any access is.
+fn pin_lent<'a, E: Env<Node: NodeSet<E>>, S: PagableStorage<E>>(
+    lent: &mut Lent<'a, E, S>,
+    alloc: Global,
+    handle: HandleNumber,
+) -> Result<(HandleNumber, Arc<E::Node>), Error>
+    requires caller { lent.old.me ≡ Owner.Caller }
+    ensures pins { IsTrue (S.is_honest lent.new.pager.now.storage) → PinsOver (values_at E.Node.NodeSet E.Env E.Hash.KeyHash lent.old.pager.now.environment) (state_in (telling S.stored S.is_closed S.failed) lent.old.pager.now)
+        handle (seen_as (λ a. (a.0, arc_value a.1)) result) (state_in (telling S.stored S.is_closed S.failed) lent.new.pager.now) }
+    ensures honest { IsTrue (S.is_honest lent.new.pager.now.storage) → IsTrue (S.is_honest lent.old.pager.now.storage) }
+    ensures lender { lent.new.pager.ghost_name ≡ lent.old.pager.ghost_name }
+{
+    let found = lent.pin_away(alloc, handle)?;
+    let Some(pinned) = found else {
+        return pin_over(lent, alloc, handle);
+    };
+    share_new(lent, handle, pinned)
+}
+
+/// Pins a loose handle's cell, reading its value from the storage where it isn't in memory, with all that it refers to and that is read
+/// together with it. Answers the Pinned handle and the value, shared. A refusal leaves the handle as it was, and no load open.
+pub fn pin<E: Env<Node: NodeSet<E>>, S: PagableStorage<E>>(
+    alloc: Global,
+    pager: &mut Pager<E, S>,
+    handle: HandleNumber,
+) -> Result<(HandleNumber, Arc<E::Node>), Error>
+    ensures pins { IsTrue (S.is_honest pager.new.storage) → PinsOver (values_at E.Node.NodeSet E.Env E.Hash.KeyHash pager.old.environment) (state_in (telling S.stored S.is_closed S.failed) pager.old)
+        handle (seen_as (λ a. (a.0, arc_value a.1)) result) (state_in (telling S.stored S.is_closed S.failed) pager.new) }
+    ensures honest { IsTrue (S.is_honest pager.new.storage) → IsTrue (S.is_honest pager.old.storage) }
+{
+    let mut lent = Lent::new(pager);
+    pin_lent(&mut lent, alloc, handle)
+}
