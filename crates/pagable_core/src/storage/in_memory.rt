@@ -163,7 +163,7 @@ impl<E: Env> Roots<E> for InMemoryBlobs<E> {
     }
 
     fn set_root(&mut self, alloc: Global, name: &str, key: Option<DataKey>) -> Result<(), Error> {
-        if self.closed {
+        if self.has_closed() {
             return Err(Error::Closed);
         }
         let Some(key) = key else {
