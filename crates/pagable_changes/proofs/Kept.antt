@@ -1,23 +1,24 @@
 -- Turn by turn the pager stands for the trees that it stood for; what was written of each open node is a form of its tree; and each key that was found reads as
--- its node's tree.
-use Rattle.pagable_changes.specs.{Changes.{AllHave, EnterFails, Enters, FoundKeys, GivesUp, GoesNowhere, HasKey, LeaveFails, Leaves, LetsGo, PagesOutChanged, PagesOutKeyless, PinsLoosely, SetsFor, Stage, StoresBlob}, Keys.ChangedLaw}
+-- its node's tree, and is its Merkle key where those that were there are.
+use Rattle.pagable_changes.specs.{Changes.{AllHave, EnterFails, Enters, FoundKeys, GivesUp, GoesNowhere, HasKey, LeaveFails, Leaves, LetsGo, PagesOutChanged, PagesOutKeyless, PinsLoosely, SetsFor, Stage, StoresBlob}, Keys.{ChangedLaw, HasMerkleKeys}}
 use Rattle.pagable_changes.specs.Changes.{TakeFails, Takes, Turn, TurnFails, Turns, Walks, all-is-stored, blob-is-refused, both-go, cell-gets-key, cell-has-key, cell-is-away}
 use Rattle.pagable_changes.specs.Changes.{cell-is-not-pinned, cell-is-pinned, cell-is-taken, clone-is-refused, goes-down, goes-up, has-key, isnt-entered, isnt-left, isnt-taken, isnt-written}
 use Rattle.pagable_changes.specs.Changes.{key-is-found, key-is-refused, key-was-found, no-turn, node-is-refused, node-is-taken, none-are-asked, none-is-open, nothing-is-begun, nothing-is-done}
 use Rattle.pagable_changes.specs.Changes.{nothing-is-stored, nothing_found, one-goes, one-goes-first, one-more-has, one-more-turn, pin-is-refused, root-has-key, root-has-none, root-is-refused}
 use Rattle.pagable_changes.specs.Changes.{no-handle, root-is-walked, stage, walk-is-refused, way-is-refused, written_of}
 use Rattle.pagable_changes.specs.declared.{keys.FoundKey.FoundKey, nodes.OpenNode.OpenNode}
-use Rattle.pagable_laws.proofs.{Answered.{After, after-then, rows-stay}, Called.calls-go, Decoding.{among-left, among-right}, Following.{given-of, leads-on, wrote}, Goes.{among-found, found-number}}
+use Rattle.pagable_laws.proofs.{Answered.{After, after-then, rows-stay}, Called.calls-go, Decoding.{among-left, among-right}, Following.{given-of, leads-on, tree-form, wrote}, Goes.{among-found, found-number}}
 use Rattle.pagable_laws.proofs.{Moments.{Stands, call-stays, no-value, still-settled}, ReadingSteps.caller-free, Related.keeps_forms, Taking.{pushed, row-held, tree-stays}}
 use Rattle.pagable_laws.proofs.{Again.{Looked, all-looked, form-again, one-looked}, Trees.{same-number, same_some}}
 use Rattle.pagable_laws.specs.{CallerLaws.IsCall, FormLaws.rest}
-use Rattle.pagable_laws.specs.TreeSteps.{FollowsTo, Ground, KeepsStored, WroteTree, followed-leads, pair-leads, reference-leads, variant-leads}
-use Rattle.pagable_model.specs.{Canonical.IsReadableType, Merkle.{StoredAs, blob_of, key_of_ref, kind_of_ref}, Meaning.{Meaning, rename}, Reading.{deepest, read}, Writing.kind_of_arc}
+use Rattle.pagable_laws.specs.TreeSteps.{Bears, CallFeels, Change, CoreGoes, FollowsTo, Ground, KeepsStored, Sets, WroteTree, followed-leads, pair-leads, reference-leads, variant-leads}
+use Rattle.pagable_laws.specs.TreeSteps.{feels-adopted, feels-away, feels-birth, feels-end, feels-key, feels-known, feels-lazy, feels-nothing}
+use Rattle.pagable_model.specs.{Canonical.IsReadableType, Deep.{Kid, kid, tree_of_kid}, Merkle.{KeyOf, KeysOf, StoredAs, blob_of, key-of, key_of_ref, kind_of_ref, more-keys, no-keys}, Meaning.{Meaning, rename}, Reading.{deepest, read}, Writing.kind_of_arc}
 use Rattle.pagable_model.specs.Trees.{IsFollowed, KeyRef, ReadsAs, ReadsTree, Tree, Types, integer-followed, key_ref, none-followed, number-followed, pair-followed, pattern-followed, reference-followed, text-followed, type_of, variant-followed}
-use Rattle.pagable_world.specs.{Access.Called, Events.Does, Pager.{NodeStands, PagerState, away, here}, Runs.{AsksWell, KeepsOpen}}
+use Rattle.pagable_world.specs.{Access.Called, Events.Does, Pager.{NodeStands, PagerState, SameTrees, WellFormed, away, here, kids_of}, Runs.{AsksWell, KeepsOpen}}
 use Rattle.pagable_world.specs.Plain.{Among, ArcRef, Blob, Error, HandleNumber, OptionalDataKey, if_there, is_loose_kind}
 use Rattle.pagable_world.specs.{Calls.{KeyCall, NodeCall}, Kinds.{held, is_loose}, Refusals.Owns}
-use Rattle.pagable_world.specs.World.{Core, IsLawful, Seen, Values, Written, key_at, row_at}
+use Rattle.pagable_world.specs.World.{Cell, Core, IsLawful, Seen, Values, Written, key_at, row_at, type_at}
 use Rattle.pagable_world.specs.declared.{calls.{Call.Call, Reply.Reply}, events.Event.Event, handles.{HandleRow.HandleRow, Owner.Owner}}
 use Rattle.std.proofs.Common.{Err, IfOk, List, Ok, Option, Result, Some, [], ap, append-nil, arith, if◌then◌else◌, inl, inr, map, refl, subst, suc, sym, true, zero, ℕ, ◌++◌, ◌==◌, ◌∙◌, ◌∷◌, ◌≡◌, ◌<◌, ◌≤◌}
 use Rattle.std.proofs.lemmas.{Bool.{Decides.nat_tests, cases_Bool}, List.map-append}
@@ -132,10 +133,94 @@ ok-map (Err y) f p = tt
 self-equal : (n : ℕ) → (n == n) ≡ true
 self-equal n = grind (arith, nat_tests)
 
+-- ---- which keys calls set
+
+-- a call that makes no cell with a key, and sets none
+abbrev IsQuiet : {N : Type 0} → Call N Blob → Type 0
+IsQuiet (Call.Clone h) = Unit {0}
+IsQuiet (Call.IntoPagable h) = Unit {0}
+IsQuiet (Call.Pin h) = Unit {0}
+IsQuiet (Call.Release h) = Unit {0}
+IsQuiet (Call.Store blob) = Unit {0}
+IsQuiet _ = ⊥
+
+-- the caller sets this key through this handle
+abbrev IsSetting : {N : Type 0} → HandleNumber → ℕ → Call N Blob → Type 0
+IsSetting h key (Call.SetDataKey k q) = (k ≡ h) × (q ≡ key)
+IsSetting h key _ = ⊥
+
+-- the key of this handle's node is set
+abbrev SetsAt : Core → HandleNumber → ℕ → ℕ → ℕ → Type 0
+SetsAt w h key n q = (row : HandleRow) × (row_at w h ≡ Some row) × (n ≡ row.node.0) × (q ≡ key)
+
+-- a cell that has a key afterwards was there and had it, but for the key that was set
+record KeysGo (w w' : Core) (SetAt : ℕ → ℕ → Type 0) : Type 0 where
+  pub each : (n key : ℕ) → key_at w' n ≡ OptionalDataKey.Some key → ((t : ℕ) × (type_at w n ≡ Some t)) × ((key_at w n ≡ OptionalDataKey.Some key) ⊎ SetAt n key)
+
+keys-go : {w w' : Core} {c : Change} {SetAt : ℕ → ℕ → Type 0} → CoreGoes c w w' → ((t key : ℕ) → Bears c t (OptionalDataKey.Some key) → ⊥) → ((n key : ℕ) → Sets c n key → SetAt n key)
+    → KeysGo w w' SetAt
+keys-go {w} {w'} {c} {SetAt} goes none sets = record {
+  each = λ n key is.
+      let there : (cell : Cell) × (w'.cells n ≡ Some cell) × (cell.key ≡ OptionalDataKey.Some key) = grind (arith, nat_tests) in
+      elim goes.cells n there.0 there.1 [
+        | inl kept ↦ (
+            (kept.was.node_type, ap (λ o. if_there (λ (cell : Cell). Some cell.node_type) None o) kept.live),
+            elim kept.key [
+              | inl stays ↦ inl (ap (λ o. if_there (λ (cell : Cell). cell.key) OptionalDataKey.None o) kept.live ∙ sym stays ∙ there.2)
+              | inr (k, set, now) ↦ let same : k ≡ key = cc in inr (sets n key (subst (λ q. Sets c n q) same set))
+            ],
+          )
+        | inr (next, bears) ↦ absurd (none there.0.node_type key (subst (λ own. Bears c there.0.node_type own) there.2 bears))
+      ];
+}
+
+module _ {N : Type 0} {v : Values N} {w w' : Core} where
+  quiet-keys : {call : Call N Blob} {reply : Reply N Blob} {c : Change} → CallFeels v w Owner.Caller call reply w' c → IsQuiet call → CoreGoes c w w' → KeysGo w w' (λ n key. ⊥)
+  quiet-keys (feels-nothing stays) quiet goes = keys-go goes (λ t key b. b) (λ n key b. b)
+  quiet-keys (feels-birth x brings good) quiet goes = keys-go goes (λ t key b. let e = b.1 in cc) (λ n key b. b)
+  quiet-keys (feels-away t key k) quiet goes = absurd quiet
+  quiet-keys (feels-key h key row owns) quiet goes = absurd quiet
+  quiet-keys (feels-known kind key h row owns typed) quiet goes = absurd quiet
+  quiet-keys (feels-adopted l kind key x k typed good) quiet goes = absurd quiet
+  quiet-keys (feels-lazy l kind key k) quiet goes = absurd quiet
+  quiet-keys (feels-end l x k good) quiet goes = absurd quiet
+
+  set-keys : {call : Call N Blob} {reply : Reply N Blob} {c : Change} (h : HandleNumber) (key : ℕ) → IsSetting h key call → CallFeels v w Owner.Caller call reply w' c → CoreGoes c w w'
+      → KeysGo w w' (SetsAt w h key)
+  set-keys h key is (feels-nothing stays) goes = keys-go goes (λ t q b. b) (λ n q b. absurd b)
+  set-keys h key is (feels-birth x brings good) goes = keys-go goes (λ t q b. let e = b.1 in cc) (λ n q b. absurd b)
+  set-keys h key is (feels-away t q k) goes = absurd is
+  set-keys h key is (feels-key k q row owns) goes = keys-go goes (λ t o b. b) (λ n o b. (row, ap (λ i. row_at w i) (sym is.0) ∙ owns.live, b.0, b.1 ∙ is.1))
+  set-keys h key is (feels-known kind q k row owns typed) goes = absurd is
+  set-keys h key is (feels-adopted l kind q x k typed good) goes = absurd is
+  set-keys h key is (feels-lazy l kind q k) goes = absurd is
+  set-keys h key is (feels-end l x k good) goes = absurd is
+
+-- ---- the keys of a node's references make its own
+
+module _ {hash : List ℕ → List ℕ} {types : Types} where
+  one-more-key : {kids : List Kid} {keys : List ℕ} (k : Kid) (key : ℕ) → KeysOf hash types kids keys → KeyOf hash types (tree_of_kid k) key → KeysOf hash types (kids ++ k ∷ []) (keys ++ key ∷ [])
+  one-more-key k key no-keys is = more-keys k [] key [] is no-keys
+  one-more-key k key (more-keys x kids q keys first rest) is = more-keys x _ q _ first (one-more-key k key rest is)
+
+  all-keys : {found : FoundKeys} {w : Core} {rs : List ArcRef} {keys : List ℕ} (trees : ℕ → Tree) → AllHave found w rs keys
+      → ((r : ArcRef) (key : ℕ) → Among rs r → HasKey found w r key → KeyOf hash types (tree_of_kid (kid r.kind.0 (trees r.node.0).meaning)) key)
+      → KeysOf hash types (kids_of trees rs) keys
+  all-keys trees none-are-asked each = no-keys
+  all-keys trees (one-more-has rs keys r key all one) each =
+      let kid_of = λ (q : ArcRef). kid q.kind.0 (trees q.node.0).meaning in
+      subst (λ kids. KeysOf hash types kids (keys ++ key ∷ [])) (sym (map-append kid_of rs (r ∷ [])))
+      (one-more-key (kid_of r) key (all-keys trees all (λ q k among has. each q k (among-left rs (r ∷ []) among.0 q among.1) has))
+      (each r key (among-right rs (r ∷ []) 0 r refl) one))
+
 abbrev seen_in : {N : Type 0} → Values N → Seen N Blob Written
 seen_in v = record { values = v; blob_of = λ b. b; written_of = λ w. w }
 
-module _ {N E : Type 0} (v : Values N) (lawful : IsLawful v) where
+-- M: that each cell that had a key where the page-out began had the Merkle key of its tree
+module _ {N E : Type 0} (v : Values N) (lawful : IsLawful v) (M : Type 0) where
+  abbrev AreKeyed : PagerState N E → (ℕ → Tree) → Type 0
+  AreKeyed s trees = M → HasMerkleKeys v s trees
+
   -- ---- what calls leave
 
   record Went (s : PagerState N E) (trees : ℕ → Tree) (s' : PagerState N E) : Type 0 where
@@ -143,6 +228,7 @@ module _ {N E : Type 0} (v : Values N) (lawful : IsLawful v) where
     pub after : After v s trees s' trees'
     pub now : Stands v s' trees'
     pub kept : KeepsStored s.core.stored s'.core.stored
+    pub keys : AreKeyed s trees → AreKeyed s' trees'
 
   abbrev went-same : {s : PagerState N E} {trees : ℕ → Tree} → Stands v s trees → Went s trees s
   went-same {s} {trees} at = record {
@@ -150,44 +236,67 @@ module _ {N E : Type 0} (v : Values N) (lawful : IsLawful v) where
     after = record { same = λ n within. refl; nodes = omega arith; stands = at.stands; handles = omega arith; rows = rows-stay s.core.last.handle s.core.rows };
     now = at;
     kept = λ q b is. is;
+    keys = λ keyed. keyed;
   }
 
   abbrev went-then : {s mid s' : PagerState N E} {trees : ℕ → Tree} (a : Went s trees mid) → Went mid a.trees' s' → Went s trees s'
-  went-then a b = record { trees' = b.trees'; after = after-then a.after b.after; now = b.now; kept = λ q x is. b.kept q x (a.kept q x is) }
+  went-then a b = record {
+    trees' = b.trees';
+    after = after-then a.after b.after;
+    now = b.now;
+    kept = λ q x is. b.kept q x (a.kept q x is);
+    keys = λ keyed. b.keys (a.keys keyed);
+  }
 
-  by-call : {does : Core → Type 0} {s s' : PagerState N E} {trees : ℕ → Tree} (call : Call N Blob) (reply : Reply N Blob) → KeepsOpen {N = N} {B = Blob} {W = Written} (Event.Call call)
+  -- keys are the trees' after a call, where what it set is
+  keys-on : {s s' : PagerState N E} {trees trees' : ℕ → Tree} {SetAt : ℕ → ℕ → Type 0} → WellFormed v s → KeysGo s.core s'.core SetAt → SameTrees s.core.last.node trees trees'
+      → (M → (n key : ℕ) → SetAt n key → KeyOf v.hash v.types (trees n) key) → AreKeyed s trees → AreKeyed s' trees'
+  keys-on {s} {trees = trees} {trees'} well go same sets keyed m n key is =
+      let (typed, had) = go.each n key is in
+      let within = (given-of well.whole.handles n typed.1).1 in
+      let at : KeyOf v.hash v.types (trees n) key = elim had [ inl was ↦ keyed m n key was | inr set ↦ sets m n key set ] in
+      subst (λ t. KeyOf v.hash v.types t key) (sym (same n within)) at
+
+  by-call : {does : Core → Type 0} {s s' : PagerState N E} {trees : ℕ → Tree} {SetAt : ℕ → ℕ → Type 0} (call : Call N Blob) (reply : Reply N Blob)
+      → ({c : Change} → CallFeels v s.core Owner.Caller call reply s'.core c → CoreGoes c s.core s'.core → KeysGo s.core s'.core SetAt)
+      → (M → (n key : ℕ) → SetAt n key → KeyOf v.hash v.types (trees n) key) → KeepsOpen {N = N} {B = Blob} {W = Written} (Event.Call call)
       → Called v does s s' → (does s'.core → Does (seen_in v) s.core Owner.Caller call reply s'.core) → AsksWell v s trees call reply → Stands v s trees → Went s trees s'
-  by-call {s = s} {s'} call reply stays_open c is asks at =
+  by-call {s = s} {s'} call reply keys_go sets stays_open c is asks at =
       let one : IsCall (seen_in v) s call reply s' = record { step = record { does = is c.step }; moves = no-value (seen_in v) lawful call c.moves; whole = c.whole } in
       let r = (call-stays (seen_in v) lawful call reply at one stays_open asks (still-settled (seen_in v) lawful at c)).0 in
       let g = calls-go (seen_in v) s.core Owner.Caller caller-free s'.core call reply stays_open (is c.step) in
-      record { trees' = r.trees'; after = r.after; now = r.now; kept = g.does.goes.stored }
+      record { trees' = r.trees'; after = r.after; now = r.now; kept = g.does.goes.stored; keys = keys-on at.well (keys_go g.feels g.does.goes) r.after.same sets }
+
+  quietly : {does : Core → Type 0} {s s' : PagerState N E} {trees : ℕ → Tree} (call : Call N Blob) (reply : Reply N Blob) → IsQuiet call
+      → KeepsOpen {N = N} {B = Blob} {W = Written} (Event.Call call) → Called v does s s' → (does s'.core → Does (seen_in v) s.core Owner.Caller call reply s'.core)
+      → AsksWell v s trees call reply → Stands v s trees → Went s trees s'
+  quietly call reply quiet = by-call call reply (λ feels goes. quiet-keys feels quiet goes) (λ m n key set. absurd set)
 
   lets-go : {s s' : PagerState N E} {trees : ℕ → Tree} {c k : HandleNumber} → LetsGo v c k s s' → Stands v s trees → Went s trees s'
   lets-go {c = c} {k} (both-go told freed mid s' first last) at =
-      let a = by-call (Call.Release k) (Reply.Done told) tt first (λ d. d) tt at in
-      went-then a (by-call (Call.Release c) (Reply.Done freed) tt last (λ d. d) tt a.now)
-  lets-go {k = k} (one-goes told s' same first) at = by-call (Call.Release k) (Reply.Done told) tt first (λ d. d) tt at
+      let a = quietly (Call.Release k) (Reply.Done told) tt tt first (λ d. d) tt at in
+      went-then a (quietly (Call.Release c) (Reply.Done freed) tt tt last (λ d. d) tt a.now)
+  lets-go {k = k} (one-goes told s' same first) at = quietly (Call.Release k) (Reply.Done told) tt tt first (λ d. d) tt at
 
   pins-go : {s s' : PagerState N E} {trees : ℕ → Tree} {c : HandleNumber} {r : Result HandleNumber Error} → PinsLoosely v c s r s' → Stands v s trees → Went s trees s'
-  pins-go {c = c} (cell-is-pinned k s' call) at = by-call (Call.Pin c) (Reply.Pin _) tt call (λ d. d) tt at
-  pins-go {c = c} (cell-is-away key s' call) at = by-call (Call.Pin c) (Reply.Pin _) tt call (λ d. d) tt at
-  pins-go {c = c} (cell-is-not-pinned e s' call) at = by-call (Call.Pin c) (Reply.Pin _) tt call (λ d. d) tt at
+  pins-go {c = c} (cell-is-pinned k s' call) at = quietly (Call.Pin c) (Reply.Pin _) tt tt call (λ d. d) tt at
+  pins-go {c = c} (cell-is-away key s' call) at = quietly (Call.Pin c) (Reply.Pin _) tt tt call (λ d. d) tt at
+  pins-go {c = c} (cell-is-not-pinned e s' call) at = quietly (Call.Pin c) (Reply.Pin _) tt tt call (λ d. d) tt at
 
   takes-go : {s s' : PagerState N E} {trees : ℕ → Tree} {r : ArcRef} {c k : HandleNumber} → Takes v r s c k s' → Stands v s trees → Went s trees s'
   takes-go {r = r} (cell-is-taken c k told mid low s' loose clones loosens pins) at =
-      let a = by-call (Call.Clone r.handle) (Reply.Handle (Ok c)) tt clones (λ d. d) tt at in
-      let b = by-call (Call.IntoPagable c) (Reply.Handle told) tt loosens (λ d. d) tt a.now in
+      let a = quietly (Call.Clone r.handle) (Reply.Handle (Ok c)) tt tt clones (λ d. d) tt at in
+      let b = quietly (Call.IntoPagable c) (Reply.Handle told) tt tt loosens (λ d. d) tt a.now in
       went-then a (went-then b (pins-go pins b.now))
-  takes-go {r = r} (node-is-taken c s' loose clones) at = by-call (Call.Clone r.handle) (Reply.Handle (Ok c)) tt clones (λ d. d) tt at
+  takes-go {r = r} (node-is-taken c s' loose clones) at = quietly (Call.Clone r.handle) (Reply.Handle (Ok c)) tt tt clones (λ d. d) tt at
 
   fails-to-take : {s s' : PagerState N E} {trees : ℕ → Tree} {r : ArcRef} {e : Error} → TakeFails v r s e s' → Stands v s trees → Went s trees s'
-  fails-to-take {r = r} (clone-is-refused e s' clones) at = by-call (Call.Clone r.handle) (Reply.Handle (Err e)) tt clones (λ d. d) tt at
+  fails-to-take {r = r} (clone-is-refused e s' clones) at = quietly (Call.Clone r.handle) (Reply.Handle (Err e)) tt tt clones (λ d. d) tt at
   fails-to-take {r = r} (pin-is-refused c told freed e mid low late s' clones loosens pins releases) at =
-      let a = by-call (Call.Clone r.handle) (Reply.Handle (Ok c)) tt clones (λ d. d) tt at in
-      let b = by-call (Call.IntoPagable c) (Reply.Handle told) tt loosens (λ d. d) tt a.now in
+      let a = quietly (Call.Clone r.handle) (Reply.Handle (Ok c)) tt tt clones (λ d. d) tt at in
+      let b = quietly (Call.IntoPagable c) (Reply.Handle told) tt tt loosens (λ d. d) tt a.now in
       let d = pins-go pins b.now in
-      went-then a (went-then b (went-then d (by-call (Call.Release c) (Reply.Done freed) tt releases (λ x. x) tt d.now)))
+      went-then a (went-then b (went-then d (quietly (Call.Release c) (Reply.Done freed) tt tt releases (λ x. x) tt d.now)))
 
   fails-to-enter : {s s' : PagerState N E} {trees : ℕ → Tree} {r : ArcRef} {e : Error} → EnterFails v r s e s' → Stands v s trees → Went s trees s'
   fails-to-enter (isnt-taken e s' fails) at = fails-to-take fails at
@@ -202,10 +311,11 @@ module _ {N E : Type 0} (v : Values N) (lawful : IsLawful v) where
   abbrev ground : PagerState N E → (ℕ → Tree) → Ground
   ground s trees = record { stored = s.core.stored; last = s.core.last.node; trees = trees }
 
-  -- the key reads as the node's tree
+  -- the key reads as the node's tree, and is its Merkle key
   record KeyReads (s : PagerState N E) (trees : ℕ → Tree) (n key : ℕ) : Type 0 where
     pub given : n ≤ s.core.last.node
     pub reads : ReadsTree s.core.stored v.types key (trees n)
+    pub is_key : M → KeyOf v.hash v.types (trees n) key
 
   -- what was written of the node is a form of its tree, and the handle by which its key is set is the node's
   record OpenFits (s : PagerState N E) (trees : ℕ → Tree) (o : OpenNode) : Type 0 where
@@ -222,6 +332,7 @@ module _ {N E : Type 0} (v : Values N) (lawful : IsLawful v) where
   key-on {s' = s'} a {n} {key} k = record {
     given = let more = a.after.nodes in let g = k.given in omega (arith, more, g);
     reads = subst (λ t. ReadsTree s'.core.stored v.types key t) (sym (a.after.same n k.given)) (tree-stays a.kept k.reads);
+    is_key = λ m. subst (λ t. KeyOf v.hash v.types t key) (sym (a.after.same n k.given)) (k.is_key m);
   }
 
   wrote-on : {s s' : PagerState N E} {trees : ℕ → Tree} (a : Went s trees s') {n : ℕ} {written : Written} → n ≤ s.core.last.node → WroteTree v.types (ground s trees) n written
@@ -281,15 +392,16 @@ module _ {N E : Type 0} (v : Values N) (lawful : IsLawful v) where
 
     -- ---- the blob over the keys that are there reads as the node's tree
 
-    has-reads : {s : PagerState N E} {trees : ℕ → Tree} {found : FoundKeys} {r : ArcRef} {key : ℕ} → Stands v s trees → FoundFits s trees found → HasKey found s.core r key
-        → KeyReads s trees r.node.0 key
-    has-reads {s} {trees} {r = r} {key} at fits (cell-has-key key2 loose node keys) =
+    has-reads : {s : PagerState N E} {trees : ℕ → Tree} {found : FoundKeys} {r : ArcRef} {key : ℕ} → Stands v s trees → AreKeyed s trees → FoundFits s trees found
+        → HasKey found s.core r key → KeyReads s trees r.node.0 key
+    has-reads {s} {trees} {r = r} {key} at keyed fits (cell-has-key key2 loose node keys) =
         let live = subst (λ n. 0 < held n.0 s.core.rows) (sym node.found.2) (row-held s.core r.handle node.found.0 node.found.1) in
         record {
           given = (given-of at.well.whole.handles r.node.0 (at.stands.typed r.node.0 live)).1;
           reads = key-fits (at.stands.stands r.node.0 live) key2 (cell-key r node keys);
+          is_key = λ m. keyed m r.node.0 key2 (cell-key r node keys);
         }
-    has-reads at fits (key-was-found k eager is) = fits _ k is
+    has-reads at keyed fits (key-was-found k eager is) = fits _ k is
 
     found-on : {s s' : PagerState N E} {trees : ℕ → Tree} (a : Went s trees s') {found : FoundKeys} → FoundFits s trees found → FoundFits s' a.trees' found
     found-on a fits = λ n k is. key-on a (fits n k is)
@@ -301,17 +413,30 @@ module _ {N E : Type 0} (v : Values N) (lawful : IsLawful v) where
       pub reads : KeyReads mid went.trees' o.reference.node.0 key
 
     stores-fit : {s mid : PagerState N E} {trees : ℕ → Tree} {o : OpenNode} {found : FoundKeys} {key : ℕ} {keys : List ℕ} → AllHave found s.core (written_of o.written).references keys
-        → StoresBlob v s (blob_of (written_of o.written).bytes keys) (Ok key) mid → Stands v s trees → OpenFits s trees o → FoundFits s trees found → Stored s trees o key mid
-    stores-fit {s} {mid} {trees} {o} {found} {key} {keys} have stores at fits founds =
+        → StoresBlob v s (blob_of (written_of o.written).bytes keys) (Ok key) mid → Stands v s trees → AreKeyed s trees → OpenFits s trees o
+        → FoundFits s trees found → Stored s trees o key mid
+    stores-fit {s} {mid} {trees} {o} {found} {key} {keys} have stores at keyed fits founds =
         let blob = blob_of (written_of o.written).bytes keys in
-        let a = by-call (Call.Store blob) (Reply.Stored (Ok key)) tt stores (λ d. d) tt at in
+        let a = quietly (Call.Store blob) (Reply.Stored (Ok key)) tt tt stores (λ d. d) tt at in
         let f = open-on a fits in
         let is_stored : mid.core.stored key ≡ Some blob = stores.step.stores.1.adds.each key ∙ ap (λ b. if b then Some blob else s.core.stored key) (self-equal key) in
         let each : (r : ArcRef) → Among (written_of o.written).references r
         → ((a.trees' r.node.0).type ≡ type_of r.kind.0) × ReadsTree mid.core.stored v.types (key_now found s.core r) (a.trees' r.node.0) = λ r among.
         let h = each-has have r among in
-        (f.typed r among, subst (λ q. ReadsTree mid.core.stored v.types q (a.trees' r.node.0)) (sym (has-now h.1)) (key-on a (has-reads at founds h.1)).reads) in
-        record { went = a; fits = f; reads = record { given = f.given; reads = blob-reads f.wrote have each is_stored } }
+        (f.typed r among, subst (λ q. ReadsTree mid.core.stored v.types q (a.trees' r.node.0)) (sym (has-now h.1)) (key-on a (has-reads at keyed founds h.1)).reads) in
+        let kids : M → KeysOf v.hash v.types (kids_of a.trees' (written_of o.written).references) keys = λ m.
+        all-keys a.trees' have (λ r q among has. rw (← f.typed r among) ((key-on a (has-reads at keyed founds has)).is_key m)) in
+        let is_key : M → KeyOf v.hash v.types (a.trees' o.reference.node.0) key = λ m.
+        subst (λ q. KeyOf v.hash v.types (a.trees' o.reference.node.0) q) (sym stores.step.stores.0)
+        (key-of (a.trees' o.reference.node.0) f.wrote.shape (written_of o.written).bytes (kids_of a.trees' (written_of o.written).references) keys f.wrote.is (tree-form f.wrote) (kids m)) in
+        record { went = a; fits = f; reads = record { given = f.given; reads = blob-reads f.wrote have each is_stored; is_key = is_key } }
+
+    -- the key that is set through the node's handle is its tree's
+    set-is-key : {s : PagerState N E} {trees : ℕ → Tree} {o : OpenNode} {key : ℕ} → OpenFits s trees o → KeyReads s trees o.reference.node.0 key
+        → M → (n q : ℕ) → SetsAt s.core o.through key n q → KeyOf v.hash v.types (trees n) q
+    set-is-key {trees = trees} {o} f k m n q (row, live, at_node, is) =
+        let node : n ≡ o.reference.node.0 = at_node ∙ ap (λ (x : NodeNumber). x.0) (f.through row live) in
+        rw (node, is) (k.is_key m)
 
     -- its key is set, or found from now on
     record Set (s : PagerState N E) (trees : ℕ → Tree) (found' : FoundKeys) (s' : PagerState N E) : Type 0 where
@@ -321,7 +446,7 @@ module _ {N E : Type 0} (v : Values N) (lawful : IsLawful v) where
     sets-fit : {s s' : PagerState N E} {trees : ℕ → Tree} {o : OpenNode} {found found' : FoundKeys} {key : ℕ} → SetsFor v found o key s found' s' → Stands v s trees → OpenFits s trees o
         → FoundFits s trees found → KeyReads s trees o.reference.node.0 key → Set s trees found' s'
     sets-fit {s} {trees = trees} {o} {key = key} (cell-gets-key found' s' loose sets same) at f founds k =
-        let b = by-call (Call.SetDataKey o.through key) (Reply.Done (Ok tt)) tt sets (λ d. d)
+        let b = by-call (Call.SetDataKey o.through key) (Reply.Done (Ok tt)) (set-keys o.through key (refl, refl)) (set-is-key f k) tt sets (λ d. d)
         (λ row owns. subst (λ n. ReadsTree s.core.stored v.types key (trees n.0)) (sym (f.through row owns.live)) k.reads) at in
         record { went = b; found = λ n x is. key-on b (founds n x (sym (same n) ∙ is)) }
     sets-fit {s} {trees = trees} {o} {key = key} (key-is-found x found' eager is there others) at f founds k = record {
@@ -341,29 +466,30 @@ module _ {N E : Type 0} (v : Values N) (lawful : IsLawful v) where
       pub found : FoundFits s' went.trees' found'
       pub reads : KeyReads s' went.trees' o.reference.node.0 key
 
-    leaves-fit : {s s' : PagerState N E} {trees : ℕ → Tree} {o : OpenNode} {found found' : FoundKeys} {key : ℕ} → Leaves v found s o key found' s' → Stands v s trees → OpenFits s trees o
-        → FoundFits s trees found → Left s trees o key found' s'
-    leaves-fit l at fits founds =
-        let a = stores-fit l.have l.stores at fits founds in
+    leaves-fit : {s s' : PagerState N E} {trees : ℕ → Tree} {o : OpenNode} {found found' : FoundKeys} {key : ℕ} → Leaves v found s o key found' s' → Stands v s trees → AreKeyed s trees
+        → OpenFits s trees o → FoundFits s trees found → Left s trees o key found' s'
+    leaves-fit l at keyed fits founds =
+        let a = stores-fit l.have l.stores at keyed fits founds in
         let b = sets-fit l.sets a.went.now a.fits (found-on a.went founds) a.reads in
         let d = lets-go l.lets b.went.now in
         record { went = went-then a.went (went-then b.went d); found = found-on d b.found; reads = key-on d (key-on b.went a.reads) }
 
-    leave-fails : {s s' : PagerState N E} {trees : ℕ → Tree} {o : OpenNode} {found : FoundKeys} {e : Error} → LeaveFails v found s o e s' → Stands v s trees → OpenFits s trees o
-        → FoundFits s trees found → Went s trees s'
-    leave-fails (nothing-is-stored e) at fits founds = went-same at
-    leave-fails (blob-is-refused e keys s' have stores) at fits founds = by-call (Call.Store _) (Reply.Stored (Err e)) tt stores (λ d. d) tt at
-    leave-fails {o = o} (key-is-refused e key keys mid s' have stores unset) at fits founds =
-        let a = stores-fit have stores at fits founds in
+    leave-fails : {s s' : PagerState N E} {trees : ℕ → Tree} {o : OpenNode} {found : FoundKeys} {e : Error} → LeaveFails v found s o e s' → Stands v s trees → AreKeyed s trees
+        → OpenFits s trees o → FoundFits s trees found → Went s trees s'
+    leave-fails (nothing-is-stored e) at keyed fits founds = went-same at
+    leave-fails (blob-is-refused e keys s' have stores) at keyed fits founds = quietly (Call.Store _) (Reply.Stored (Err e)) tt tt stores (λ d. d) tt at
+    leave-fails {o = o} (key-is-refused e key keys mid s' have stores unset) at keyed fits founds =
+        let a = stores-fit have stores at keyed fits founds in
         let asks = λ (row : HandleRow) (owns : Owns mid.core Owner.Caller o.through is_loose row).
         subst (λ n. ReadsTree mid.core.stored v.types key (a.went.trees' n.0)) (sym (a.fits.through row owns.live)) a.reads.reads in
-        went-then a.went (by-call (Call.SetDataKey o.through key) (Reply.Done (Err e)) tt unset.refused (λ d. d) asks a.went.now)
+        went-then a.went (by-call (Call.SetDataKey o.through key) (Reply.Done (Err e)) (set-keys o.through key (refl, refl)) (set-is-key a.fits a.reads) tt unset.refused (λ d. d) asks a.went.now)
 
     -- ---- turn by turn
 
     -- what stands open, what was found and the pager fit the trees, and the walk began at this reference
     record Fits (a : Stage N E) (trees : ℕ → Tree) (r : ArcRef) : Type 0 where
       pub at : Stands v a.pager trees
+      pub keyed : AreKeyed a.pager trees
       pub node : OpenFits a.pager trees a.node
       pub path : (o : OpenNode) → Among a.path o → OpenFits a.pager trees o
       pub found : FoundFits a.pager trees a.found
@@ -375,12 +501,13 @@ module _ {N E : Type 0} (v : Values N) (lawful : IsLawful v) where
     turn-fits : {a b : Stage N E} {trees : ℕ → Tree} {r : ArcRef} → Turn v a b → Fits a trees r → (w : Went a.pager trees b.pager) × Fits b w.trees' r
     turn-fits {a} {b} {trees} {r} (has-key b2 next is) f =
         subst (λ c. (w : Went a.pager trees c.pager) × Fits c w.trees' r) (sym is)
-        (went-same f.at, record { at = f.at; node = looks-further next f.node; path = f.path; found = f.found; first = first-same a.path a.node next ∙ f.first })
+        (went-same f.at, record { at = f.at; keyed = f.keyed; node = looks-further next f.node; path = f.path; found = f.found; first = first-same a.path a.node next ∙ f.first })
     turn-fits {a} {b} {trees} {r} (goes-down b2 q among none waits same enters) f =
         let (w, node) = enters-fit enters f.at in (
           w,
           record {
             at = w.now;
+            keyed = w.keys f.keyed;
             node = node;
             path = subst (λ p. (o : OpenNode) → Among p o → OpenFits b.pager w.trees' o) (sym waits)
                 (both-all a.path (a.node ∷ []) (λ o in_it. open-on w (f.path o in_it)) (alone (OpenFits b.pager w.trees') a.node (open-on w f.node)));
@@ -389,11 +516,12 @@ module _ {N E : Type 0} (v : Values N) (lawful : IsLawful v) where
           },
         )
     turn-fits {a} {b} {trees} {r} (goes-up b2 key waits leaves) f =
-        let l = leaves-fit leaves f.at f.node f.found in
+        let l = leaves-fit leaves f.at f.keyed f.node f.found in
         let path = subst (λ p. (o : OpenNode) → Among p o → OpenFits a.pager trees o) waits f.path in (
           l.went,
           record {
             at = l.went.now;
+            keyed = l.went.keys f.keyed;
             node = open-on l.went (path b.node (among-right b.path (b.node ∷ []) 0 b.node refl));
             path = λ o among. open-on l.went (path o (among-left b.path (b.node ∷ []) among.0 o among.1));
             found = l.found;
@@ -410,53 +538,66 @@ module _ {N E : Type 0} (v : Values N) (lawful : IsLawful v) where
     turn-fails : {a : Stage N E} {s' : PagerState N E} {trees : ℕ → Tree} {r : ArcRef} {e : Error} → TurnFails v a e s' → Fits a trees r → Went a.pager trees s'
     turn-fails (nothing-is-done e) f = went-same f.at
     turn-fails (isnt-entered e q s' among none fails) f = goes-nowhere fails f.at
-    turn-fails (isnt-left e s' fails) f = leave-fails fails f.at f.node f.found
+    turn-fails (isnt-left e s' fails) f = leave-fails fails f.at f.keyed f.node f.found
 
     gives-up : {path : List OpenNode} {s s' : PagerState N E} {trees : ℕ → Tree} → GivesUp v path s s' → Stands v s trees → Went s trees s'
     gives-up (none-is-open s) at = went-same at
     gives-up (one-goes-first path o s mid s' lets more) at = let a = lets-go lets at in went-then a (gives-up more a.now)
 
-    begun : {s : PagerState N E} {trees : ℕ → Tree} {first : OpenNode} → Stands v s trees → OpenFits s trees first → Fits (stage [] first nothing_found s) trees first.reference
-    begun at fits = record { at = at; node = fits; path = λ o among. absurd cc; found = λ n k is. absurd cc; first = refl }
+    begun : {s : PagerState N E} {trees : ℕ → Tree} {first : OpenNode} → Stands v s trees → AreKeyed s trees → OpenFits s trees first
+        → Fits (stage [] first nothing_found s) trees first.reference
+    begun at keyed fits = record { at = at; keyed = keyed; node = fits; path = λ o among. absurd cc; found = λ n k is. absurd cc; first = refl }
 
-    walks-fit : {s s' : PagerState N E} {trees : ℕ → Tree} {first : OpenNode} {answer : Result ℕ Error} → Walks v first s answer s' → Stands v s trees → OpenFits s trees first
+    walks-fit : {s s' : PagerState N E} {trees : ℕ → Tree} {first : OpenNode} {answer : Result ℕ Error} → Walks v first s answer s' → Stands v s trees → AreKeyed s trees → OpenFits s trees first
         → (w : Went s trees s') × IfOk answer (λ key. KeyReads s' w.trees' first.reference.node.0 key)
-    walks-fit {first = first} (all-is-stored a b key turns none leaves) at fits =
-        let (w, g) = turns-fit turns (begun at fits) in
-        let l = leaves-fit leaves g.at g.node g.found in
+    walks-fit {first = first} (all-is-stored a b key turns none leaves) at keyed fits =
+        let (w, g) = turns-fit turns (begun at keyed fits) in
+        let l = leaves-fit leaves g.at g.keyed g.node g.found in
         let is : a.node.reference ≡ first.reference = sym (ap (λ p. (first_of p a.node).reference) none) ∙ g.first in
         (went-then w l.went, subst (λ (q : ArcRef). KeyReads b.pager l.went.trees' q.node.0 key) is l.reads)
-    walks-fit (walk-is-refused a e mid low s' turns fails lets gives) at fits =
-        let (w, g) = turns-fit turns (begun at fits) in
+    walks-fit (walk-is-refused a e mid low s' turns fails lets gives) at keyed fits =
+        let (w, g) = turns-fit turns (begun at keyed fits) in
         let t = turn-fails fails g in
         let u = lets-go lets t.now in
         (went-then w (went-then t (went-then u (gives-up gives u.now))), tt)
 
-    keyless-fits : {s s' : PagerState N E} {trees : ℕ → Tree} {h : HandleNumber} {r : Result ℕ Error} (row : HandleRow) → PagesOutKeyless v s h r s' → Stands v s trees
-        → row_at s.core h ≡ Some row
-        → (w : Went s trees s') × IfOk r (λ key. ReadsTree s'.core.stored v.types key (w.trees' row.node.0))
-    keyless-fits row (nothing-is-begun e) at live = (went-same at, tt)
-    keyless-fits row (root-is-refused q e s' root fails) at live = (fails-to-enter fails at, tt)
-    keyless-fits {s} {s'} row (root-is-walked q first answer mid s2 root enters walks) at live =
+    keyless-fits : {s s' : PagerState N E} {trees : ℕ → Tree} {h : HandleNumber} {r : Result ℕ Error} (row : HandleRow) → PagesOutKeyless v s h r s' → Stands v s trees → AreKeyed s trees
+        → row_at s.core h ≡ Some row → (w : Went s trees s') × IfOk r (λ key. KeyReads s' w.trees' row.node.0 key)
+    keyless-fits row (nothing-is-begun e) at keyed live = (went-same at, tt)
+    keyless-fits row (root-is-refused q e s' root fails) at keyed live = (fails-to-enter fails at, tt)
+    keyless-fits {s} {s'} row (root-is-walked q first answer mid s2 root enters walks) at keyed live =
         let (w, fits) = enters-fit enters at in
-        let (u, reads) = walks-fit walks w.now fits in
+        let (u, reads) = walks-fit walks w.now (w.keys keyed) fits in
         let rows : root.at.found.0 ≡ row = same_some _ _ (sym root.at.found.1 ∙ live) in
         let nodes : first.reference.node ≡ row.node = ap (λ (x : ArcRef). x.node) enters.of ∙ root.at.found.2 ∙ ap (λ (x : HandleRow). x.node) rows in
-        (went-then w u, ok-map answer (λ key k. subst (λ n. ReadsTree s'.core.stored v.types key (u.trees' n.0)) nodes k.reads) reads)
+        (went-then w u, subst (λ n. IfOk answer (λ key. KeyReads s' u.trees' n.0 key)) nodes reads)
 
-    pages-fit : {s s' : PagerState N E} {trees : ℕ → Tree} {h : HandleNumber} {r : Result ℕ Error} (row : HandleRow) → PagesOutChanged v s h r s' → Stands v s trees
-        → row_at s.core h ≡ Some row
-        → (w : Went s trees s') × IfOk r (λ key. ReadsTree s'.core.stored v.types key (w.trees' row.node.0))
-    pages-fit row (no-handle e keys) at live = (went-same at, tt)
-    pages-fit {s} {h = h} row (root-has-key key keys) at live =
+    pages-fit : {s s' : PagerState N E} {trees : ℕ → Tree} {h : HandleNumber} {r : Result ℕ Error} (row : HandleRow) → PagesOutChanged v s h r s' → Stands v s trees → AreKeyed s trees
+        → row_at s.core h ≡ Some row → (w : Went s trees s') × IfOk r (λ key. KeyReads s' w.trees' row.node.0 key)
+    pages-fit row (no-handle e keys) at keyed live = (went-same at, tt)
+    pages-fit {s} {h = h} row (root-has-key key keys) at keyed live =
         let rows : keys.found.0 ≡ row = same_some _ _ (sym keys.found.1 ∙ live) in
         let set : key_at s.core row.node.0 ≡ OptionalDataKey.Some key = ap (λ (q : HandleRow). key_at s.core q.node.0) (sym rows) ∙ sym keys.found.2 in
-        (went-same at, key-fits (at.stands.stands row.node.0 (row-held s.core h row live)) key set)
-    pages-fit row (root-has-none answer s' keys pages) at live = keyless-fits row pages at live
+        let held = row-held s.core h row live in (
+          went-same at,
+          record {
+            given = (given-of at.well.whole.handles row.node.0 (at.stands.typed row.node.0 held)).1;
+            reads = key-fits (at.stands.stands row.node.0 held) key set;
+            is_key = λ m. keyed m row.node.0 key set;
+          },
+        )
+    pages-fit row (root-has-none answer s' keys pages) at keyed live = keyless-fits row pages at keyed live
 
 pub changed_law : {N : Type 0} (E : Type 0) (v : Values N) → ChangedLaw E v
 changed_law E v s s' h r run well lawful = record {
   reads = λ nobody settled readable row trees stands live.
-      let (w, reads) = pages-fit v lawful readable row run (record { well = well; nobody = nobody; settled = settled; stands = stands }) live in
-      (w.trees', w.after.same, w.after.stands, reads);
+      let (w, reads) = pages-fit v lawful (HasMerkleKeys v s trees) readable row run (record { well = well; nobody = nobody; settled = settled; stands = stands }) (λ m. m) live in
+      record {
+        trees' = w.trees';
+        same = w.after.same;
+        stands = w.after.stands;
+        reads = ok-map r (λ key k. k.reads) reads;
+        keys = w.keys (λ m. m);
+        is_key = λ m. ok-map r (λ key k. k.is_key m) reads;
+      };
 }

@@ -1,15 +1,29 @@
--- The law of a page-out that takes the keys which are there: the trees that they read as stay, and the answered key reads as the root's.
+-- The law of a page-out that takes the keys which are there: the trees that they read as stay, the answered key reads as the root's, and it is its Merkle key
+-- where those that are there are.
 use Rattle.std.specs.Prelude.{IfOk, Result, Some, ℕ, ◌≡◌}
-use Rattle.{pagable_changes.specs.Changes.PagesOutChanged, pagable_laws.specs.PageOutLaws.NobodyWorks, pagable_model.specs.Canonical.IsReadableType}
+use Rattle.{pagable_changes.specs.Changes.PagesOutChanged, pagable_laws.specs.PageOutLaws.NobodyWorks, pagable_model.specs.{Canonical.IsReadableType, Merkle.KeyOf}}
 use Rattle.pagable_world.specs.Pager.{PagerState, Represents, SameTrees, WellFormed}
-use Rattle.pagable_world.specs.{Plain.{Error, HandleNumber, ReadsTree, Tree}, Runs.HoldsSettled, World.{IsLawful, Values, row_at}, declared.handles.HandleRow.HandleRow}
+use Rattle.pagable_world.specs.{Plain.{Error, HandleNumber, OptionalDataKey, ReadsTree, Tree}, Runs.HoldsSettled, World.{IsLawful, Values, key_at, row_at}, declared.handles.HandleRow.HandleRow}
+
+-- each cell that has a key has the Merkle key of its tree
+abbrev pub HasMerkleKeys : {N E : Type 0} → Values N → PagerState N E → (ℕ → Tree) → Type 0
+HasMerkleKeys v s trees = (n key : ℕ) → key_at s.core n ≡ OptionalDataKey.Some key → KeyOf v.hash v.types (trees n) key
+
+-- Each node keeps its tree, and the pager stands for them; the answered key reads as the tree of node n, and where each key that was there was a Merkle key, so
+-- are those that are there now and the answered one.
+pub record LeavesTrees {N E : Type 0} (v : Values N) (s : PagerState N E) (trees : ℕ → Tree) (n : ℕ) (r : Result ℕ Error) (s' : PagerState N E) : Type 0 where
+  pub trees' : ℕ → Tree
+  pub same : SameTrees s.core.last.node trees trees'
+  pub stands : Represents v s' trees'
+  pub reads : IfOk r (λ key. ReadsTree s'.core.stored v.types key (trees' n))
+  pub keys : HasMerkleKeys v s trees → HasMerkleKeys v s' trees'
+  pub is_key : HasMerkleKeys v s trees → IfOk r (λ key. KeyOf v.hash v.types (trees' n) key)
 
 -- Where nobody works, no value in memory is written later, each type is read back, and the pager stands for trees, so that each key that is there reads as its
--- cell's: then each node keeps its tree, the pager stands for them afterwards, and the answered key reads as that of the handle's node.
+-- cell's: then so it is afterwards, by the tree of the handle's node.
 pub record KeepsTrees {N E : Type 0} (v : Values N) (s : PagerState N E) (h : HandleNumber) (r : Result ℕ Error) (s' : PagerState N E) : Type 0 where
   pub reads : NobodyWorks s.core → HoldsSettled v s → ((t : ℕ) → IsReadableType v.types t) → (row : HandleRow) (trees : ℕ → Tree) → Represents v s trees
-      → row_at s.core h ≡ Some row
-      → (trees' : ℕ → Tree) × SameTrees s.core.last.node trees trees' × Represents v s' trees' × IfOk r (λ key. ReadsTree s'.core.stored v.types key (trees' row.node.0))
+      → row_at s.core h ≡ Some row → LeavesTrees v s trees row.node.0 r s'
 
 -- each such page-out does so
 abbrev pub ChangedLaw : {N : Type 0} → (E : Type 0) → Values N → Type 0
