@@ -16,7 +16,7 @@ use Rattle.pagable_laws.specs.TreeSteps.{feels-adopted, feels-away, feels-birth,
 use Rattle.pagable_model.specs.{Canonical.IsReadableType, Deep.{Kid, kid, tree_of_kid}, Merkle.{KeyOf, KeysOf, StoredAs, blob_of, key-of, key_of_ref, kind_of_ref, more-keys, no-keys}, Meaning.{Meaning, rename}, Reading.{deepest, read}, Writing.kind_of_arc}
 use Rattle.pagable_model.specs.Trees.{IsFollowed, KeyRef, ReadsAs, ReadsTree, Tree, Types, integer-followed, key_ref, none-followed, number-followed, pair-followed, pattern-followed, reference-followed, text-followed, type_of, variant-followed}
 use Rattle.pagable_world.specs.{Access.Called, Events.Does, Pager.{NodeStands, PagerState, SameTrees, WellFormed, away, here, kids_of}, Runs.{AsksWell, KeepsOpen}}
-use Rattle.pagable_world.specs.Plain.{Among, ArcRef, Blob, Error, HandleNumber, OptionalDataKey, if_there, is_loose_kind}
+use Rattle.pagable_world.specs.Plain.{Among, ArcRef, Blob, Error, HandleNumber, NodeNumber, OptionalDataKey, if_there, is_loose_kind}
 use Rattle.pagable_world.specs.{Calls.{KeyCall, NodeCall}, Kinds.{held, is_loose}, Refusals.Owns}
 use Rattle.pagable_world.specs.World.{Cell, Core, IsLawful, Seen, Values, Written, key_at, row_at, type_at}
 use Rattle.pagable_world.specs.declared.{calls.{Call.Call, Reply.Reply}, events.Event.Event, handles.{HandleRow.HandleRow, Owner.Owner}}
