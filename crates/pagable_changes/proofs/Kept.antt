@@ -20,7 +20,7 @@ use Rattle.pagable_world.specs.Plain.{Among, ArcRef, Blob, Error, HandleNumber, 
 use Rattle.pagable_world.specs.{Calls.{KeyCall, NodeCall}, Kinds.{held, is_loose}, Refusals.Owns}
 use Rattle.pagable_world.specs.World.{Cell, Core, IsLawful, Seen, Values, Written, key_at, row_at, type_at}
 use Rattle.pagable_world.specs.declared.{calls.{Call.Call, Reply.Reply}, events.Event.Event, handles.{HandleRow.HandleRow, Owner.Owner}}
-use Rattle.std.proofs.Common.{Err, IfOk, List, Ok, Option, Result, Some, [], ap, append-nil, arith, if◌then◌else◌, inl, inr, map, refl, subst, suc, sym, true, zero, ℕ, ◌++◌, ◌==◌, ◌∙◌, ◌∷◌, ◌≡◌, ◌<◌, ◌≤◌}
+use Rattle.std.proofs.Common.{Err, IfOk, List, None, Ok, Option, Result, Some, [], ap, append-nil, arith, if◌then◌else◌, inl, inr, map, refl, subst, suc, sym, true, zero, ℕ, ◌++◌, ◌==◌, ◌∙◌, ◌∷◌, ◌≡◌, ◌<◌, ◌≤◌, ◌⊎◌}
 use Rattle.std.proofs.lemmas.{Bool.{Decides.nat_tests, cases_Bool}, List.map-append}
 
 -- what is so of each of both lists is so of each of them together
@@ -162,7 +162,7 @@ keys-go : {w w' : Core} {c : Change} {SetAt : ℕ → ℕ → Type 0} → CoreGo
 keys-go {w} {w'} {c} {SetAt} goes none sets = record {
   each = λ n key is.
       let there : (cell : Cell) × (w'.cells n ≡ Some cell) × (cell.key ≡ OptionalDataKey.Some key) = grind (arith, nat_tests) in
-      elim goes.cells n there.0 there.1 [
+      elim (goes.cells n there.0 there.1) [
         | inl kept ↦ (
             (kept.was.node_type, ap (λ o. if_there (λ (cell : Cell). Some cell.node_type) None o) kept.live),
             elim kept.key [
@@ -249,28 +249,28 @@ module _ {N E : Type 0} (v : Values N) (lawful : IsLawful v) (M : Type 0) where
   }
 
   -- keys are the trees' after a call, where what it set is
-  keys-on : {s s' : PagerState N E} {trees trees' : ℕ → Tree} {SetAt : ℕ → ℕ → Type 0} → WellFormed v s → KeysGo s.core s'.core SetAt → SameTrees s.core.last.node trees trees'
+  keys-on : (s s' : PagerState N E) {trees trees' : ℕ → Tree} {SetAt : ℕ → ℕ → Type 0} → WellFormed v s → KeysGo s.core s'.core SetAt → SameTrees s.core.last.node trees trees'
       → (M → (n key : ℕ) → SetAt n key → KeyOf v.hash v.types (trees n) key) → AreKeyed s trees → AreKeyed s' trees'
-  keys-on {s} {trees = trees} {trees'} well go same sets keyed m n key is =
+  keys-on s s' {trees} {trees'} well go same sets keyed m n key is =
       let (typed, had) = go.each n key is in
       let within = (given-of well.whole.handles n typed.1).1 in
       let at : KeyOf v.hash v.types (trees n) key = elim had [ inl was ↦ keyed m n key was | inr set ↦ sets m n key set ] in
       subst (λ t. KeyOf v.hash v.types t key) (sym (same n within)) at
 
   by-call : {does : Core → Type 0} {s s' : PagerState N E} {trees : ℕ → Tree} {SetAt : ℕ → ℕ → Type 0} (call : Call N Blob) (reply : Reply N Blob)
-      → ({c : Change} → CallFeels v s.core Owner.Caller call reply s'.core c → CoreGoes c s.core s'.core → KeysGo s.core s'.core SetAt)
+      → ((c : Change) → CallFeels v s.core Owner.Caller call reply s'.core c → CoreGoes c s.core s'.core → KeysGo s.core s'.core SetAt)
       → (M → (n key : ℕ) → SetAt n key → KeyOf v.hash v.types (trees n) key) → KeepsOpen {N = N} {B = Blob} {W = Written} (Event.Call call)
       → Called v does s s' → (does s'.core → Does (seen_in v) s.core Owner.Caller call reply s'.core) → AsksWell v s trees call reply → Stands v s trees → Went s trees s'
   by-call {s = s} {s'} call reply keys_go sets stays_open c is asks at =
       let one : IsCall (seen_in v) s call reply s' = record { step = record { does = is c.step }; moves = no-value (seen_in v) lawful call c.moves; whole = c.whole } in
       let r = (call-stays (seen_in v) lawful call reply at one stays_open asks (still-settled (seen_in v) lawful at c)).0 in
       let g = calls-go (seen_in v) s.core Owner.Caller caller-free s'.core call reply stays_open (is c.step) in
-      record { trees' = r.trees'; after = r.after; now = r.now; kept = g.does.goes.stored; keys = keys-on at.well (keys_go g.feels g.does.goes) r.after.same sets }
+      record { trees' = r.trees'; after = r.after; now = r.now; kept = g.does.goes.stored; keys = keys-on s s' at.well (keys_go g.change g.feels g.does.goes) r.after.same sets }
 
   quietly : {does : Core → Type 0} {s s' : PagerState N E} {trees : ℕ → Tree} (call : Call N Blob) (reply : Reply N Blob) → IsQuiet call
       → KeepsOpen {N = N} {B = Blob} {W = Written} (Event.Call call) → Called v does s s' → (does s'.core → Does (seen_in v) s.core Owner.Caller call reply s'.core)
       → AsksWell v s trees call reply → Stands v s trees → Went s trees s'
-  quietly call reply quiet = by-call call reply (λ feels goes. quiet-keys feels quiet goes) (λ m n key set. absurd set)
+  quietly call reply quiet = by-call call reply (λ c feels goes. quiet-keys feels quiet goes) (λ m n key set. absurd set)
 
   lets-go : {s s' : PagerState N E} {trees : ℕ → Tree} {c k : HandleNumber} → LetsGo v c k s s' → Stands v s trees → Went s trees s'
   lets-go {c = c} {k} (both-go told freed mid s' first last) at =
@@ -446,7 +446,7 @@ module _ {N E : Type 0} (v : Values N) (lawful : IsLawful v) (M : Type 0) where
     sets-fit : {s s' : PagerState N E} {trees : ℕ → Tree} {o : OpenNode} {found found' : FoundKeys} {key : ℕ} → SetsFor v found o key s found' s' → Stands v s trees → OpenFits s trees o
         → FoundFits s trees found → KeyReads s trees o.reference.node.0 key → Set s trees found' s'
     sets-fit {s} {trees = trees} {o} {key = key} (cell-gets-key found' s' loose sets same) at f founds k =
-        let b = by-call (Call.SetDataKey o.through key) (Reply.Done (Ok tt)) (set-keys o.through key (refl, refl)) (set-is-key f k) tt sets (λ d. d)
+        let b = by-call (Call.SetDataKey o.through key) (Reply.Done (Ok tt)) (λ c feels goes. set-keys o.through key (refl, refl) feels goes) (set-is-key f k) tt sets (λ d. d)
         (λ row owns. subst (λ n. ReadsTree s.core.stored v.types key (trees n.0)) (sym (f.through row owns.live)) k.reads) at in
         record { went = b; found = λ n x is. key-on b (founds n x (sym (same n) ∙ is)) }
     sets-fit {s} {trees = trees} {o} {key = key} (key-is-found x found' eager is there others) at f founds k = record {
@@ -482,7 +482,7 @@ module _ {N E : Type 0} (v : Values N) (lawful : IsLawful v) (M : Type 0) where
         let a = stores-fit have stores at keyed fits founds in
         let asks = λ (row : HandleRow) (owns : Owns mid.core Owner.Caller o.through is_loose row).
         subst (λ n. ReadsTree mid.core.stored v.types key (a.went.trees' n.0)) (sym (a.fits.through row owns.live)) a.reads.reads in
-        went-then a.went (by-call (Call.SetDataKey o.through key) (Reply.Done (Err e)) (set-keys o.through key (refl, refl)) (set-is-key a.fits a.reads) tt unset.refused (λ d. d) asks a.went.now)
+        went-then a.went (by-call (Call.SetDataKey o.through key) (Reply.Done (Err e)) (λ c feels goes. set-keys o.through key (refl, refl) feels goes) (set-is-key a.fits a.reads) tt unset.refused (λ d. d) asks a.went.now)
 
     -- ---- turn by turn
 
