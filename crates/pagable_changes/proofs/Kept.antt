@@ -1,5 +1,6 @@
 -- Turn by turn the pager stands for the trees that it stood for; what was written of each open node is a form of its tree; and each key that was found reads as
 -- its node's tree, and is its Merkle key where those that were there are.
+use Rattle.pagable_changes.proofs.CellKeys.{IsQuiet, KeysGo, SetsAt, all-keys, quiet-keys, set-keys}
 use Rattle.pagable_changes.specs.{Changes.{AllHave, EnterFails, Enters, FoundKeys, GivesUp, GoesNowhere, HasKey, LeaveFails, Leaves, LetsGo, PagesOutChanged, PagesOutKeyless, PinsLoosely, SetsFor, Stage, StoresBlob}, Keys.{ChangedLaw, HasMerkleKeys}}
 use Rattle.pagable_changes.specs.Changes.{TakeFails, Takes, Turn, TurnFails, Turns, Walks, all-is-stored, blob-is-refused, both-go, cell-gets-key, cell-has-key, cell-is-away}
 use Rattle.pagable_changes.specs.Changes.{cell-is-not-pinned, cell-is-pinned, cell-is-taken, clone-is-refused, goes-down, goes-up, has-key, isnt-entered, isnt-left, isnt-taken, isnt-written}
@@ -11,16 +12,15 @@ use Rattle.pagable_laws.proofs.{Answered.{After, after-then, rows-stay}, Called.
 use Rattle.pagable_laws.proofs.{Moments.{Stands, call-stays, no-value, still-settled}, ReadingSteps.caller-free, Related.keeps_forms, Taking.{pushed, row-held, tree-stays}}
 use Rattle.pagable_laws.proofs.{Again.{Looked, all-looked, form-again, one-looked}, Trees.{same-number, same_some}}
 use Rattle.pagable_laws.specs.{CallerLaws.IsCall, FormLaws.rest}
-use Rattle.pagable_laws.specs.TreeSteps.{Bears, CallFeels, Change, CoreGoes, FollowsTo, Ground, KeepsStored, Sets, WroteTree, followed-leads, pair-leads, reference-leads, variant-leads}
-use Rattle.pagable_laws.specs.TreeSteps.{feels-adopted, feels-away, feels-birth, feels-end, feels-key, feels-known, feels-lazy, feels-nothing}
-use Rattle.pagable_model.specs.{Canonical.IsReadableType, Deep.{Kid, kid, tree_of_kid}, Merkle.{KeyOf, KeysOf, StoredAs, blob_of, key-of, key_of_ref, kind_of_ref, more-keys, no-keys}, Meaning.{Meaning, rename}, Reading.{deepest, read}, Writing.kind_of_arc}
+use Rattle.pagable_laws.specs.TreeSteps.{CallFeels, Change, CoreGoes, FollowsTo, Ground, KeepsStored, WroteTree, followed-leads, pair-leads, reference-leads, variant-leads}
+use Rattle.pagable_model.specs.{Canonical.IsReadableType, Merkle.{KeyOf, KeysOf, StoredAs, blob_of, key-of, key_of_ref, kind_of_ref}, Meaning.{Meaning, rename}, Reading.{deepest, read}, Writing.kind_of_arc}
 use Rattle.pagable_model.specs.Trees.{IsFollowed, KeyRef, ReadsAs, ReadsTree, Tree, Types, integer-followed, key_ref, none-followed, number-followed, pair-followed, pattern-followed, reference-followed, text-followed, type_of, variant-followed}
 use Rattle.pagable_world.specs.{Access.Called, Events.Does, Pager.{NodeStands, PagerState, SameTrees, WellFormed, away, here, kids_of}, Runs.{AsksWell, KeepsOpen}}
 use Rattle.pagable_world.specs.Plain.{Among, ArcRef, Blob, Error, HandleNumber, NodeNumber, OptionalDataKey, if_there, is_loose_kind}
 use Rattle.pagable_world.specs.{Calls.{KeyCall, NodeCall}, Kinds.{held, is_loose}, Refusals.Owns}
-use Rattle.pagable_world.specs.World.{Cell, Core, IsLawful, Seen, Values, Written, key_at, row_at, type_at}
+use Rattle.pagable_world.specs.World.{Core, IsLawful, Seen, Values, Written, key_at, row_at}
 use Rattle.pagable_world.specs.declared.{calls.{Call.Call, Reply.Reply}, events.Event.Event, handles.{HandleRow.HandleRow, Owner.Owner}}
-use Rattle.std.proofs.Common.{Err, IfOk, List, None, Ok, Option, Result, Some, [], ap, append-nil, arith, if◌then◌else◌, inl, inr, map, refl, subst, suc, sym, true, zero, ℕ, ◌++◌, ◌==◌, ◌∙◌, ◌∷◌, ◌≡◌, ◌<◌, ◌≤◌, ◌⊎◌}
+use Rattle.std.proofs.Common.{Err, IfOk, List, Ok, Option, Result, Some, [], ap, append-nil, arith, if◌then◌else◌, inl, inr, map, refl, subst, suc, sym, true, zero, ℕ, ◌++◌, ◌==◌, ◌∙◌, ◌∷◌, ◌≡◌, ◌<◌, ◌≤◌}
 use Rattle.std.proofs.lemmas.{Bool.{Decides.nat_tests, cases_Bool}, List.map-append}
 
 -- what is so of each of both lists is so of each of them together
@@ -132,86 +132,6 @@ ok-map (Err y) f p = tt
 
 self-equal : (n : ℕ) → (n == n) ≡ true
 self-equal n = grind (arith, nat_tests)
-
--- ---- which keys calls set
-
--- a call that makes no cell with a key, and sets none
-abbrev IsQuiet : {N : Type 0} → Call N Blob → Type 0
-IsQuiet (Call.Clone h) = Unit {0}
-IsQuiet (Call.IntoPagable h) = Unit {0}
-IsQuiet (Call.Pin h) = Unit {0}
-IsQuiet (Call.Release h) = Unit {0}
-IsQuiet (Call.Store blob) = Unit {0}
-IsQuiet _ = ⊥
-
--- the caller sets this key through this handle
-abbrev IsSetting : {N : Type 0} → HandleNumber → ℕ → Call N Blob → Type 0
-IsSetting h key (Call.SetDataKey k q) = (k ≡ h) × (q ≡ key)
-IsSetting h key _ = ⊥
-
--- the key of this handle's node is set
-abbrev SetsAt : Core → HandleNumber → ℕ → ℕ → ℕ → Type 0
-SetsAt w h key n q = (row : HandleRow) × (row_at w h ≡ Some row) × (n ≡ row.node.0) × (q ≡ key)
-
--- a cell that has a key afterwards was there and had it, but for the key that was set
-record KeysGo (w w' : Core) (SetAt : ℕ → ℕ → Type 0) : Type 0 where
-  pub each : (n key : ℕ) → key_at w' n ≡ OptionalDataKey.Some key → ((t : ℕ) × (type_at w n ≡ Some t)) × ((key_at w n ≡ OptionalDataKey.Some key) ⊎ SetAt n key)
-
-keys-go : {w w' : Core} {c : Change} {SetAt : ℕ → ℕ → Type 0} → CoreGoes c w w' → ((t key : ℕ) → Bears c t (OptionalDataKey.Some key) → ⊥) → ((n key : ℕ) → Sets c n key → SetAt n key)
-    → KeysGo w w' SetAt
-keys-go {w} {w'} {c} {SetAt} goes none sets = record {
-  each = λ n key is.
-      let there : (cell : Cell) × (w'.cells n ≡ Some cell) × (cell.key ≡ OptionalDataKey.Some key) = grind (arith, nat_tests) in
-      elim (goes.cells n there.0 there.1) [
-        | inl kept ↦ (
-            (kept.was.node_type, ap (λ o. if_there (λ (cell : Cell). Some cell.node_type) None o) kept.live),
-            elim kept.key [
-              | inl stays ↦ inl (ap (λ o. if_there (λ (cell : Cell). cell.key) OptionalDataKey.None o) kept.live ∙ sym stays ∙ there.2)
-              | inr (k, set, now) ↦ let same : k ≡ key = cc in inr (sets n key (subst (λ q. Sets c n q) same set))
-            ],
-          )
-        | inr (next, bears) ↦ absurd (none there.0.node_type key (subst (λ own. Bears c there.0.node_type own) there.2 bears))
-      ];
-}
-
-module _ {N : Type 0} {v : Values N} {w w' : Core} where
-  quiet-keys : {call : Call N Blob} {reply : Reply N Blob} {c : Change} → CallFeels v w Owner.Caller call reply w' c → IsQuiet call → CoreGoes c w w' → KeysGo w w' (λ n key. ⊥)
-  quiet-keys (feels-nothing stays) quiet goes = keys-go goes (λ t key b. b) (λ n key b. b)
-  quiet-keys (feels-birth x brings good) quiet goes = keys-go goes (λ t key b. let e = b.1 in cc) (λ n key b. b)
-  quiet-keys (feels-away t key k) quiet goes = absurd quiet
-  quiet-keys (feels-key h key row owns) quiet goes = absurd quiet
-  quiet-keys (feels-known kind key h row owns typed) quiet goes = absurd quiet
-  quiet-keys (feels-adopted l kind key x k typed good) quiet goes = absurd quiet
-  quiet-keys (feels-lazy l kind key k) quiet goes = absurd quiet
-  quiet-keys (feels-end l x k good) quiet goes = absurd quiet
-
-  set-keys : {call : Call N Blob} {reply : Reply N Blob} {c : Change} (h : HandleNumber) (key : ℕ) → IsSetting h key call → CallFeels v w Owner.Caller call reply w' c → CoreGoes c w w'
-      → KeysGo w w' (SetsAt w h key)
-  set-keys h key is (feels-nothing stays) goes = keys-go goes (λ t q b. b) (λ n q b. absurd b)
-  set-keys h key is (feels-birth x brings good) goes = keys-go goes (λ t q b. let e = b.1 in cc) (λ n q b. absurd b)
-  set-keys h key is (feels-away t q k) goes = absurd is
-  set-keys h key is (feels-key k q row owns) goes = keys-go goes (λ t o b. b) (λ n o b. (row, ap (λ i. row_at w i) (sym is.0) ∙ owns.live, b.0, b.1 ∙ is.1))
-  set-keys h key is (feels-known kind q k row owns typed) goes = absurd is
-  set-keys h key is (feels-adopted l kind q x k typed good) goes = absurd is
-  set-keys h key is (feels-lazy l kind q k) goes = absurd is
-  set-keys h key is (feels-end l x k good) goes = absurd is
-
--- ---- the keys of a node's references make its own
-
-module _ {hash : List ℕ → List ℕ} {types : Types} where
-  one-more-key : {kids : List Kid} {keys : List ℕ} (k : Kid) (key : ℕ) → KeysOf hash types kids keys → KeyOf hash types (tree_of_kid k) key → KeysOf hash types (kids ++ k ∷ []) (keys ++ key ∷ [])
-  one-more-key k key no-keys is = more-keys k [] key [] is no-keys
-  one-more-key k key (more-keys x kids q keys first rest) is = more-keys x _ q _ first (one-more-key k key rest is)
-
-  all-keys : {found : FoundKeys} {w : Core} {rs : List ArcRef} {keys : List ℕ} (trees : ℕ → Tree) → AllHave found w rs keys
-      → ((r : ArcRef) (key : ℕ) → Among rs r → HasKey found w r key → KeyOf hash types (tree_of_kid (kid r.kind.0 (trees r.node.0).meaning)) key)
-      → KeysOf hash types (kids_of trees rs) keys
-  all-keys trees none-are-asked each = no-keys
-  all-keys trees (one-more-has rs keys r key all one) each =
-      let kid_of = λ (q : ArcRef). kid q.kind.0 (trees q.node.0).meaning in
-      subst (λ kids. KeysOf hash types kids (keys ++ key ∷ [])) (sym (map-append kid_of rs (r ∷ [])))
-      (one-more-key (kid_of r) key (all-keys trees all (λ q k among has. each q k (among-left rs (r ∷ []) among.0 q among.1) has))
-      (each r key (among-right rs (r ∷ []) 0 r refl) one))
 
 abbrev seen_in : {N : Type 0} → Values N → Seen N Blob Written
 seen_in v = record { values = v; blob_of = λ b. b; written_of = λ w. w }

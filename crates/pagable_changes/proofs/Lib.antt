@@ -1,2 +1,3 @@
+mod CellKeys
 mod Changing
 mod Kept
