@@ -1,45 +1,48 @@
-//! How keys, refusals and flaws are shown.
+//! Lines that show keys, blobs and flaws.
 
-use pagable_file::{Fault, Flaw, OpenError};
-use pagable_flavors::{DataKey, Error};
-use std::io;
+use crate::reach::Reached;
+use pagable_file::{Flaw, Listed};
+use pagable_flavors::DataKey;
+use std::alloc::AllocError;
 
-/// A key as the digits of its hash.
+/// Reads a key as the number that its hex digits spell.
 pub fn digits(key: DataKey) -> u128 {
     key.get().swap_bytes()
 }
 
-/// Shows a refusal on a line of its own.
-pub fn refusal(rt: &HostRuntime, error: &Error) -> io::Result<()> {
-    match error {
-        Error::NoData(key) => println!(rt; "error: no blob stands under {:032x}", digits(*key)),
-        Error::Storage(code) => match Fault::of_code(*code) {
-            Some(fault) => println!(rt; "error: {fault}"),
-            None => println!(rt; "error: storage {code}"),
-        },
-        other => println!(rt; "error: {other}"),
+/// Adds the line of a blob.
+pub fn write_blob(text: &mut String, blob: &Listed) -> Result<(), AllocError> {
+    let key = digits(blob.key);
+    writeln!(
+        text,
+        "{key:032x} {} bytes, {} children",
+        blob.bytes, blob.children
+    )
+}
+
+/// Adds a blob as a point of a graph, with a line to each child.
+pub fn write_point(text: &mut String, reached: &Reached) -> Result<(), AllocError> {
+    let key = digits(reached.blob.key);
+    writeln!(text, "  \"{key:032x}\";")?;
+    for child in &reached.children {
+        writeln!(text, "  \"{key:032x}\" -> \"{:032x}\";", digits(*child))?;
     }
+    Ok(())
 }
 
-/// Shows why a file isn't opened, or wasn't closed, on standard error.
-pub fn refused_file(rt: &HostRuntime, path: &str, error: &OpenError) -> io::Result<()> {
-    eprintln!(rt; "blobctl: {path}: {error}")
-}
-
-/// Shows what is wrong with a file on a line of its own.
-pub fn flaw(rt: &HostRuntime, flaw: &Flaw) -> io::Result<()> {
+/// Adds the line of a flaw.
+pub fn write_flaw(text: &mut String, flaw: &Flaw) -> Result<(), AllocError> {
     match flaw {
-        Flaw::StrayBlob(place) => println!(rt; "the row of blobs at {place} is no key's"),
-        Flaw::WrongKey(key) => println!(rt; "{:032x} has another key", digits(*key)),
-        Flaw::MissingChild(key, child) => println!(rt;
-            "{:032x} refers to {:032x}, which is missing",
-            digits(*key),
-            digits(*child)
-        ),
-        Flaw::StrayRoot(place) => println!(rt; "the row of roots at {place} is no name's"),
-        Flaw::MissingRoot(name, key) => println!(rt;
-            "root {name} is {:032x}, which is missing",
-            digits(*key)
-        ),
+        Flaw::StrayBlob(place) => writeln!(text, "the row of blobs at {place} is no key's"),
+        Flaw::WrongKey(key) => writeln!(text, "{:032x} has another key", digits(*key)),
+        Flaw::MissingChild(key, child) => {
+            let (key, child) = (digits(*key), digits(*child));
+            writeln!(text, "{key:032x} refers to {child:032x}, which is missing")
+        }
+        Flaw::StrayRoot(place) => writeln!(text, "the row of roots at {place} is no name's"),
+        Flaw::MissingRoot(name, key) => {
+            let key = digits(*key);
+            writeln!(text, "root {name} is {key:032x}, which is missing")
+        }
     }
 }
