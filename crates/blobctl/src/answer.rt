@@ -27,9 +27,9 @@ fn blob_of(alloc: Global, words: &str) -> Result<PagableData, Refusal> {
     let (word, behind) = words.split_once(' ').unwrap_or((words, ""));
     let digits = if word == "-" { "" } else { word };
     let arcs = keys_of(alloc, behind)?;
-    match hex::decode(alloc, digits) {
-        Ok(bytes) => Ok(PagableData { bytes, arcs }),
-        Err(hex::FromHexError::OutOfMemory) => Err(Refusal::Blobs(Error::OutOfMemory)),
+    let mut bytes = vec![in alloc; 0; digits.len() / 2]?;
+    match hex::decode_to_slice(digits, bytes.as_mut_slice()) {
+        Ok(()) => Ok(PagableData { bytes, arcs }),
         Err(_) => Err(Refusal::BadLine),
     }
 }
@@ -110,6 +110,9 @@ fn copy_roots<B: Blobs>(rt: &HostRuntime, from: &mut B, to: &mut B) -> Result<us
 }
 
 /// Copies what the roots reach into the file of a path, and closes that; answers how many blobs these are.
+///
+/// # Errors
+/// - Blobs, File: as either file refuses it. Some blobs may have been copied then.
 pub fn copy_to<B: Blobs>(rt: &HostRuntime, blobs: &mut B, path: &str) -> Result<usize, Refusal> {
     let mut to = B::open(rt, path)?;
     let count = copy_roots(rt, blobs, &mut to)?;
@@ -118,6 +121,11 @@ pub fn copy_to<B: Blobs>(rt: &HostRuntime, blobs: &mut B, path: &str) -> Result<
 }
 
 /// Answers a command.
+///
+/// # Errors
+/// - BadLine: a word behind the verb is no key or no bytes.
+/// - AmongLines: `gc`.
+/// - Blobs, File: as the file refuses it, or the other one of `copy`.
 pub fn answer<B: Blobs>(rt: &HostRuntime, blobs: &mut B, verb: Verb, words: &str) -> Answer {
     match verb {
         Verb::Fsck => Ok(fsck(rt, blobs)?),

@@ -39,7 +39,10 @@ fn copy_beside<B: Blobs>(rt: &HostRuntime, blobs: &mut B, new: &str) -> Result<u
     copy_to(rt, blobs, new)
 }
 
-/// Lets go of all blobs that no root reaches, and says how many are kept. Where a call is refused, the file is as it was.
+/// Lets go of all blobs that no root reaches, and says how many are kept.
+///
+/// # Errors
+/// - Blobs, File, System: as either file or the system refuses it; the file holds what it held.
 pub fn collect<B: Blobs>(rt: &HostRuntime, path: &str, mut blobs: B) -> Answer {
     let new = path_with(rt.alloc(), path, ".new")?;
     let count = copy_beside(rt, &mut blobs, new.as_str())?;

@@ -32,7 +32,10 @@ pub enum Verb {
     Flush,
 }
 
-/// Reads a key from 32 hex digits. Refused with BadLine.
+/// Reads a key from 32 hex digits.
+///
+/// # Errors
+/// - BadLine.
 pub fn key_of(word: &str) -> Result<DataKey, Refusal> {
     let mut bytes = [0; 16];
     if hex::decode_to_slice(word, &mut bytes).is_err() {

@@ -49,6 +49,9 @@ fn visit<B: Blobs>(
 }
 
 /// Collects the blobs that a key reaches, each once.
+///
+/// # Errors
+/// - NoData, OutOfMemory, Storage: as the blobs refuse a fetch.
 pub fn walk_from<B: Blobs>(
     alloc: Global,
     blobs: &mut B,
