@@ -1,0 +1,138 @@
+//! What commands answer.
+
+use crate::blobs::Blobs;
+use crate::command::{Verb, key_of};
+use crate::look::{graph, list, roots, stat, tree};
+use crate::progress::Progress;
+use crate::refusal::Refusal;
+use crate::show::{digits, write_flaw};
+use pagable_core::PagableData;
+use pagable_flavors::{DataKey, Error};
+use std::alloc::Global;
+
+/// Lines of an answer, and false where they name a flaw.
+pub type Answer = Result<(String, bool), Refusal>;
+
+/// Reads keys.
+fn keys_of(alloc: Global, words: &str) -> Result<Vec<DataKey>, Refusal> {
+    let mut keys = Vec::new(alloc);
+    for word in words.split_whitespace() {
+        keys.push(key_of(word)?).map_err(Error::from)?;
+    }
+    Ok(keys)
+}
+
+/// Reads a blob: its bytes in hex, or `-` for none, and its child keys.
+fn blob_of(alloc: Global, words: &str) -> Result<PagableData, Refusal> {
+    let (word, behind) = words.split_once(' ').unwrap_or((words, ""));
+    let digits = if word == "-" { "" } else { word };
+    let arcs = keys_of(alloc, behind)?;
+    let mut bytes = vec![in alloc; 0; digits.len() / 2]?;
+    match hex::decode_to_slice(digits, bytes.as_mut_slice()) {
+        Ok(()) => Ok(PagableData { bytes, arcs }),
+        Err(_) => Err(Refusal::BadLine),
+    }
+}
+
+/// Stores the blob that words spell, and shows its key.
+fn put<B: Blobs>(alloc: Global, blobs: &mut B, words: &str) -> Result<String, Refusal> {
+    let blob = blob_of(alloc, words)?;
+    let key = digits(blobs.store(alloc, blob)?);
+    Ok(format!(in alloc; "{key:032x}\n")?)
+}
+
+/// Lets the name that words spell stand for their key.
+fn root<B: Blobs>(alloc: Global, blobs: &mut B, words: &str) -> Result<(), Refusal> {
+    let Some((name, word)) = words.split_once(' ') else {
+        return Err(Refusal::BadLine);
+    };
+    let key = key_of(word)?;
+    blobs.set_root(alloc, name, Some(key))?;
+    Ok(())
+}
+
+/// Makes a change, and says what was done.
+fn change<B: Blobs>(
+    alloc: Global,
+    blobs: &mut B,
+    verb: Verb,
+    words: &str,
+) -> Result<String, Refusal> {
+    match verb {
+        Verb::Put => return put(alloc, blobs, words),
+        Verb::Root => root(alloc, blobs, words)?,
+        Verb::Drop => blobs.set_root(alloc, words, None)?,
+        Verb::Flush => {
+            blobs.flush()?;
+            return Ok(String::from_str(alloc, "flushed\n")?);
+        }
+        _ => return Err(Refusal::AmongLines),
+    }
+    Ok(String::from_str(alloc, "set\n")?)
+}
+
+/// Shows something, or makes a change.
+fn look<B: Blobs>(
+    alloc: Global,
+    blobs: &mut B,
+    verb: Verb,
+    words: &str,
+) -> Result<String, Refusal> {
+    match verb {
+        Verb::Stat => Ok(stat(alloc, blobs)?),
+        Verb::List => Ok(list(alloc, blobs)?),
+        Verb::Roots => Ok(roots(alloc, blobs)?),
+        Verb::Tree => Ok(tree(alloc, blobs, key_of(words)?)?),
+        Verb::Dot => Ok(graph(alloc, blobs, key_of(words)?)?),
+        _ => change(alloc, blobs, verb, words),
+    }
+}
+
+/// Names each flaw of the file.
+fn fsck<B: Blobs>(rt: &HostRuntime, blobs: &mut B) -> Result<(String, bool), Error> {
+    let mut progress = Progress::new(rt);
+    let flaws = blobs.fsck(rt.alloc(), &mut progress)?;
+    let mut text = String::new(rt.alloc());
+    for flaw in &flaws {
+        write_flaw(&mut text, flaw)?;
+    }
+    writeln!(text, "{} blobs, {} flaws", progress.done(), flaws.len())?;
+    Ok((text, flaws.is_empty()))
+}
+
+/// Copies what the roots of one file reach into another.
+fn copy_roots<B: Blobs>(rt: &HostRuntime, from: &mut B, to: &mut B) -> Result<usize, Error> {
+    let names = from.root_names(rt.alloc())?;
+    let mut progress = Progress::new(rt);
+    let count = from.copy(rt.alloc(), to, names.as_slice(), &mut progress)?;
+    to.flush()?;
+    Ok(count)
+}
+
+/// Copies what the roots reach into the file of a path, and closes that; answers how many blobs these are.
+///
+/// # Errors
+/// - Blobs, File: as either file refuses it. Some blobs may have been copied then.
+pub fn copy_to<B: Blobs>(rt: &HostRuntime, blobs: &mut B, path: &str) -> Result<usize, Refusal> {
+    let mut to = B::open(rt, path)?;
+    let count = copy_roots(rt, blobs, &mut to)?;
+    to.close(rt.alloc())?;
+    Ok(count)
+}
+
+/// Answers a command.
+///
+/// # Errors
+/// - BadLine: a word behind the verb is no key or no bytes.
+/// - AmongLines: `gc`.
+/// - Blobs, File: as the file refuses it, or the other one of `copy`.
+pub fn answer<B: Blobs>(rt: &HostRuntime, blobs: &mut B, verb: Verb, words: &str) -> Answer {
+    match verb {
+        Verb::Fsck => Ok(fsck(rt, blobs)?),
+        Verb::Copy => {
+            let count = copy_to(rt, blobs, words)?;
+            Ok((format!(in rt.alloc(); "{count} blobs copied\n")?, true))
+        }
+        _ => Ok((look(rt.alloc(), blobs, verb, words)?, true)),
+    }
+}

@@ -1,0 +1,94 @@
+//! What commands ask of a file of blobs.
+
+use pagable_codec::Env;
+use pagable_core::{PagableData, PagableStorage, Roots};
+use pagable_file::copy::copy;
+use pagable_file::{FileBlobs, Flaw, Listed, OpenError, Watch};
+use pagable_flavors::{DataKey, Error};
+use sqlite::{File, FileStore};
+use std::alloc::Global;
+use std::sync::Arc;
+
+/// An open file of blobs. Each call makes the call of `FileBlobs` of that name, and is refused as that is.
+pub trait Blobs: Drop {
+    fn open(rt: &HostRuntime, path: &str) -> Result<Self, OpenError>;
+
+    fn close(self, alloc: Global) -> Result<(), OpenError>;
+
+    fn list(&mut self, alloc: Global) -> Result<Vec<Listed>, Error>;
+
+    fn root_names(&mut self, alloc: Global) -> Result<Vec<String>, Error>;
+
+    fn root(&mut self, name: &str) -> Result<Option<DataKey>, Error>;
+
+    fn set_root(&mut self, alloc: Global, name: &str, key: Option<DataKey>) -> Result<(), Error>;
+
+    fn fetch(&mut self, alloc: Global, key: DataKey) -> Result<Arc<PagableData>, Error>;
+
+    fn store(&mut self, alloc: Global, blob: PagableData) -> Result<DataKey, Error>;
+
+    fn flush(&mut self) -> Result<(), Error>;
+
+    fn fsck<W: Watch>(&mut self, alloc: Global, watch: &mut W) -> Result<Vec<Flaw>, Error>;
+
+    fn copy<W: Watch>(
+        &mut self,
+        alloc: Global,
+        to: &mut Self,
+        names: &[String],
+        watch: &mut W,
+    ) -> Result<usize, Error>;
+}
+
+impl<E: Env> Blobs for FileBlobs<E, FileStore<File>> {
+    fn open(rt: &HostRuntime, path: &str) -> Result<FileBlobs<E, FileStore<File>>, OpenError> {
+        FileBlobs::open(rt, path)
+    }
+
+    fn close(self, alloc: Global) -> Result<(), OpenError> {
+        self.close_files(alloc)?;
+        Ok(())
+    }
+
+    fn list(&mut self, alloc: Global) -> Result<Vec<Listed>, Error> {
+        FileBlobs::list(self, alloc)
+    }
+
+    fn root_names(&mut self, alloc: Global) -> Result<Vec<String>, Error> {
+        Roots::root_names(self, alloc)
+    }
+
+    fn root(&mut self, name: &str) -> Result<Option<DataKey>, Error> {
+        Roots::root(self, name)
+    }
+
+    fn set_root(&mut self, alloc: Global, name: &str, key: Option<DataKey>) -> Result<(), Error> {
+        Roots::set_root(self, alloc, name, key)
+    }
+
+    fn fetch(&mut self, alloc: Global, key: DataKey) -> Result<Arc<PagableData>, Error> {
+        self.fetch_data_blocking(alloc, key)
+    }
+
+    fn store(&mut self, alloc: Global, blob: PagableData) -> Result<DataKey, Error> {
+        self.store_data(alloc, blob)
+    }
+
+    fn flush(&mut self) -> Result<(), Error> {
+        PagableStorage::flush(self)
+    }
+
+    fn fsck<W: Watch>(&mut self, alloc: Global, watch: &mut W) -> Result<Vec<Flaw>, Error> {
+        FileBlobs::fsck(self, alloc, watch)
+    }
+
+    fn copy<W: Watch>(
+        &mut self,
+        alloc: Global,
+        to: &mut Self,
+        names: &[String],
+        watch: &mut W,
+    ) -> Result<usize, Error> {
+        copy(alloc, self, to, names, watch)
+    }
+}

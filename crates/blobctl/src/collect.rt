@@ -1,0 +1,52 @@
+//! Lets go of what no root of a file reaches: a new file beside it takes its place.
+
+use crate::answer::{Answer, copy_to};
+use crate::blobs::Blobs;
+use crate::refusal::Refusal;
+use std::alloc::{AllocError, Global};
+use std::{fs, io};
+
+/// Makes the path of a file with more behind its name.
+fn path_with(alloc: Global, path: &str, more: &str) -> Result<String, AllocError> {
+    format!(in alloc; "{path}{more}")
+}
+
+/// Removes a file, if it is there.
+fn remove(rt: &HostRuntime, path: &str) -> io::Result<()> {
+    if fs::exists(rt, path)? {
+        fs::remove_file(rt, path)?;
+    }
+    Ok(())
+}
+
+/// Removes the log beside a file, which holds nothing once the file was closed.
+fn remove_log(rt: &HostRuntime, path: &str) -> io::Result<()> {
+    let log = path_with(rt.alloc(), path, "-wal")?;
+    remove(rt, log.as_str())
+}
+
+/// Puts a file that was closed in the place of another one.
+fn replace(rt: &HostRuntime, path: &str, new: &str) -> io::Result<()> {
+    remove_log(rt, new)?;
+    remove_log(rt, path)?;
+    fs::rename(rt, new, path)
+}
+
+/// Copies what the roots reach into a new file, and closes that; answers how many blobs these are.
+fn copy_beside<B: Blobs>(rt: &HostRuntime, blobs: &mut B, new: &str) -> Result<usize, Refusal> {
+    remove(rt, new)?;
+    remove_log(rt, new)?;
+    copy_to(rt, blobs, new)
+}
+
+/// Lets go of all blobs that no root reaches, and says how many are kept.
+///
+/// # Errors
+/// - Blobs, File, System: as either file or the system refuses it; the file holds what it held.
+pub fn collect<B: Blobs>(rt: &HostRuntime, path: &str, mut blobs: B) -> Answer {
+    let new = path_with(rt.alloc(), path, ".new")?;
+    let count = copy_beside(rt, &mut blobs, new.as_str())?;
+    blobs.close(rt.alloc())?;
+    replace(rt, path, new.as_str())?;
+    Ok((format!(in rt.alloc(); "{count} blobs kept\n")?, true))
+}

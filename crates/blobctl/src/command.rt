@@ -1,0 +1,83 @@
+//! Commands, and how lines spell them.
+
+use crate::refusal::Refusal;
+use pagable_flavors::DataKey;
+
+/// What a line asks of a file of blobs, by its first word.
+#[derive(Clone, Copy)]
+pub enum Verb {
+    /// `stat`: how many blobs, bytes and names there are.
+    Stat,
+    /// `list`: the keys of all blobs.
+    List,
+    /// `roots`: the names, with the keys that they stand for.
+    Roots,
+    /// `tree KEY`: what a key reaches.
+    Tree,
+    /// `dot KEY`: the same as a graph in the language of Graphviz.
+    Dot,
+    /// `fsck`: what is wrong with the file.
+    Fsck,
+    /// `copy FILE`: copies what the roots reach into another file.
+    Copy,
+    /// `gc`: lets go of what no root reaches.
+    Gc,
+    /// `put HEX KEY..`: stores a blob of these bytes and child keys.
+    Put,
+    /// `root NAME KEY`: lets a name stand for a key.
+    Root,
+    /// `drop NAME`: lets a name stand for none.
+    Drop,
+    /// `flush`: commits what was stored and set.
+    Flush,
+}
+
+/// Reads a key from 32 hex digits.
+///
+/// # Errors
+/// - BadLine.
+pub fn key_of(word: &str) -> Result<DataKey, Refusal> {
+    let mut bytes = [0; 16];
+    if hex::decode_to_slice(word, &mut bytes).is_err() {
+        return Err(Refusal::BadLine);
+    }
+    match DataKey::new(u128::from_le_bytes(bytes)) {
+        Some(key) => Ok(key),
+        None => Err(Refusal::BadLine),
+    }
+}
+
+/// Reads the verb of a line, and the words behind it; None for a line that isn't one of these. One space parts words.
+pub fn parse(line: &str) -> Option<(Verb, &str)> {
+    let words = line.trim_end();
+    match words.split_once(' ') {
+        Some((word, rest)) => Some((of_words(word)?, rest)),
+        None => Some((of_word(words)?, "")),
+    }
+}
+
+/// Reads the verb of a word with nothing behind it.
+fn of_word(word: &str) -> Option<Verb> {
+    match word {
+        "stat" => Some(Verb::Stat),
+        "list" => Some(Verb::List),
+        "roots" => Some(Verb::Roots),
+        "fsck" => Some(Verb::Fsck),
+        "gc" => Some(Verb::Gc),
+        "flush" => Some(Verb::Flush),
+        _ => None,
+    }
+}
+
+/// Reads the verb of a word with more behind it.
+fn of_words(word: &str) -> Option<Verb> {
+    match word {
+        "tree" => Some(Verb::Tree),
+        "dot" => Some(Verb::Dot),
+        "copy" => Some(Verb::Copy),
+        "put" => Some(Verb::Put),
+        "root" => Some(Verb::Root),
+        "drop" => Some(Verb::Drop),
+        _ => None,
+    }
+}

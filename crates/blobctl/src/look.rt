@@ -1,0 +1,61 @@
+//! What is shown of a file of blobs.
+
+use crate::blobs::Blobs;
+use crate::reach::{Reached, walk_from};
+use crate::show::{digits, write_blob, write_point};
+use pagable_file::Listed;
+use pagable_flavors::{DataKey, Error};
+use std::alloc::{AllocError, Global};
+
+/// Adds up the bytes of blobs.
+fn total(all: &[Listed]) -> u64 {
+    all.iter()
+        .fold(0, |sum: u64, blob| sum.saturating_add(blob.bytes))
+}
+
+/// Counts the blobs, their bytes, and the names.
+pub fn stat<B: Blobs>(alloc: Global, blobs: &mut B) -> Result<String, Error> {
+    let all = blobs.list(alloc)?;
+    let names = blobs.root_names(alloc)?;
+    let (count, bytes) = (all.len(), total(all.as_slice()));
+    Ok(format!(in alloc; "{count} blobs, {bytes} bytes, {} names\n", names.len())?)
+}
+
+/// Shows a line for each blob.
+pub fn list<B: Blobs>(alloc: Global, blobs: &mut B) -> Result<String, Error> {
+    let mut text = String::new(alloc);
+    for blob in &blobs.list(alloc)? {
+        write_blob(&mut text, blob)?;
+    }
+    Ok(text)
+}
+
+/// Shows a line for each name that stands for a key.
+pub fn roots<B: Blobs>(alloc: Global, blobs: &mut B) -> Result<String, Error> {
+    let mut text = String::new(alloc);
+    for name in &blobs.root_names(alloc)? {
+        if let Some(key) = blobs.root(name.as_str())? {
+            writeln!(text, "{name} {:032x}", digits(key))?;
+        }
+    }
+    Ok(text)
+}
+
+/// Shows a line for each blob that a key reaches.
+pub fn tree<B: Blobs>(alloc: Global, blobs: &mut B, key: DataKey) -> Result<String, Error> {
+    let mut text = String::new(alloc);
+    for reached in &walk_from(alloc, blobs, key)? {
+        write_blob(&mut text, &reached.blob)?;
+    }
+    Ok(text)
+}
+
+/// Shows what a key reaches as a graph.
+pub fn graph<B: Blobs>(alloc: Global, blobs: &mut B, key: DataKey) -> Result<String, Error> {
+    let mut text = String::from_str(alloc, "digraph blobs {\n")?;
+    for reached in &walk_from(alloc, blobs, key)? {
+        write_point(&mut text, reached)?;
+    }
+    text.push_str("}\n")?;
+    Ok(text)
+}

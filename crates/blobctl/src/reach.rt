@@ -1,0 +1,73 @@
+//! Walks over all that a key reaches.
+
+use crate::blobs::Blobs;
+use pagable_file::Listed;
+use pagable_flavors::{DataKey, Error};
+use std::alloc::Global;
+use std::collections::HashMap;
+
+/// A blob that was reached.
+#[derive(Drop)]
+pub struct Reached {
+    pub blob: Listed,
+    /// The keys of its children.
+    pub children: Vec<DataKey>,
+}
+
+/// How far a walk has come.
+#[derive(Drop)]
+struct Walk {
+    seen: HashMap<DataKey, ()>,
+    due: Vec<DataKey>,
+    found: Vec<Reached>,
+}
+
+/// Goes to a key, unless it was seen, and lets its children be due.
+fn visit<B: Blobs>(
+    alloc: Global,
+    blobs: &mut B,
+    walk: &mut Walk,
+    key: DataKey,
+) -> Result<(), Error> {
+    if walk.seen.insert(key, ())?.is_some() {
+        return Ok(());
+    }
+    let blob = blobs.fetch(alloc, key)?;
+    let children = blob.arcs.as_slice();
+    walk.due.extend_from_slice(children)?;
+    let listed = Listed {
+        key,
+        bytes: blob.bytes.len() as u64,
+        children: children.len() as u64,
+    };
+    let children = Vec::from_slice(alloc, children)?;
+    walk.found.push(Reached {
+        blob: listed,
+        children,
+    })?;
+    Ok(())
+}
+
+/// Collects the blobs that a key reaches, each once.
+///
+/// # Errors
+/// - NoData, OutOfMemory, Storage: as the blobs refuse a fetch.
+pub fn walk_from<B: Blobs>(
+    alloc: Global,
+    blobs: &mut B,
+    key: DataKey,
+) -> Result<Vec<Reached>, Error> {
+    let mut walk = Walk {
+        seen: HashMap::new(alloc),
+        due: Vec::new(alloc),
+        found: Vec::new(alloc),
+    };
+    walk.due.push(key)?;
+    for _ in 0..u64::MAX {
+        let Some(next) = walk.due.pop() else {
+            break;
+        };
+        visit(alloc, blobs, &mut walk, next)?;
+    }
+    Ok(walk.found)
+}

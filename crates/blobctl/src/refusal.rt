@@ -1,0 +1,72 @@
+//! Why a command is refused.
+
+use crate::show::digits;
+use pagable_file::{Fault, OpenError};
+use pagable_flavors::Error;
+use std::alloc::AllocError;
+use std::{fmt, io};
+
+/// Why a command is refused.
+#[derive(Clone, Copy)]
+pub enum Refusal {
+    /// The line is no command.
+    BadLine,
+    /// `gc` is asked for among lines.
+    AmongLines,
+    /// The blobs refused.
+    Blobs(Error),
+    /// A file isn't opened, or wasn't closed.
+    File(OpenError),
+    /// A file isn't moved or removed.
+    System(io::Error),
+}
+
+impl From<Error> for Refusal {
+    fn from(error: Error) -> Refusal {
+        Refusal::Blobs(error)
+    }
+}
+
+impl From<AllocError> for Refusal {
+    fn from(error: AllocError) -> Refusal {
+        Refusal::Blobs(Error::from(error))
+    }
+}
+
+impl From<OpenError> for Refusal {
+    fn from(error: OpenError) -> Refusal {
+        Refusal::File(error)
+    }
+}
+
+impl From<io::Error> for Refusal {
+    fn from(error: io::Error) -> Refusal {
+        Refusal::System(error)
+    }
+}
+
+impl fmt::Display for Refusal {
+    fn fmt<W: fmt::Write>(&self, f: &mut fmt::Formatter<W>) -> fmt::Result {
+        match self {
+            Refusal::BadLine => f.write_str("bad line"),
+            Refusal::AmongLines => {
+                f.write_str("error: gc is asked for behind the file's name alone")
+            }
+            Refusal::Blobs(error) => write_error(f, error),
+            Refusal::File(error) => write!(f, "error: {error}"),
+            Refusal::System(error) => write!(f, "error: {error}"),
+        }
+    }
+}
+
+/// Writes why blobs refused.
+fn write_error<W: fmt::Write>(f: &mut fmt::Formatter<W>, error: &Error) -> fmt::Result {
+    match error {
+        Error::NoData(key) => write!(f, "error: no blob stands under {:032x}", digits(*key)),
+        Error::Storage(code) => match Fault::of_code(*code) {
+            Some(fault) => write!(f, "error: {fault}"),
+            None => write!(f, "error: storage {code}"),
+        },
+        other => write!(f, "error: {other}"),
+    }
+}

@@ -1,0 +1,81 @@
+//! Answers lines, or one command.
+
+use crate::answer::{Answer, answer};
+use crate::blobs::Blobs;
+use crate::collect::collect;
+use crate::command::{Verb, parse};
+use crate::refusal::Refusal;
+use std::io;
+use std::io::{BufRead, BufReader};
+
+/// Prints an answer; false where it is a refusal, or names a flaw.
+fn tell(rt: &HostRuntime, answer: Answer) -> io::Result<bool> {
+    match answer {
+        Ok((text, is_good)) => {
+            rt.print(text.as_str())?;
+            Ok(is_good)
+        }
+        Err(refusal) => {
+            println!(rt; "{refusal}")?;
+            Ok(false)
+        }
+    }
+}
+
+/// Runs a command over an open file, and prints its answer; false where it is refused, or finds a flaw.
+fn run<B: Blobs>(rt: &HostRuntime, blobs: &mut B, verb: Verb, words: &str) -> io::Result<bool> {
+    tell(rt, answer(rt, blobs, verb, words))
+}
+
+/// Answers a line; None is one that isn't text.
+fn run_line<B: Blobs>(rt: &HostRuntime, blobs: &mut B, line: Option<&str>) -> io::Result<bool> {
+    match line.and_then(parse) {
+        Some((verb, words)) => run(rt, blobs, verb, words),
+        None => tell(rt, Err(Refusal::BadLine)),
+    }
+}
+
+/// Answers each line of the input.
+fn run_lines<B: Blobs>(rt: &HostRuntime, blobs: &mut B) -> io::Result<bool> {
+    let mut reader = BufReader::new(rt.alloc(), rt.reader())?;
+    let mut line = Vec::new(rt.alloc());
+    for _ in 0..u64::MAX {
+        line.clear();
+        if reader.read_until(b'\n', &mut line)? == 0 {
+            break;
+        }
+        run_line(rt, blobs, str::from_utf8(line.as_slice()).ok())?;
+    }
+    Ok(true)
+}
+
+/// Runs one command over a file; what it changes is committed.
+fn run_alone<B: Blobs>(
+    rt: &HostRuntime,
+    blobs: &mut B,
+    verb: Verb,
+    words: &str,
+) -> io::Result<bool> {
+    let done = run(rt, blobs, verb, words)?;
+    match verb {
+        Verb::Put | Verb::Root | Verb::Drop if done => run(rt, blobs, Verb::Flush, ""),
+        _ => Ok(done),
+    }
+}
+
+/// Opens the file of a path, and runs the command of a line, or for an empty one the lines of the input; false where the
+/// file or the command is refused, or a flaw is found.
+pub fn serve<B: Blobs>(rt: &HostRuntime, path: &str, line: &str) -> io::Result<bool> {
+    let mut blobs = match B::open(rt, path) {
+        Ok(blobs) => blobs,
+        Err(error) => {
+            eprintln!(rt; "blobctl: {path}: {error}")?;
+            return Ok(false);
+        }
+    };
+    match parse(line) {
+        Some((Verb::Gc, _)) => tell(rt, collect(rt, path, blobs)),
+        Some((verb, words)) => run_alone(rt, &mut blobs, verb, words),
+        None => run_lines(rt, &mut blobs),
+    }
+}

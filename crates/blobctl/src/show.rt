@@ -1,0 +1,48 @@
+//! Lines that show keys, blobs and flaws.
+
+use crate::reach::Reached;
+use pagable_file::{Flaw, Listed};
+use pagable_flavors::DataKey;
+use std::alloc::AllocError;
+
+/// Reads a key as the number that its hex digits spell.
+pub fn digits(key: DataKey) -> u128 {
+    key.get().swap_bytes()
+}
+
+/// Adds the line of a blob.
+pub fn write_blob(text: &mut String, blob: &Listed) -> Result<(), AllocError> {
+    let key = digits(blob.key);
+    writeln!(
+        text,
+        "{key:032x} {} bytes, {} children",
+        blob.bytes, blob.children
+    )
+}
+
+/// Adds a blob as a point of a graph, with a line to each child.
+pub fn write_point(text: &mut String, reached: &Reached) -> Result<(), AllocError> {
+    let key = digits(reached.blob.key);
+    writeln!(text, "  \"{key:032x}\";")?;
+    for child in &reached.children {
+        writeln!(text, "  \"{key:032x}\" -> \"{:032x}\";", digits(*child))?;
+    }
+    Ok(())
+}
+
+/// Adds the line of a flaw.
+pub fn write_flaw(text: &mut String, flaw: &Flaw) -> Result<(), AllocError> {
+    match flaw {
+        Flaw::StrayBlob(place) => writeln!(text, "the row of blobs at {place} is no key's"),
+        Flaw::WrongKey(key) => writeln!(text, "{:032x} has another key", digits(*key)),
+        Flaw::MissingChild(key, child) => {
+            let (key, child) = (digits(*key), digits(*child));
+            writeln!(text, "{key:032x} refers to {child:032x}, which is missing")
+        }
+        Flaw::StrayRoot(place) => writeln!(text, "the row of roots at {place} is no name's"),
+        Flaw::MissingRoot(name, key) => {
+            let key = digits(*key);
+            writeln!(text, "root {name} is {key:032x}, which is missing")
+        }
+    }
+}

@@ -1,0 +1,200 @@
+#!/usr/bin/env python3
+"""Tries files of blobs as their users may meet them: kills, a full disk, a second writer, damage, and SQLite's own shell.
+
+    tools/file_blobs/check.py [PROGRAM [KILLS [STEP]]]
+
+PROGRAM is the built `blobctl`; without one it is built here, unproved. It is killed at KILLS drawn moments
+(20), and nothing that a flush had answered may be lost. Each STEP-th byte (50) of a file is turned in turn: the file is
+refused, `fsck` names the damage, or nothing that was kept has changed. The status is 0 where all holds.
+"""
+import hashlib
+import pathlib
+import random
+import resource
+import shutil
+import signal
+import subprocess
+import sys
+import tempfile
+import time
+
+TOP = pathlib.Path(__file__).resolve().parent.parent.parent
+sys.path.insert(0, str(TOP / "tools" / "speed"))
+from build import compiled_in
+
+DRAWN = random.Random(5)
+
+
+def built(work):
+    """Builds `blobctl` unproved, as fast as a proved one (tools/speed/build.py tells how), and gives its path."""
+    copy = work / "repository"
+    shutil.copytree(TOP / "crates", copy / "crates", ignore=shutil.ignore_patterns("out", "stdin", "stdout", "args"))
+    for name in ("HANDLES", "crates.txt"):
+        shutil.copy(TOP / name, copy / name)
+    subprocess.run(["git", "init", "-q"], cwd=copy, check=True)
+    return compiled_in(work, copy / "crates" / "blobctl" / "src")
+
+
+def run(program, file, *words, text="", **more):
+    """What the program answers to a command, or to lines of input."""
+    return subprocess.run([program, file, *map(str, words)], input=text, capture_output=True, text=True, check=False,
+                          timeout=100, **more)
+
+
+def key_of(data, children):
+    """The key of a blob, as the program shows it."""
+    preimage = len(children).to_bytes(8, "little") + data + b"".join(map(bytes.fromhex, children))
+    return hashlib.sha256(preimage).digest()[:16].hex()
+
+
+def chain(count, size, batch):
+    """Lines that store so many blobs in a chain, each over the one before, and the key of the last blob at each flush."""
+    lines, roots, below = [], [], []
+    for number in range(count):
+        data = DRAWN.randbytes(size)
+        lines.append(" ".join(["put", data.hex(), *below]))
+        below = [key_of(data, below)]
+        if number % batch == batch - 1:
+            lines += [f"root last {below[0]}", "flush"]
+            roots.append(below[0])
+    return "\n".join(lines) + "\n", roots
+
+
+def flushes(said):
+    """How many flushes were answered; a last line that was cut off doesn't count."""
+    return said.split("\n")[:-1].count("flushed")
+
+
+def lost(program, file, roots, answered, batch):
+    """What a file lacks of what flushes had answered, or None."""
+    test = run(program, file, "fsck")
+    if test.returncode:
+        return f"fsck: {test.stdout[-200:]}{test.stderr[-200:]}"
+    if not answered:
+        return None
+    root = run(program, file, "roots").stdout.split()
+    if len(root) != 2 or root[1] not in roots[answered - 1:]:
+        return f"the root is {root} after {answered} flushes"
+    count = len(run(program, file, "tree", root[1]).stdout.splitlines())
+    if count < answered * batch:
+        return f"the root reaches {count} blobs of {answered * batch}"
+    return None
+
+
+def kills(program, folder, rounds):
+    """Kills the program while it fills a file."""
+    most = 0
+    for turn in range(rounds):
+        for part in folder.glob("kill.blobs*"):
+            part.unlink()
+        file, batch = folder / "kill.blobs", DRAWN.choice([1, 7, 100])
+        lines, roots = chain(2_000, 300, batch)
+        (folder / "lines").write_text(lines, encoding="utf-8")
+        with open(folder / "lines", encoding="utf-8") as read, open(folder / "said", "w", encoding="utf-8") as said:
+            with subprocess.Popen([program, file], stdin=read, stdout=said) as filling:
+                time.sleep(DRAWN.uniform(0.01, 0.6))
+                filling.send_signal(signal.SIGKILL)
+        answered = flushes((folder / "said").read_text(encoding="utf-8"))
+        most = max(most, answered * batch)
+        fault = lost(program, file, roots, answered, batch)
+        if fault:
+            return f"kill {turn}: {fault}"
+    print(f"kills: {rounds}, none lost what a flush had answered; at most {most} blobs")
+    return None
+
+
+def full_disk(program, folder):
+    """Lets no file grow past 400 kB."""
+    file = folder / "full.blobs"
+    lines, roots = chain(2_000, 300, 5)
+
+    def limit():
+        signal.signal(signal.SIGXFSZ, signal.SIG_IGN)
+        resource.setrlimit(resource.RLIMIT_FSIZE, (400_000, 400_000))
+
+    filled = run(program, file, text=lines, preexec_fn=limit)
+    refused = [line for line in filled.stdout.splitlines() if line.startswith("error: the disk")]
+    if not refused:
+        return f"full disk: {filled.stdout[-200:]}"
+    answered = flushes(filled.stdout)
+    fault = lost(program, file, roots, answered, 5)
+    again = run(program, file, text=lines)
+    if fault or flushes(again.stdout) != 400:
+        return f"full disk: {fault} {again.stdout[-200:]}"
+    print(f"full disk: '{refused[0]}' after {answered * 5} blobs, which stayed, and the next run went on")
+    return None
+
+
+def two_writers(program, folder):
+    """Opens a file that another process has open."""
+    file = folder / "two.blobs"
+    with subprocess.Popen([program, file], stdin=subprocess.PIPE, stdout=subprocess.PIPE, text=True) as first:
+        first.stdin.write("put 01\n")
+        first.stdin.flush()
+        first.stdout.readline()
+        second = run(program, file, "stat")
+        first.stdin.close()
+    if second.returncode == 0 or "in use" not in second.stderr:
+        return f"two writers: {second.stdout}{second.stderr}"
+    print("two writers: the second is refused, since the file is in use")
+    return None
+
+
+def seen(program, file):
+    """All that a file shows: its roots, its keys, and what each root reaches."""
+    roots = run(program, file, "roots")
+    trees = [run(program, file, "tree", root).stdout for root in roots.stdout.split()[1::2]]
+    return (roots.returncode, roots.stdout, run(program, file, "list").stdout, tuple(trees))
+
+
+def damage(program, folder, step):
+    """Turns bits of each so many bytes of a file that was closed."""
+    whole, file = folder / "whole.blobs", folder / "damaged.blobs"
+    lines, _ = chain(12, 900, 3)
+    run(program, whole, text=lines)
+    run(program, whole, "gc")
+    content, shown = whole.read_bytes(), seen(program, whole)
+    whole.write_bytes(content)
+    counts = {"refused": 0, "named": 0, "unseen": 0}
+    for place in range(0, len(content), step):
+        for part in folder.glob("damaged.blobs*"):
+            part.unlink()
+        file.write_bytes(content[:place] + bytes([content[place] ^ 0x41]) + content[place + 1:])
+        test = run(program, file, "fsck")
+        if test.returncode == 0 and seen(program, file) != shown:
+            return f"damage of byte {place}: fsck finds nothing, and the file shows something else"
+        counts["unseen" if test.returncode == 0 else "refused" if test.stderr else "named"] += 1
+    print(f"damage of {len(range(0, len(content), step))} bytes of {len(content)}: {counts}")
+    return None
+
+
+def shell(program, folder):
+    """Reads a file by SQLite's own shell."""
+    if not shutil.which("sqlite3"):
+        print("sqlite3 isn't there: its shell was not tried")
+        return None
+    file = folder / "shell.blobs"
+    lines, roots = chain(100, 300, 100)
+    run(program, file, text=lines)
+    asked = "PRAGMA integrity_check; SELECT count(*), sum(length(bytes)) FROM blobs; SELECT name, lower(hex(key)) FROM roots;"
+    said = subprocess.run(["sqlite3", file, asked], capture_output=True, text=True, check=False)
+    if said.stdout.splitlines() != ["ok", "100|30000", f"last|{roots[-1]}"]:
+        return f"sqlite3: {said.stdout}{said.stderr}"
+    print("sqlite3: its integrity check finds nothing, and it reads the blobs and the root")
+    return None
+
+
+def main():
+    rounds = int(sys.argv[2]) if len(sys.argv) > 2 else 20
+    step = int(sys.argv[3]) if len(sys.argv) > 3 else 50
+    with tempfile.TemporaryDirectory() as folder:
+        folder = pathlib.Path(folder)
+        program = pathlib.Path(sys.argv[1]).resolve() if len(sys.argv) > 1 else built(folder / "build")
+        faults = [kills(program, folder, rounds), full_disk(program, folder), two_writers(program, folder),
+                  damage(program, folder, step), shell(program, folder)]
+    if any(faults):
+        sys.exit("\n".join(filter(None, faults)))
+
+
+if __name__ == "__main__":
+    main()
