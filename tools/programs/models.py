@@ -35,55 +35,54 @@ def build(cache, folder):
 
 # ---- heap_snapshot: pairs are tuples
 
-OPERATIONS = {"add": operator.add, "sub": operator.sub, "mul": operator.mul}
+OPERATIONS = {"+": operator.add, "-": operator.sub, "*": operator.mul}
 
 
 class Machine:
     def __init__(self, text):
-        words, self.labels, self.code = text.split(), {}, []
-        for word in words:
-            if word.startswith(":"):
-                self.labels[word[1:]] = len(self.code)
-            else:
-                self.code.append(word)
-        self.place, self.halted, self.stack = 0, False, []
+        self.lines, self.place, self.variables = text.splitlines(), 0, {}
+
+    def has_ended(self):
+        return self.place >= len(self.lines)
+
+    def number(self, word):
+        return self.variables[word] if word in self.variables else int(word)
+
+    def value(self, words):
+        """What stands behind `=`."""
+        match words:
+            case [word]:
+                return self.number(word)
+            case ["first" | "rest" as part, name]:
+                return self.variables[name][part == "rest"]
+            case [first, ",", rest]:
+                return self.variables[first], self.variables[rest]
+            case [left, word, right]:
+                return OPERATIONS[word](self.number(left), self.number(right))
 
     def step(self):
-        """Runs a word, and gives what it shows."""
-        word = self.code[self.place] if self.place < len(self.code) else "halt"
-        stack, self.place = self.stack, self.place + 1
-        if word in ("add", "sub", "mul", "cons"):
-            right, left = stack.pop(), stack.pop()
-            stack.append((left, right) if word == "cons" else OPERATIONS[word](left, right))
-        elif word in ("car", "cdr"):
-            stack.append(stack.pop()[word == "cdr"])
-        elif word in ("dup", "over"):
-            stack.append(stack[-1 if word == "dup" else -2])
-        elif word in ("swap", "rot"):
-            stack.append(stack.pop(-2 if word == "swap" else -3))
-        elif word == "pair":
-            stack.append(int(isinstance(stack[-1], tuple)))
-        elif word in ("jump", "ifzero"):
-            place = stack.pop()
-            if word == "jump" or stack.pop() == 0:
-                self.place = place
-        elif word in ("drop", "show"):
-            top = stack.pop()
-            return [f"{top}\n"] if word == "show" else []
-        elif word == "halt":
-            self.halted, self.place = True, self.place - 1
-        else:
-            stack.append(self.labels[word[1:]] if word.startswith("@") else int(word))
-        return []
+        """Runs a line, and gives what it shows."""
+        self.place += 1
+        match self.lines[self.place - 1].split():
+            case ["show", word]:
+                return f"{self.number(word)}\n"
+            case ["go", label]:
+                self.place = self.lines.index(f"{label}:")
+            case ["go", label, "unless", name]:
+                if self.variables[name] == 0:
+                    self.place = self.lines.index(f"{label}:")
+            case [name, "=", *words]:
+                self.variables[name] = self.value(words)
+        return ""
 
-    def run(self, steps):
-        """What a run of at most so many steps says."""
-        said = []
-        for _ in range(steps):
-            if self.halted:
+    def run(self, most):
+        """What a run of at most so many lines says."""
+        said = ""
+        for _ in range(most):
+            if self.has_ended():
                 break
             said += self.step()
-        return "".join(said) + f"{'halted' if self.halted else 'stopped'} at {self.place}\n"
+        return f"{said}at line {self.place} of {len(self.lines)}\n"
 
 
 # ---- spreadsheet: versions are dicts

@@ -81,14 +81,14 @@ def heap_snapshot(program, work):
     """A program in one run, and stopped at drawn places, from process to process."""
     file = TOP / "crates" / "heap_snapshot" / "data" / "squares.txt"
     machine = models.Machine(file.read_text())
-    expect(run(program, [work / "none.store", "resume", 1])[0], 1, "a machine that isn't there")
-    expect(run(program, [work / "one.store", "run", file, 10**6]), (0, machine.run(10**6)), "one run")
-    store, runs, words = work / "heap.store", 0, ["run", file]
+    expect(run(program, [work / "none.store", 1])[0], 1, "a machine that isn't there")
+    expect(run(program, [work / "one.store", 10**6, file]), (0, machine.run(10**6)), "one run")
+    store, runs, words = work / "heap.store", 0, [file]
     machine = models.Machine(file.read_text())
-    while not machine.halted:
-        steps = random.randrange(1, 2000)
-        expect(run(program, [store, *words, steps]), (0, machine.run(steps)), f"run {runs}, of {steps} steps")
-        runs, words = runs + 1, ["resume"]
+    while not machine.has_ended():
+        most = random.randrange(1, 1000)
+        expect(run(program, [store, most, *words]), (0, machine.run(most)), f"run {runs}, of {most} lines")
+        runs, words = runs + 1, []
     return runs + 2
 
 

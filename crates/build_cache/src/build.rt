@@ -2,10 +2,10 @@
 
 use crate::rule::{Rule, read_rules, run_command};
 use anyhow::{Context, Result};
-use indexmap::IndexMap;
 use lru::LruCache;
 use pagable::{DataKey, HandleNumber};
-use record_store::{RecordCalls, TEXT};
+use record_store::{Job, RecordCalls, TEXT};
+use std::collections::BTreeMap;
 use std::fs;
 use std::num::NonZeroUsize;
 
@@ -29,28 +29,34 @@ struct Build<'a, R: RecordCalls> {
     store: &'a mut R,
     steps: Steps,
     /// The outputs so far, by the names of targets.
-    targets: IndexMap<String, HandleNumber>,
+    targets: BTreeMap<String, HandleNumber>,
     ran: u64,
 }
 
-/// Builds the targets of a folder with the steps of the last build, if there is one. Answers the record of this build.
-pub fn build_folder<R: RecordCalls>(
-    rt: &HostRuntime,
-    folder: &str,
-    store: &mut R,
-    last: Option<HandleNumber>,
-) -> Result<HandleNumber> {
-    let steps = read_steps(rt, store, last)?;
-    let mut build = Build {
-        rt,
-        folder,
-        store,
-        steps,
-        targets: IndexMap::new(rt.alloc()),
-        ran: 0,
-    };
-    build.build_targets()?;
-    build.insert_steps()
+/// The build of a folder, with the steps of the last build.
+pub struct FolderBuild<'a> {
+    pub rt: &'a HostRuntime,
+    pub folder: &'a str,
+}
+
+impl<'a> Job for FolderBuild<'a> {
+    const ROOT: &'static str = "build";
+
+    const KEPT_RECORDS: u64 = 100;
+
+    fn run<R: RecordCalls>(&self, store: &mut R, last: Option<HandleNumber>) -> Result<HandleNumber> {
+        let steps = read_steps(self.rt, store, last)?;
+        let mut build = Build {
+            rt: self.rt,
+            folder: self.folder,
+            store,
+            steps,
+            targets: BTreeMap::new(self.rt.alloc()),
+            ran: 0,
+        };
+        build.build_targets()?;
+        build.insert_steps()
+    }
 }
 
 /// Reads the steps of a build, if there is one. No output is read.

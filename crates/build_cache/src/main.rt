@@ -5,32 +5,16 @@
 mod build;
 mod rule;
 
-use crate::build::build_folder;
-use anyhow::{Context, Result, bail};
-use pagable_file::FileBlobs;
-use record_store::RecordStore;
+use crate::build::FolderBuild;
+use anyhow::{Result, bail};
+use record_store::run_over_file;
 use std::env;
 
-/// The name of the root that stands for the record of the last build.
-const ROOT: &str = "build";
-
-/// How many records stay in memory beside those that are new.
-const KEPT_RECORDS: u64 = 100;
-
-/// Finds the two words after the program's name.
-fn words(rt: &HostRuntime) -> Result<(String, String)> {
-    let mut words = env::args(rt)?.skip(1);
-    match (words.next(), words.next(), words.next()) {
-        (Some(store), Some(folder), None) => Ok((store, folder)),
-        _ => bail!("usage: build_cache STORE FOLDER"),
-    }
-}
-
 fn main(rt: HostRuntime) -> Result<()> {
-    let (store, folder) = words(&rt)?;
-    let storage = FileBlobs::open(&rt, store.as_str()).context("opening the store")?;
-    let (mut store, last) = RecordStore::open(rt.alloc(), storage, ROOT, KEPT_RECORDS)?;
-    let build = build_folder(&rt, folder.as_str(), &mut store, last)?;
-    let _storage = store.save(ROOT, build)?;
-    Ok(())
+    let words: Vec<String> = env::args(&rt)?.skip(1).collect(rt.alloc())?;
+    let [path, folder] = words.as_slice() else {
+        bail!("usage: build_cache STORE FOLDER");
+    };
+    let folder = folder.as_str();
+    run_over_file(&rt, path.as_str(), &FolderBuild { rt: &rt, folder })
 }

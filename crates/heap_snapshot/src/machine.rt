@@ -1,164 +1,175 @@
-//! The machine: a place in its program, and a stack of numbers and pairs. Pairs are records.
+//! The machine: a place in a program, and variables. Each number and each pair is a record.
 
-use crate::instruction::Instruction;
-use crate::value::{Value, read_values, spell_values};
 use anyhow::{Context, Result, bail};
 use pagable::HandleNumber;
-use record_store::RecordCalls;
+use record_store::{RecordCalls, TEXT};
+use std::collections::BTreeMap;
 
-/// The tag of a record of a pair.
-const PAIR: u32 = 1;
+/// The tag of a record of a number, whose text that is.
+const NUMBER: u32 = 1;
 
-/// A machine: the place of the next instruction, whether the program has ended, and the values at hand, the last one on
-/// top.
+/// The tag of a record of a pair, which refers to its two parts.
+const PAIR: u32 = 2;
+
+/// The tag of a record of a machine: its text is the place and the names of the variables, and it refers to the program
+/// and to what the variables hold.
+const MACHINE: u32 = 3;
+
+/// A machine. It owns the handles of its program's text and of what its variables hold.
 #[derive(Drop)]
 pub struct Machine {
+    pub program: HandleNumber,
     pub place: usize,
-    pub halted: bool,
-    pub stack: Vec<Value>,
+    variables: BTreeMap<String, HandleNumber>,
 }
 
 impl Machine {
-    /// Runs one instruction, and answers the number that it shows. Refused where the stack hasn't what it takes, a
-    /// number overflows, or the pager refuses a call.
+    /// Makes a machine at the first line of a program.
+    pub fn begin<R: RecordCalls>(store: &mut R, text: &str) -> Result<Machine> {
+        Ok(Machine {
+            program: store.insert(TEXT, text, &[])?,
+            place: 0,
+            variables: BTreeMap::new(store.alloc()),
+        })
+    }
+
+    /// Reads the machine of a record. What its variables hold isn't read.
+    pub fn read<R: RecordCalls>(store: &mut R, root: HandleNumber) -> Result<Machine> {
+        let view = store.read(root)?;
+        let mut refs = view.refs.iter().copied();
+        let mut words = view.text().split_whitespace();
+        let place = words.next().and_then(|word| word.parse::<usize>().ok());
+        let (Some(program), Some(place)) = (refs.next(), place) else {
+            bail!("no machine is stored here");
+        };
+        let mut variables = BTreeMap::new(store.alloc());
+        for (name, value) in words.zip(refs) {
+            variables.insert(String::from_str(store.alloc(), name)?, value)?;
+        }
+        Ok(Machine {
+            program,
+            place,
+            variables,
+        })
+    }
+
+    /// Inserts the record of this machine.
+    pub fn insert<R: RecordCalls>(&self, store: &mut R) -> Result<HandleNumber> {
+        let mut text = format!(in store.alloc(); "{}", self.place)?;
+        let mut refs = vec![in store.alloc(); self.program]?;
+        for (name, value) in self.variables.iter() {
+            write!(text, " {}", name.as_str())?;
+            refs.push(*value)?;
+        }
+        Ok(store.insert(MACHINE, text.as_str(), refs.as_slice())?)
+    }
+
+    /// Runs the line at the machine's place, and answers the number that it shows, if it shows one.
     pub fn step<R: RecordCalls>(
         &mut self,
         store: &mut R,
-        instruction: Instruction,
+        program: &[&str],
+        line: &str,
     ) -> Result<Option<i64>> {
         self.place = self.place.saturating_add(1);
-        match instruction {
-            Instruction::Push(number) => self.push(Value::Number(number))?,
-            Instruction::Add | Instruction::Sub | Instruction::Mul => self.calculate(instruction)?,
-            Instruction::Cons => self.make_pair(store)?,
-            Instruction::Car => self.take_part(store, true)?,
-            Instruction::Cdr => self.take_part(store, false)?,
-            Instruction::Copy(depth) => self.copy(store, depth)?,
-            Instruction::Lift(depth) => self.lift(depth)?,
-            Instruction::Drop => self.drop_value(store)?,
-            Instruction::IsPair => self.test_pair()?,
-            Instruction::Jump => self.jump(false)?,
-            Instruction::IfZero => self.jump(true)?,
-            Instruction::Show => {
-                let number = self.pop_number()?;
-                return Ok(Some(number));
+        let words: Vec<&str> = line.split_whitespace().collect(store.alloc())?;
+        match *words.as_slice() {
+            [_label] => {}
+            ["show", word] => return Ok(Some(self.number(store, word)?)),
+            ["go", label] => self.go(program, label)?,
+            ["go", label, "unless", word] => {
+                if self.is_zero(store, word)? {
+                    self.go(program, label)?;
+                }
             }
-            Instruction::Halt => self.halt(),
+            [name, "=", ref words @ ..] => {
+                let value = self.evaluate(store, words)?;
+                self.assign(store, name, value)?;
+            }
+            _ => bail!("a line is LABEL:, A = .., go LABEL, go LABEL unless A or show A"),
         }
         Ok(None)
     }
 
-    /// Ends the program, and stays at this place.
-    fn halt(&mut self) {
-        self.halted = true;
-        self.place = self.place.saturating_sub(1);
-    }
-
-    fn push(&mut self, value: Value) -> Result<()> {
-        self.stack.push(value)?;
+    /// Goes on at the line `LABEL:`.
+    fn go(&mut self, program: &[&str], label: &str) -> Result<()> {
+        let place = program
+            .iter()
+            .position(|line| line.strip_suffix(":").is_some_and(|name| name == label));
+        self.place = place.context(format_args!("there is no line {label}:"))?;
         Ok(())
     }
 
-    fn pop(&mut self) -> Result<Value> {
-        self.stack.pop().context("the stack has too few values")
-    }
-
-    fn pop_number(&mut self) -> Result<i64> {
-        match self.pop()? {
-            Value::Number(number) => Ok(number),
-            Value::Pair(_) => bail!("a pair is on top, and a number is wanted"),
+    /// Lets a variable hold a value, and releases the one that it held.
+    fn assign<R: RecordCalls>(&mut self, store: &mut R, name: &str, value: HandleNumber) -> Result<()> {
+        let name = String::from_str(store.alloc(), name)?;
+        if let Some(replaced) = self.variables.insert(name, value)? {
+            store.release(&[replaced])?;
         }
+        Ok(())
     }
 
-    /// Replaces two numbers by what an instruction makes of them.
-    fn calculate(&mut self, instruction: Instruction) -> Result<()> {
-        let right = self.pop_number()?;
-        let left = self.pop_number()?;
-        let made = match instruction {
-            Instruction::Add => left.checked_add(right),
-            Instruction::Sub => left.checked_sub(right),
-            _ => left.checked_mul(right),
-        };
-        self.push(Value::Number(made.context("a number overflows")?))
+    /// Finds what a variable holds.
+    fn variable(&self, name: &str) -> Result<HandleNumber> {
+        let value = self.variables.get(name).copied();
+        value.context(format_args!("nothing is called {name}"))
     }
 
-    /// Replaces two values by their pair.
-    fn make_pair<R: RecordCalls>(&mut self, store: &mut R) -> Result<()> {
-        let second = self.pop()?;
-        let first = self.pop()?;
-        let (text, pairs) = spell_values(store.alloc(), &[first, second])?;
-        let pair = store.insert(PAIR, text.as_str(), pairs.as_slice())?;
-        store.release(pairs.as_slice())?;
-        self.push(Value::Pair(pair))
+    /// Tells whether a variable holds the number 0.
+    fn is_zero<R: RecordCalls>(&self, store: &mut R, name: &str) -> Result<bool> {
+        Ok(store.read(self.variable(name)?)?.text() == "0")
     }
 
-    /// Replaces a pair by one of its parts. It is read where it isn't in memory.
-    fn take_part<R: RecordCalls>(&mut self, store: &mut R, is_first: bool) -> Result<()> {
-        let Value::Pair(pair) = self.pop()? else {
-            bail!("a number is on top, and a pair is wanted");
-        };
-        let view = store.read(pair)?;
-        let parts = read_values(store.alloc(), view.text(), view.refs.as_slice())?;
-        let [first, second] = parts.as_slice() else {
-            bail!("no pair is stored here");
-        };
-        let (part, other) = if is_first {
-            (*first, *second)
-        } else {
-            (*second, *first)
-        };
-        release_value(store, other)?;
-        store.release(&[pair])?;
-        self.push(part)
+    /// Finds the number that a word is, or that the variable of this name holds.
+    fn number<R: RecordCalls>(&self, store: &mut R, word: &str) -> Result<i64> {
+        if let Ok(number) = word.parse::<i64>() {
+            return Ok(number);
+        }
+        let view = store.read(self.variable(word)?)?;
+        let number = view.text().parse::<i64>();
+        number.context(format_args!("{word} is a pair, and a number is wanted"))
     }
 
-    /// Pushes a copy of the value so far below the top.
-    fn copy<R: RecordCalls>(&mut self, store: &mut R, depth: usize) -> Result<()> {
-        let value = self.stack.iter().rev().nth(depth).copied();
-        let copy = match value.context("the stack has too few values")? {
-            Value::Number(number) => Value::Number(number),
-            Value::Pair(pair) => Value::Pair(store.clone_handle(pair)?),
-        };
-        self.push(copy)
-    }
-
-    /// Takes the value so far below the top to the top.
-    fn lift(&mut self, depth: usize) -> Result<()> {
-        match self.stack.len().checked_sub(depth.saturating_add(1)) {
-            Some(place) => {
-                let value = self.stack.remove(place);
-                self.push(value)
+    /// Computes what stands behind `=`. The answer is a handle of the caller's own.
+    fn evaluate<R: RecordCalls>(&self, store: &mut R, words: &[&str]) -> Result<HandleNumber> {
+        match *words {
+            [number] => insert_number(store, self.number(store, number)?),
+            ["first", pair] => read_part(store, self.variable(pair)?, 0),
+            ["rest", pair] => read_part(store, self.variable(pair)?, 1),
+            [first, ",", rest] => {
+                Ok(store.insert(PAIR, "", &[self.variable(first)?, self.variable(rest)?])?)
             }
-            None => bail!("the stack has too few values"),
+            [left, operator, right] => {
+                let (left, right) = (self.number(store, left)?, self.number(store, right)?);
+                insert_number(store, calculate(left, operator, right)?)
+            }
+            _ => bail!("behind = stands X, X + Y, X - Y, X * Y, A , B, first A or rest A"),
         }
-    }
-
-    /// Lets a value go.
-    fn drop_value<R: RecordCalls>(&mut self, store: &mut R) -> Result<()> {
-        let value = self.pop()?;
-        release_value(store, value)
-    }
-
-    /// Pushes 1 if a pair is on top, else 0.
-    fn test_pair(&mut self) -> Result<()> {
-        let is_pair = matches!(self.stack.last(), Some(Value::Pair(_)));
-        self.push(Value::Number(i64::from(is_pair)))
-    }
-
-    /// Goes on at a place; or only if the number below it is 0.
-    fn jump(&mut self, is_tested: bool) -> Result<()> {
-        let place = self.pop_number()?;
-        if !is_tested || self.pop_number()? == 0 {
-            self.place = usize::try_from(place).ok().context("no such place")?;
-        }
-        Ok(())
     }
 }
 
-/// Gives up the handle of a value that is a pair.
-fn release_value<R: RecordCalls>(store: &mut R, value: Value) -> Result<()> {
-    if let Value::Pair(pair) = value {
-        store.release(&[pair])?;
-    }
-    Ok(())
+/// Inserts the record of a number.
+fn insert_number<R: RecordCalls>(store: &mut R, number: i64) -> Result<HandleNumber> {
+    let text = number.to_string(store.alloc())?;
+    Ok(store.insert(NUMBER, text.as_str(), &[])?)
+}
+
+/// Reads a pair, and answers a handle of one of its parts.
+fn read_part<R: RecordCalls>(store: &mut R, pair: HandleNumber, place: usize) -> Result<HandleNumber> {
+    let view = store.read(pair)?;
+    let part = view.refs.as_slice().get(place).copied();
+    let part = store.clone_handle(part.context("a pair is wanted")?)?;
+    store.release(view.refs.as_slice())?;
+    Ok(part)
+}
+
+/// Computes a sum, a difference or a product.
+fn calculate(left: i64, operator: &str, right: i64) -> Result<i64> {
+    let number = match operator {
+        "+" => left.checked_add(right),
+        "-" => left.checked_sub(right),
+        "*" => left.checked_mul(right),
+        _ => None,
+    };
+    number.context(format_args!("{left} {operator} {right} is no number"))
 }

@@ -1,53 +1,69 @@
-//! A stack machine whose heap outlives the process: `heap_snapshot STORE run PROGRAM STEPS` runs at most so many steps
-//! of the program in the file PROGRAM and saves the machine in STORE, `heap_snapshot STORE resume STEPS` goes on there.
+//! A machine whose heap outlives the process: `heap_snapshot STORE LINES PROGRAM` runs at most so many lines of the
+//! program in the file PROGRAM and saves the machine in STORE; `heap_snapshot STORE LINES` goes on there.
 #![tactic(auto)]
 
-mod instruction;
 mod machine;
-mod snapshot;
-mod value;
 
-use crate::snapshot::run;
+use crate::machine::Machine;
 use anyhow::{Context, Result, bail};
-use pagable_file::FileBlobs;
-use record_store::RecordStore;
+use pagable::HandleNumber;
+use record_store::{Job, RecordCalls, run_over_file};
 use std::{env, fs};
 
-/// The name of the root that stands for the record of the last snapshot.
-const ROOT: &str = "machine";
+/// A run of at most so many lines of a program, or of the one that was saved.
+struct Run<'a> {
+    rt: &'a HostRuntime,
+    program: Option<&'a str>,
+    most: u64,
+}
 
-/// How many pairs stay in memory beside those that are new.
-const KEPT_PAIRS: u64 = 1000;
+impl<'a> Job for Run<'a> {
+    const ROOT: &'static str = "machine";
 
-/// Does what the words after the program's name say.
-fn serve(rt: &HostRuntime, words: &[&str]) -> Result<()> {
-    let (store, path, steps) = match words {
-        [store, "run", path, steps] => (*store, Some(*path), *steps),
-        [store, "resume", steps] => (*store, None, *steps),
-        _ => bail!(
-            "usage: heap_snapshot STORE run PROGRAM STEPS, or heap_snapshot STORE resume STEPS"
-        ),
-    };
-    let steps = steps.parse::<u64>().context("reading the number of steps")?;
-    let text = match path {
-        Some(path) => Some(fs::read_to_string(rt, path).context("reading the program")?),
-        None => None,
-    };
-    let storage = FileBlobs::open(rt, store).context("opening the store")?;
-    let (mut store, last) = RecordStore::open(rt.alloc(), storage, ROOT, KEPT_PAIRS)?;
-    let snapshot = run(
-        rt,
-        &mut store,
-        last,
-        text.as_ref().map(String::as_str),
-        steps,
-    )?;
-    let _storage = store.save(ROOT, snapshot)?;
+    const KEPT_RECORDS: u64 = 1000;
+
+    fn run<R: RecordCalls>(&self, store: &mut R, last: Option<HandleNumber>) -> Result<HandleNumber> {
+        let mut machine = match self.program {
+            Some(text) => Machine::begin(store, text)?,
+            None => Machine::read(store, last.context("no machine is saved in this store")?)?,
+        };
+        run_lines(self.rt, store, &mut machine, self.most)?;
+        machine.insert(store)
+    }
+}
+
+/// Runs at most so many lines, prints the numbers that they show, and lets what isn't held any more go.
+fn run_lines<R: RecordCalls>(
+    rt: &HostRuntime,
+    store: &mut R,
+    machine: &mut Machine,
+    most: u64,
+) -> Result<()> {
+    let text = store.read(machine.program)?;
+    let lines: Vec<&str> = text.text().lines().collect(store.alloc())?;
+    for count in 1..=most {
+        let Some(line) = lines.get(machine.place) else {
+            break;
+        };
+        if let Some(number) = machine.step(store, lines.as_slice(), line).context(line)? {
+            println!(rt; "{number}")?;
+        }
+        if count % 1000 == 0 {
+            store.release_waiting()?;
+        }
+    }
+    println!(rt; "at line {} of {}", machine.place, lines.len())?;
     Ok(())
 }
 
 fn main(rt: HostRuntime) -> Result<()> {
     let words: Vec<String> = env::args(&rt)?.skip(1).collect(rt.alloc())?;
-    let words: Vec<&str> = words.iter().map(|word| word.as_str()).collect(rt.alloc())?;
-    serve(&rt, words.as_slice())
+    let (store, most, text) = match words.as_slice() {
+        [store, most] => (store, most, None),
+        [store, most, path] => (store, most, Some(fs::read_to_string(&rt, path.as_str())?)),
+        _ => bail!("usage: heap_snapshot STORE LINES [PROGRAM]"),
+    };
+    let most = most.as_str().parse::<u64>().context("reading the number of lines")?;
+    let program = text.as_ref().map(String::as_str);
+    run_over_file(&rt, store.as_str(), &Run { rt: &rt, program, most })
 }

@@ -103,7 +103,7 @@ pub mod storage {
     /// What a store answers, the setting that its writes and reads share; the accesses to a pager, lent and behind a lock,
     /// and what goes over any of them; what is known of the nodes that items refer to, and why a page-out fails.
     pub mod traits {
-        pub use pagable_core::{PagableStorage, Setting};
+        pub use pagable_core::{PagableStorage, Roots, Setting};
         pub use pagable_loads::{Access, WorkerAccess, pin_over, read_over};
         pub use pagable_locked::{
             ArcSerSlot, ClaimShare, Gate, Locked, NoGate, PageOutReport, SharedClaims, SlotTable,
@@ -168,7 +168,7 @@ pub use pagable_traits::{
 pub use machine::Machine;
 pub use pagable_core::{
     InMemoryBlobs, NoReferences, PagableData, PagableDeserializerImpl, PagableKeys,
-    PagableSerializerImpl, PagableStorage, References, SerializedData, SerializerForPaging,
+    PagableSerializerImpl, PagableStorage, References, Roots, SerializedData, SerializerForPaging,
     Setting, Sha256Key, WeighHash,
 };
 pub use pagable_loads::{Access, WorkerAccess, pin_over, read_over};

@@ -12,6 +12,7 @@ pub use context::setting::Setting;
 pub use context::writing::{PagableSerializerImpl, SerializedData, SerializerForPaging};
 pub use storage::data::PagableData;
 pub use storage::in_memory::InMemoryBlobs;
+pub use storage::roots::Roots;
 pub use storage::sha256::Sha256Key;
 pub use storage::traits::PagableStorage;
 pub use storage::weigh::WeighHash;

@@ -2,6 +2,7 @@
 
 pub mod data;
 pub mod in_memory;
+pub mod roots;
 pub mod sha256;
 pub mod traits;
 pub mod weigh;

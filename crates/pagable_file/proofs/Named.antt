@@ -6,7 +6,8 @@ use Rattle.sqlite_value.specs.Order.{Row, bytes, column}
 use Rattle.sqlite_trees.specs.{Tree.Trees, View.View}
 use Rattle.pagable_model.specs.{Blob.Blob, Gives.memory, Stored.{HasFailed, RefusesFlush}, declared.error.Error.Error}
 use Rattle.pagable_file.specs.Rows.{blob_in, blob_tree, blobs_in, place_of, place_of_name, root_in, root_of_row, root_tree, roots_in, row_at}
-use Rattle.pagable_file.specs.Blobs.{before, before_root, found_root, HasPlace, HoldsRoot, IsFoundAs, IsNamedAs, IsNotOther, reads_blob, RefusesRoot, roots_unless, roots_with, Sets, unless, Stands, StaysPut, stored_with, Waiting, WaitingRoots, is_sure}
+use Rattle.pagable_core.specs.Roots.{RefusesRoot, Sets, Stands}
+use Rattle.pagable_file.specs.Blobs.{before, before_root, found_root, HasPlace, HoldsRoot, IsFoundAs, IsNamedAs, IsNotOther, reads_blob, roots_unless, roots_with, unless, StaysPut, stored_with, Waiting, WaitingRoots, is_sure}
 use Rattle.pagable_file.specs.declared.{pending.{Pending.Pending, PendingRoot.PendingRoot}, rows.{Naming.Naming, Reading.Reading}}
 use Rattle.pagable_file.specs.declared.rows.Naming.TheVariants as naming
 use Rattle.pagable_file.specs.declared.rows.Reading.TheVariants as reading

@@ -223,22 +223,6 @@ pub record Finds (old new : View) : Type 0 where
 abbrev pub roots_unless : Bool → (List ℕ → Option ℕ) → List ℕ → Option ℕ
 roots_unless closed roots = if closed then no_roots else roots
 
--- a name stands for this key now, or for none, and each other for what it stood for
-abbrev pub Sets : List ℕ → Option ℕ → (List ℕ → Option ℕ) → (List ℕ → Option ℕ) → Type 0
-Sets name key old new = (q : List ℕ) → new q ≡ (if bytes_eq name q then key else old q)
-
--- a blob stands under the key, if there is one
-abbrev pub Stands : (ℕ → Option Blob) → Option ℕ → Type 0
-Stands stored None = Unit {0}
-Stands stored (Some key) = IsSome (stored key)
-
-abbrev pub RefusesRoot : Option ℕ → (ℕ → Option Blob) → Bool → ℕ → ℕ → Error → Type 0
-RefusesRoot key stored closed before after (Error.NoData k) = (key ≡ Some k) × (stored k ≡ None)
-RefusesRoot key stored closed before after Error.Closed = closed ≡ true
-RefusesRoot key stored closed before after Error.OutOfMemory = Unit {0}
-RefusesRoot key stored closed before after (Error.Storage code) = HasFailed before after
-RefusesRoot key stored closed before after _ = ⊥
-
 -- no other name has this one's place, by what waits there or else by the row there
 abbrev pub HasPlace : List ℕ → Option PendingRoot → Option Row → Type 0
 HasPlace name (Some it) below = bytes_eq (string_bytes it.name) name ≡ true

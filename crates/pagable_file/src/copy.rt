@@ -4,10 +4,9 @@ ghost use Rattle.std.specs.{Arc.arc_value, List.AllByRecursion, Prelude.{◌≡�
 ghost use Rattle.{pagable_core.specs.Data.blob_of, pagable_model.specs.{Blob.{Blob, key_of}, Stored.Keeps}};
 ghost use Rattle.pagable_file.specs.Copies.{AreCopied, HasCopied, IsCopiedRoot, Matches};
 
-use crate::roots::Roots;
 use crate::watch::Watch;
 use pagable_codec::Env;
-use pagable_core::{PagableData, PagableStorage};
+use pagable_core::{PagableData, PagableStorage, Roots};
 use pagable_flavors::{DataKey, Error};
 use std::alloc::Global;
 use std::collections::HashMap;

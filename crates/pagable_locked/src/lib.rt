@@ -8,6 +8,7 @@ pub mod in_memory;
 mod lock;
 pub mod locked;
 pub mod page_out_all;
+mod roots;
 pub mod share;
 pub mod shared_claims;
 pub mod slot;

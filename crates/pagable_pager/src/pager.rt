@@ -11,6 +11,7 @@ ghost use Rattle.pagable_world.specs.{Refusals.load_fault, World.{greatest, seen
 pub mod births;
 pub mod handles;
 pub mod leaf;
+pub mod roots;
 
 use crate::setting::PagerSetting;
 use either::Either;

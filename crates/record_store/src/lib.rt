@@ -2,7 +2,9 @@
 #![tactic(auto)]
 
 pub mod calls;
+pub mod job;
 pub mod record_store;
 
 pub use calls::{RecordCalls, RecordView, TEXT};
+pub use job::{Job, run_over, run_over_file};
 pub use record_store::RecordStore;

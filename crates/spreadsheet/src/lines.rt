@@ -1,30 +1,57 @@
-//! Lines about a sheet, and their answers.
+//! Lines about a sheet, and their answers. Each version of the sheet is a record over the one before it.
 
-use crate::formula::is_name;
-use crate::sheet::Sheet;
-use crate::sums::Sums;
-use anyhow::{Result, bail, ensure};
+use crate::sheet::{MOST_LEVELS, Sheet};
+use anyhow::{Context, Result, bail};
 use pagable::HandleNumber;
-use record_store::{RecordCalls, TEXT};
+use record_store::{Job, RecordCalls, RecordView};
 
-/// The tag of a record of a sheet, which refers to its version and to the text of its sums.
+/// The tag of a record of a version: its text is that of its cells.
+const VERSION: u32 = 1;
+
+/// The tag of a record of a sheet: its text is that of its sums, and it refers to its version.
 const SHEET: u32 = 2;
 
-/// Answers the lines of standard input, and then the record of the sheet that comes of them.
-pub fn serve<R: RecordCalls>(
-    rt: &HostRuntime,
-    store: &mut R,
-    last: Option<HandleNumber>,
-) -> Result<HandleNumber> {
-    let mut sheet = read_sheet(store, last)?;
-    answer_all(rt, store, &mut sheet)?;
-    insert_sheet(store, &sheet)
+/// The lines of standard input, which are answered about the sheet of the last run.
+pub struct Lines<'a> {
+    pub rt: &'a HostRuntime,
+}
+
+impl<'a> Job for Lines<'a> {
+    const ROOT: &'static str = "sheet";
+
+    const KEPT_RECORDS: u64 = 100;
+
+    fn run<R: RecordCalls>(&self, store: &mut R, last: Option<HandleNumber>) -> Result<HandleNumber> {
+        let root = match last {
+            Some(root) => root,
+            None => insert_first(store)?,
+        };
+        let view = store.read(root)?;
+        let version = below(&view).context("no sheet is stored here")?;
+        let mut sheet = Sheet::read_sums(store.alloc(), version, view.text())?;
+        go_to(store, &mut sheet, version)?;
+        answer_all(self.rt, store, &mut sheet)?;
+        let sums = sheet.spell_sums()?;
+        Ok(store.insert(SHEET, sums.as_str(), &[sheet.version])?)
+    }
+}
+
+/// Inserts the record of a sheet without cells.
+fn insert_first<R: RecordCalls>(store: &mut R) -> Result<HandleNumber> {
+    let version = store.insert(VERSION, "", &[])?;
+    Ok(store.insert(SHEET, "", &[version])?)
+}
+
+/// Finds the record to which a record refers.
+fn below(view: &RecordView) -> Option<HandleNumber> {
+    view.refs.first().copied()
 }
 
 /// Answers all lines, each with one line.
 fn answer_all<R: RecordCalls>(rt: &HostRuntime, store: &mut R, sheet: &mut Sheet) -> Result<()> {
     for line in rt.lines(rt.alloc()) {
-        match answer(store, sheet, line?.as_str()) {
+        let line = line?;
+        match answer(store, sheet, line.as_str()) {
             Ok(answer) => println!(rt; "{}", answer.as_str())?,
             Err(error) => println!(rt; "refused: {error}")?,
         }
@@ -34,54 +61,36 @@ fn answer_all<R: RecordCalls>(rt: &HostRuntime, store: &mut R, sheet: &mut Sheet
 
 /// Answers a line.
 fn answer<R: RecordCalls>(store: &mut R, sheet: &mut Sheet, line: &str) -> Result<String> {
-    let alloc = store.alloc();
-    let words: Vec<&str> = line.split_whitespace().collect(alloc)?;
-    match words.as_slice() {
-        ["set", name, formula] => {
-            ensure!(
-                is_name(name),
-                "a name is a letter, and letters and digits behind it"
-            );
-            sheet.set(store, name, formula)?;
-            Ok(String::from_str(alloc, "ok")?)
-        }
+    let words: Vec<&str> = line.split_whitespace().collect(store.alloc())?;
+    match *words.as_slice() {
+        ["set", name, formula] => set(store, sheet, name, formula)?,
+        ["undo"] => undo(store, sheet)?,
         ["get", name] => {
-            let value = sheet.get(store, name)?;
-            Ok(format!(in alloc; "{value}")?)
+            let value = sheet.evaluate(name, MOST_LEVELS)?;
+            return Ok(value.to_string(store.alloc())?);
         }
-        ["undo"] => match sheet.undo(store)? {
-            true => Ok(String::from_str(alloc, "ok")?),
-            false => bail!("there is no version before this one"),
-        },
-        ["stats"] => Ok(format!(in alloc;
-            "{} added, {} known",
-            sheet.sums.added, sheet.sums.known
-        )?),
+        ["stats"] => return sheet.spell_counts(),
         _ => bail!("a line is set NAME 5, set NAME =A+B, get NAME, undo or stats"),
     }
+    Ok(String::from_str(store.alloc(), "ok")?)
 }
 
-/// Reads the sheet of a record, or makes one without cells.
-fn read_sheet<R: RecordCalls>(store: &mut R, root: Option<HandleNumber>) -> Result<Sheet> {
-    let alloc = store.alloc();
-    let Some(root) = root else {
-        return Ok(Sheet::new(alloc, Sums::read(alloc, "")?));
-    };
-    let view = store.read(root)?;
-    let [version, sums] = view.refs.as_slice() else {
-        bail!("no sheet is stored here");
-    };
-    let text = store.read(*sums)?;
-    let sums = Sums::read(alloc, text.text())?;
-    let mut sheet = Sheet::new(alloc, sums);
-    sheet.go_to(store, *version)?;
-    Ok(sheet)
+/// Sets what stands in a cell, by a new version.
+fn set<R: RecordCalls>(store: &mut R, sheet: &mut Sheet, name: &str, formula: &str) -> Result<()> {
+    let cells = sheet.spell_next(name, formula)?;
+    let version = store.insert(VERSION, cells.as_str(), &[sheet.version])?;
+    go_to(store, sheet, version)
 }
 
-/// Inserts the record of a sheet.
-fn insert_sheet<R: RecordCalls>(store: &mut R, sheet: &Sheet) -> Result<HandleNumber> {
-    let version = sheet.insert_version(store)?;
-    let text = sheet.sums.spell(store.alloc())?;
-    let sums = store.insert(TEXT, text.as_str(), &[])?;
-    Ok(store.insert(SHEET, "", &[version, sums])?)
+/// Goes back to the version before this one.
+fn undo<R: RecordCalls>(store: &mut R, sheet: &mut Sheet) -> Result<()> {
+    let version = below(&store.read(sheet.version)?);
+    go_to(store, sheet, version.context("there is no version before this one")?)
+}
+
+/// Goes to the version of a record.
+fn go_to<R: RecordCalls>(store: &mut R, sheet: &mut Sheet, version: HandleNumber) -> Result<()> {
+    let cells = store.read(version)?;
+    sheet.go_to(version, String::from_str(store.alloc(), cells.text())?);
+    Ok(())
 }

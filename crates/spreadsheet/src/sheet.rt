@@ -1,138 +1,141 @@
-//! A sheet at one version. Formulas and versions are records.
+//! A sheet at one version, and what sums came to in all of them.
 
-use crate::formula::{Formula, read_formula};
-use crate::sums::Sums;
-use anyhow::{Context, Result, ensure};
+use anyhow::{Context, Result, bail, ensure};
 use pagable::HandleNumber;
-use record_store::{RecordCalls, TEXT};
 use std::alloc::Global;
 use std::collections::BTreeMap;
 
-/// The tag of a record of a version: its text names its cells, and it refers to their formulas and then to the version
-/// before it.
-const VERSION: u32 = 1;
-
 /// How many sums may stand on each other.
-const MOST_LEVELS: u32 = 64;
+pub const MOST_LEVELS: u32 = 64;
 
-/// A sheet at work: the formulas of its cells by names, the version before this one, what sums came to, and the values
-/// of this version's cells that have been asked for.
+/// A sheet at one version.
 #[derive(Drop)]
 pub struct Sheet {
-    cells: BTreeMap<String, HandleNumber>,
-    before: Option<HandleNumber>,
-    pub sums: Sums,
+    alloc: Global,
+    /// The record of this version.
+    pub version: HandleNumber,
+    /// A line for each cell: its name and what stands in it, which is `5` or `=A+B`.
+    cells: String,
+    /// The values of cells that have been asked for.
     values: BTreeMap<String, i64>,
+    /// What sums came to in all versions and runs, by their numbers, as `[5, 7]`.
+    sums: BTreeMap<String, i64>,
+    /// How many sums of this run were added up, and how many were known.
+    added: u64,
+    known: u64,
 }
 
 impl Sheet {
-    /// Makes a sheet without cells.
-    pub fn new(alloc: Global, sums: Sums) -> Sheet {
-        Sheet {
-            cells: BTreeMap::new(alloc),
-            before: None,
-            sums,
+    /// Reads the sums of a text with a line for each, as `[5, 7] 12`. There are no cells yet.
+    pub fn read_sums(alloc: Global, version: HandleNumber, text: &str) -> Result<Sheet> {
+        let mut sums = BTreeMap::new(alloc);
+        for line in text.lines() {
+            let (numbers, sum) = line.rsplit_once(" ").context("no sum is stored here")?;
+            let sum = sum.parse::<i64>().context("no sum is stored here")?;
+            sums.insert(String::from_str(alloc, numbers)?, sum)?;
+        }
+        Ok(Sheet {
+            alloc,
+            version,
+            cells: String::new(alloc),
             values: BTreeMap::new(alloc),
-        }
+            sums,
+            added: 0,
+            known: 0,
+        })
     }
 
-    /// Sets what stands in a cell, which makes a new version. Refused where it is no formula, or by the pager.
-    pub fn set<R: RecordCalls>(&mut self, store: &mut R, name: &str, formula: &str) -> Result<()> {
-        read_formula(formula)?;
-        let version = self.insert_version(store)?;
-        if let Some(before) = self.before.replace(version) {
-            store.release(&[before])?;
+    /// Spells the sums as such a text.
+    pub fn spell_sums(&self) -> Result<String> {
+        let mut text = String::new(self.alloc);
+        for (numbers, sum) in self.sums.iter() {
+            writeln!(text, "{} {sum}", numbers.as_str())?;
         }
+        Ok(text)
+    }
+
+    /// Spells how many sums of this run were added up, and how many were known.
+    pub fn spell_counts(&self) -> Result<String> {
+        Ok(format!(in self.alloc; "{} added, {} known", self.added, self.known)?)
+    }
+
+    /// Goes to a version with these cells.
+    pub fn go_to(&mut self, version: HandleNumber, cells: String) {
+        self.version = version;
+        self.cells = cells;
         self.values.clear();
-        let cell = store.insert(TEXT, formula, &[])?;
-        let name = String::from_str(store.alloc(), name)?;
-        if let Some(replaced) = self.cells.insert(name, cell)? {
-            store.release(&[replaced])?;
-        }
-        Ok(())
     }
 
-    /// Goes back to the version before, and answers whether there was one.
-    pub fn undo<R: RecordCalls>(&mut self, store: &mut R) -> Result<bool> {
-        match self.before {
-            None => Ok(false),
-            Some(version) => {
-                self.go_to(store, version)?;
-                Ok(true)
+    /// Spells the cells of the next version, in which this one holds this formula.
+    pub fn spell_next(&self, name: &str, formula: &str) -> Result<String> {
+        if !formula.starts_with("=") {
+            parse_number(formula)?;
+        }
+        let mut cells = String::new(self.alloc);
+        for line in self.cells.as_str().lines() {
+            if line.split_once(" ").is_none_or(|(found, _)| found != name) {
+                writeln!(cells, "{line}")?;
             }
         }
+        writeln!(cells, "{name} {formula}")?;
+        Ok(cells)
     }
 
-    /// Inserts the record of this version.
-    pub fn insert_version<R: RecordCalls>(&self, store: &mut R) -> Result<HandleNumber> {
-        let mut names = String::new(store.alloc());
-        let mut refs = Vec::new(store.alloc());
-        for (name, formula) in self.cells.iter() {
-            writeln!(names, "{}", name.as_str())?;
-            refs.push(*formula)?;
-        }
-        if let Some(before) = self.before {
-            refs.push(before)?;
-        }
-        Ok(store.insert(VERSION, names.as_str(), refs.as_slice())?)
-    }
-
-    /// Goes to the version of a record. The formulas of its cells aren't read.
-    pub fn go_to<R: RecordCalls>(&mut self, store: &mut R, version: HandleNumber) -> Result<()> {
-        let view = store.read(version)?;
-        self.values.clear();
-        self.cells.clear();
-        let mut refs = view.refs.iter();
-        for name in view.text().lines() {
-            let formula = refs.next().context("no version is stored here")?;
-            let name = String::from_str(store.alloc(), name)?;
-            self.cells.insert(name, *formula)?;
-        }
-        self.before = refs.next().copied();
-        Ok(())
-    }
-
-    /// Evaluates a cell. Refused where there is none, it stands on a ring of sums or on too many levels of them, a sum
-    /// overflows, or by the pager.
-    pub fn get<R: RecordCalls>(&mut self, store: &mut R, name: &str) -> Result<i64> {
-        self.evaluate(store, name, MOST_LEVELS)
-    }
-
-    /// Evaluates a cell over at most so many levels of sums.
+    /// Evaluates a cell over at most so many levels of sums. Refused where it isn't there, it stands on a ring of sums,
+    /// or a sum overflows.
     #[cycle(evaluating)]
-    fn evaluate<R: RecordCalls>(&mut self, store: &mut R, name: &str, levels: u32) -> Result<i64> {
+    pub fn evaluate(&mut self, name: &str, levels: u32) -> Result<i64> {
         if let Some(value) = self.values.get(name) {
             return Ok(*value);
         }
-        let cell = self.cells.get(name).copied();
-        let cell = cell.context(format_args!("no cell is called {name}"))?;
-        let view = store.read(cell)?;
-        let value = match read_formula(view.text())? {
-            Formula::Number(number) => number,
-            Formula::Sum(names) => self.evaluate_sum(store, names, levels)?,
+        let formula = self.formula(name)?;
+        let value = match formula.as_str().strip_prefix("=") {
+            Some(names) => self.evaluate_sum(names, levels)?,
+            None => parse_number(formula.as_str())?,
         };
-        self.values
-            .insert(String::from_str(store.alloc(), name)?, value)?;
+        self.values.insert(String::from_str(self.alloc, name)?, value)?;
         Ok(value)
     }
 
     /// Evaluates a sum: its cells first, and then what their values come to.
     #[cycle(evaluating)]
-    fn evaluate_sum<R: RecordCalls>(
-        &mut self,
-        store: &mut R,
-        names: &str,
-        levels: u32,
-    ) -> Result<i64> {
-        ensure!(
-            levels > 0,
-            "a ring of sums, or more than {MOST_LEVELS} levels of them"
-        );
-        let mut numbers = Vec::new(store.alloc());
+    fn evaluate_sum(&mut self, names: &str, levels: u32) -> Result<i64> {
+        ensure!(levels > 0, "a ring of sums, or more than {MOST_LEVELS} levels of them");
+        let mut numbers = Vec::new(self.alloc);
         for name in names.split("+") {
-            let number = self.evaluate(store, name, levels - 1)?;
+            let number = self.evaluate(name, levels - 1)?;
             numbers.push(number)?;
         }
-        self.sums.add_up(store.alloc(), numbers.as_slice())
+        self.add_up(numbers.as_slice())
     }
+
+    /// Finds what stands in a cell.
+    fn formula(&self, name: &str) -> Result<String> {
+        for line in self.cells.as_str().lines() {
+            if let Some((found, formula)) = line.split_once(" ") {
+                if found == name {
+                    return Ok(String::from_str(self.alloc, formula)?);
+                }
+            }
+        }
+        bail!("no cell is called {name}")
+    }
+
+    /// Adds numbers up, if the same ones in the same order weren't added up before.
+    fn add_up(&mut self, numbers: &[i64]) -> Result<i64> {
+        let spelled = format!(in self.alloc; "{numbers:?}")?;
+        if let Some(sum) = self.sums.get(spelled.as_str()) {
+            self.known = self.known.saturating_add(1);
+            return Ok(*sum);
+        }
+        let sum = numbers.iter().try_fold(0i64, |sum, number| sum.checked_add(*number));
+        let sum = sum.context("a sum overflows")?;
+        self.sums.insert(spelled, sum)?;
+        self.added = self.added.saturating_add(1);
+        Ok(sum)
+    }
+}
+
+fn parse_number(text: &str) -> Result<i64> {
+    text.parse::<i64>().context("a formula is a number or =NAME+NAME")
 }

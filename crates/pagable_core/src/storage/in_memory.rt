@@ -1,9 +1,11 @@
 //! Blobs in memory: a storage for tests, and for stores that one run fills and forgets.
 
 ghost use Rattle.std.specs.Prelude.{◌≡◌, ◌↔◌, ◌==◌, if◌then◌else◌, ℕ, IsTrue, OnOk, OnErr, IfErr, None, Some, false, true, option_map};
+ghost use Rattle.std.specs.HashMap.get_by_text;
 ghost use Rattle.{pagable_core.specs.Data.{blob_of, stored_in}, pagable_model.specs.{Blob.key_of, Gives.memory, Stored.{AreNamed, IsCount}}};
 
 use crate::storage::data::PagableData;
+use crate::storage::roots::Roots;
 use crate::storage::traits::PagableStorage;
 use futures::task::{Context, Poll};
 use pagable_codec::Env;
@@ -13,11 +15,12 @@ use std::collections::HashMap;
 use std::marker::PhantomData;
 use std::sync::Arc;
 
-/// A map of blobs by key, in memory. Another blob under a taken key is refused, and the first stays. What is stored is made sure of at once, and nothing lies below that
+/// A map of blobs by key, and of keys by name, in memory. Another blob under a taken key is refused, and the first stays. What is stored is made sure of at once, and nothing lies below that
 /// could answer wrongly: the storage is honest, whatever is called.
 #[derive(Drop)]
 pub struct InMemoryBlobs<E: Env> {
     blobs: HashMap<DataKey, Arc<PagableData>>,
+    roots: HashMap<String, DataKey>,
     closed: bool,
     environment: PhantomData<E>,
     ghost named: { AreNamed (key_of E.Hash.digest) (stored_in blobs) },
@@ -31,6 +34,7 @@ impl<E: Env> InMemoryBlobs<E> {
     {
         InMemoryBlobs {
             blobs: HashMap::new(alloc),
+            roots: HashMap::new(alloc),
             closed: false,
             environment: PhantomData,
         }
@@ -138,6 +142,7 @@ impl<E: Env> PagableStorage<E> for InMemoryBlobs<E> {
 
     fn close(&mut self) {
         self.blobs.clear();
+        self.roots.clear();
         self.closed = true;
     }
 
@@ -147,5 +152,36 @@ impl<E: Env> PagableStorage<E> for InMemoryBlobs<E> {
 
     fn failures(&self) -> u64 {
         0
+    }
+}
+
+impl<E: Env> Roots<E> for InMemoryBlobs<E> {
+    ghost roots = { λ s. get_by_text s.roots };
+
+    fn root(&mut self, name: &str) -> Result<Option<DataKey>, Error> {
+        Ok(self.roots.get(name).copied())
+    }
+
+    fn set_root(&mut self, alloc: Global, name: &str, key: Option<DataKey>) -> Result<(), Error> {
+        if self.has_closed() {
+            return Err(Error::Closed);
+        }
+        let Some(key) = key else {
+            self.roots.remove(name);
+            return Ok(());
+        };
+        if stored_under(&self.blobs, key).is_none() {
+            return Err(Error::NoData(key));
+        }
+        self.roots.insert(String::from_str(alloc, name)?, key)?;
+        Ok(())
+    }
+
+    fn root_names(&mut self, alloc: Global) -> Result<Vec<String>, Error> {
+        let mut names = Vec::new(alloc);
+        for name in self.roots.keys() {
+            names.push(String::from_str(alloc, name.as_str())?)?;
+        }
+        Ok(names)
     }
 }

@@ -1,0 +1,20 @@
+-- Names that stand for keys in a storage of blobs.
+use Rattle.std.specs.Prelude.{◌≡◌, ℕ, Bool, true, if◌then◌else◌, List, Option, Some, None, IsSome}
+use Rattle.std.specs.Str.bytes_eq
+use Rattle.pagable_model.specs.{Blob.Blob, Stored.HasFailed, declared.error.Error.Error}
+
+-- a name stands for this key now, or for none, and each other for what it stood for
+abbrev pub Sets : List ℕ → Option ℕ → (List ℕ → Option ℕ) → (List ℕ → Option ℕ) → Type 0
+Sets name key old new = (q : List ℕ) → new q ≡ (if bytes_eq name q then key else old q)
+
+-- a blob stands under the key, if there is one
+abbrev pub Stands : (ℕ → Option Blob) → Option ℕ → Type 0
+Stands stored None = Unit {0}
+Stands stored (Some key) = IsSome (stored key)
+
+abbrev pub RefusesRoot : Option ℕ → (ℕ → Option Blob) → Bool → ℕ → ℕ → Error → Type 0
+RefusesRoot key stored closed before after (Error.NoData k) = (key ≡ Some k) × (stored k ≡ None)
+RefusesRoot key stored closed before after Error.Closed = closed ≡ true
+RefusesRoot key stored closed before after Error.OutOfMemory = Unit {0}
+RefusesRoot key stored closed before after (Error.Storage code) = HasFailed before after
+RefusesRoot key stored closed before after _ = ⊥

@@ -1,0 +1,59 @@
+//! Names that stand for keys.
+
+ghost use Rattle.std.specs.Prelude.{◌≡◌, ◌≤◌, ℕ, List, Option, false, IfErr, IfOk, IsTrue, OnErr, OnOk};
+ghost use Rattle.{pagable_core.specs.Roots.{RefusesRoot, Sets, Stands}, pagable_model.specs.Stored.RefusesFlush};
+
+use crate::storage::traits::PagableStorage;
+use pagable_codec::Env;
+use pagable_flavors::{DataKey, Error};
+use std::alloc::Global;
+
+/// Names in a storage of blobs, each of which stands for a key. A flush makes sure of them with the blobs that were
+/// stored by then.
+///
+/// What it answers of names holds as long as the storage is honest afterwards.
+pub trait Roots<E: Env>: PagableStorage<E> {
+    // Which key each name stands for.
+    ghost roots: { Self → List ℕ → Option ℕ };
+
+    /// Finds the key that a name stands for; None where it stands for none.
+    ///
+    /// # Errors
+    /// OutOfMemory, or Storage with the failure counted.
+    fn root(&mut self, name: &str) -> Result<Option<DataKey>, Error>
+        ensures ok { IsTrue (Self.PagableStorage.is_honest self.new) → IfOk result (λ key. key ≡ roots self.old name.now) }
+        ensures only { IfErr result (RefusesFlush (Self.PagableStorage.failed self.old) (Self.PagableStorage.failed self.new)) }
+        ensures same { IsTrue (Self.PagableStorage.is_honest self.new) → roots self.new ≡ roots self.old }
+        ensures stays { IsTrue (Self.PagableStorage.is_honest self.new) → (Self.PagableStorage.stored self.new ≡ Self.PagableStorage.stored self.old) × (Self.PagableStorage.flushed self.new ≡ Self.PagableStorage.flushed self.old) }
+        ensures honest { IsTrue (Self.PagableStorage.is_honest self.new) → IsTrue (Self.PagableStorage.is_honest self.old) }
+        ensures open { Self.PagableStorage.is_closed self.new ≡ Self.PagableStorage.is_closed self.old }
+        ensures later { Self.PagableStorage.failed self.old ≤ Self.PagableStorage.failed self.new };
+
+    /// Lets a name stand for a key under which a blob stands, or for none.
+    ///
+    /// # Errors
+    /// NoData where nothing stands under the key, Closed after `close`, OutOfMemory, or Storage with the failure
+    /// counted; then the name stands for what it stood for.
+    fn set_root(&mut self, alloc: Global, name: &str, key: Option<DataKey>) -> Result<(), Error>
+        ensures sets { IsTrue (Self.PagableStorage.is_honest self.new) → OnOk result (Sets name.now key (roots self.old) (roots self.new)) }
+        ensures stands { IsTrue (Self.PagableStorage.is_honest self.new) → OnOk result (Stands (Self.PagableStorage.stored self.old) key) }
+        ensures was_open { OnOk result (Self.PagableStorage.is_closed self.old ≡ false) }
+        ensures only { IsTrue (Self.PagableStorage.is_honest self.new) → IfErr result (RefusesRoot key (Self.PagableStorage.stored self.old) (Self.PagableStorage.is_closed self.old) (Self.PagableStorage.failed self.old) (Self.PagableStorage.failed self.new)) }
+        ensures err { IsTrue (Self.PagableStorage.is_honest self.new) → OnErr result (roots self.new ≡ roots self.old) }
+        ensures stays { IsTrue (Self.PagableStorage.is_honest self.new) → (Self.PagableStorage.stored self.new ≡ Self.PagableStorage.stored self.old) × (Self.PagableStorage.flushed self.new ≡ Self.PagableStorage.flushed self.old) }
+        ensures honest { IsTrue (Self.PagableStorage.is_honest self.new) → IsTrue (Self.PagableStorage.is_honest self.old) }
+        ensures open { Self.PagableStorage.is_closed self.new ≡ Self.PagableStorage.is_closed self.old }
+        ensures later { Self.PagableStorage.failed self.old ≤ Self.PagableStorage.failed self.new };
+
+    /// Collects the names that stood for a key at the last flush, or once did, in no order that counts.
+    ///
+    /// # Errors
+    /// OutOfMemory, or Storage with the failure counted.
+    fn root_names(&mut self, alloc: Global) -> Result<Vec<String>, Error>
+        ensures same { IsTrue (Self.PagableStorage.is_honest self.new) → roots self.new ≡ roots self.old }
+        ensures stays { IsTrue (Self.PagableStorage.is_honest self.new) → (Self.PagableStorage.stored self.new ≡ Self.PagableStorage.stored self.old) × (Self.PagableStorage.flushed self.new ≡ Self.PagableStorage.flushed self.old) }
+        ensures only { IfErr result (RefusesFlush (Self.PagableStorage.failed self.old) (Self.PagableStorage.failed self.new)) }
+        ensures honest { IsTrue (Self.PagableStorage.is_honest self.new) → IsTrue (Self.PagableStorage.is_honest self.old) }
+        ensures open { Self.PagableStorage.is_closed self.new ≡ Self.PagableStorage.is_closed self.old }
+        ensures later { Self.PagableStorage.failed self.old ≤ Self.PagableStorage.failed self.new };
+}

@@ -1,0 +1,41 @@
+//! Names of roots in a pager's storage.
+
+ghost use Rattle.std.specs.Prelude.{◌≡◌, IfErr, IfOk, IsTrue, OnErr, OnOk};
+ghost use Rattle.{pagable_core.specs.Roots.{RefusesRoot, Sets, Stands}, pagable_model.specs.Stored.RefusesFlush};
+ghost use Rattle.{pagable_pager.specs.View.{AsksStorage, telling}, pagable_world.specs.Calls.Asked};
+
+use crate::pager::Pager;
+use pagable_codec::{Env, NodeSet};
+use pagable_core::Roots;
+use pagable_model::{DataKey, Error};
+use std::alloc::Global;
+
+impl<E: Env<Node: NodeSet<E>>, S: Roots<E>> Pager<E, S> {
+    /// Finds the key that a name stands for in the storage; None where it stands for none.
+    ///
+    /// # Errors
+    /// - OutOfMemory, Storage: as the storage refuses it.
+    pub fn root(&mut self, name: &str) -> Result<Option<DataKey>, Error>
+        ensures asks { AsksStorage S.PagableStorage.is_honest (telling S.PagableStorage.stored S.PagableStorage.is_closed S.PagableStorage.failed) self.old Asked self.new }
+        ensures ok { IsTrue (S.PagableStorage.is_honest self.new.storage) → IfOk result (λ key. key ≡ S.Roots.roots self.old.storage name.now) }
+        ensures same { IsTrue (S.PagableStorage.is_honest self.new.storage) → S.Roots.roots self.new.storage ≡ S.Roots.roots self.old.storage }
+        ensures refused { IfErr result (RefusesFlush (S.PagableStorage.failed self.old.storage) (S.PagableStorage.failed self.new.storage)) }
+    {
+        self.storage.root(name)
+    }
+
+    /// Lets a name stand for a key under which a blob stands, or for none. `flush` makes sure of it, with the blobs.
+    ///
+    /// # Errors
+    /// - NoData where nothing stands under the key, Closed after `close`, OutOfMemory, Storage: the name stands for what
+    ///   it stood for.
+    pub fn set_root(&mut self, alloc: Global, name: &str, key: Option<DataKey>) -> Result<(), Error>
+        ensures asks { AsksStorage S.PagableStorage.is_honest (telling S.PagableStorage.stored S.PagableStorage.is_closed S.PagableStorage.failed) self.old Asked self.new }
+        ensures sets { IsTrue (S.PagableStorage.is_honest self.new.storage) → OnOk result (Sets name.now key (S.Roots.roots self.old.storage) (S.Roots.roots self.new.storage)) }
+        ensures stands { IsTrue (S.PagableStorage.is_honest self.new.storage) → OnOk result (Stands (S.PagableStorage.stored self.old.storage) key) }
+        ensures refused { IsTrue (S.PagableStorage.is_honest self.new.storage) → IfErr result (RefusesRoot key (S.PagableStorage.stored self.old.storage) (S.PagableStorage.is_closed self.old.storage) (S.PagableStorage.failed self.old.storage) (S.PagableStorage.failed self.new.storage)) }
+        ensures kept { IsTrue (S.PagableStorage.is_honest self.new.storage) → OnErr result (S.Roots.roots self.new.storage ≡ S.Roots.roots self.old.storage) }
+    {
+        self.storage.set_root(alloc, name, key)
+    }
+}
