@@ -34,6 +34,7 @@ struct Build<'a, R: RecordCalls> {
 }
 
 /// The build of a folder, with the steps of the last build.
+#[derive(Drop)]
 pub struct FolderBuild<'a> {
     pub rt: &'a HostRuntime,
     pub folder: &'a str,
@@ -44,7 +45,11 @@ impl<'a> Job for FolderBuild<'a> {
 
     const KEPT_RECORDS: u64 = 100;
 
-    fn run<R: RecordCalls>(&self, store: &mut R, last: Option<HandleNumber>) -> Result<HandleNumber> {
+    fn run<R: RecordCalls>(
+        &self,
+        store: &mut R,
+        last: Option<HandleNumber>,
+    ) -> Result<HandleNumber> {
         let steps = read_steps(self.rt, store, last)?;
         let mut build = Build {
             rt: self.rt,

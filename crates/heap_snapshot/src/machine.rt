@@ -93,15 +93,20 @@ impl Machine {
 
     /// Goes on at the line `LABEL:`.
     fn go(&mut self, program: &[&str], label: &str) -> Result<()> {
-        let place = program
-            .iter()
-            .position(|line| line.strip_suffix(":").is_some_and(|name| name == label));
+        let place = program.iter().position(|line| line
+            .strip_suffix(":")
+            .is_some_and(|name| name == label));
         self.place = place.context(format_args!("there is no line {label}:"))?;
         Ok(())
     }
 
     /// Lets a variable hold a value, and releases the one that it held.
-    fn assign<R: RecordCalls>(&mut self, store: &mut R, name: &str, value: HandleNumber) -> Result<()> {
+    fn assign<R: RecordCalls>(
+        &mut self,
+        store: &mut R,
+        name: &str,
+        value: HandleNumber,
+    ) -> Result<()> {
         let name = String::from_str(store.alloc(), name)?;
         if let Some(replaced) = self.variables.insert(name, value)? {
             store.release(&[replaced])?;
@@ -133,7 +138,10 @@ impl Machine {
     /// Computes what stands behind `=`. The answer is a handle of the caller's own.
     fn evaluate<R: RecordCalls>(&self, store: &mut R, words: &[&str]) -> Result<HandleNumber> {
         match *words {
-            [number] => insert_number(store, self.number(store, number)?),
+            [word] => {
+                let number = self.number(store, word)?;
+                insert_number(store, number)
+            }
             ["first", pair] => read_part(store, self.variable(pair)?, 0),
             ["rest", pair] => read_part(store, self.variable(pair)?, 1),
             [first, ",", rest] => {
@@ -155,7 +163,11 @@ fn insert_number<R: RecordCalls>(store: &mut R, number: i64) -> Result<HandleNum
 }
 
 /// Reads a pair, and answers a handle of one of its parts.
-fn read_part<R: RecordCalls>(store: &mut R, pair: HandleNumber, place: usize) -> Result<HandleNumber> {
+fn read_part<R: RecordCalls>(
+    store: &mut R,
+    pair: HandleNumber,
+    place: usize,
+) -> Result<HandleNumber> {
     let view = store.read(pair)?;
     let part = view.refs.as_slice().get(place).copied();
     let part = store.clone_handle(part.context("a pair is wanted")?)?;

@@ -11,6 +11,7 @@ use record_store::{Job, RecordCalls, run_over_file};
 use std::{env, fs};
 
 /// A run of at most so many lines of a program, or of the one that was saved.
+#[derive(Drop)]
 struct Run<'a> {
     rt: &'a HostRuntime,
     program: Option<&'a str>,
@@ -22,7 +23,11 @@ impl<'a> Job for Run<'a> {
 
     const KEPT_RECORDS: u64 = 1000;
 
-    fn run<R: RecordCalls>(&self, store: &mut R, last: Option<HandleNumber>) -> Result<HandleNumber> {
+    fn run<R: RecordCalls>(
+        &self,
+        store: &mut R,
+        last: Option<HandleNumber>,
+    ) -> Result<HandleNumber> {
         let mut machine = match self.program {
             Some(text) => Machine::begin(store, text)?,
             None => Machine::read(store, last.context("no machine is saved in this store")?)?,
@@ -41,14 +46,14 @@ fn run_lines<R: RecordCalls>(
 ) -> Result<()> {
     let text = store.read(machine.program)?;
     let lines: Vec<&str> = text.text().lines().collect(store.alloc())?;
-    for count in 1..=most {
+    for count in 0..most {
         let Some(line) = lines.get(machine.place) else {
             break;
         };
         if let Some(number) = machine.step(store, lines.as_slice(), line).context(line)? {
             println!(rt; "{number}")?;
         }
-        if count % 1000 == 0 {
+        if count % 1000 == 999 {
             store.release_waiting()?;
         }
     }
@@ -63,7 +68,18 @@ fn main(rt: HostRuntime) -> Result<()> {
         [store, most, path] => (store, most, Some(fs::read_to_string(&rt, path.as_str())?)),
         _ => bail!("usage: heap_snapshot STORE LINES [PROGRAM]"),
     };
-    let most = most.as_str().parse::<u64>().context("reading the number of lines")?;
+    let most = most
+        .as_str()
+        .parse::<u64>()
+        .context("reading the number of lines")?;
     let program = text.as_ref().map(String::as_str);
-    run_over_file(&rt, store.as_str(), &Run { rt: &rt, program, most })
+    run_over_file(
+        &rt,
+        store.as_str(),
+        &Run {
+            rt: &rt,
+            program,
+            most,
+        },
+    )
 }

@@ -19,7 +19,11 @@ pub trait Job {
     ///
     /// # Errors
     /// - its own: then nothing is saved.
-    fn run<R: RecordCalls>(&self, store: &mut R, last: Option<HandleNumber>) -> Result<HandleNumber>;
+    fn run<R: RecordCalls>(
+        &self,
+        store: &mut R,
+        last: Option<HandleNumber>,
+    ) -> Result<HandleNumber>;
 }
 
 /// Runs a job over the records of a storage, and saves what it answers there.

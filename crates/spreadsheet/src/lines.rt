@@ -12,6 +12,7 @@ const VERSION: u32 = 1;
 const SHEET: u32 = 2;
 
 /// The lines of standard input, which are answered about the sheet of the last run.
+#[derive(Drop)]
 pub struct Lines<'a> {
     pub rt: &'a HostRuntime,
 }
@@ -21,7 +22,11 @@ impl<'a> Job for Lines<'a> {
 
     const KEPT_RECORDS: u64 = 100;
 
-    fn run<R: RecordCalls>(&self, store: &mut R, last: Option<HandleNumber>) -> Result<HandleNumber> {
+    fn run<R: RecordCalls>(
+        &self,
+        store: &mut R,
+        last: Option<HandleNumber>,
+    ) -> Result<HandleNumber> {
         let root = match last {
             Some(root) => root,
             None => insert_first(store)?,
@@ -85,7 +90,11 @@ fn set<R: RecordCalls>(store: &mut R, sheet: &mut Sheet, name: &str, formula: &s
 /// Goes back to the version before this one.
 fn undo<R: RecordCalls>(store: &mut R, sheet: &mut Sheet) -> Result<()> {
     let version = below(&store.read(sheet.version)?);
-    go_to(store, sheet, version.context("there is no version before this one")?)
+    go_to(
+        store,
+        sheet,
+        version.context("there is no version before this one")?,
+    )
 }
 
 /// Goes to the version of a record.

@@ -93,14 +93,18 @@ impl Sheet {
             Some(names) => self.evaluate_sum(names, levels)?,
             None => parse_number(formula.as_str())?,
         };
-        self.values.insert(String::from_str(self.alloc, name)?, value)?;
+        self.values
+            .insert(String::from_str(self.alloc, name)?, value)?;
         Ok(value)
     }
 
     /// Evaluates a sum: its cells first, and then what their values come to.
     #[cycle(evaluating)]
     fn evaluate_sum(&mut self, names: &str, levels: u32) -> Result<i64> {
-        ensure!(levels > 0, "a ring of sums, or more than {MOST_LEVELS} levels of them");
+        ensure!(
+            levels > 0,
+            "a ring of sums, or more than {MOST_LEVELS} levels of them"
+        );
         let mut numbers = Vec::new(self.alloc);
         for name in names.split("+") {
             let number = self.evaluate(name, levels - 1)?;
@@ -128,7 +132,9 @@ impl Sheet {
             self.known = self.known.saturating_add(1);
             return Ok(*sum);
         }
-        let sum = numbers.iter().try_fold(0i64, |sum, number| sum.checked_add(*number));
+        let sum = numbers
+            .iter()
+            .try_fold(0i64, |sum, number| sum.checked_add(*number));
         let sum = sum.context("a sum overflows")?;
         self.sums.insert(spelled, sum)?;
         self.added = self.added.saturating_add(1);
@@ -137,5 +143,6 @@ impl Sheet {
 }
 
 fn parse_number(text: &str) -> Result<i64> {
-    text.parse::<i64>().context("a formula is a number or =NAME+NAME")
+    text.parse::<i64>()
+        .context("a formula is a number or =NAME+NAME")
 }
