@@ -121,7 +121,7 @@ class Sheet:
         formula = self.versions[-1][name]
         if formula.startswith("="):
             if not levels:
-                raise Refused("a ring of sums, or more than 64 levels of them")
+                raise Refused("a ring of sums, or over 64 levels")
             numbers = tuple(self.value(part, levels - 1) for part in formula[1:].split("+"))
             self.known += numbers in self.sums
             self.added += numbers not in self.sums

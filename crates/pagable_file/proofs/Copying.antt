@@ -3,7 +3,7 @@ use Rattle.std.proofs.Common.{◌≡◌, ◌∙◌, ◌<◌, ℕ, zero, suc, ◌
 use Rattle.std.specs.{HashMap.get, List.{AllByRecursion as Each, Contains}, Prelude.{◌==◌, if◌then◌else◌, nat_eq, slice_index_or}, Str.bytes_eq}
 use Rattle.std.proofs.lemmas.{Bool.Decides.nat_tests, List.{map_more, take_more}, Slice.Eq.bytes_eq-Decides}
 use Rattle.pagable_model.specs.{Blob.{Blob}, Stored.{Adds, Keeps}}
-use Rattle.pagable_core.specs.Roots.Sets
+use Rattle.pagable_core.specs.Roots.{Sets}
 use Rattle.pagable_file.specs.Copies.{AreCopied, Copied, end_of, HasCopied, IsCopied, IsCopiedRoot, IsInBoth, IsPath, Matches, Reaches}
 
 -- a blob that was added stands under its key, and what stood elsewhere still does

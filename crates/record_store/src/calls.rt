@@ -21,6 +21,11 @@ impl RecordView {
     pub fn text(&self) -> &str {
         self.record.as_ref().text.as_str()
     }
+
+    /// Answers the handle of its first reference, if it has one.
+    pub fn first(&self) -> Option<HandleNumber> {
+        self.refs.first().copied()
+    }
 }
 
 /// The calls of a store of records. A program that is written over them knows nothing of pagers and files.

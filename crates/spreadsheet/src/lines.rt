@@ -3,7 +3,7 @@
 use crate::sheet::{MOST_LEVELS, Sheet};
 use anyhow::{Context, Result, bail};
 use pagable::HandleNumber;
-use record_store::{Job, RecordCalls, RecordView};
+use record_store::{Job, RecordCalls};
 
 /// The tag of a record of a version: its text is that of its cells.
 const VERSION: u32 = 1;
@@ -32,10 +32,15 @@ impl<'a> Job for Lines<'a> {
             None => insert_first(store)?,
         };
         let view = store.read(root)?;
-        let version = below(&view).context("no sheet is stored here")?;
+        let version = view.first().context("no sheet is stored here")?;
         let mut sheet = Sheet::read_sums(store.alloc(), version, view.text())?;
         go_to(store, &mut sheet, version)?;
-        answer_all(self.rt, store, &mut sheet)?;
+        for line in self.rt.lines(store.alloc()) {
+            let line = line?;
+            if let Err(error) = answer(self.rt, store, &mut sheet, line.as_str()) {
+                println!(self.rt; "refused: {error}")?;
+            }
+        }
         let sums = sheet.spell_sums()?;
         Ok(store.insert(SHEET, sums.as_str(), &[sheet.version])?)
     }
@@ -47,37 +52,22 @@ fn insert_first<R: RecordCalls>(store: &mut R) -> Result<HandleNumber> {
     Ok(store.insert(SHEET, "", &[version])?)
 }
 
-/// Finds the record to which a record refers.
-fn below(view: &RecordView) -> Option<HandleNumber> {
-    view.refs.first().copied()
-}
-
-/// Answers all lines, each with one line.
-fn answer_all<R: RecordCalls>(rt: &HostRuntime, store: &mut R, sheet: &mut Sheet) -> Result<()> {
-    for line in rt.lines(rt.alloc()) {
-        let line = line?;
-        match answer(store, sheet, line.as_str()) {
-            Ok(answer) => println!(rt; "{}", answer.as_str())?,
-            Err(error) => println!(rt; "refused: {error}")?,
-        }
-    }
-    Ok(())
-}
-
 /// Answers a line.
-fn answer<R: RecordCalls>(store: &mut R, sheet: &mut Sheet, line: &str) -> Result<String> {
+fn answer<R: RecordCalls>(
+    rt: &HostRuntime,
+    store: &mut R,
+    sheet: &mut Sheet,
+    line: &str,
+) -> Result<()> {
     let words: Vec<&str> = line.split_whitespace().collect(store.alloc())?;
     match *words.as_slice() {
         ["set", name, formula] => set(store, sheet, name, formula)?,
         ["undo"] => undo(store, sheet)?,
-        ["get", name] => {
-            let value = sheet.evaluate(name, MOST_LEVELS)?;
-            return Ok(value.to_string(store.alloc())?);
-        }
-        ["stats"] => return sheet.spell_counts(),
+        ["get", name] => return Ok(rt.println(sheet.evaluate(name, MOST_LEVELS)?)?),
+        ["stats"] => return Ok(println!(rt; "{} added, {} known", sheet.added, sheet.known)?),
         _ => bail!("a line is set NAME 5, set NAME =A+B, get NAME, undo or stats"),
     }
-    Ok(String::from_str(store.alloc(), "ok")?)
+    Ok(rt.println("ok")?)
 }
 
 /// Sets what stands in a cell, by a new version.
@@ -89,12 +79,9 @@ fn set<R: RecordCalls>(store: &mut R, sheet: &mut Sheet, name: &str, formula: &s
 
 /// Goes back to the version before this one.
 fn undo<R: RecordCalls>(store: &mut R, sheet: &mut Sheet) -> Result<()> {
-    let version = below(&store.read(sheet.version)?);
-    go_to(
-        store,
-        sheet,
-        version.context("there is no version before this one")?,
-    )
+    let before = store.read(sheet.version)?.first();
+    let before = before.context("there is no version before this one")?;
+    go_to(store, sheet, before)
 }
 
 /// Goes to the version of a record.

@@ -21,8 +21,8 @@ pub struct Sheet {
     /// What sums came to in all versions and runs, by their numbers, as `[5, 7]`.
     sums: BTreeMap<String, i64>,
     /// How many sums of this run were added up, and how many were known.
-    added: u64,
-    known: u64,
+    pub added: u64,
+    pub known: u64,
 }
 
 impl Sheet {
@@ -54,11 +54,6 @@ impl Sheet {
         Ok(text)
     }
 
-    /// Spells how many sums of this run were added up, and how many were known.
-    pub fn spell_counts(&self) -> Result<String> {
-        Ok(format!(in self.alloc; "{} added, {} known", self.added, self.known)?)
-    }
-
     /// Goes to a version with these cells.
     pub fn go_to(&mut self, version: HandleNumber, cells: String) {
         self.version = version;
@@ -81,8 +76,7 @@ impl Sheet {
         Ok(cells)
     }
 
-    /// Evaluates a cell over at most so many levels of sums. Refused where it isn't there, it stands on a ring of sums,
-    /// or a sum overflows.
+    /// Evaluates a cell over at most so many levels of sums.
     #[cycle(evaluating)]
     pub fn evaluate(&mut self, name: &str, levels: u32) -> Result<i64> {
         if let Some(value) = self.values.get(name) {
@@ -101,10 +95,7 @@ impl Sheet {
     /// Evaluates a sum: its cells first, and then what their values come to.
     #[cycle(evaluating)]
     fn evaluate_sum(&mut self, names: &str, levels: u32) -> Result<i64> {
-        ensure!(
-            levels > 0,
-            "a ring of sums, or more than {MOST_LEVELS} levels of them"
-        );
+        ensure!(levels > 0, "a ring of sums, or over {MOST_LEVELS} levels");
         let mut numbers = Vec::new(self.alloc);
         for name in names.split("+") {
             let number = self.evaluate(name, levels - 1)?;

@@ -1,7 +1,7 @@
 //! Blobs in memory: a storage for tests, and for stores that one run fills and forgets.
 
 ghost use Rattle.std.specs.Prelude.{◌≡◌, ◌↔◌, ◌==◌, if◌then◌else◌, ℕ, IsTrue, OnOk, OnErr, IfErr, None, Some, false, true, option_map};
-ghost use Rattle.std.specs.HashMap.get_by_text;
+ghost use Rattle.std.specs.HashMap.{get_by_text};
 ghost use Rattle.{pagable_core.specs.Data.{blob_of, stored_in}, pagable_model.specs.{Blob.key_of, Gives.memory, Stored.{AreNamed, IsCount}}};
 
 use crate::storage::data::PagableData;
