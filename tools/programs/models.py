@@ -67,10 +67,10 @@ class Machine:
             case ["show", word]:
                 return f"{self.number(word)}\n"
             case ["go", label]:
-                self.place = self.lines.index(f"{label}:")
+                self.place = self.lines.index(label)
             case ["go", label, "unless", name]:
                 if self.variables[name] == 0:
-                    self.place = self.lines.index(f"{label}:")
+                    self.place = self.lines.index(label)
             case [name, "=", *words]:
                 self.variables[name] = self.value(words)
         return ""

@@ -24,15 +24,6 @@ pub struct Machine {
 }
 
 impl Machine {
-    /// Makes a machine at the first line of a program.
-    pub fn begin<R: RecordCalls>(store: &mut R, text: &str) -> Result<Machine> {
-        Ok(Machine {
-            program: store.insert(TEXT, text, &[])?,
-            place: 0,
-            variables: BTreeMap::new(store.alloc()),
-        })
-    }
-
     /// Reads the machine of a record. What its variables hold isn't read.
     pub fn read<R: RecordCalls>(store: &mut R, root: HandleNumber) -> Result<Machine> {
         let view = store.read(root)?;
@@ -84,31 +75,24 @@ impl Machine {
             }
             [name, "=", ref words @ ..] => {
                 let value = self.evaluate(store, words)?;
-                self.assign(store, name, value)?;
+                self.set(store, name, value)?;
             }
-            _ => bail!("a line is LABEL:, A = .., go LABEL, go LABEL unless A or show A"),
+            _ => bail!("a line is LABEL, A = .., go LABEL, go LABEL unless A or show A"),
         }
         Ok(None)
     }
 
-    /// Goes on at the line `LABEL:`.
+    /// Goes on at the line with this label.
     fn go(&mut self, program: &[&str], label: &str) -> Result<()> {
-        let place = program.iter().position(|line| line
-            .strip_suffix(":")
-            .is_some_and(|name| name == label));
-        self.place = place.context(format_args!("there is no line {label}:"))?;
+        let place = program.iter().position(|line| *line == label);
+        self.place = place.context(format_args!("no line is labelled {label}"))?;
         Ok(())
     }
 
     /// Lets a variable hold a value, and releases the one that it held.
-    fn assign<R: RecordCalls>(
-        &mut self,
-        store: &mut R,
-        name: &str,
-        value: HandleNumber,
-    ) -> Result<()> {
+    fn set<R: RecordCalls>(&mut self, store: &mut R, name: &str, to: HandleNumber) -> Result<()> {
         let name = String::from_str(store.alloc(), name)?;
-        if let Some(replaced) = self.variables.insert(name, value)? {
+        if let Some(replaced) = self.variables.insert(name, to)? {
             store.release(&[replaced])?;
         }
         Ok(())
@@ -132,7 +116,16 @@ impl Machine {
         }
         let view = store.read(self.variable(word)?)?;
         let number = view.text().parse::<i64>();
-        number.context(format_args!("{word} is a pair, and a number is wanted"))
+        number.context(format_args!("{word} is no number"))
+    }
+
+    /// Reads the pair that a variable holds, and answers a handle of one of its parts.
+    fn part<R: RecordCalls>(&self, store: &mut R, name: &str, at: usize) -> Result<HandleNumber> {
+        let view = store.read(self.variable(name)?)?;
+        let part = view.refs.as_slice().get(at).copied();
+        let part = store.clone_handle(part.context(format_args!("{name} is no pair"))?)?;
+        store.release(view.refs.as_slice())?;
+        Ok(part)
     }
 
     /// Computes what stands behind `=`. The answer is a handle of the caller's own.
@@ -142,8 +135,8 @@ impl Machine {
                 let number = self.number(store, word)?;
                 insert_number(store, number)
             }
-            ["first", pair] => read_part(store, self.variable(pair)?, 0),
-            ["rest", pair] => read_part(store, self.variable(pair)?, 1),
+            ["first", pair] => self.part(store, pair, 0),
+            ["rest", pair] => self.part(store, pair, 1),
             [first, ",", rest] => {
                 Ok(store.insert(PAIR, "", &[self.variable(first)?, self.variable(rest)?])?)
             }
@@ -156,23 +149,16 @@ impl Machine {
     }
 }
 
+/// Inserts the record of a machine at the first line of a program.
+pub fn insert_first<R: RecordCalls>(store: &mut R, program: &str) -> Result<HandleNumber> {
+    let program = store.insert(TEXT, program, &[])?;
+    Ok(store.insert(MACHINE, "0", &[program])?)
+}
+
 /// Inserts the record of a number.
 fn insert_number<R: RecordCalls>(store: &mut R, number: i64) -> Result<HandleNumber> {
     let text = number.to_string(store.alloc())?;
     Ok(store.insert(NUMBER, text.as_str(), &[])?)
-}
-
-/// Reads a pair, and answers a handle of one of its parts.
-fn read_part<R: RecordCalls>(
-    store: &mut R,
-    pair: HandleNumber,
-    place: usize,
-) -> Result<HandleNumber> {
-    let view = store.read(pair)?;
-    let part = view.refs.as_slice().get(place).copied();
-    let part = store.clone_handle(part.context("a pair is wanted")?)?;
-    store.release(view.refs.as_slice())?;
-    Ok(part)
 }
 
 /// Computes a sum, a difference or a product.

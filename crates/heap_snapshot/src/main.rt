@@ -4,7 +4,7 @@
 
 mod machine;
 
-use crate::machine::Machine;
+use crate::machine::{Machine, insert_first};
 use anyhow::{Context, Result, bail};
 use pagable::HandleNumber;
 use record_store::{Job, RecordCalls, run_over_file};
@@ -28,37 +28,35 @@ impl<'a> Job for Run<'a> {
         store: &mut R,
         last: Option<HandleNumber>,
     ) -> Result<HandleNumber> {
-        let mut machine = match self.program {
-            Some(text) => Machine::begin(store, text)?,
-            None => Machine::read(store, last.context("no machine is saved in this store")?)?,
+        let first = match self.program {
+            Some(program) => insert_first(store, program)?,
+            None => last.context("no machine is saved in this store")?,
         };
-        run_lines(self.rt, store, &mut machine, self.most)?;
+        let mut machine = Machine::read(store, first)?;
+        self.run_lines(store, &mut machine)?;
         machine.insert(store)
     }
 }
 
-/// Runs at most so many lines, prints the numbers that they show, and lets what isn't held any more go.
-fn run_lines<R: RecordCalls>(
-    rt: &HostRuntime,
-    store: &mut R,
-    machine: &mut Machine,
-    most: u64,
-) -> Result<()> {
-    let text = store.read(machine.program)?;
-    let lines: Vec<&str> = text.text().lines().collect(store.alloc())?;
-    for count in 0..most {
-        let Some(line) = lines.get(machine.place) else {
-            break;
-        };
-        if let Some(number) = machine.step(store, lines.as_slice(), line).context(line)? {
-            println!(rt; "{number}")?;
+impl<'a> Run<'a> {
+    /// Runs lines, prints the numbers that they show, and lets what isn't held any more go.
+    fn run_lines<R: RecordCalls>(&self, store: &mut R, machine: &mut Machine) -> Result<()> {
+        let text = store.read(machine.program)?;
+        let lines: Vec<&str> = text.text().lines().collect(store.alloc())?;
+        for count in 0..self.most {
+            let Some(line) = lines.get(machine.place) else {
+                break;
+            };
+            if let Some(number) = machine.step(store, lines.as_slice(), line).context(line)? {
+                println!(self.rt; "{number}")?;
+            }
+            if count % 1000 == 999 {
+                store.release_waiting()?;
+            }
         }
-        if count % 1000 == 999 {
-            store.release_waiting()?;
-        }
+        println!(self.rt; "at line {} of {}", machine.place, lines.len())?;
+        Ok(())
     }
-    println!(rt; "at line {} of {}", machine.place, lines.len())?;
-    Ok(())
 }
 
 fn main(rt: HostRuntime) -> Result<()> {
@@ -68,18 +66,10 @@ fn main(rt: HostRuntime) -> Result<()> {
         [store, most, path] => (store, most, Some(fs::read_to_string(&rt, path.as_str())?)),
         _ => bail!("usage: heap_snapshot STORE LINES [PROGRAM]"),
     };
-    let most = most
-        .as_str()
-        .parse::<u64>()
-        .context("reading the number of lines")?;
-    let program = text.as_ref().map(String::as_str);
-    run_over_file(
-        &rt,
-        store.as_str(),
-        &Run {
-            rt: &rt,
-            program,
-            most,
-        },
-    )
+    let run = Run {
+        rt: &rt,
+        program: text.as_ref().map(String::as_str),
+        most: most.as_str().parse::<u64>().context("reading LINES")?,
+    };
+    run_over_file(&rt, store.as_str(), &run)
 }
