@@ -50,7 +50,7 @@ impl<'a> Job for FolderBuild<'a> {
         store: &mut R,
         last: Option<HandleNumber>,
     ) -> Result<HandleNumber> {
-        let steps = read_steps(self.rt, store, last)?;
+        let steps = read_steps(store, last)?;
         let mut build = Build {
             rt: self.rt,
             folder: self.folder,
@@ -65,19 +65,15 @@ impl<'a> Job for FolderBuild<'a> {
 }
 
 /// Reads the steps of a build, if there is one. No output is read.
-fn read_steps<R: RecordCalls>(
-    rt: &HostRuntime,
-    store: &mut R,
-    build: Option<HandleNumber>,
-) -> Result<Steps> {
-    let mut steps = LruCache::new(rt.alloc(), NonZeroUsize::new(KEPT_STEPS).unwrap())?;
+fn read_steps<R: RecordCalls>(store: &mut R, build: Option<HandleNumber>) -> Result<Steps> {
+    let mut steps = LruCache::new(store.alloc(), NonZeroUsize::new(KEPT_STEPS).unwrap())?;
     let Some(build) = build else {
         return Ok(steps);
     };
     for step in store.read(build)?.refs.iter().rev() {
         let step = store.read(*step)?;
-        if let Some(output) = step.refs.first() {
-            steps.put(String::from_str(rt.alloc(), step.text())?, *output)?;
+        if let Some(output) = step.first() {
+            steps.put(String::from_str(store.alloc(), step.text())?, output)?;
         }
     }
     Ok(steps)
@@ -124,10 +120,11 @@ impl<'a, R: RecordCalls> Build<'a, R> {
 
     /// Finds the key of an input's text.
     fn input_key(&mut self, input: &str) -> Result<DataKey> {
-        match self.targets.get(input).copied() {
-            Some(output) => Ok(self.store.key(output)?),
-            None => Ok(self.store.key_of_text(self.read_file(input)?.as_str())?),
+        if let Some(output) = self.targets.get(input).copied() {
+            return Ok(self.store.key(output)?);
         }
+        let text = self.read_file(input)?;
+        Ok(self.store.key_of_text(text.as_str())?)
     }
 
     /// Runs the command of a rule, and inserts its output.
@@ -156,16 +153,11 @@ impl<'a, R: RecordCalls> Build<'a, R> {
         fs::read_to_string(self.rt, path.as_str()).context(format_args!("reading {name}"))
     }
 
-    /// Writes a target into the folder, where its text isn't there already.
+    /// Writes a target into the folder.
     fn write_target(&mut self, target: &str, output: HandleNumber) -> Result<()> {
+        let path = format!(in self.rt.alloc(); "{}/{target}", self.folder)?;
         let view = self.store.read(output)?;
-        match self.read_file(target) {
-            Ok(text) if text.as_str() == view.text() => Ok(()),
-            _ => {
-                let path = format!(in self.rt.alloc(); "{}/{target}", self.folder)?;
-                fs::write(self.rt, path.as_str(), view.text()).context("writing it")
-            }
-        }
+        fs::write(self.rt, path.as_str(), view.text()).context("writing it")
     }
 
     /// Inserts the record of this build.

@@ -16,10 +16,10 @@ pub fn read_rules(alloc: Global, text: &str) -> Result<Vec<Rule<'_>>> {
     let mut rules = Vec::new(alloc);
     for line in text.lines() {
         let mut words = line.split_whitespace();
-        if let Some(target) = words.next() {
-            if !target.starts_with("#") {
-                rules.push(read_rule(target, words.collect(alloc)?).context(line)?)?;
-            }
+        if let Some(target) = words.next()
+            && !target.starts_with("#")
+        {
+            rules.push(read_rule(target, words.collect(alloc)?).context(line)?)?;
         }
     }
     Ok(rules)
@@ -54,8 +54,7 @@ fn sort_lines(alloc: Global, text: &str) -> Result<String> {
     lines.sort()?;
     let mut sorted = String::new(alloc);
     for line in lines {
-        sorted.push_str(line)?;
-        sorted.push('\n')?;
+        writeln!(sorted, "{line}")?;
     }
     Ok(sorted)
 }
