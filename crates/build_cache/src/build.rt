@@ -28,7 +28,7 @@ struct Build<'a, R: RecordCalls> {
     folder: &'a str,
     store: &'a mut R,
     steps: Steps,
-    /// The outputs so far, by the names of targets.
+    /// The outputs by the names of targets.
     targets: BTreeMap<String, HandleNumber>,
     ran: u64,
 }
@@ -112,8 +112,7 @@ impl<'a, R: RecordCalls> Build<'a, R> {
     fn spell_step(&mut self, rule: &Rule<'_>) -> Result<String> {
         let mut step = String::from_str(self.rt.alloc(), rule.command)?;
         for input in &rule.inputs {
-            let key = self.input_key(input)?;
-            write!(step, " {:032x}", key.get())?;
+            write!(step, " {:032x}", self.input_key(input)?.get())?;
         }
         Ok(step)
     }
