@@ -1,5 +1,7 @@
 //! The calls by which programs use a store of records, whatever storage lies below it.
 
+ghost use Rattle.std.specs.{Arc.arc_value, Prelude.{slice_get, string_bytes, ◌≡◌}};
+
 use pagable::{DataKey, Error, HandleNumber, Record};
 use std::alloc::Global;
 use std::sync::Arc;
@@ -18,12 +20,16 @@ pub struct RecordView {
 
 impl RecordView {
     /// Lends the record's text.
-    pub fn text(&self) -> &str {
+    pub fn text(&self) -> &str
+        ensures { result.now ≡ string_bytes (arc_value self.now.record).text }
+    {
         self.record.as_ref().text.as_str()
     }
 
     /// Answers the handle of its first reference, if it has one.
-    pub fn first(&self) -> Option<HandleNumber> {
+    pub fn first(&self) -> Option<HandleNumber>
+        ensures { result ≡ slice_get self.now.refs.items 0 }
+    {
         self.refs.first().copied()
     }
 }
