@@ -66,10 +66,8 @@ fn main(rt: HostRuntime) -> Result<()> {
         [store, most, path] => (store, most, Some(fs::read_to_string(&rt, path.as_str())?)),
         _ => bail!("usage: heap_snapshot STORE LINES [PROGRAM]"),
     };
-    let run = Run {
-        rt: &rt,
-        program: text.as_ref().map(String::as_str),
-        most: most.as_str().parse::<u64>().context("reading LINES")?,
-    };
-    run_over_file(&rt, store.as_str(), &run)
+    let most = most.as_str().parse::<u64>().context("reading LINES")?;
+    let program = text.as_ref().map(String::as_str);
+    let rt = &rt;
+    run_over_file(rt, store.as_str(), &Run { rt, program, most })
 }
