@@ -1,0 +1,20 @@
+//! A build that remembers what its commands gave: `build_cache STORE FOLDER` builds the targets of the file BUILD of
+//! FOLDER, and runs only commands whose inputs' texts aren't those of a step that STORE has.
+#![tactic(auto)]
+
+mod build;
+mod rule;
+
+use crate::build::FolderBuild;
+use anyhow::{Result, bail};
+use record_store::run_over_file;
+use std::env;
+
+fn main(rt: HostRuntime) -> Result<()> {
+    let words: Vec<String> = env::args(&rt)?.skip(1).collect(rt.alloc())?;
+    let [path, folder] = words.as_slice() else {
+        bail!("usage: build_cache STORE FOLDER");
+    };
+    let folder = folder.as_str();
+    run_over_file(&rt, path.as_str(), &FolderBuild { rt: &rt, folder })
+}

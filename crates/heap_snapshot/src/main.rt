@@ -1,0 +1,73 @@
+//! A machine whose heap outlives the process: `heap_snapshot STORE LINES PROGRAM` runs at most so many lines of the
+//! program in the file PROGRAM and saves the machine in STORE; `heap_snapshot STORE LINES` goes on there.
+#![tactic(auto)]
+
+mod machine;
+
+use crate::machine::{Machine, insert_first};
+use anyhow::{Context, Result, bail};
+use pagable::HandleNumber;
+use record_store::{Job, RecordCalls, run_over_file};
+use std::{env, fs};
+
+/// A run of at most so many lines of a program, or of the one that was saved.
+#[derive(Drop)]
+struct Run<'a> {
+    rt: &'a HostRuntime,
+    program: Option<&'a str>,
+    most: u64,
+}
+
+impl<'a> Job for Run<'a> {
+    const ROOT: &'static str = "machine";
+
+    const KEPT_RECORDS: u64 = 1000;
+
+    fn run<R: RecordCalls>(
+        &self,
+        store: &mut R,
+        last: Option<HandleNumber>,
+    ) -> Result<HandleNumber> {
+        let first = match self.program {
+            Some(program) => insert_first(store, program)?,
+            None => last.context("no machine is saved in this store")?,
+        };
+        let mut machine = Machine::read(store, first)?;
+        self.run_lines(store, &mut machine)?;
+        machine.insert(store)
+    }
+}
+
+impl<'a> Run<'a> {
+    /// Runs lines, prints the numbers that they show, and lets what isn't held any more go.
+    fn run_lines<R: RecordCalls>(&self, store: &mut R, machine: &mut Machine) -> Result<()> {
+        let text = store.read(machine.program)?;
+        let lines: Vec<&str> = text.text().lines().collect(store.alloc())?;
+        for count in 0..self.most {
+            let Some(line) = lines.get(machine.place) else {
+                break;
+            };
+            if let Some(number) = machine.step(store, lines.as_slice(), line).context(line)? {
+                println!(self.rt; "{number}")?;
+            }
+            if count % 1000 == 999 {
+                store.release_waiting()?;
+            }
+        }
+        println!(self.rt; "at line {} of {}", machine.place, lines.len())?;
+        Ok(())
+    }
+}
+
+fn main(rt: HostRuntime) -> Result<()> {
+    let words: Vec<String> = env::args(&rt)?.skip(1).collect(rt.alloc())?;
+    let (store, most, text) = match words.as_slice() {
+        [store, most] => (store, most, None),
+        [store, most, path] => (store, most, Some(fs::read_to_string(&rt, path.as_str())?)),
+        _ => bail!("usage: heap_snapshot STORE LINES [PROGRAM]"),
+    };
+    let most = most.as_str().parse::<u64>().context("reading LINES")?;
+    let program = text.as_ref().map(String::as_str);
+    let rt = &rt;
+    run_over_file(rt, store.as_str(), &Run { rt, program, most })
+}

@@ -1,0 +1,10 @@
+//! Records that last: a pager of records over a storage that has names of roots, by the calls that programs make most.
+#![tactic(auto)]
+
+pub mod calls;
+pub mod job;
+pub mod record_store;
+
+pub use calls::{RecordCalls, RecordView, TEXT};
+pub use job::{Job, run_over, run_over_file};
+pub use record_store::RecordStore;

@@ -1,0 +1,146 @@
+//! A pager of records and its budget.
+
+ghost use Rattle.std.specs.Prelude.{IsTrue, OnOk, ◌≡◌};
+
+use crate::calls::{RecordCalls, RecordView, TEXT};
+use pagable::cells::{cell_of, insert};
+use pagable::typed_references::loose;
+use pagable::{
+    DataKey, Error, HandleNumber, PagableData, PagableStorage, Pager, Record, RecordRef, Records,
+    Sha256Key, to_bytes,
+};
+use pagable_budget::Budget;
+use pagable_changes::page_out_changed;
+use pagable_file::Roots;
+use std::alloc::Global;
+use std::sync::Arc;
+
+/// A pager of records over a storage, and a budget of those that stay in memory.
+#[derive(Drop)]
+pub struct RecordStore<S: PagableStorage<Records>> {
+    alloc: Global,
+    pager: Pager<Records, S>,
+    budget: Budget,
+}
+
+impl<S: PagableStorage<Records>> RecordStore<S> {
+    /// Makes a reference by a clone of a handle, which becomes the new record's.
+    fn reference(&mut self, handle: HandleNumber) -> Result<RecordRef, Error> {
+        let clone = self.pager.clone(handle)?;
+        Ok(Record::reference(loose::<Record, _, _>(&self.pager, clone)?))
+    }
+
+    /// Clones the handles of a record's references.
+    fn clone_references(&mut self, record: &Record) -> Result<Vec<HandleNumber>, Error> {
+        let mut clones = Vec::new(self.alloc);
+        for reference in &record.refs {
+            clones.push(self.pager.clone(reference.reference().handle)?)?;
+        }
+        Ok(clones)
+    }
+}
+
+impl<S: PagableStorage<Records>> RecordCalls for RecordStore<S> {
+    fn alloc(&self) -> Global {
+        self.alloc
+    }
+
+    fn insert(
+        &mut self,
+        tag: u32,
+        text: &str,
+        over: &[HandleNumber],
+    ) -> Result<HandleNumber, Error> {
+        let mut refs = Vec::new(self.alloc);
+        for handle in over {
+            refs.push(self.reference(*handle)?)?;
+        }
+        let node = Record::node(self.alloc, tag, text, refs)?;
+        Ok(insert(self.alloc, &mut self.pager, node)?)
+    }
+
+    fn read(&mut self, handle: HandleNumber) -> Result<RecordView, Error> {
+        let (pinned, node) = self.budget.pin(self.alloc, &mut self.pager, handle, 1)?;
+        let record = node.as_ref().value.clone()?;
+        let refs = self.clone_references(record.as_ref())?;
+        self.pager.release(pinned)?;
+        self.pager.unpin(handle)?;
+        Ok(RecordView { record, refs })
+    }
+
+    fn clone_handle(&mut self, handle: HandleNumber) -> Result<HandleNumber, Error> {
+        self.pager.clone(handle)
+    }
+
+    fn release(&mut self, handles: &[HandleNumber]) -> Result<(), Error> {
+        for handle in handles {
+            self.pager.release(*handle)?;
+        }
+        Ok(())
+    }
+
+    fn release_waiting(&mut self) -> Result<(), Error> {
+        for place in (0..self.pager.pending()).rev() {
+            if let Some(handle) = self.pager.take_pending(place) {
+                self.pager.release(handle)?;
+            }
+        }
+        Ok(())
+    }
+
+    fn key(&mut self, handle: HandleNumber) -> Result<DataKey, Error> {
+        page_out_changed(self.alloc, &mut self.pager, handle)
+    }
+
+    fn key_of_text(&self, text: &str) -> Result<DataKey, Error> {
+        let record = Record::new(self.alloc, TEXT, text, Vec::new(self.alloc))?;
+        let bytes = to_bytes(self.alloc, self.pager.env(), &record)?;
+        let arcs = Vec::new(self.alloc);
+        Ok(PagableData { bytes, arcs }.compute_key::<Sha256Key>())
+    }
+}
+
+impl<S: Roots<Records> + Drop> RecordStore<S> {
+    /// Opens the records of a storage: the handle of the one that a root's name stands for, if it stands for one, pins
+    /// nothing, and nothing of it is read. The budget keeps so many records in memory.
+    ///
+    /// # Errors
+    /// - as `Roots::root` and `cells::cell_of`.
+    pub fn open(
+        alloc: Global,
+        mut storage: S,
+        name: &str,
+        kept: u64,
+    ) -> Result<(RecordStore<S>, Option<HandleNumber>), Error> {
+        let root = storage.root(name)?;
+        let budget = Budget::new(alloc, kept)?;
+        let pager = Pager::new(alloc, storage, Records);
+        let mut store = RecordStore {
+            alloc,
+            pager,
+            budget,
+        };
+        match root {
+            None => Ok((store, None)),
+            Some(key) => {
+                let handle = cell_of::<Record, _, _>(alloc, &mut store.pager, key)?;
+                Ok((store, Some(handle)))
+            }
+        }
+    }
+
+    /// Pages out a handle's record with what changed of all that it reaches, lets a root's name stand for it, and makes
+    /// sure of both in one flush. The store goes on.
+    ///
+    /// # Errors
+    /// - as `page_out_changed`, `Pager::set_root` and `Pager::flush`: after another open the name stands for what it
+    ///   stood for at the last flush.
+    pub fn save(&mut self, name: &str, handle: HandleNumber) -> Result<(), Error>
+        ensures flushed { IsTrue (S.PagableStorage.is_honest self.new.pager.storage)
+            → OnOk result (S.PagableStorage.flushed self.new.pager.storage ≡ S.PagableStorage.stored self.new.pager.storage) }
+    {
+        let key = self.key(handle)?;
+        self.pager.set_root(self.alloc, name, Some(key))?;
+        self.pager.flush()
+    }
+}

@@ -1,0 +1,92 @@
+//! Lines about a sheet, and their answers. Each version of the sheet is a record over the one before it.
+
+use crate::sheet::{MOST_LEVELS, Sheet};
+use anyhow::{Context, Result, bail};
+use pagable::HandleNumber;
+use record_store::{Job, RecordCalls};
+
+/// The tag of a record of a version: its text is that of its cells.
+const VERSION: u32 = 1;
+
+/// The tag of a record of a sheet: its text is that of its sums, and it refers to its version.
+const SHEET: u32 = 2;
+
+/// The lines of standard input, which are answered about the sheet of the last run.
+#[derive(Drop)]
+pub struct Lines<'a> {
+    pub rt: &'a HostRuntime,
+}
+
+impl<'a> Job for Lines<'a> {
+    const ROOT: &'static str = "sheet";
+
+    const KEPT_RECORDS: u64 = 100;
+
+    fn run<R: RecordCalls>(
+        &self,
+        store: &mut R,
+        last: Option<HandleNumber>,
+    ) -> Result<HandleNumber> {
+        let root = match last {
+            Some(root) => root,
+            None => insert_first(store)?,
+        };
+        let view = store.read(root)?;
+        let version = view.first().context("no sheet is stored here")?;
+        let mut sheet = Sheet::read_sums(store.alloc(), version, view.text())?;
+        go_to(store, &mut sheet, version)?;
+        for line in self.rt.lines(store.alloc()) {
+            let line = line?;
+            if let Err(error) = answer(self.rt, store, &mut sheet, line.as_str()) {
+                println!(self.rt; "refused: {error}")?;
+            }
+        }
+        let sums = sheet.spell_sums()?;
+        Ok(store.insert(SHEET, sums.as_str(), &[sheet.version])?)
+    }
+}
+
+/// Inserts the record of a sheet without cells.
+fn insert_first<R: RecordCalls>(store: &mut R) -> Result<HandleNumber> {
+    let version = store.insert(VERSION, "", &[])?;
+    Ok(store.insert(SHEET, "", &[version])?)
+}
+
+/// Answers a line.
+fn answer<R: RecordCalls>(
+    rt: &HostRuntime,
+    store: &mut R,
+    sheet: &mut Sheet,
+    line: &str,
+) -> Result<()> {
+    let words: Vec<&str> = line.split_whitespace().collect(store.alloc())?;
+    match *words.as_slice() {
+        ["set", name, formula] => set(store, sheet, name, formula)?,
+        ["undo"] => undo(store, sheet)?,
+        ["get", name] => return Ok(rt.println(sheet.evaluate(name, MOST_LEVELS)?)?),
+        ["stats"] => return Ok(println!(rt; "{} added, {} known", sheet.added, sheet.known)?),
+        _ => bail!("a line is set NAME 5, set NAME =A+B, get NAME, undo or stats"),
+    }
+    Ok(rt.println("ok")?)
+}
+
+/// Sets what stands in a cell, by a new version.
+fn set<R: RecordCalls>(store: &mut R, sheet: &mut Sheet, name: &str, formula: &str) -> Result<()> {
+    let cells = sheet.spell_next(name, formula)?;
+    let version = store.insert(VERSION, cells.as_str(), &[sheet.version])?;
+    go_to(store, sheet, version)
+}
+
+/// Goes back to the version before this one.
+fn undo<R: RecordCalls>(store: &mut R, sheet: &mut Sheet) -> Result<()> {
+    let before = store.read(sheet.version)?.first();
+    let before = before.context("there is no version before this one")?;
+    go_to(store, sheet, before)
+}
+
+/// Goes to the version of a record.
+fn go_to<R: RecordCalls>(store: &mut R, sheet: &mut Sheet, version: HandleNumber) -> Result<()> {
+    let cells = store.read(version)?;
+    sheet.go_to(version, String::from_str(store.alloc(), cells.text())?);
+    Ok(())
+}

@@ -1,0 +1,19 @@
+//! A sheet of numbers and sums that lasts from run to run, with all its versions: `spreadsheet STORE` answers the lines
+//! of standard input, and saves the sheet in STORE where they end.
+#![tactic(auto)]
+
+mod lines;
+mod sheet;
+
+use crate::lines::Lines;
+use anyhow::{Result, bail};
+use record_store::run_over_file;
+use std::env;
+
+fn main(rt: HostRuntime) -> Result<()> {
+    let mut words = env::args(&rt)?.skip(1);
+    match (words.next(), words.next()) {
+        (Some(path), None) => run_over_file(&rt, path.as_str(), &Lines { rt: &rt }),
+        _ => bail!("usage: spreadsheet STORE"),
+    }
+}

@@ -1,0 +1,139 @@
+//! A sheet at one version, and what sums came to in all of them.
+
+use anyhow::{Context, Result, bail, ensure};
+use pagable::HandleNumber;
+use std::alloc::Global;
+use std::collections::BTreeMap;
+
+/// How many sums may stand on each other.
+pub const MOST_LEVELS: u32 = 64;
+
+/// A sheet at one version.
+#[derive(Drop)]
+pub struct Sheet {
+    alloc: Global,
+    /// The record of this version.
+    pub version: HandleNumber,
+    /// A line for each cell: its name and what stands in it, which is `5` or `=A+B`.
+    cells: String,
+    /// The values of cells that have been asked for.
+    values: BTreeMap<String, i64>,
+    /// What sums came to in all versions and runs, by their numbers, as `[5, 7]`.
+    sums: BTreeMap<String, i64>,
+    /// How many sums of this run were added up, and how many were known.
+    pub added: u64,
+    pub known: u64,
+}
+
+impl Sheet {
+    /// Reads the sums of a text with a line for each, as `[5, 7] 12`. There are no cells yet.
+    pub fn read_sums(alloc: Global, version: HandleNumber, text: &str) -> Result<Sheet> {
+        let mut sums = BTreeMap::new(alloc);
+        for line in text.lines() {
+            let (numbers, sum) = line.rsplit_once(" ").context("no sum is stored here")?;
+            let sum = sum.parse::<i64>().context("no sum is stored here")?;
+            sums.insert(String::from_str(alloc, numbers)?, sum)?;
+        }
+        Ok(Sheet {
+            alloc,
+            version,
+            cells: String::new(alloc),
+            values: BTreeMap::new(alloc),
+            sums,
+            added: 0,
+            known: 0,
+        })
+    }
+
+    /// Spells the sums as such a text.
+    pub fn spell_sums(&self) -> Result<String> {
+        let mut text = String::new(self.alloc);
+        for (numbers, sum) in self.sums.iter() {
+            writeln!(text, "{} {sum}", numbers.as_str())?;
+        }
+        Ok(text)
+    }
+
+    /// Goes to a version with these cells.
+    pub fn go_to(&mut self, version: HandleNumber, cells: String) {
+        self.version = version;
+        self.cells = cells;
+        self.values.clear();
+    }
+
+    /// Spells the cells of the next version, in which this one holds this formula.
+    pub fn spell_next(&self, name: &str, formula: &str) -> Result<String> {
+        if !formula.starts_with("=") {
+            parse_number(formula)?;
+        }
+        let mut cells = String::new(self.alloc);
+        for line in self.cells.as_str().lines() {
+            if line.split_once(" ").is_none_or(|(found, _)| found != name) {
+                writeln!(cells, "{line}")?;
+            }
+        }
+        writeln!(cells, "{name} {formula}")?;
+        Ok(cells)
+    }
+
+    /// Evaluates a cell over at most so many levels of sums.
+    #[cycle(evaluating)]
+    pub fn evaluate(&mut self, name: &str, levels: u32) -> Result<i64> {
+        if let Some(value) = self.values.get(name) {
+            return Ok(*value);
+        }
+        let formula = self.formula(name)?;
+        let value = match formula.as_str().strip_prefix("=") {
+            Some(names) => self.evaluate_sum(names, levels)?,
+            None => parse_number(formula.as_str())?,
+        };
+        self.values
+            .insert(String::from_str(self.alloc, name)?, value)?;
+        Ok(value)
+    }
+
+    /// Evaluates a sum: its cells first, and then what their values come to.
+    #[cycle(evaluating)]
+    fn evaluate_sum(&mut self, names: &str, levels: u32) -> Result<i64> {
+        ensure!(levels > 0, "a ring of sums, or over {MOST_LEVELS} levels");
+        let mut numbers = Vec::new(self.alloc);
+        for name in names.split("+") {
+            let number = self.evaluate(name, levels - 1)?;
+            numbers.push(number)?;
+        }
+        self.add_up(numbers.as_slice())
+    }
+
+    /// Finds what stands in a cell.
+    fn formula(&self, name: &str) -> Result<String> {
+        for line in self.cells.as_str().lines() {
+            if let Some((found, formula)) = line.split_once(" ") {
+                if found == name {
+                    return Ok(String::from_str(self.alloc, formula)?);
+                }
+            }
+        }
+        bail!("no cell is called {name}")
+    }
+
+    /// Adds numbers up, if the same ones in the same order weren't added up before.
+    fn add_up(&mut self, numbers: &[i64]) -> Result<i64> {
+        let spelled = format!(in self.alloc; "{numbers:?}")?;
+        if let Some(sum) = self.sums.get(spelled.as_str()) {
+            self.known = self.known.saturating_add(1);
+            return Ok(*sum);
+        }
+        let sum = numbers
+            .iter()
+            .try_fold(0i64, |sum, number| sum.checked_add(*number));
+        let sum = sum.context("a sum overflows")?;
+        self.sums.insert(spelled, sum)?;
+        self.added = self.added.saturating_add(1);
+        Ok(sum)
+    }
+}
+
+fn parse_number(text: &str) -> Result<i64> {
+    text.parse::<i64>()
+        .context("a formula is a number or =NAME+NAME")
+}

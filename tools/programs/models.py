@@ -1,0 +1,157 @@
+"""Plain models of the three programs whose files last."""
+import operator
+import random
+
+
+# ---- build_cache: a step is a command and the texts of its inputs
+
+def lines_of(text):
+    """The lines of a text, the last one also where no line feed ends it."""
+    lines = text.split("\n")
+    return lines if lines[-1] else lines[:-1]
+
+
+COMMANDS = {
+    "concat": lambda text: text,
+    "sort": lambda text: "".join(f"{line}\n" for line in sorted(lines_of(text))),
+    "upper": str.upper,
+    "count": lambda text: f"{len(lines_of(text))}\n",
+}
+
+
+def build(cache, folder):
+    """What a build says and which files it leaves, as long as a cache forgets nothing."""
+    said, files, ran = [], {}, 0
+    rules = [line.split() for line in (folder / "BUILD").read_text().splitlines()]
+    rules = [rule for rule in rules if rule and not rule[0].startswith("#")]
+    for target, word, *inputs in rules:
+        texts = tuple(files[name] if name in files else (folder / name).read_text() for name in inputs)
+        said.append(f"{'kept' if (word, texts) in cache else 'ran'} {target}\n")
+        ran += (word, texts) not in cache
+        cache.add((word, texts))
+        files[target] = COMMANDS[word]("".join(texts))
+    return "".join(said) + f"{ran} of {len(rules)} commands ran\n", files
+
+
+# ---- heap_snapshot: pairs are tuples
+
+OPERATIONS = {"+": operator.add, "-": operator.sub, "*": operator.mul}
+
+
+class Machine:
+    def __init__(self, text):
+        self.lines, self.place, self.variables = text.splitlines(), 0, {}
+
+    def has_ended(self):
+        return self.place >= len(self.lines)
+
+    def number(self, word):
+        return self.variables[word] if word in self.variables else int(word)
+
+    def value(self, words):
+        """What stands behind `=`."""
+        match words:
+            case [word]:
+                return self.number(word)
+            case ["first" | "rest" as part, name]:
+                return self.variables[name][part == "rest"]
+            case [first, ",", rest]:
+                return self.variables[first], self.variables[rest]
+            case [left, word, right]:
+                return OPERATIONS[word](self.number(left), self.number(right))
+
+    def step(self):
+        """Runs a line, and gives what it shows."""
+        self.place += 1
+        match self.lines[self.place - 1].split():
+            case ["show", word]:
+                return f"{self.number(word)}\n"
+            case ["go", label]:
+                self.place = self.lines.index(label)
+            case ["go", label, "unless", name]:
+                if self.variables[name] == 0:
+                    self.place = self.lines.index(label)
+            case [name, "=", *words]:
+                self.variables[name] = self.value(words)
+        return ""
+
+    def run(self, most):
+        """What a run of at most so many lines says."""
+        said = ""
+        for _ in range(most):
+            if self.has_ended():
+                break
+            said += self.step()
+        return f"{said}at line {self.place} of {len(self.lines)}\n"
+
+
+# ---- spreadsheet: versions are dicts
+
+NAMES = ["A", "B", "C", "D", "E"]
+
+
+def line():
+    """A drawn line."""
+    name = random.choice(NAMES)
+    number, names = random.randrange(-3, 4), random.choices(NAMES, k=random.randrange(1, 4))
+    formula = random.choice([str(number), "=" + "+".join(names)])
+    if random.random() < 0.1:
+        formula = "5x"
+    return random.choice([f"set {name} {formula}"] * 3 + [f"get {name}"] * 3 + ["undo", "stats", f"put {name}"])
+
+
+class Refused(Exception):
+    pass
+
+
+class Sheet:
+    def __init__(self):
+        self.versions, self.sums = [{}], set()
+
+    def begin(self):
+        """Begins a run."""
+        self.added = self.known = 0
+        self.values = {}
+
+    def value(self, name, levels):
+        if name in self.values:
+            return self.values[name]
+        if name not in self.versions[-1]:
+            raise Refused(f"no cell is called {name}")
+        formula = self.versions[-1][name]
+        if formula.startswith("="):
+            if not levels:
+                raise Refused("a ring of sums, or over 64 levels")
+            numbers = tuple(self.value(part, levels - 1) for part in formula[1:].split("+"))
+            self.known += numbers in self.sums
+            self.added += numbers not in self.sums
+            self.sums.add(numbers)
+            self.values[name] = sum(numbers)
+        else:
+            self.values[name] = int(formula)
+        return self.values[name]
+
+    def answer(self, line):
+        """What a line is answered."""
+        try:
+            return self.done(*line.split())
+        except Refused as refused:
+            return f"refused: {refused}"
+
+    def done(self, word, *words):
+        if word == "set":
+            if words[1] == "5x":
+                raise Refused("a formula is a number or =NAME+NAME")
+            self.versions.append({**self.versions[-1], words[0]: words[1]})
+        elif word == "get":
+            return self.value(words[0], 64)
+        elif word == "undo":
+            if len(self.versions) == 1:
+                raise Refused("there is no version before this one")
+            self.versions.pop()
+        elif word == "stats":
+            return f"{self.added} added, {self.known} known"
+        else:
+            raise Refused("a line is set NAME 5, set NAME =A+B, get NAME, undo or stats")
+        self.values = {}
+        return "ok"

@@ -1,0 +1,119 @@
+#!/usr/bin/env python3
+"""Runs the three programs whose files last, each several times on one file, and compares what they say and write with
+plain models; its status is 0 where all was as it should be.
+
+    tools/programs/run.py [PROGRAM..]        (with no word: build_cache, heap_snapshot and spreadsheet)
+
+They are built unproved, by `rt try`, as tools/speed/build.py says, in a copy of the repository's crates.
+"""
+import pathlib
+import random
+import shutil
+import subprocess
+import sys
+import tempfile
+
+HERE = pathlib.Path(__file__).resolve().parent
+TOP = HERE.parent.parent
+sys.path += [str(HERE), str(TOP / "tools" / "speed")]
+import build  # noqa: E402
+import models  # noqa: E402
+
+
+def built(folder, name):
+    """Builds a program, and gives its path."""
+    copy = folder / "repository"
+    shutil.copytree(TOP / "crates", copy / "crates", ignore=shutil.ignore_patterns("out"))
+    shutil.copy(TOP / "HANDLES", copy / "HANDLES")
+    shutil.copy(TOP / "crates.txt", copy / "crates.txt")
+    subprocess.run(["git", "init", "-q"], cwd=copy, check=True)
+    return build.compiled_in(folder, copy / "crates" / name / "src")
+
+
+def run(program, words, text=""):
+    """Runs a program with these words and this input: its status, and what it said."""
+    done = subprocess.run([program, *map(str, words)], input=text, text=True, capture_output=True, timeout=120)
+    return done.returncode, done.stdout + done.stderr
+
+
+def expect(found, wanted, what):
+    """Ends the program where something isn't as it should be."""
+    if found != wanted:
+        sys.exit(f"{what}: {found!r} in place of {wanted!r}")
+
+
+def built_once(program, store, folder, cache):
+    """Builds a folder by the program and by the model, and compares what is said and what is written."""
+    said, files = models.build(cache, folder)
+    expect(run(program, [store, folder]), (0, said), "build_cache")
+    for name, text in files.items():
+        expect((folder / name).read_text(), text, name)
+    return said
+
+
+def build_cache(program, work):
+    """A first build, a second one, edits that change a part and nothing, a lost target, a rule file that is none, and
+    drawn edits."""
+    folder, store, cache = work / "folder", work / "build.store", set()
+    shutil.copytree(TOP / "crates" / "build_cache" / "data", folder)
+    ended = lambda: built_once(program, store, folder, cache).splitlines()[-1]
+    expect(ended(), "5 of 6 commands ran", "the first build")
+    expect(ended(), "0 of 6 commands ran", "the second build")
+    text = (folder / "a.txt").read_text()
+    (folder / "a.txt").write_text("".join(reversed(text.splitlines(keepends=True))))
+    expect(ended(), "3 of 6 commands ran", "the build after an edit that sorting takes back")
+    (folder / "a.txt").write_text(text)
+    expect(ended(), "0 of 6 commands ran", "the build after the edit was taken back")
+    (folder / "report.txt").unlink()
+    expect(ended(), "0 of 6 commands ran", "the build after a target was lost")
+    rules = (folder / "BUILD").read_text()
+    (folder / "BUILD").write_text(rules + "more.txt turn a.txt\n")
+    expect(run(program, [store, folder])[0], 1, "the build of a rule with no command")
+    (folder / "BUILD").write_text(rules)
+    for _ in range(20):
+        lines = random.choices(["fig\n", "plum\n", "Apfel\n", "\n"], k=random.randrange(4))
+        (folder / random.choice(["a.txt", "b.txt"])).write_text("".join(lines))
+        built_once(program, store, folder, cache)
+    return 26
+
+
+def heap_snapshot(program, work):
+    """A program in one run, and stopped at drawn places, from process to process."""
+    file = TOP / "crates" / "heap_snapshot" / "data" / "squares.txt"
+    machine = models.Machine(file.read_text())
+    expect(run(program, [work / "none.store", 1])[0], 1, "a machine that isn't there")
+    expect(run(program, [work / "one.store", 10**6, file]), (0, machine.run(10**6)), "one run")
+    store, runs, words = work / "heap.store", 0, [file]
+    machine = models.Machine(file.read_text())
+    while not machine.has_ended():
+        most = random.randrange(1, 1000)
+        expect(run(program, [store, most, *words]), (0, machine.run(most)), f"run {runs}, of {most} lines")
+        runs, words = runs + 1, []
+    return runs + 2
+
+
+def spreadsheet(program, work):
+    """Drawn lines, in drawn portions from run to run."""
+    sheet, runs = models.Sheet(), 30
+    for _ in range(runs):
+        sheet.begin()
+        lines = [models.line() for _ in range(random.randrange(20))]
+        wanted = "".join(f"{sheet.answer(line)}\n" for line in lines)
+        found = run(program, [work / "sheet.store"], "".join(f"{line}\n" for line in lines))
+        expect(found, (0, wanted), "\n".join(lines))
+    return runs
+
+
+def main():
+    for name in sys.argv[1:] or ["build_cache", "heap_snapshot", "spreadsheet"]:
+        random.seed(name)
+        with tempfile.TemporaryDirectory() as folder:
+            folder = pathlib.Path(folder)
+            program = built(folder, name)
+            work = folder / "work"
+            work.mkdir()
+            print(f"{name}: {globals()[name](program, work)} runs as they should be", flush=True)
+
+
+if __name__ == "__main__":
+    main()
