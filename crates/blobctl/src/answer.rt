@@ -1,6 +1,6 @@
 //! What commands answer.
 
-use crate::blobs::Blobs;
+use crate::blobs::{Blobs, InFile};
 use crate::command::{Verb, key_of};
 use crate::look::{graph, list, roots, stat, tree};
 use crate::progress::Progress;
@@ -113,7 +113,7 @@ fn copy_roots<B: Blobs>(rt: &HostRuntime, from: &mut B, to: &mut B) -> Result<us
 ///
 /// # Errors
 /// - Blobs, File: as either file refuses it. Some blobs may have been copied then.
-pub fn copy_to<B: Blobs>(rt: &HostRuntime, blobs: &mut B, path: &str) -> Result<usize, Refusal> {
+pub fn copy_to<B: InFile>(rt: &HostRuntime, blobs: &mut B, path: &str) -> Result<usize, Refusal> {
     let mut to = B::open(rt, path)?;
     let count = copy_roots(rt, blobs, &mut to)?;
     to.close(rt.alloc())?;
@@ -126,7 +126,7 @@ pub fn copy_to<B: Blobs>(rt: &HostRuntime, blobs: &mut B, path: &str) -> Result<
 /// - BadLine: a word behind the verb is no key or no bytes.
 /// - AmongLines: `gc`.
 /// - Blobs, File: as the file refuses it, or the other one of `copy`.
-pub fn answer<B: Blobs>(rt: &HostRuntime, blobs: &mut B, verb: Verb, words: &str) -> Answer {
+pub fn answer<B: InFile>(rt: &HostRuntime, blobs: &mut B, verb: Verb, words: &str) -> Answer {
     match verb {
         Verb::Fsck => Ok(fsck(rt, blobs)?),
         Verb::Copy => {

@@ -6,15 +6,12 @@ use pagable_file::copy::copy;
 use pagable_file::{FileBlobs, Flaw, Listed, OpenError, Watch};
 use pagable_flavors::{DataKey, Error};
 use sqlite::{File, FileStore};
+use sqlite_trees::store::Store;
 use std::alloc::Global;
 use std::sync::Arc;
 
 /// An open file of blobs. Each call makes the call of `FileBlobs` of that name, and is refused as that is.
 pub trait Blobs: Drop {
-    fn open(rt: &HostRuntime, path: &str) -> Result<Self, OpenError>;
-
-    fn close(self, alloc: Global) -> Result<(), OpenError>;
-
     fn list(&mut self, alloc: Global) -> Result<Vec<Listed>, Error>;
 
     fn root_names(&mut self, alloc: Global) -> Result<Vec<String>, Error>;
@@ -40,7 +37,14 @@ pub trait Blobs: Drop {
     ) -> Result<usize, Error>;
 }
 
-impl<E: Env> Blobs for FileBlobs<E, FileStore<File>> {
+/// Blobs that stand in the file of a path.
+pub trait InFile: Blobs {
+    fn open(rt: &HostRuntime, path: &str) -> Result<Self, OpenError>;
+
+    fn close(self, alloc: Global) -> Result<(), OpenError>;
+}
+
+impl<E: Env> InFile for FileBlobs<E, FileStore<File>> {
     fn open(rt: &HostRuntime, path: &str) -> Result<FileBlobs<E, FileStore<File>>, OpenError> {
         FileBlobs::open(rt, path)
     }
@@ -49,7 +53,9 @@ impl<E: Env> Blobs for FileBlobs<E, FileStore<File>> {
         self.close_files(alloc)?;
         Ok(())
     }
+}
 
+impl<E: Env, S: Store + Drop> Blobs for FileBlobs<E, S> {
     fn list(&mut self, alloc: Global) -> Result<Vec<Listed>, Error> {
         FileBlobs::list(self, alloc)
     }

@@ -1,7 +1,7 @@
 //! Lets go of what no root of a file reaches: a new file beside it takes its place.
 
 use crate::answer::{Answer, copy_to};
-use crate::blobs::Blobs;
+use crate::blobs::InFile;
 use crate::refusal::Refusal;
 use std::alloc::{AllocError, Global};
 use std::{fs, io};
@@ -33,7 +33,7 @@ fn replace(rt: &HostRuntime, path: &str, new: &str) -> io::Result<()> {
 }
 
 /// Copies what the roots reach into a new file, and closes that; answers how many blobs these are.
-fn copy_beside<B: Blobs>(rt: &HostRuntime, blobs: &mut B, new: &str) -> Result<usize, Refusal> {
+fn copy_beside<B: InFile>(rt: &HostRuntime, blobs: &mut B, new: &str) -> Result<usize, Refusal> {
     remove(rt, new)?;
     remove_log(rt, new)?;
     copy_to(rt, blobs, new)
@@ -43,7 +43,7 @@ fn copy_beside<B: Blobs>(rt: &HostRuntime, blobs: &mut B, new: &str) -> Result<u
 ///
 /// # Errors
 /// - Blobs, File, System: as either file or the system refuses it; the file holds what it held.
-pub fn collect<B: Blobs>(rt: &HostRuntime, path: &str, mut blobs: B) -> Answer {
+pub fn collect<B: InFile>(rt: &HostRuntime, path: &str, mut blobs: B) -> Answer {
     let new = path_with(rt.alloc(), path, ".new")?;
     let count = copy_beside(rt, &mut blobs, new.as_str())?;
     blobs.close(rt.alloc())?;

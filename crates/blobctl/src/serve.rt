@@ -1,7 +1,7 @@
 //! Answers lines, or one command.
 
 use crate::answer::{Answer, answer};
-use crate::blobs::Blobs;
+use crate::blobs::InFile;
 use crate::collect::collect;
 use crate::command::{Verb, parse};
 use crate::refusal::Refusal;
@@ -23,12 +23,12 @@ fn tell(rt: &HostRuntime, answer: Answer) -> io::Result<bool> {
 }
 
 /// Runs a command over an open file, and prints its answer; false where it is refused, or finds a flaw.
-fn run<B: Blobs>(rt: &HostRuntime, blobs: &mut B, verb: Verb, words: &str) -> io::Result<bool> {
+fn run<B: InFile>(rt: &HostRuntime, blobs: &mut B, verb: Verb, words: &str) -> io::Result<bool> {
     tell(rt, answer(rt, blobs, verb, words))
 }
 
 /// Answers a line; None is one that isn't text.
-fn run_line<B: Blobs>(rt: &HostRuntime, blobs: &mut B, line: Option<&str>) -> io::Result<bool> {
+fn run_line<B: InFile>(rt: &HostRuntime, blobs: &mut B, line: Option<&str>) -> io::Result<bool> {
     match line.and_then(parse) {
         Some((verb, words)) => run(rt, blobs, verb, words),
         None => tell(rt, Err(Refusal::BadLine)),
@@ -36,7 +36,7 @@ fn run_line<B: Blobs>(rt: &HostRuntime, blobs: &mut B, line: Option<&str>) -> io
 }
 
 /// Answers each line of the input.
-fn run_lines<B: Blobs>(rt: &HostRuntime, blobs: &mut B) -> io::Result<bool> {
+fn run_lines<B: InFile>(rt: &HostRuntime, blobs: &mut B) -> io::Result<bool> {
     let mut reader = BufReader::new(rt.alloc(), rt.reader())?;
     let mut line = Vec::new(rt.alloc());
     for _ in 0..u64::MAX {
@@ -50,7 +50,7 @@ fn run_lines<B: Blobs>(rt: &HostRuntime, blobs: &mut B) -> io::Result<bool> {
 }
 
 /// Runs one command over a file; what it changes is committed.
-fn run_alone<B: Blobs>(
+fn run_alone<B: InFile>(
     rt: &HostRuntime,
     blobs: &mut B,
     verb: Verb,
@@ -65,7 +65,7 @@ fn run_alone<B: Blobs>(
 
 /// Opens the file of a path, and runs the command of a line, or for an empty one the lines of the input; false where the
 /// file or the command is refused, or a flaw is found.
-pub fn serve<B: Blobs>(rt: &HostRuntime, path: &str, line: &str) -> io::Result<bool> {
+pub fn serve<B: InFile>(rt: &HostRuntime, path: &str, line: &str) -> io::Result<bool> {
     let mut blobs = match B::open(rt, path) {
         Ok(blobs) => blobs,
         Err(error) => {
