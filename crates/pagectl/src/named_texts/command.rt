@@ -100,7 +100,7 @@ fn verb_of(word: &str) -> Option<Verb>
 }
 
 /// Whether the word is a name.
-fn is_name(word: &str) -> bool
+pub fn is_name(word: &str) -> bool
     ensures { IsTrue result ↔ IsName word.now }
 {
     let fits = word.len() >= 1 && word.len() <= 16;

@@ -6,8 +6,8 @@ use crate::named_texts::command::{Command, Verb};
 use crate::named_texts::names::{Names, Refusal};
 use pagable::storage::handle::Storage;
 use pagable::{
-    Env, Error, FirstHandle, HandleNumber, InMemoryBlobs, InMemoryPagableStorage, KeyHash,
-    OptionalDataKey, PagableStorageHandle, PageOutError,
+    Env, Error, FirstHandle, HandleNumber, KeyHash, OptionalDataKey, PagableStorage,
+    PagableStorageHandle, PageOutError,
 };
 use pagable_rows::text::{TextEnv, TextNode};
 use std::alloc::Global;
@@ -22,30 +22,30 @@ pub enum Answer {
     Value(Arc<TextNode>),
 }
 
-type TextStorage<H> = PagableStorageHandle<TextEnv<H>, InMemoryBlobs<TextEnv<H>>>;
+type TextStorage<H, S> = PagableStorageHandle<TextEnv<H>, S>;
 
 /// The handles that have names, and the storage that they are of. No text stands outside a cell or a blob.
 #[derive(Drop)]
-pub struct Session<'a, R: Wait, H: KeyHash>
+pub struct Session<'a, R: Wait, H: KeyHash, S: PagableStorage<TextEnv<H>>>
 where
     TextEnv<H>: Env<Node = TextNode, Hash = H, CtxKey = (), CtxValue = ()>,
 {
-    rt: &'a R,
-    names: Names,
-    storage: TextStorage<H>,
+    pub rt: &'a R,
+    pub names: Names,
+    pub storage: TextStorage<H, S>,
 }
 
-impl<'a, R: Wait, H: KeyHash> Session<'a, R, H> {
-    /// Makes a session without names and cells.
+impl<'a, R: Wait, H: KeyHash, S: PagableStorage<TextEnv<H>> + Drop> Session<'a, R, H, S> {
+    /// Makes a session without names and cells over a storage.
     ///
     /// # Errors
     /// - OutOfMemory.
-    pub fn new(rt: &'a R, alloc: Global) -> Result<Session<'a, R, H>, Error> {
-        let storage = InMemoryPagableStorage::new(alloc, TextEnv::new())?;
+    pub fn new(rt: &'a R, alloc: Global, storage: S) -> Result<Session<'a, R, H, S>, Error> {
+        let storage = PagableStorageHandle::new(alloc, storage, TextEnv::new())?;
         Ok(Session {
             rt,
             names: Names::new(alloc),
-            storage: storage.handle()?,
+            storage,
         })
     }
 
@@ -56,11 +56,11 @@ impl<'a, R: Wait, H: KeyHash> Session<'a, R, H> {
 }
 
 /// Runs a command on these names and the storage that their handles are of.
-fn run<R: Wait, H: KeyHash>(
+fn run<R: Wait, H: KeyHash, S: PagableStorage<TextEnv<H>>>(
     rt: &R,
     alloc: Global,
     names: &mut Names,
-    storage: &TextStorage<H>,
+    storage: &TextStorage<H, S>,
     command: Command<'_>,
 ) -> Result<Answer, Refusal>
     ensures { Serves command.entry result names.old names.new }
@@ -84,11 +84,11 @@ fn run<R: Wait, H: KeyHash>(
 }
 
 /// A new cell with the text, whose loose handle gets the name.
-fn make<R: Wait, H: KeyHash>(
+fn make<R: Wait, H: KeyHash, S: PagableStorage<TextEnv<H>>>(
     rt: &R,
     alloc: Global,
     names: &mut Names,
-    storage: &TextStorage<H>,
+    storage: &TextStorage<H, S>,
     name: &str,
     text: &str,
 ) -> Result<Answer, Refusal>
@@ -102,11 +102,11 @@ fn make<R: Wait, H: KeyHash>(
 }
 
 /// Pins the cell of a name, and answers its text. The pin gets the new name.
-fn pin<R: Wait, H: KeyHash>(
+fn pin<R: Wait, H: KeyHash, S: PagableStorage<TextEnv<H>>>(
     rt: &R,
     alloc: Global,
     names: &mut Names,
-    storage: &TextStorage<H>,
+    storage: &TextStorage<H, S>,
     name: &str,
     new: &str,
 ) -> Result<Answer, Refusal>
@@ -120,11 +120,11 @@ fn pin<R: Wait, H: KeyHash>(
 }
 
 /// Clones the handle of a name. The clone gets the new name.
-fn clone<R: Wait, H: KeyHash>(
+fn clone<R: Wait, H: KeyHash, S: PagableStorage<TextEnv<H>>>(
     rt: &R,
     alloc: Global,
     names: &mut Names,
-    storage: &TextStorage<H>,
+    storage: &TextStorage<H, S>,
     name: &str,
     new: &str,
 ) -> Result<Answer, Refusal>
@@ -139,10 +139,10 @@ fn clone<R: Wait, H: KeyHash>(
 
 /// Gives up the handle of a name, which is free again. All handles that have names are the program's own, so a refusal
 /// says that the cell couldn't be listed: the handle is given up all the same.
-fn release<R: Wait, H: KeyHash>(
+fn release<R: Wait, H: KeyHash, S: PagableStorage<TextEnv<H>>>(
     rt: &R,
     names: &mut Names,
-    storage: &TextStorage<H>,
+    storage: &TextStorage<H, S>,
     name: &str,
 ) -> Result<Answer, Refusal>
     ensures is_free { IsFree name.now names.new }
@@ -156,9 +156,9 @@ fn release<R: Wait, H: KeyHash>(
 
 /// Gives up a handle's pin, makes a Pinned handle loose, or answers how many handles pin its cell, the number of the
 /// cell's key, or whether the cell's text isn't in memory.
-fn ask<R: Wait, H: KeyHash>(
+fn ask<R: Wait, H: KeyHash, S: PagableStorage<TextEnv<H>>>(
     rt: &R,
-    storage: &TextStorage<H>,
+    storage: &TextStorage<H, S>,
     verb: Verb,
     handle: HandleNumber,
 ) -> Result<Answer, Error> {
