@@ -15,7 +15,9 @@ use Rattle.{pagable_pager.specs.View.{type_of_root, OnlyTables, state_in, core_i
 use Rattle.{pagable_walk.specs.{Tasks.IsPlain, Turns.LeavesFit, declared.{lent_table.LentTable.LentTable, tasks.{Task.Task, Turn.Turn}}, Table.shelf_of}, pagable_loads.specs.Frames.{IsLoadOf, reading_of, is_cell}}
 use Rattle.{pagable_loads.{proofs.Stepped.none_comes, specs.{declared.reading.Reading.Reading as Own, Working.{RefusesEntry, StartsEntry}}}, pagable_laws.proofs.{ReadingSteps.{caller-free, reading-feels}, Trees.same_some}}
 use Rattle.{pagable_laws.proofs.{Trees.same-number, Effects.{owned-mine, IsMine}}, pagable_core.specs.declared.{context.writing.SerializedData.SerializedData, storage.data.PagableData.PagableData}}
-use Rattle.{pagable_tables.proofs.Worlds.{no-load-fault, still}, pagable_model.specs.declared.{error.Error.Error, numbers.{WorkerNumber.WorkerNumber, LoadNumber.LoadNumber, HandleNumber.HandleNumber, ArcRef.ArcRef}}}
+use Rattle.pagable_model.specs.declared.{error.Error.Error}
+use Rattle.pagable_model.specs.declared.numbers.{ArcRef.ArcRef, HandleNumber.HandleNumber, LoadNumber.LoadNumber, WorkerNumber.WorkerNumber}
+use Rattle.pagable_tables.proofs.SameViews.{no-load-fault, still}
 use Rattle.pagable_world.specs.World as world
 use Rattle.pagable_codec.specs.declared.{env.Env.Ghosts as Environments, hash.KeyHash.Ghosts as Hashes, nodes.NodeSet.Ghosts as Nodes}
 use Rattle.std.specs.declared.cmp.{Ord.Ghosts as Orders, PartialEq.Ghosts as Equalities, PartialOrd.Ghosts as PartialOrders}

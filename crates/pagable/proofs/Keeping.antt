@@ -4,7 +4,9 @@ use Rattle.{pagable.specs.{Driving.{readings_in, walking_of, work_of}, declared.
 use Rattle.pagable_laws.proofs.{Effects.{then-fell, worker-apart}, Goes.{Goes, RowsGo, fell-anyhow, quiet-goes, stands-whole}, ReadingSteps.{caller-free, event-goes}, SparingSteps.event-spares}
 use Rattle.{pagable_laws.{proofs.Trees.{counted, one-true, same-number, same_some, self-number}, specs.TreeSteps.{Change, nothing_felt}}, pagable_loads.specs.{Frames.reading_of, Telling.Acting}}
 use Rattle.{pagable_loads.specs.declared.reading.Reading.Reading as Own, pagable_model.specs.declared.numbers.{ArcRef.ArcRef, HandleNumber.HandleNumber}, pagable_pager.specs.View.PagerView}
-use Rattle.{pagable_pager.specs.View.{Telling, core_in, state_in}, pagable_tables.proofs.Worlds.still, pagable_walk.specs.{Both.both, Turns.{IsOfKind, LeavesFit, TaskFits}}}
+use Rattle.pagable_pager.specs.View.{Telling, core_in, state_in}
+use Rattle.pagable_tables.proofs.SameViews.{still}
+use Rattle.pagable_walk.specs.{Both.both, Turns.{IsOfKind, LeavesFit, TaskFits}}
 use Rattle.pagable_walk.specs.declared.{lent_table.LentTable.LentTable, tasks.{Task.Task, Turn.Turn}}
 use Rattle.pagable_world.specs.{Access.{Called, Told}, Calls.{CloseCall, is_listed, shut}, Cascade.fallen, Events.{CallStep, Does, Ends, Happens, ReadingsAre, Stays, WorkStays}, Kinds.is_owner}
 use Rattle.pagable_world.specs.{Kinds.owner_worker, Order.step_of, Pager.{EventBrings, EventHolds, HandlesAreWhole, IsMachineWhole, IsReadingWhole, IsWalkingWhole, IsWhole, Moves, OwnersAreThere, PagerState}}

@@ -2,7 +2,8 @@
 
 ghost use Rattle.std.specs.Prelude.{[], IfOk, Ok, OnOk, slice_get, ◌++◌, ◌∷◌, ◌≡◌};
 ghost use Rattle.{pagable_changes.specs.Changes.{AllHave, IsFound, TakesKey}, pagable_world.specs.Calls.{KeyCall, NodeCall}};
-ghost use Rattle.{pagable_pager.specs.View.{core_in, telling}, pagable_tables.specs.Rows.row_by};
+ghost use Rattle.pagable_pager.specs.View.{core_in, telling};
+ghost use Rattle.pagable_tables.specs.NumberTable.{row_by};
 
 use crate::calls::is_at;
 use pagable_codec::{Env, NodeSet};

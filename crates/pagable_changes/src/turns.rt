@@ -3,7 +3,8 @@
 ghost use Rattle.std.specs.Prelude.{[], IfErr, IfNone, IfOk, IfSome, IsSome, IsTrue, OnErr, OnOk, Some, slice_get, ◌++◌, ◌∷◌, ◌≡◌};
 ghost use Rattle.pagable_changes.specs.Changes.{GivesUp, GoesDown, GoesNowhere, IsOver, IsUnset, LeaveFails, Leaves, SetsFor, Turn, TurnFails, Turned, TurnsFail, TurnsOut, Walks, stage};
 ghost use Rattle.{pagable_changes.specs.Keeping.KeepsStorage, pagable_core.specs.Data.blob_of, pagable_loads.specs.Telling.values_at};
-ghost use Rattle.{pagable_pager.specs.View.{core_in, state_in, telling}, pagable_tables.specs.Rows.{place_at, row_by}};
+ghost use Rattle.pagable_pager.specs.View.{core_in, state_in, telling};
+ghost use Rattle.pagable_tables.specs.NumberTable.{place_at, row_by};
 
 use crate::calls::{let_go, set_key, store};
 use crate::keys::{FoundKey, FoundKeys, LONGEST_PATH, collect_keys, find};

@@ -1,13 +1,14 @@
 -- A cell that is read at once, from a blob that refers to nothing: the numbers of a load and of its handle are taken, and the cell is pinned. That is what a load leaves that begins, fetches and ends.
-use Rattle.pagable_tables.proofs.{Alive.{all-kept, found-append, kept-more, left-none, of_list, there-is}, Fitting.{aside, turned, unmixed}, Kept.{found-among, sum-none}, Newer.{changed-push, seen-before}}
-use Rattle.pagable_tables.proofs.{Next.ended}
+use Rattle.pagable_tables.proofs.{CascadeStep.{aside, turned, unmixed}, Counting.{all-kept, kept-more, left-none, of_list, there-is}}
+use Rattle.pagable_tables.proofs.{HandleTable.found-append, OwnedByLoad.{changed-push, seen-before}, RowCounts.{found-among, sum-none}}
+use Rattle.pagable_tables.proofs.CascadeEnd.{ended}
 use Rattle.pagable_leaf.proofs.Words.{Alike, BeginCall, Blob, Bool, Core, Falls, HandleNumber, HandleRow, Holdings, Installs, List}
 use Rattle.pagable_leaf.proofs.Words.{LoadNumber, MayEnd, Mode, None, Ok, Option, OptionalDataKey, Owner, Owns, SoFar, Some, Tables, [], append-nil, ap, arith, cases_Bool, cases_eq, changed, core_of}
 use Rattle.pagable_leaf.proofs.Words.{MustList, false, filter-append, find_row, greatest, if◌then◌else◌, inl, inr, is_handle, is_here, is_loose, is_named_by, is_owned_by, is_owned_in, is_pin, is_plain_pin, is_share, left_rows}
 use Rattle.pagable_leaf.proofs.Words.{length, moved, nat_tests, nobody, not, of_cell, one, or_else, owner_value, owns_nothing, pins, refl, row_of, sharing, subst, sum_by-cons, sum_by-le-sum_by, sum_by_push, sym}
-use Rattle.pagable_tables.proofs.{Worlds.{alike-on, moved-nobody, named-none, owner-same, same-cache}}
+use Rattle.pagable_tables.proofs.SameViews.{alike-on, moved-nobody, named-none, owner-same, same-cache}
 use Rattle.pagable_leaf.proofs.Words.{times, type_at, with_handle, with_load, with_mode, with_pin, with_tables, without_load, ℕ, ◌&&◌, ◌++◌, ◌+◌, ◌<◌, ◌==◌, ◌∙◌, ◌∷◌, ◌≡◌, ◌≤◌}
-use Rattle.pagable_tables.proofs.{Told.none-named}
+use Rattle.pagable_tables.proofs.Views.{none-named}
 use Rattle.pagable_leaf.proofs.Words.{Last, length-append, length-map}
 use Rattle.pagable_tables.specs.Core.{ArePlaced}
 use Rattle.{pagable_leaf.specs.Leaf.{PinsLeaf, with_numbers}, pagable_tables.specs.Core.IsWhole}

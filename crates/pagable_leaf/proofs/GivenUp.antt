@@ -1,11 +1,13 @@
 -- A load of a cell that begins and is given up: no more is left of it than that its number and that of its handle are taken.
-use Rattle.pagable_tables.proofs.{Alive.{all-kept, found-append, kept-more, left-none, of_list, there-is}, Fitting.{aside, unmixed}, Kept.{found-among, sum-none}, Newer.seen-before, Next.ended}
+use Rattle.pagable_tables.proofs.{CascadeEnd.ended, CascadeStep.{aside, unmixed}, Counting.{all-kept, kept-more, left-none, of_list, there-is}}
+use Rattle.pagable_tables.proofs.{HandleTable.found-append, OwnedByLoad.seen-before, RowCounts.{found-among, sum-none}}
 use Rattle.pagable_leaf.proofs.Words.{Alike, BeginCall, Blob, Bool, Core, Falls, HandleNumber, HandleRow, Holdings, LoadNumber, Mode, MustList, None, Ok, Option, OptionalDataKey, Owner, Owns}
 use Rattle.pagable_leaf.proofs.Words.{SoFar, Some, Tables, [], append-nil, ap, arith, cases_Bool, cases_eq, core_of, false, filter-append, find_row, greatest, inl, inr, is_handle, is_here, is_loose, is_owned_by}
 use Rattle.pagable_leaf.proofs.Words.{is_owned_in, is_pin, is_plain_pin, is_share, left_rows, nat_tests, nobody, of_cell, one, or_else, owns_nothing, refl, row_of, subst, sum_by_push, sym, times, type_at}
-use Rattle.pagable_tables.proofs.{Worlds.{alike-on, owner-same, same-cache, still}}
+use Rattle.pagable_tables.proofs.SameViews.{alike-on, owner-same, same-cache, still}
 use Rattle.pagable_leaf.proofs.Words.{with_handle, with_load, with_tables, without_load, not, if◌then◌else◌, ℕ, ◌&&◌, ◌+◌, ◌<◌, ◌==◌, ◌∙◌, ◌∷◌, ◌≡◌, ◌≤◌}
-use Rattle.{pagable_leaf.specs.Leaf.{DropsLeaf}, pagable_tables.specs.{Core.{ArePlaced, IsWhole}, Falling.room}}
+use Rattle.pagable_leaf.specs.Leaf.{DropsLeaf}
+use Rattle.pagable_tables.specs.{Core.{ArePlaced, IsWhole}, HandleTable.room}
 use Rattle.pagable_leaf.proofs.Words.{length-append}
 use Rattle.pagable_world.specs.{World.key_at, declared.answers.Beginning.Beginning}
 

@@ -1,5 +1,7 @@
 -- Room for the pin of a cell: what was found there is still so, and where there is none no load begins.
-use Rattle.{pagable_leaf.specs.{Leaf.IsLeaf, declared.leaf.Leaf.Leaf}, pagable_tables.{proofs.{Worlds.{owner-self, room-alike}}, specs.Core.OnlyRoom}}
+use Rattle.pagable_leaf.specs.{Leaf.IsLeaf, declared.leaf.Leaf.Leaf}
+use Rattle.pagable_tables.proofs.SameViews.{owner-self, room-alike}
+use Rattle.pagable_tables.specs.Core.{OnlyRoom}
 use Rattle.pagable_leaf.proofs.Words.{Core, HandleNumber, None, Owner, arith, inl, inr, nat_tests, refl, subst, ◌≡◌}
 use Rattle.{pagable_model.specs.declared.error.Error.Error, pagable_world.specs.{Calls.is_handle_here, LoadCalls.{BeginCall, begin_fault}}, std.specs.Prelude.{Err, false}}
 

@@ -1,15 +1,18 @@
 //! Cells that are read at once, from blobs that refer to nothing: what a load leaves that begins, gets the blob and ends,
 //! without its row and its handle.
 
-ghost use Rattle.{pagable_leaf.specs.Leaf.{DropsLeaf, IsLeaf, PinsLeaf, with_numbers}, pagable_tables.specs.{Core.{AreLater, Does, IsWhole, OnlyRoom, core_of, plain_of}, Falling.{counts_at, has_value, room}, Ready.has_come}};
+ghost use Rattle.pagable_leaf.specs.Leaf.{DropsLeaf, IsLeaf, PinsLeaf, with_numbers};
+ghost use Rattle.pagable_tables.specs.{Core.{AreLater, Does, IsWhole, OnlyRoom, core_of, plain_of}, EndingLoads.has_come, HandleTable.room};
+ghost use Rattle.pagable_tables.specs.Nodes.{counts_at, has_value};
 ghost use Rattle.pagable_world.specs.{LoadCalls.BeginCall, Pager.{MayOwnLoad}, Plain.{Blob}, World.{greatest}};
 ghost use Rattle.std.specs.Prelude.{Bool, Err, IfErr, IfNone, IfOk, IfSome, Option, ℕ, ◌+◌, ◌<◌, ◌≡◌, ◌≤◌};
 
 use pagable_model::{DataKey, Error, HandleNumber};
-use pagable_tables::handles;
-use pagable_tables::lookups::is_loose_mode;
-use pagable_tables::making::{own, pin_here};
+use pagable_tables::checks::own;
+use pagable_tables::create::pin_here;
+use pagable_tables::kinds::is_loose_mode;
 use pagable_tables::tables::{self, Tables};
+use pagable_tables::{handle_table, nodes};
 use pagable_world::handles::{HandleRow, Owner};
 
 /// A cell whose value is away, with the handle that is to be pinned.
@@ -27,7 +30,7 @@ pub fn find(t: &Tables, me: Owner, handle: HandleNumber) -> Option<Leaf>
     ensures number { IfSome result (λ leaf. leaf.row.number ≡ handle) }
 {
     let at = own(t, me, handle).ok()?;
-    let counts = tables::counts_of(&t.holdings.nodes, at.row.node.0)?;
+    let counts = nodes::counts_of(&t.holdings.nodes, at.row.node.0)?;
     if !is_loose_mode(at.row.mode) || counts.pins > 0 {
         return None;
     }
@@ -58,7 +61,7 @@ pub fn prepare(t: &mut Tables, me: Owner, handle: HandleNumber) -> Result<Option
     let Some(leaf) = find(t, me, handle) else {
         return Ok(None);
     };
-    match handles::reserve(&mut t.holdings.handles, 1) {
+    match handle_table::reserve(&mut t.holdings.handles, 1) {
         Ok(()) => Ok(Some(leaf)),
         Err(refused) => Err(Error::from(refused)),
     }

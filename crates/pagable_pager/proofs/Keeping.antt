@@ -5,11 +5,16 @@ use Rattle.{either.specs.declared.Either.Either, pagable_loads.specs.Telling.{As
 use Rattle.pagable_world.specs.LoadCalls.{AdoptCall, Adopts, AskCall, BeginCall, DropCall, EndCall, EndRefused, GetsKnown, Installs, LazyCall, MayEnd, adopt_fault, adopted, end_fault, first_key, from_cache}
 use Rattle.{pagable_loads.specs.Starting.StartsPin, pagable_model.specs.declared.numbers.{ArcRef.ArcRef, HandleNumber.HandleNumber, Kind.Kind, LoadNumber.LoadNumber, NodeNumber.NodeNumber}}
 use Rattle.pagable_steps.proofs.Owning.{IsRight, IsShut, Leaves, Rests, Spares, adopts-new, born, closed, installed_away, installed_there, known-here}
-use Rattle.{pagable_steps.proofs.Owning.{not-load, pinned-here, recalls, rests-then, spared, spares-same, starts-listed, stayed, unmoved}, pagable_tables.proofs.Worlds.adopted-past}
-use Rattle.pagable_tables.proofs.Worlds.{adopts-new as made-new, born-past, early-past, fault-by, next-past, no-load-fault, refused-memory, refused-new, room-alike, room-fault, still, told-later}
-use Rattle.pagable_tables.specs.{Core.{AreLater, Bears, BeginsWorker, Does, DoesShed, IsWhole}, Ready.{AsksKnown, IsReady, IsVain, ShedsBeside, early_fault, has_come}, declared.tables.Counts.Counts}
-use Rattle.pagable_tables.{proofs.Installed.{installs-wider, may-wider}, specs.{Core.{OnlyRoom, TakesWorker, core_of, plain_of}, declared.{loading.Ending.Ending, tables.Tables.Tables}}}
-use Rattle.{pagable_laws.proofs.{Following.cell-of, Trees.same_some}, pagable_tables.specs.Falling.{AreKept, Sheds, cell_in, counts_at, has_value, key_in, known_at, load_at, pins_in, worker_at}}
+use Rattle.pagable_steps.proofs.Owning.{not-load, pinned-here, recalls, rests-then, spared, spares-same, starts-listed, stayed, unmoved}
+use Rattle.pagable_tables.proofs.SameViews.{adopted-past}
+use Rattle.pagable_tables.proofs.SameViews.{adopts-new as made-new, born-past, early-past, fault-by, next-past, no-load-fault, refused-memory, refused-new}
+use Rattle.pagable_tables.proofs.SameViews.{room-alike, room-fault, still, told-later}
+use Rattle.pagable_tables.specs.Core.{AreLater, Bears, BeginsWorker, Does, DoesShed, IsWhole}
+use Rattle.pagable_tables.specs.{EndingLoads.{AsksKnown, IsReady, IsVain, ShedsBeside, early_fault, has_come}, declared.nodes.Counts.Counts}
+use Rattle.pagable_tables.proofs.LoadEnd.{installs-wider, may-wider}
+use Rattle.pagable_tables.specs.{Core.{OnlyRoom, TakesWorker, core_of, plain_of}, declared.{load_end.Ending.Ending, tables.Tables.Tables}}
+use Rattle.pagable_laws.proofs.{Following.cell-of, Trees.same_some}
+use Rattle.pagable_tables.specs.{Indexes.{known_at, load_at, worker_at}, Nodes.{cell_in, counts_at, has_value, key_in, pins_in}, ValuesKept.{AreKept, Sheds}}
 use Rattle.pagable_world.specs.{Access.{Called, Told}, Kinds.{HasKinds, find_row, has_key, is_handle, is_loose, is_owner, is_pinning, loose_kind, mode_of, pins}, declared.answers.Beginning.Beginning}
 use Rattle.pagable_pager.specs.View.{AsksStorage, Calls, FewerValues, IsPager, KeepsWorkers, OnlyLess, PagerView, SameValues, Settles, TakesEntry, Telling, ValuesByNode, core_in, given_as, is_at_work, state_in, value_in, with_value}
 use Rattle.pagable_world.specs.{Pager.{HandlesAreWhole, IsCellOf, IsNew, IsNewNode, MayOwnLoad, Moves, PagerState, ValueCall, WellFormed}, Plain.{Blob, Error, if_there, or_else, type_of, updated}}
@@ -18,7 +23,8 @@ use Rattle.pagable_world.specs.{Calls.{Asked, BirthCall, CloseCall, FetchCall, I
 use Rattle.{pagable_world.specs.{Events.{IsEntry, reading_of_load}, Workers.RowIs, declared.{handles.{HandleRow.HandleRow, Owner.Owner}, rows.Mode.Mode}}, std.proofs.Common.{Bool, Err, List, None}}
 use Rattle.std.proofs.Common.{Ok, Option, Result, Some, [], ap, arith, false, if◌then◌else◌, inl, inr, nat_eq, not, refl, rules, subst, sym, true, ℕ, ◌&&◌, ◌++◌, ◌+◌, ◌<◌, ◌==◌, ◌∙◌, ◌∷◌, ◌≡◌, ◌≤◌}
 use Rattle.std.{proofs.lemmas.{Bool.{Decides.nat_tests, cases_Bool, cases_eq, false_from_ne_true}, Option.slice_get_within}, specs.{Arc.arc_value, Prelude.{IfErr, IfOk}}}
-use Rattle.{pagable_tables.specs.Rows.row_by, std.specs.Prelude.{IsSome, IsTrue, OnErr, OnOk, is_some, nat_lt, ◌⊎◌}}
+use Rattle.pagable_tables.specs.NumberTable.{row_by}
+use Rattle.std.specs.Prelude.{IsSome, IsTrue, OnErr, OnOk, is_some, nat_lt, ◌⊎◌}
 use Rattle.{futures.specs.{Poll.IfReady, declared.task.Poll.Poll}, pagable_pager.specs.Polling.PollCall}
 use Rattle.pagable_world.specs.Pager as pager
 

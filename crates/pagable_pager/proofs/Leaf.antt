@@ -2,8 +2,12 @@
 use Rattle.pagable_pager.proofs.Keeping.{here-in, here-told, in-step}
 use Rattle.pagable_pager.specs.{Leaf.{LeafBegun, LeafDropped, LeafFetched, LeafLoads, LeafPinned, LeafUnbegun, rooted_reading}, View.{AsksStorage, IsPager, OnlyStorage, OnlyTables, PagerView, Telling, ValuesByNode, core_in, state_in, value_in, with_value}}
 use Rattle.{pagable_leaf.specs.{Leaf.{DropsLeaf, IsLeaf, PinsLeaf}, declared.leaf.Leaf.Leaf}, pagable_loads.{proofs.Stepped.begun_is, specs.{Decoding.IsReadAs, Starting.is_unpinned_at, Telling.Brings}}, pagable_steps.proofs.Owning.{IsShut, begins, installed_away, load_closed, pinned-here, spared}}
-use Rattle.{pagable_laws.proofs.{Taking.row-pins, Trees.same_some}, pagable_model.specs.{Stored.RefusesFetch, declared.{error.Error.Error, numbers.{ArcRef.ArcRef, HandleNumber.HandleNumber, LoadNumber.LoadNumber, NodeNumber.NodeNumber}}}, pagable_tables.proofs.{Calls.begin-whole, Told.opened, Worlds.{alike-on, still}}}
-use Rattle.pagable_tables.specs.{Core.{AreLater, ArePlaced, Does, IsWhole, OnlyRoom, core_of, plain_of}, Falling.{counts_at, has_value, room}, Ready.has_come, declared.tables.Tables.Tables}
+use Rattle.pagable_laws.proofs.{Taking.row-pins, Trees.same_some}
+use Rattle.pagable_model.specs.{Stored.RefusesFetch, declared.{error.Error.Error}}
+use Rattle.pagable_model.specs.declared.numbers.{ArcRef.ArcRef, HandleNumber.HandleNumber, LoadNumber.LoadNumber, NodeNumber.NodeNumber}
+use Rattle.pagable_tables.proofs.{CallsKeepWhole.begin-whole, SameViews.{alike-on, still}, Views.opened}
+use Rattle.pagable_tables.specs.{Core.{AreLater, ArePlaced, Does, IsWhole, OnlyRoom, core_of, plain_of}, EndingLoads.has_come, HandleTable.room}
+use Rattle.pagable_tables.specs.{Nodes.{counts_at, has_value}, declared.tables.Tables.Tables}
 use Rattle.pagable_world.specs.{Access.{Called, LoadRun, LoadStarts, PinRun, ReadingStep, load-ends, load-fails, load-goes-on, load-is-refused, load-pins}, Calls.{FetchCall, row_of, with_handle}, Kinds.{is_pin, pins}, LoadCalls.{BeginCall, EndCall, with_load}}
 use Rattle.pagable_world.specs.{LoadCalls.{Installs, LoadCloses, MayEnd}, Loads.{ReadsRoot, gone_on, root_frame}, Pager.{HoldsItsNodes, IsCellOf, Moves, PagerState, WellFormed}, Plain.{Blob, one, updated}}
 use Rattle.pagable_world.specs.{Events.reading_of_load, Workers.fresh, World.{Alike, Core, Frame, OpenLoad, Reading, Root, Values, is_here, of_cell, type_at, usable}, declared.{answers.Beginning.Beginning, events.LoadAnswer.LoadAnswer, handles.{HandleRow.HandleRow, Owner.Owner}, rows.Mode.Mode}}

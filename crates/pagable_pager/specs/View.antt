@@ -2,7 +2,9 @@
 use Rattle.std.specs.declared.sync.Arc.{Arc}
 use Rattle.std.specs.{Arc.arc_value, Global.Global, Option.option_map, Prelude.{Bool, IsTrue, None, Option, Some, false, true, ℕ, ◌+◌, ◌≡◌}}
 use Rattle.{either.specs.declared.Either.Either, pagable_model.specs.declared.numbers.{ArcRef.ArcRef, HandleNumber.HandleNumber, LoadNumber.LoadNumber, WorkerNumber.WorkerNumber}}
-use Rattle.{pagable_tables.specs.{Core.{AreLater, core_of}, Falling.{counts_at, pins_in}, Rows.row_by, declared.{number_table.NumberTable.NumberTable, tables.Tables.Tables}}, pagable_world.specs.Kinds.{HasKinds, loose_kind}}
+use Rattle.pagable_tables.specs.{Core.{AreLater, core_of}, Nodes.{counts_at, pins_in}, NumberTable.row_by}
+use Rattle.pagable_tables.specs.declared.{number_table.NumberTable.NumberTable, tables.Tables.Tables}
+use Rattle.pagable_world.specs.Kinds.{HasKinds, loose_kind}
 use Rattle.pagable_world.specs.{Events.{IsEntry, with_entry_taken, with_worker}, LoadCalls.{Given, from_cache, from_store}, Pager.{PagerState, WellFormed}, Plain.{Blob, updated}, Refusals.OwnsLoad}
 use Rattle.pagable_world.specs.{Access.Called, World.{Alike, Core, OpenLoad, Root, Values, of_cell, of_key}, declared.{calls.Want.Want, handles.{HandleRow.HandleRow, Owner.Owner}}}
 use Rattle.pagable_tables.specs.Core as tables

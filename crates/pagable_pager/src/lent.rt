@@ -4,7 +4,7 @@
 ghost use Rattle.std.specs.{Arc.arc_value, Prelude.{IfErr, IfOk, IsTrue, true, ◌≡◌, ◌≤◌}};
 ghost use Rattle.{pagable_core.specs.Data.blob_of, pagable_leaf.specs.Leaf.IsLeaf, pagable_loads.specs.Telling.values_at};
 ghost use Rattle.pagable_pager.specs.{Leaf.{LeafLoads, PinsAway}, View.{Calls, OnlyLess, OnlyTables, core_in, is_at_work, state_in, telling}};
-ghost use Rattle.pagable_tables.specs.{Falling.room, Sound.is_sound};
+ghost use Rattle.pagable_tables.specs.{HandleTable.room, Soundness.is_sound};
 ghost use Rattle.pagable_world.specs.{Calls.{ClearCall, OfferCall, RecallCall}, Pager.WellFormed, World.seen_as};
 
 use crate::pager::Pager;
@@ -19,7 +19,7 @@ use pagable_model::{
     ArcRef, DataKey, Error, HandleNumber, Kind, LoadNumber, NodeNumber, OptionalDataKey,
     WorkerNumber,
 };
-use pagable_tables::lookups;
+use pagable_tables::checks;
 use pagable_world::handles::Owner;
 use pagable_world::{Beginning, Want};
 use std::alloc::Global;
@@ -290,7 +290,7 @@ impl<'a, E: Env<Node: NodeSet<E>>, S: PagableStorage<E>> Access<E> for Lent<'a, 
 impl<'a, E: Env<Node: NodeSet<E>>, S: PagableStorage<E>> WorkerAccess<E> for Lent<'a, E, S> {
     fn check_reference(&self, reference: ArcRef) -> Result<(), Error> {
         let pager = &*self.pager;
-        match lookups::claim_fault(&pager.tables, reference) {
+        match checks::claim_fault(&pager.tables, reference) {
             Some(e) => Err(e),
             None => Ok(()),
         }

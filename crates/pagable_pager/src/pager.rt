@@ -2,7 +2,10 @@
 
 ghost use Rattle.std.specs.{Arc.arc_value, Option.option_map, Prelude.{IfErr, IfNone, IfOk, IsTrue, None, OnOk, Option, Some, false, nat_lt, true, ℕ, ◌≡◌}};
 ghost use Rattle.{futures.specs.{Poll.{IfReady, OnPending}, Task.{IsArmed, Keeps}}, pagable_pager.specs.Polling.PollCall};
-ghost use Rattle.{pagable_core.specs.Data.blob_of, pagable_loads.specs.{Starting.Shares, Telling.values_at}, pagable_model.specs.{Blob.{Blob, key_of}, Stored.{RefusesFetch, RefusesFlush, RefusesStore}}, pagable_tables.specs.{Core.root_in, Ready.AsksKnown, Sound.is_sound}};
+ghost use Rattle.pagable_core.specs.Data.{blob_of};
+ghost use Rattle.pagable_loads.specs.{Starting.Shares, Telling.values_at};
+ghost use Rattle.pagable_model.specs.{Blob.{Blob, key_of}, Stored.{RefusesFetch, RefusesFlush, RefusesStore}};
+ghost use Rattle.pagable_tables.specs.{Core.root_in, EndingLoads.AsksKnown, Soundness.is_sound};
 ghost use Rattle.pagable_pager.specs.View.{AsksStorage, Calls, FewerValues, FitsWant, KeepsWorkers, OnlyTables, ReadsAs, SameValues, core_in, given_as, is_at_work, state_in, telling, type_of_root};
 ghost use Rattle.pagable_world.specs.{Calls.{CloseCall, FetchCall, FlushCall, StoreCall}, LoadCalls.{AskCall, BeginCall, BeginKeyCall, LazyCall}, Pager.{IsNew, ValueCall, WellFormed}};
 ghost use Rattle.pagable_world.specs.{Refusals.load_fault, World.{greatest, seen_as}};
@@ -20,8 +23,9 @@ use pagable_codec::{Env, NodeSet};
 use pagable_core::{PagableData, PagableStorage, SessionOf, Setting};
 use pagable_model::{DataKey, Error, HandleNumber, Kind, LoadNumber, WorkerNumber};
 use pagable_tables::number_table::NumberTable;
-use pagable_tables::tables::{LoadRoot, Tables};
-use pagable_tables::{giving, loading, lookups, sound, tables};
+use pagable_tables::load_table::LoadRoot;
+use pagable_tables::tables::Tables;
+use pagable_tables::{checks, load, queries, release, soundness, tables};
 use pagable_world::handles::Owner;
 use pagable_world::{Beginning, Want};
 use std::alloc::Global;
@@ -95,7 +99,7 @@ impl<E: Env<Node: NodeSet<E>>, S: PagableStorage<E>> Pager<E, S> {
     fn held(&self, handle: HandleNumber) -> Result<Option<&Arc<E::Node>>, Error>
         ensures { ValueCall (state_in (telling S.stored S.is_closed S.failed) self.now) handle (seen_as (option_map (λ x. arc_value x.now)) result) }
     {
-        match lookups::pinned_node(&self.tables, handle) {
+        match queries::pinned_node(&self.tables, handle) {
             Ok(Some(node)) => Ok(self.values.get(node.0)),
             Ok(None) => Ok(None),
             Err(e) => Err(e),
@@ -180,7 +184,7 @@ impl<E: Env<Node: NodeSet<E>>, S: PagableStorage<E>> Pager<E, S> {
     pub fn is_sound(&self) -> bool
         ensures { result ≡ is_sound self.now.tables self.now.values }
     {
-        sound::is_sound(&self.tables, &self.values)
+        soundness::is_sound(&self.tables, &self.values)
     }
 
     /// The blob under a key. Refused with NoData, OutOfMemory and Storage, as the storage refuses it.
@@ -251,7 +255,7 @@ impl<E: Env<Node: NodeSet<E>>, S: PagableStorage<E>> Pager<E, S> {
         ensures honest { IsTrue (S.is_honest self.new.storage) → IsTrue (S.is_honest self.old.storage) }
     {
         self.storage.close();
-        giving::close(&mut self.tables, &mut self.values);
+        release::close(&mut self.tables, &mut self.values);
         Ok(())
     }
 
@@ -266,7 +270,7 @@ impl<E: Env<Node: NodeSet<E>>, S: PagableStorage<E>> Pager<E, S> {
         requires { is_at_work (core_in (telling S.stored S.is_closed S.failed) self.old) me ≡ true }
         ensures { Calls OnlyTables (telling S.stored S.is_closed S.failed) self.old (λ w w'. BeginKeyCall w me key result w') self.new }
     {
-        loading::load_key(&mut self.tables, me, key)
+        load::load_key(&mut self.tables, me, key)
     }
 
     /// A load of a loose handle's cell, with an unpinned clone of the handle; or InMemory, where the value needn't be read. Refused with NoSuchHandle, NotYours,
@@ -285,7 +289,7 @@ impl<E: Env<Node: NodeSet<E>>, S: PagableStorage<E>> Pager<E, S> {
         requires { is_at_work (core_in (telling S.stored S.is_closed S.failed) self.old) me ≡ true }
         ensures { Calls OnlyTables (telling S.stored S.is_closed S.failed) self.old (λ w w'. BeginCall w me handle result w') self.new }
     {
-        loading::load_begin(&mut self.tables, me, handle)
+        load::load_begin(&mut self.tables, me, handle)
     }
 
     /// A handle of the load's, of the node that the cache gives; or None where it gives none.
@@ -300,7 +304,7 @@ impl<E: Env<Node: NodeSet<E>>, S: PagableStorage<E>> Pager<E, S> {
         ensures none { IfOk result (λ found. IfNone found (core_in (telling S.stored S.is_closed S.failed) self.new ≡ core_in (telling S.stored S.is_closed S.failed) self.old)) }
         ensures only { OnlyTables self.old self.new }
     {
-        loading::load_known(&mut self.tables, me, load, kind, key)
+        load::load_known(&mut self.tables, me, load, kind, key)
     }
 
     /// What a load asks for: the blob of its own key; of a reference a handle of the node that the cache gives, which the load owns, or else the blob. Refused with NoSuchHandle and NotYours; with
@@ -336,7 +340,7 @@ impl<E: Env<Node: NodeSet<E>>, S: PagableStorage<E>> Pager<E, S> {
     {
         match want {
             Want::Root => {
-                let row = loading::load_row(&self.tables, me, load)?;
+                let row = checks::load_row(&self.tables, me, load)?;
                 Ok(Either::Right(self.fetch(alloc, row.key)?))
             }
             Want::Nested(kind, key) => match self.load_known(me, load, kind, key)? {
@@ -371,7 +375,7 @@ impl<E: Env<Node: NodeSet<E>>, S: PagableStorage<E>> Pager<E, S> {
         ensures { Calls OnlyTables (telling S.stored S.is_closed S.failed) self.old (λ w w'. LazyCall w me load kind key result w') self.new }
     {
         let lists = !self.storage.has_closed();
-        loading::load_lazy(&mut self.tables, me, load, kind, key, lists, alloc)
+        load::load_lazy(&mut self.tables, me, load, kind, key, lists, alloc)
     }
 
     /// Whether a number is left for a load.
@@ -386,7 +390,7 @@ impl<E: Env<Node: NodeSet<E>>, S: PagableStorage<E>> Pager<E, S> {
         ensures reads { IfOk result (λ r. ReadsAs (core_in (telling S.stored S.is_closed S.failed) self.now) load r.0 r.1) }
         ensures fault { IfErr result (λ e. load_fault (core_in (telling S.stored S.is_closed S.failed) self.now) Owner.Caller load ≡ Some e) }
     {
-        let row = loading::load_row(&self.tables, Owner::Caller, load)?;
+        let row = checks::load_row(&self.tables, Owner::Caller, load)?;
         Ok((row.key, cell_type(row.root)))
     }
 }

@@ -7,14 +7,24 @@ pub use Rattle.std.proofs.lemmas.List.{Elements.{All-set, filter-append, filter_
 pub use Rattle.std.proofs.lemmas.{List.Sums.{sum_by-le-sum_by, sum_by-remove, sum_by-set, sum_by_push}, Option.{get_or_from_slice_get, slice_get-get_or, slice_get_read, slice_get_within}}
 pub use Rattle.std.specs.{List.AllPairs, Option.option_map, Prelude.{IfSome, IsSome, Result, is_some, nat_lt, ◌≢◌}}
 pub use Rattle.{indexmap.specs.IndexMap.{IndexMap, get}, pagable_model.specs.declared.{data_key.OptionalDataKey.OptionalDataKey, error.Error.Error, numbers.{ArcRef.ArcRef, HandleNumber.HandleNumber}}}
-pub use Rattle.{pagable_model.specs.declared.numbers.{Kind.Kind, LoadNumber.LoadNumber, NodeNumber.NodeNumber}, pagable_tables.specs.{Ready.early_fault, Core.{Bears, OnlyRoom}, Falling.Becomes, Rows.row_by}}
-pub use Rattle.pagable_tables.specs.{Falling.{counts_at, is_same, known_at, load_at, reach_at, refs_at, worker_at}, Core.{ArePlaced, Makes, MayHold, Suits, core_of, load_in, plain_of, root_in}}
-pub use Rattle.pagable_tables.specs.Falling.{AreKept, CellsStay, Chain, FallsBy, Fits, GetsKey, GivesUp, HasFallen, HasPlaces, IsFalling, IsUnlisted, Leaves, MayList, Right, Sheds, Steps}
-pub use Rattle.pagable_tables.specs.Falling.{ValueStays, after, cell_in, entries_of, entry, falls_in, has_value, holds_in, is_bare, is_fallen_by, is_listing, is_node, is_right}
-pub use Rattle.pagable_tables.specs.{Falling.{is_valued, key_in, keyed, landed, named, next_in, often, owns, owns_nothing, pins_in, unpinned, valued}, Core.{InReach, IsNoLess, LoadsAre, gives_row}}
-pub use Rattle.pagable_tables.specs.{Core.{left_load, passes_in, AreLater}, Falling.{AreSound, IsBefore, IsNext, alive, is_live_place, live, Begins, IsApart, SoFar, is_plain_pin}}
-pub use Rattle.pagable_tables.specs.{Falling.{told_by, with_tables}, Core.named_at, Ready.{IsReady, has_come}, declared.{giving.Giving.Giving, handles.Handles.Handles, holdings.Holdings.Holdings}}
-pub use Rattle.pagable_tables.specs.declared.{loading.Ending.Ending, number_table.NumberTable.NumberTable, tables.{Counts.Counts, LoadRow.LoadRow, NodeRow.NodeRow, Place.Place, Reach.Reach, Tables.Tables}}
+pub use Rattle.pagable_model.specs.declared.numbers.{Kind.Kind, LoadNumber.LoadNumber, NodeNumber.NodeNumber}
+pub use Rattle.pagable_tables.specs.{Core.{Bears, OnlyRoom}, EndingLoads.early_fault, HandleTable.Becomes, NumberTable.row_by}
+pub use Rattle.pagable_tables.specs.Core.{ArePlaced, Makes, MayHold, Suits, core_of, load_in, plain_of, root_in}
+pub use Rattle.pagable_tables.specs.{Indexes.{is_same, known_at, load_at, reach_at, worker_at}, Nodes.{counts_at, refs_at}}
+pub use Rattle.pagable_tables.specs.CascadeInvariant.{Chain, Fits, IsFalling, Right}
+pub use Rattle.pagable_tables.specs.CascadeSteps.{CellsStay, FallsBy, GetsKey, GivesUp, HasFallen, HasPlaces, IsUnlisted, Leaves, MayList, Steps}
+pub use Rattle.pagable_tables.specs.ValuesKept.{AreKept, Sheds}
+pub use Rattle.pagable_tables.specs.CascadeInvariant.{entries_of, entry, is_bare, is_right}
+pub use Rattle.pagable_tables.specs.{CascadeSteps.{ValueStays, after, is_fallen_by, is_listing, is_node}, Nodes.{cell_in, falls_in, has_value, holds_in}}
+pub use Rattle.pagable_tables.specs.{CascadeInvariant.{is_valued, named, often, owns, owns_nothing, valued}, CascadeSteps.{keyed, landed, unpinned}}
+pub use Rattle.pagable_tables.specs.{Core.{InReach, IsNoLess, LoadsAre, gives_row}, Nodes.{key_in, next_in, pins_in}}
+pub use Rattle.pagable_tables.specs.{CascadeProgress.{Begins, IsApart, SoFar, is_plain_pin}, Core.{AreLater, left_load, passes_in}}
+pub use Rattle.pagable_tables.specs.HandleTable.{AreSound, IsBefore, IsNext, alive, is_live_place, live}
+pub use Rattle.pagable_tables.specs.{CascadeProgress.{told_by, with_tables}, Core.named_at, EndingLoads.{IsReady, has_come}}
+pub use Rattle.pagable_tables.specs.declared.{cascade.Holdings.Holdings, handle_table.Handles.Handles, release.Giving.Giving}
+pub use Rattle.pagable_tables.specs.declared.{handle_table.Place.Place, load_end.Ending.Ending, load_table.LoadRow.LoadRow}
+pub use Rattle.pagable_tables.specs.declared.{nodes.{Counts.Counts, NodeRow.NodeRow}, number_table.NumberTable.NumberTable}
+pub use Rattle.pagable_tables.specs.declared.tables.{Reach.Reach, Tables.Tables}
 pub use Rattle.pagable_world.specs.Calls.{AwayBirthCall, ClearCall, CloneCall, CloseCall, LoosenCall, PinCall, RecallCall, ReserveCall, ScheduleCall, SetKeyCall, TakeCall, UnpinCall, birth_fault}
 pub use Rattle.pagable_world.specs.Calls.{is_handle_here, is_listed, is_usable, moved, next_node, offer_fault, pin_fault, recall_fault, row_of, shut, with_cached, with_handle, with_key, with_known}
 pub use Rattle.pagable_world.specs.{Calls.{with_mode, with_node}, Cascade.{AreNewEntries, Falls, FallsAnyhow, IsClosed, IsLeast, IsListRefusal, IsWithin, MustList, TellsListing, fallen, held_outside}}

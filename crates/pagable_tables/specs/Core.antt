@@ -6,9 +6,11 @@ use Rattle.{indexmap.specs.IndexMap.IndexMap, pagable_model.specs.declared.{erro
 use Rattle.{pagable_model.specs.declared.numbers.WorkerNumber.WorkerNumber, pagable_world.specs.{Calls.{IsNext, next_node, with_handle, with_mode, with_node}, Events.{with_entry_taken, with_worker}}}
 use Rattle.pagable_world.specs.{Kinds.{find_row, is_owner, is_shared, owner_worker}, LoadCalls.is_owned_in, Plain.{Among, Blob, if_there}, Refusals.{AreHandlesFull, Refused, WorkerFault, spent}}
 use Rattle.pagable_world.specs.{Workers.is_load_of, World.{Alike, Core, HasRoom, OpenLoad, Root, greatest, of_cell, of_key}, declared.{handles.{HandleRow.HandleRow, Owner.Owner}, rows.Mode.Mode}}
-use Rattle.pagable_tables.specs.Falling.{IsFalling, Sheds, alive, cell_in, counts_at, is_valued, key_in, known_at, live, load_at, owns_nothing, reach_at, room, worker_at}
-use Rattle.pagable_tables.specs.Rows.{place_at, row_by}
-use Rattle.pagable_tables.specs.declared.{giving.Giving.Giving, number_table.NumberTable.NumberTable, tables.{HandleAt.HandleAt, LoadRoot.LoadRoot, LoadRow.LoadRow, Place.Place, Reach.Reach, Tables.Tables}}
+use Rattle.pagable_tables.specs.{CascadeInvariant.{IsFalling, is_valued, owns_nothing}, HandleTable.{alive, live, room}}
+use Rattle.pagable_tables.specs.{Indexes.{known_at, load_at, reach_at, worker_at}, Nodes.{cell_in, counts_at, key_in}, ValuesKept.Sheds}
+use Rattle.pagable_tables.specs.NumberTable.{place_at, row_by}
+use Rattle.pagable_tables.specs.declared.{handle_table.{HandleAt.HandleAt, Place.Place}, load_table.{LoadRoot.LoadRoot, LoadRow.LoadRow}}
+use Rattle.pagable_tables.specs.declared.{number_table.NumberTable.NumberTable, release.Giving.Giving, tables.{Reach.Reach, Tables.Tables}}
 use Rattle.pagable_world.specs.Pager as pager
 
 abbrev pub root_in : LoadRoot → Root

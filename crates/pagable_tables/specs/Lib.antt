@@ -1,5 +1,11 @@
-pub mod Rows
-pub mod Falling
+pub mod NumberTable
+pub mod HandleTable
+pub mod Nodes
+pub mod Indexes
+pub mod CascadeInvariant
+pub mod CascadeSteps
+pub mod ValuesKept
+pub mod CascadeProgress
 pub mod Core
-pub mod Ready
-pub mod Sound
+pub mod EndingLoads
+pub mod Soundness

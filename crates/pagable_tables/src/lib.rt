@@ -1,14 +1,25 @@
 //! The tables of a pager: handles by their numbers, nodes, loads and the cache by theirs, the list of cells that wait for page-out, and the way in which
 //! handles are given up with all that goes with them. No call of it knows of values or of the storage.
+//!
+//! The modules import each other in one direction, each those before it: `kinds`, `number_table`, `nodes`, `handle_table`, `cascade`, `load_table`, `tables`;
+//! `checks`, `queries`, `soundness`, which change nothing; `create`, `release`, `pending`, `workers`, `cache`; `load_handles`, `load`, `load_end`.
 #![tactic(auto)]
 
-pub mod giving;
-pub mod handles;
-pub mod holdings;
-pub mod loading;
-pub mod lookups;
-pub mod making;
-pub mod noting;
+pub mod cache;
+pub mod cascade;
+pub mod checks;
+pub mod create;
+pub mod handle_table;
+pub mod kinds;
+pub mod load;
+pub mod load_end;
+pub mod load_handles;
+pub mod load_table;
+pub mod nodes;
 pub mod number_table;
-pub mod sound;
+pub mod pending;
+pub mod queries;
+pub mod release;
+pub mod soundness;
 pub mod tables;
+pub mod workers;

@@ -1,9 +1,10 @@
 //! Rows by their numbers, for numbers that are given out in order and never again: each number has its own place, and a
 //! look-up is two steps.
 
-ghost use Rattle.std.specs.Prelude.{IsSome, None, OnOk, Option, Some, [], option_copied, slice_get, vec_capacity};
-ghost use Rattle.std.specs.Prelude.{vec_len, ℕ, ◌%◌, ◌+◌, ◌/◌, ◌<◌, ◌≡◌, ◌≢◌, ◌≤◌};
-ghost use Rattle.pagable_tables.specs.Rows.{place_at, row_by, row_in};
+ghost use Rattle.indexmap.specs.IndexMap.{get};
+ghost use Rattle.pagable_tables.specs.NumberTable.{place_at, row_by, row_in};
+ghost use Rattle.std.specs.Prelude.{IsSome, None, Ok, OnOk, Option, Some, [], option_copied, slice_get, vec_capacity, vec_len, ℕ, ◌%◌, ◌&&◌, ◌+◌, ◌/◌, ◌<◌};
+ghost use Rattle.std.specs.Prelude.{◌==◌, ◌||◌, ◌≡◌, ◌≢◌, ◌≤◌};
 
 use std::alloc::{AllocError, Global};
 
@@ -63,7 +64,7 @@ fn trim<T: Drop>(rows: &mut Vec<Option<T>>)
 
 impl<T: Drop> NumberTable<T> {
     /// Makes a table without a row. It takes no memory.
-    #[tactic(auto, unfolding(crate::specs::Rows::place_at, crate::specs::Rows::row_by))]
+    #[tactic(auto, unfolding(crate::specs::NumberTable::place_at, crate::specs::NumberTable::row_by))]
     pub fn new(alloc: Global) -> NumberTable<T>
         ensures { (n : ℕ) → row_by result n ≡ None }
     {
@@ -74,7 +75,7 @@ impl<T: Drop> NumberTable<T> {
     }
 
     /// Finds the row of this number.
-    #[tactic(auto, unfolding(crate::specs::Rows::place_at, crate::specs::Rows::row_by))]
+    #[tactic(auto, unfolding(crate::specs::NumberTable::place_at, crate::specs::NumberTable::row_by))]
     pub fn get(&self, number: u64) -> Option<&T>
         ensures { option_copied result ≡ row_by self.now number }
     {
@@ -83,7 +84,7 @@ impl<T: Drop> NumberTable<T> {
     }
 
     /// Makes so many chunks, where there are fewer. Refused where there is no room for them.
-    #[tactic(auto, unfolding(crate::specs::Rows::place_at, crate::specs::Rows::row_by))]
+    #[tactic(auto, unfolding(crate::specs::NumberTable::place_at, crate::specs::NumberTable::row_by))]
     fn add_chunks(&mut self, many: usize) -> Result<(), AllocError>
         ensures there { OnOk result (many ≤ vec_len self.new.chunks) }
         ensures rows { (n : ℕ) → row_by self.new n ≡ row_by self.old n }
@@ -101,7 +102,7 @@ impl<T: Drop> NumberTable<T> {
     }
 
     /// Makes the place of this number ready for a row. Refused where the table can't grow. Its rows stay in any case.
-    #[tactic(auto, unfolding(crate::specs::Rows::place_at, crate::specs::Rows::row_by))]
+    #[tactic(auto, unfolding(crate::specs::NumberTable::place_at, crate::specs::NumberTable::row_by))]
     pub fn reserve(&mut self, number: u64) -> Result<(), AllocError>
         ensures ready { OnOk result (IsSome (place_at self.new number)) }
         ensures rows { (n : ℕ) → row_by self.new n ≡ row_by self.old n }
@@ -112,7 +113,7 @@ impl<T: Drop> NumberTable<T> {
     }
 
     /// Puts a row at the place of this number, which is ready.
-    #[tactic(auto, unfolding(crate::specs::Rows::place_at, crate::specs::Rows::row_by))]
+    #[tactic(auto, unfolding(crate::specs::NumberTable::place_at, crate::specs::NumberTable::row_by))]
     pub fn put(&mut self, number: u64, row: T)
         requires { IsSome (place_at self.old number) }
         ensures here { row_by self.new number ≡ Some row }
@@ -123,7 +124,7 @@ impl<T: Drop> NumberTable<T> {
     }
 
     /// Takes the row of this number, if there is one, and leaves its place.
-    #[tactic(auto, unfolding(crate::specs::Rows::place_at, crate::specs::Rows::row_by))]
+    #[tactic(auto, unfolding(crate::specs::NumberTable::place_at, crate::specs::NumberTable::row_by))]
     fn take(&mut self, number: u64) -> Option<T>
         ensures value { result ≡ row_by self.old number }
         ensures here { row_by self.new number ≡ None }
@@ -135,7 +136,7 @@ impl<T: Drop> NumberTable<T> {
     }
 
     /// Removes the row of this number, if there is one, with the memory of its chunk where it was the last row there.
-    #[tactic(auto, unfolding(crate::specs::Rows::place_at, crate::specs::Rows::row_by))]
+    #[tactic(auto, unfolding(crate::specs::NumberTable::place_at, crate::specs::NumberTable::row_by))]
     pub fn remove(&mut self, number: u64) -> Option<T>
         ensures value { result ≡ row_by self.old number }
         ensures here { row_by self.new number ≡ None }

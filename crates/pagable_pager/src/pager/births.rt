@@ -1,7 +1,8 @@
 //! Nodes that come, what loads have read becomes nodes, and loads of cells that end with a value.
 
 ghost use Rattle.std.specs.Prelude.{Bool, IfErr, None, OnErr, OnOk, Option, true, ℕ, ◌≡◌};
-ghost use Rattle.{pagable_pager.specs.View.{Calls, OnlyTables, core_in, state_in, telling, value_in, with_value}, pagable_tables.specs.{Core.{core_of, plain_of}, Ready.early_fault}};
+ghost use Rattle.pagable_pager.specs.View.{Calls, OnlyTables, core_in, state_in, telling, value_in, with_value};
+ghost use Rattle.pagable_tables.specs.{Core.{core_of, plain_of}, EndingLoads.early_fault};
 ghost use Rattle.pagable_world.specs.{Calls.{AwayBirthCall, BirthCall}, Kinds.is_pinning, LoadCalls.{AdoptCall, EndCall}, Pager.{IsCellOf, IsNewNode, Moves}};
 ghost use Rattle.pagable_world.specs.{Plain.{Blob, Error}, Refusals.{Refused, closed_fault, earlier, load_fault}, World.usable};
 
@@ -9,9 +10,9 @@ use crate::pager::Pager;
 use pagable_codec::{Env, NodeSet};
 use pagable_core::PagableStorage;
 use pagable_model::{ArcRef, DataKey, Error, HandleNumber, Kind, LoadNumber};
-use pagable_tables::loading::Unended;
+use pagable_tables::load_end::Unended;
 use pagable_tables::number_table::NumberTable;
-use pagable_tables::{loading, making, tables};
+use pagable_tables::{create, load, load_end, load_table};
 use pagable_world::Mode;
 use pagable_world::handles::Owner;
 use std::alloc::Global;
@@ -61,7 +62,7 @@ impl<E: Env<Node: NodeSet<E>>, S: PagableStorage<E>> Pager<E, S> {
             Ok(references) => references,
             Err(e) => return Err((e, node)),
         };
-        if let Err(e) = making::prepare(&mut self.tables, Owner::Caller, &references) {
+        if let Err(e) = create::prepare(&mut self.tables, Owner::Caller, &references) {
             return Err((e, node));
         }
         let node_type = node.node_type();
@@ -70,7 +71,7 @@ impl<E: Env<Node: NodeSet<E>>, S: PagableStorage<E>> Pager<E, S> {
             return Err((e, node));
         }
         let tables = &mut self.tables;
-        Ok(making::bear(tables, Owner::Caller, node_type, 0, references, mode))
+        Ok(create::bear(tables, Owner::Caller, node_type, 0, references, mode))
     }
 
     /// A new node of the value, without a key, with a Pinned handle of the caller's, and the handles of its references move to it. Refused with the cause of
@@ -122,7 +123,7 @@ impl<E: Env<Node: NodeSet<E>>, S: PagableStorage<E>> Pager<E, S> {
     ) -> Result<HandleNumber, Error>
         ensures { Calls OnlyTables (telling S.stored S.is_closed S.failed) self.old (λ w w'. AwayBirthCall w Owner.Caller node_type key result w') self.new }
     {
-        making::new_away(&mut self.tables, alloc, Owner::Caller, node_type, key)
+        create::new_away(&mut self.tables, alloc, Owner::Caller, node_type, key)
     }
 
     /// A new node of what a load has read, where the cache gives none and nothing is against it. Refused with NumbersSpent and OutOfMemory, and the value comes back.
@@ -143,7 +144,7 @@ impl<E: Env<Node: NodeSet<E>>, S: PagableStorage<E>> Pager<E, S> {
         ensures moves { Moves (λ n x. (x ≡ node) × IsNewNode (core_in (telling S.stored S.is_closed S.failed) self.old) n) (state_in (telling S.stored S.is_closed S.failed) self.old) (state_in (telling S.stored S.is_closed S.failed) self.new) }
         ensures storage { self.new.storage ≡ self.old.storage }
     {
-        if let Err(e) = loading::make_ready_to_learn(&mut self.tables) {
+        if let Err(e) = create::make_ready_to_learn(&mut self.tables) {
             return Err((e, node));
         }
         let number = self.tables.last_node + 1;
@@ -152,7 +153,7 @@ impl<E: Env<Node: NodeSet<E>>, S: PagableStorage<E>> Pager<E, S> {
         }
         let lists = !self.storage.has_closed();
         let tables = &mut self.tables;
-        Ok(loading::adopt(tables, load, kind, key, references, lists))
+        Ok(load::adopt(tables, load, kind, key, references, lists))
     }
 
     /// Why a load's value neither becomes a node nor ends the load, where its references can't be listed for want of memory: the load isn't open, or else that.
@@ -161,7 +162,7 @@ impl<E: Env<Node: NodeSet<E>>, S: PagableStorage<E>> Pager<E, S> {
             (closed_fault (core_in (telling S.stored S.is_closed S.failed) self.now) load) (Unit {0}) (core_in (telling S.stored S.is_closed S.failed) self.now) result
             (core_in (telling S.stored S.is_closed S.failed) self.now) }
     {
-        match tables::load_of(&self.tables.loads, load.0) {
+        match load_table::load_of(&self.tables.loads, load.0) {
             Some(_) => e,
             None => Error::NoSuchHandle,
         }
@@ -206,7 +207,7 @@ impl<E: Env<Node: NodeSet<E>>, S: PagableStorage<E>> Pager<E, S> {
         let lists = !self.storage.has_closed();
         let (t, values) = (&mut self.tables, &mut self.values);
         let read = &references;
-        match loading::adopt_if_known(t, values, me, load, kind, key, node_type, read, lists) {
+        match load::adopt_if_known(t, values, me, load, kind, key, node_type, read, lists) {
             Ok(Some(known)) => Ok(known),
             Ok(None) => self.adopt_as_new(me, alloc, load, kind, key, references, node),
             Err(e) => Err((e, node)),
@@ -249,7 +250,7 @@ impl<E: Env<Node: NodeSet<E>>, S: PagableStorage<E>> Pager<E, S> {
         };
         let node_type = value.node_type();
         let tables = &mut self.tables;
-        let ready = match loading::prepare_end(tables, me, load, node_type, &references) {
+        let ready = match load_end::prepare_end(tables, me, load, node_type, &references) {
             Ok(ready) => ready,
             Err(Unended::Refused(e)) => return Err((e, Some(value))),
             Err(Unended::InVain(e)) => {
@@ -263,7 +264,7 @@ impl<E: Env<Node: NodeSet<E>>, S: PagableStorage<E>> Pager<E, S> {
         }
         let lists = !self.storage.has_closed();
         let (tables, values) = (&mut self.tables, &mut self.values);
-        Ok(loading::install(
+        Ok(load_end::install(
             tables, values, me, load, node_type, references, ready, lists,
         ))
     }

@@ -16,7 +16,7 @@ use pagable_model::{
     ArcRef, DataKey, Error, HandleNumber, Kind, LoadNumber, NodeNumber, OptionalDataKey,
     WorkerNumber,
 };
-use pagable_tables::{giving, handles, lookups, making, tables};
+use pagable_tables::{cache, create, handle_table, kinds, load_end, load_table, pending, queries, release, tables, workers};
 use pagable_world::handles::{HandleRow, Owner};
 use pagable_world::{Beginning, Pinning};
 
@@ -48,14 +48,14 @@ impl<E: Env<Node: NodeSet<E>>, S: PagableStorage<E>> Pager<E, S> {
         requires { is_at_work (core_in (telling S.stored S.is_closed S.failed) self.old) me ≡ true }
         ensures { Calls OnlyTables (telling S.stored S.is_closed S.failed) self.old (λ w w'. CloneCall w me handle result w') self.new }
     {
-        making::clone(&mut self.tables, me, handle)
+        create::clone(&mut self.tables, me, handle)
     }
 
     /// A Pinned handle becomes a loose pinned one, and keeps its number. It takes no memory. Refused with NoSuchHandle, NotYours, and WrongMode where the handle isn't Pinned.
     pub fn into_pagable(&mut self, handle: HandleNumber) -> Result<HandleNumber, Error>
         ensures { Calls OnlyTables (telling S.stored S.is_closed S.failed) self.old (λ w w'. LoosenCall w Owner.Caller handle result w') self.new }
     {
-        making::into_pagable(&mut self.tables, Owner::Caller, handle)
+        create::into_pagable(&mut self.tables, Owner::Caller, handle)
     }
 
     /// A loose handle becomes pinned, and a new Pinned handle is answered; or the key under which the value has to be loaded first, where it isn't in memory,
@@ -70,42 +70,42 @@ impl<E: Env<Node: NodeSet<E>>, S: PagableStorage<E>> Pager<E, S> {
         requires { is_at_work (core_in (telling S.stored S.is_closed S.failed) self.old) me ≡ true }
         ensures { Calls OnlyTables (telling S.stored S.is_closed S.failed) self.old (λ w w'. PinCall w me handle result w') self.new }
     {
-        making::pin(&mut self.tables, me, handle)
+        create::pin(&mut self.tables, me, handle)
     }
 
     /// How many handles pin the node. Refused with NoSuchHandle.
     pub fn count(&self, handle: HandleNumber) -> Result<u64, Error>
         ensures { CountCall (core_in (telling S.stored S.is_closed S.failed) self.now) handle result }
     {
-        lookups::count(&self.tables, handle)
+        queries::count(&self.tables, handle)
     }
 
     /// The node's key, if it has one. Refused with NoSuchHandle.
     pub fn key(&self, handle: HandleNumber) -> Result<OptionalDataKey, Error>
         ensures { KeyCall (core_in (telling S.stored S.is_closed S.failed) self.now) handle result }
     {
-        lookups::key(&self.tables, handle)
+        queries::key(&self.tables, handle)
     }
 
     /// Whether the node's value isn't in memory. Refused with NoSuchHandle.
     pub fn is_paged_out(&self, handle: HandleNumber) -> Result<bool, Error>
         ensures { AwayCall (core_in (telling S.stored S.is_closed S.failed) self.now) handle result }
     {
-        lookups::is_paged_out(&self.tables, handle)
+        queries::is_paged_out(&self.tables, handle)
     }
 
     /// The node of a handle. Refused with NoSuchHandle.
     pub fn node_of(&self, handle: HandleNumber) -> Result<NodeNumber, Error>
         ensures { NodeCall (core_in (telling S.stored S.is_closed S.failed) self.now) handle result }
     {
-        lookups::node_of(&self.tables, handle)
+        queries::node_of(&self.tables, handle)
     }
 
     /// The number of the node's value type, or None where the node is gone.
     pub fn node_live(&self, node: NodeNumber) -> Option<u32>
         ensures { TypeCall (core_in (telling S.stored S.is_closed S.failed) self.now) node result }
     {
-        lookups::node_live(&self.tables, node)
+        queries::node_live(&self.tables, node)
     }
 
     // The reference that stands for a live handle, as this kind. Of one that isn't live it names no node.
@@ -124,8 +124,8 @@ impl<E: Env<Node: NodeSet<E>>, S: PagableStorage<E>> Pager<E, S> {
     fn is_unpinned(&self, handle: HandleNumber) -> bool
         ensures { result ≡ is_unpinned_at (core_in (telling S.stored S.is_closed S.failed) self.now) handle }
     {
-        match handles::look(&self.tables.holdings.handles, handle) {
-            Some(at) => lookups::is_unpinned(at.row.mode),
+        match handle_table::look(&self.tables.holdings.handles, handle) {
+            Some(at) => kinds::is_unpinned(at.row.mode),
             None => false,
         }
     }
@@ -134,7 +134,7 @@ impl<E: Env<Node: NodeSet<E>>, S: PagableStorage<E>> Pager<E, S> {
     pub fn load_type(&self, load: LoadNumber) -> Option<u32>
         ensures { result ≡ option_map (λ (r : Reading). r.node_type) (reading_of_load load ((core_in (telling S.stored S.is_closed S.failed) self.now).loads load.0)) }
     {
-        let row = tables::load_of(&self.tables.loads, load.0)?;
+        let row = load_table::load_of(&self.tables.loads, load.0)?;
         cell_type(row.root)
     }
 
@@ -180,7 +180,7 @@ impl<E: Env<Node: NodeSet<E>>, S: PagableStorage<E>> Pager<E, S> {
         requires { is_at_work (core_in (telling S.stored S.is_closed S.failed) self.old) me ≡ true }
         ensures { Calls OnlyTables (telling S.stored S.is_closed S.failed) self.old (λ w w'. TakeCall w me place result w') self.new }
     {
-        giving::take_pending(&mut self.tables, me, place)
+        pending::take_pending(&mut self.tables, me, place)
     }
 
     /// A loose unpinned handle moves to the list's end. Once the storage is closed it is given up as `release` does. Refused with NoSuchHandle, NotYours, WrongMode
@@ -200,7 +200,7 @@ impl<E: Env<Node: NodeSet<E>>, S: PagableStorage<E>> Pager<E, S> {
         ensures { Settles OnlyLess (telling S.stored S.is_closed S.failed) (values_at E.Node.NodeSet E.Env E.Hash.KeyHash) self.old (λ w w'. ScheduleCall w me handle result w') self.new }
     {
         let lists = !self.storage.has_closed();
-        giving::schedule_for_paging(&mut self.tables, &mut self.values, me, handle, lists)
+        pending::schedule_for_paging(&mut self.tables, &mut self.values, me, handle, lists)
     }
 
     /// A new handle, in the kind's mode, of the node that the cache knows under a kind and a key; or None, where it knows none that is alive and, for a kind of
@@ -208,7 +208,7 @@ impl<E: Env<Node: NodeSet<E>>, S: PagableStorage<E>> Pager<E, S> {
     pub fn cache_get(&mut self, kind: Kind, key: DataKey) -> Result<Option<HandleNumber>, Error>
         ensures { Calls OnlyTables (telling S.stored S.is_closed S.failed) self.old (λ w w'. RecallCall w Owner.Caller kind key result w') self.new }
     {
-        lookups::cache_get(&mut self.tables, Owner::Caller, kind, key)
+        cache::cache_get(&mut self.tables, Owner::Caller, kind, key)
     }
 
     /// The cache learns a handle's node under a kind and a key. Where it gives a node already, a new handle of that is answered, in the kind's mode, and the handle is given up as `release` does. Once
@@ -223,14 +223,14 @@ impl<E: Env<Node: NodeSet<E>>, S: PagableStorage<E>> Pager<E, S> {
     {
         let lists = !self.storage.has_closed();
         let (tables, values) = (&mut self.tables, &mut self.values);
-        lookups::offer(tables, values, Owner::Caller, kind, key, handle, lists)
+        cache::offer(tables, values, Owner::Caller, kind, key, handle, lists)
     }
 
     /// How many cells wait for page-out.
     pub fn pending(&self) -> usize
         ensures { result ≡ length (core_in (telling S.stored S.is_closed S.failed) self.now).list }
     {
-        lookups::pending(&self.tables)
+        queries::pending(&self.tables)
     }
 
     /// How many handles and entries of the list can still come without a request for memory.
@@ -267,7 +267,7 @@ impl<E: Env<Node: NodeSet<E>>, S: PagableStorage<E>> Pager<E, S> {
         ensures { Settles OnlyLess (telling S.stored S.is_closed S.failed) (values_at E.Node.NodeSet E.Env E.Hash.KeyHash) self.old (λ w w'. UnpinCall w me handle result w') self.new }
     {
         let lists = !self.storage.has_closed();
-        giving::unpin(&mut self.tables, &mut self.values, me, handle, lists)
+        release::unpin(&mut self.tables, &mut self.values, me, handle, lists)
     }
 
     /// A handle is given up; a pinning one lets its pin go as `unpin` does. A node without handles is gone, and its value with all handles that it owns, and so on.
@@ -283,7 +283,7 @@ impl<E: Env<Node: NodeSet<E>>, S: PagableStorage<E>> Pager<E, S> {
         ensures { Settles OnlyLess (telling S.stored S.is_closed S.failed) (values_at E.Node.NodeSet E.Env E.Hash.KeyHash) self.old (λ w w'. ReleaseCall w me handle result w') self.new }
     {
         let lists = !self.storage.has_closed();
-        giving::release(&mut self.tables, &mut self.values, me, handle, lists)
+        release::release(&mut self.tables, &mut self.values, me, handle, lists)
     }
 
     /// The cell of a loose handle gets a key, which replaces an older one, and its value goes where nothing pins it. Through a handle of another mode nothing
@@ -304,7 +304,7 @@ impl<E: Env<Node: NodeSet<E>>, S: PagableStorage<E>> Pager<E, S> {
         ensures { Settles OnlyLess (telling S.stored S.is_closed S.failed) (values_at E.Node.NodeSet E.Env E.Hash.KeyHash) self.old (λ w w'. SetKeyCall w me handle key result w') self.new }
     {
         let lists = !self.storage.has_closed();
-        giving::set_data_key(&mut self.tables, &mut self.values, me, handle, key, lists)
+        release::set_data_key(&mut self.tables, &mut self.values, me, handle, key, lists)
     }
 
     /// A load is given up, with all that it owns and all that goes with that. Refused with NoSuchHandle and NotYours, and nothing changes; NumbersSpent and
@@ -319,7 +319,7 @@ impl<E: Env<Node: NodeSet<E>>, S: PagableStorage<E>> Pager<E, S> {
         ensures { Settles OnlyLess (telling S.stored S.is_closed S.failed) (values_at E.Node.NodeSet E.Env E.Hash.KeyHash) self.old (λ w w'. DropCall w me load result w') self.new }
     {
         let lists = !self.storage.has_closed();
-        giving::load_drop(&mut self.tables, &mut self.values, me, load, lists)
+        load_end::load_drop(&mut self.tables, &mut self.values, me, load, lists)
     }
 
     /// A load of a key hands the named handles over to the caller, gives up the rest and is closed. Refused with NoSuchHandle, NotYours where another began the load
@@ -340,14 +340,14 @@ impl<E: Env<Node: NodeSet<E>>, S: PagableStorage<E>> Pager<E, S> {
         ensures { Settles OnlyLess (telling S.stored S.is_closed S.failed) (values_at E.Node.NodeSet E.Env E.Hash.KeyHash) self.old (λ w w'. HandOverCall w me load named.now result w') self.new }
     {
         let lists = !self.storage.has_closed();
-        giving::load_take(&mut self.tables, &mut self.values, me, load, named, lists)
+        load_end::load_take(&mut self.tables, &mut self.values, me, load, named, lists)
     }
 
     /// Whether a handle is loose. Refused with NoSuchHandle.
     pub(crate) fn is_loose(&self, handle: HandleNumber) -> Result<bool, Error>
         ensures { Looks (core_in (telling S.stored S.is_closed S.failed) self.now) handle (λ loose row. loose ≡ is_loose row.mode) result }
     {
-        lookups::is_loose(&self.tables, handle)
+        queries::is_loose(&self.tables, handle)
     }
 
     /// The handle at this place of the list, with type and key of its cell. None past the end.
@@ -356,14 +356,14 @@ impl<E: Env<Node: NodeSet<E>>, S: PagableStorage<E>> Pager<E, S> {
         ensures keyed { IfSome result (λ e. key_at (core_in (telling S.stored S.is_closed S.failed) self.now) e.0.node.0 ≡ e.2) }
         ensures past { IfNone result (length (core_in (telling S.stored S.is_closed S.failed) self.now).list ≤ place) }
     {
-        lookups::entry(&self.tables, place)
+        queries::entry(&self.tables, place)
     }
 
     /// One worker more is at work. Refused with NumbersSpent and OutOfMemory.
     pub(crate) fn worker_begin(&mut self) -> Result<WorkerNumber, Error>
         ensures { Calls OnlyTables (telling S.stored S.is_closed S.failed) self.old (λ w w'. BeginsWorker w result w') self.new }
     {
-        giving::worker_begin(&mut self.tables)
+        workers::worker_begin(&mut self.tables)
     }
 
     /// The same, for the entry at this place of the list, which moves to the worker. Refused with NumbersSpent and OutOfMemory.
@@ -371,7 +371,7 @@ impl<E: Env<Node: NodeSet<E>>, S: PagableStorage<E>> Pager<E, S> {
         requires { place < length (core_in (telling S.stored S.is_closed S.failed) self.old).list }
         ensures { Calls OnlyTables (telling S.stored S.is_closed S.failed) self.old (λ w w'. TakesWorker w place result w') self.new }
     {
-        giving::worker_take(&mut self.tables, place)
+        workers::worker_take(&mut self.tables, place)
     }
 
     /// The same, with the reference that the worker pages out: the entry's handle, as a loose one of its cell. Refused with NoSuchHandle past the end, with WrongKind
@@ -398,7 +398,7 @@ impl<E: Env<Node: NodeSet<E>>, S: PagableStorage<E>> Pager<E, S> {
             (λ w w'. FallsAnyhow w w (is_workers_at w worker.0 node.0) w') self.new }
     {
         let lists = !self.storage.has_closed();
-        giving::release_node(&mut self.tables, &mut self.values, worker, node, lists);
+        workers::release_node(&mut self.tables, &mut self.values, worker, node, lists);
     }
 
     /// A worker ends: its loads are closed, and it gives up whatever it and they still have, with all that goes with it.
@@ -406,7 +406,7 @@ impl<E: Env<Node: NodeSet<E>>, S: PagableStorage<E>> Pager<E, S> {
         ensures { Settles OnlyLess (telling S.stored S.is_closed S.failed) (values_at E.Node.NodeSet E.Env E.Hash.KeyHash) self.old (λ w w'. WorkerEnds w worker.0 w') self.new }
     {
         let lists = !self.storage.has_closed();
-        giving::worker_end(&mut self.tables, &mut self.values, worker, lists);
+        workers::worker_end(&mut self.tables, &mut self.values, worker, lists);
     }
 
     /// Clones a reference's handle for this owner and pins the clone, or begins a load by it. Where that is refused, the clone stays the owner's.

@@ -1,7 +1,10 @@
 //! Cells whose blobs refer to nothing, which are pinned at once: what a load leaves that begins, gets the blob, reads it and ends, without its row.
 
 ghost use Rattle.std.specs.{Arc.arc_value, Prelude.{Err, IfErr, IfNone, IfOk, IfSome, IsTrue, [], ◌≡◌, ◌≤◌}};
-ghost use Rattle.{pagable_core.specs.Data.blob_of, pagable_leaf.specs.Leaf.IsLeaf, pagable_loads.specs.{Decoding.IsReadAs, Telling.values_at}, pagable_tables.specs.Falling.room};
+ghost use Rattle.pagable_core.specs.Data.{blob_of};
+ghost use Rattle.pagable_leaf.specs.Leaf.{IsLeaf};
+ghost use Rattle.pagable_loads.specs.{Decoding.IsReadAs, Telling.values_at};
+ghost use Rattle.pagable_tables.specs.HandleTable.{room};
 ghost use Rattle.pagable_pager.specs.{Leaf.{LeafBegun, LeafDropped, LeafFetched, LeafPinned, LeafUnbegun}, View.{core_in, state_in, telling}};
 ghost use Rattle.pagable_world.specs.Access.{PinRun};
 
@@ -12,7 +15,7 @@ use pagable_core::{PagableData, PagableStorage};
 use pagable_leaf::leaf::{self, Leaf};
 use pagable_loads::{Access, Decoded, decode};
 use pagable_model::{Error, HandleNumber, LoadNumber};
-use pagable_tables::loading;
+use pagable_tables::load;
 use pagable_world::Beginning;
 use pagable_world::handles::Owner;
 use std::alloc::Global;
@@ -98,7 +101,7 @@ impl<E: Env<Node: NodeSet<E>>, S: PagableStorage<E>> Pager<E, S> {
         ensures storage { self.new.storage ≡ self.old.storage }
         ensures environment { self.new.environment ≡ self.old.environment }
     {
-        match loading::load_begin(&mut self.tables, Owner::Caller, leaf.row.number) {
+        match load::load_begin(&mut self.tables, Owner::Caller, leaf.row.number) {
             Ok(Beginning::Load(load, _)) => Ok(load),
             Ok(Beginning::InMemory) => unreachable!(),
             Err(e) => {

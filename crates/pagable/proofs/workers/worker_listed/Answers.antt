@@ -1,5 +1,7 @@
 use Rattle.{std.proofs.Common.{sym, ◌∙◌, ◌≡◌, inl, inr, refl, arith}, pagable_loads.specs.Telling.values_at}
-use Rattle.{pagable.proofs.{Driven.{begun-on, entry-refused, listed-started, keeps-after}, Keeping.{drives, lender-is, nothing-done, one-on, refused, refuses, stay-on, told-so}}, pagable_tables.proofs.Worlds.failed}
+use Rattle.pagable.proofs.Driven.{begun-on, entry-refused, keeps-after, listed-started}
+use Rattle.pagable.proofs.Keeping.{drives, lender-is, nothing-done, one-on, refused, refuses, stay-on, told-so}
+use Rattle.pagable_tables.proofs.SameViews.{failed}
 use Rattle.pagable.proofs.workers.worker_listed.Goals as goal
 
 pub returns-then-place-pending : goal.returns-then-place-pending

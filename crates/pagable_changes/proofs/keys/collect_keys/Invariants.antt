@@ -1,4 +1,6 @@
-use Rattle.{pagable_changes.specs.Changes.AllHave, pagable_pager.specs.View.{core_in, telling}, pagable_tables.specs.Rows.row_by}
+use Rattle.pagable_changes.specs.Changes.{AllHave}
+use Rattle.pagable_pager.specs.View.{core_in, telling}
+use Rattle.pagable_tables.specs.NumberTable.{row_by}
 use Rattle.std.proofs.Common.{length, take, ◌-◌, ◌≤◌}
 use Rattle.pagable_changes.proofs.keys.collect_keys.Given as goal
 

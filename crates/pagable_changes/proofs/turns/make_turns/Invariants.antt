@@ -1,5 +1,8 @@
 use Rattle.pagable_changes.specs.Changes.{Turns, stage}
-use Rattle.{pagable_loads.specs.Telling.values_at, pagable_pager.specs.View.{state_in, telling}, pagable_tables.specs.Rows.row_by, std.proofs.Common.{IsTrue, ◌≡◌}}
+use Rattle.pagable_loads.specs.Telling.{values_at}
+use Rattle.pagable_pager.specs.View.{state_in, telling}
+use Rattle.pagable_tables.specs.NumberTable.{row_by}
+use Rattle.std.proofs.Common.{IsTrue, ◌≡◌}
 use Rattle.pagable_changes.proofs.turns.make_turns.Given as goal
 
 -- turns led here, if the storage is honest here

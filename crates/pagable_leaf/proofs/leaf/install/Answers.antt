@@ -1,5 +1,5 @@
 use Rattle.pagable_leaf.proofs.AtOnce.{pins-leaf}
-use Rattle.pagable_tables.proofs.{Installed.has-come}
+use Rattle.pagable_tables.proofs.LoadEnd.{has-come}
 use Rattle.pagable_leaf.proofs.Words.{Alike, Core, Mode, None, Tables, ap, arith, core_of, counts_at, false, find_row, has_come, live, nat_tests, not, refl, subst, with_handle, with_mode, ◌+◌, ◌∙◌}
 use Rattle.pagable_leaf.specs.Leaf.{with_numbers}
 use Rattle.pagable_leaf.proofs.leaf.install.Goals as goal

@@ -1,6 +1,6 @@
 use Rattle.pagable_leaf.proofs.{Prepared.{begin-refused, leaf-roomier}, Words.{refl}}
 use Rattle.pagable_leaf.proofs.leaf.prepare.Goals as goal
-use Rattle.pagable_tables.proofs.Newer.{widens-does}
+use Rattle.pagable_tables.proofs.OwnedByLoad.{widens-does}
 
 pub returns-in-Ok-clause-leaf : goal.returns-in-Ok-clause-leaf
 returns-in-Ok-clause-leaf c stored closed failures =

@@ -1,4 +1,5 @@
-use Rattle.pagable_tables.proofs.{Newer.does-so, Told.{newer-alike, told-whole}, Words.{None, arith, known_at, nat_tests, plain_of, refl, ℕ, ◌≡◌}, Worlds.same-cache}
+use Rattle.pagable_tables.proofs.{OwnedByLoad.does-so, SameViews.same-cache, Views.{newer-alike, told-whole}}
+use Rattle.pagable_tables.proofs.Words.{None, arith, known_at, nat_tests, plain_of, refl, ℕ, ◌≡◌}
 
 pub returns : Rattle.pagable_tables.proofs.tables.cache_clear.Goals.returns
 returns c =

@@ -1,4 +1,4 @@
-use Rattle.pagable_tables.proofs.{Next.passes-none, Words.{AreLater, None, Tables, [], ap, arith, known_at, live, load_at, nat_tests, row_by}}
+use Rattle.pagable_tables.proofs.{CascadeEnd.passes-none, Words.{AreLater, None, Tables, [], ap, arith, known_at, live, load_at, nat_tests, row_by}}
 use Rattle.pagable_tables.{proofs.Words.{refl, worker_at, ℕ, ◌≡◌}, specs.Core.IsWhole}
 
 nothing-whole : (t : Tables) → t.holdings.handles.dead ≡ 0 → t.holdings.handles.places.items ≡ [] → ((n : ℕ) → row_by t.holdings.nodes n ≡ None) → t.holdings.list.items ≡ []

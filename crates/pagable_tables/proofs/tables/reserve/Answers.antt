@@ -1,6 +1,8 @@
 use Rattle.std.specs.VecDeque.{deque_capacity}
-use Rattle.pagable_tables.proofs.{Fitting.rows-told, Newer.{does-as, does-so}, Told.alike-goes, Working.work-told, Words.{Alike, Holdings, Tables, arith, live, nat_tests, refl, ◌+◌, ◌≡◌}}
-use Rattle.pagable_tables.{proofs.{Words.◌≤◌, Worlds.{failed, same-cache}}, specs.{Core.{Does, IsWhole}, Falling.Widens}}
+use Rattle.pagable_tables.proofs.{CascadeStep.rows-told, OwnedByLoad.{does-as, does-so}, Views.alike-goes}
+use Rattle.pagable_tables.proofs.{Words.{Alike, Holdings, Tables, arith, live, nat_tests, refl, ◌+◌, ◌≡◌}, WorkCounts.work-told}
+use Rattle.pagable_tables.proofs.{SameViews.{failed, same-cache}, Words.◌≤◌}
+use Rattle.pagable_tables.specs.{Core.{Does, IsWhole}, HandleTable.Widens}
 use Rattle.pagable_tables.proofs.tables.reserve.Goals as goal
 
 -- there is room, and all else is as it was

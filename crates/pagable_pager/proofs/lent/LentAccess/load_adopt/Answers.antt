@@ -1,4 +1,7 @@
-use Rattle.{pagable_loads.specs.Telling.{AdoptsValue, values_at}, pagable_pager.{proofs.Keeping.{adopted_live, brings-so, told-if}, specs.View.{core_in, telling}}, pagable_tables.proofs.Worlds.failed}
+use Rattle.pagable_loads.specs.Telling.{AdoptsValue, values_at}
+use Rattle.pagable_pager.proofs.Keeping.{adopted_live, brings-so, told-if}
+use Rattle.pagable_pager.specs.View.{core_in, telling}
+use Rattle.pagable_tables.proofs.SameViews.{failed}
 use Rattle.std.{proofs.Common.{Err, Ok, rules, subst}, specs.Prelude.IsTrue}
 use Rattle.pagable_pager.proofs.lent.LentAccess.load_adopt.Goals as goal
 

@@ -1,5 +1,6 @@
 use Rattle.{pagable_pager.proofs.Keeping.{known-valued, none-so, not-adopted, only-less, same-so, shed}, pagable_steps.proofs.Owning.adopted_known}
-use Rattle.{pagable_tables.proofs.Newer.eager-pins, std.proofs.Common.{ap, inl, not, refl, ◌∙◌}}
+use Rattle.pagable_tables.proofs.OwnedByLoad.{eager-pins}
+use Rattle.std.proofs.Common.{ap, inl, not, refl, ◌∙◌}
 use Rattle.pagable_pager.proofs.pager.Pager.load_adopt_by.Goals as goal
 
 pub adopt_if_known-requires-clause-valued : goal.adopt_if_known-requires-clause-valued

@@ -1,4 +1,8 @@
-use Rattle.{pagable_pager.proofs.Keeping.asks-kept, pagable_tables.{proofs.Worlds.{failed, still}, specs.Core.load_in}, pagable_world.specs.Refusals.earlier, std.proofs.Common.{None, ap, false, inl, inr}}
+use Rattle.pagable_pager.proofs.Keeping.{asks-kept}
+use Rattle.pagable_tables.proofs.SameViews.{failed, still}
+use Rattle.pagable_tables.specs.Core.{load_in}
+use Rattle.pagable_world.specs.Refusals.{earlier}
+use Rattle.std.proofs.Common.{None, ap, false, inl, inr}
 use Rattle.pagable_pager.proofs.pager.Pager.load_fetch_by.Goals as goal
 
 pub returns-in_err-row-in-Root-clause-step : goal.returns-in_err-row-in-Root-clause-step

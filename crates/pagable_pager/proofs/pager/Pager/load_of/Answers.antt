@@ -1,4 +1,6 @@
-use Rattle.{pagable_tables.{proofs.Worlds.failed, specs.Core.load_in}, std.proofs.Common.{None, false, refl, sym}}
+use Rattle.pagable_tables.proofs.SameViews.{failed}
+use Rattle.pagable_tables.specs.Core.{load_in}
+use Rattle.std.proofs.Common.{None, false, refl, sym}
 
 pub returns-clause-reads : Rattle.pagable_pager.proofs.pager.Pager.load_of.Goals.returns-clause-reads
 returns-clause-reads g c = rw (← c.self.view_is) (record {

@@ -1,4 +1,6 @@
-use Rattle.{std.proofs.Common.{inr, refl}, pagable_pager.proofs.Keeping.{born-so, born-told, only-room, roomier}, pagable_tables.proofs.Worlds.room-alike}
+use Rattle.pagable_pager.proofs.Keeping.{born-so, born-told, only-room, roomier}
+use Rattle.pagable_tables.proofs.SameViews.{room-alike}
+use Rattle.std.proofs.Common.{inr, refl}
 use Rattle.pagable_pager.proofs.pager.Pager.new_node.Goals as goal
 
 pub invariant_of-self : goal.invariant_of-self

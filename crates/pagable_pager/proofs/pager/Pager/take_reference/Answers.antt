@@ -1,4 +1,6 @@
-use Rattle.{pagable_pager.proofs.Keeping.row_sorted, pagable_tables.proofs.Worlds.failed, std.proofs.Common.inr}
+use Rattle.pagable_pager.proofs.Keeping.{row_sorted}
+use Rattle.pagable_tables.proofs.SameViews.{failed}
+use Rattle.std.proofs.Common.{inr}
 
 pub returns-in_err-pinned-in-Ok-true-clause-step : Rattle.pagable_pager.proofs.pager.Pager.take_reference.Goals.returns-in_err-pinned-in-Ok-true-clause-step
 returns-in_err-pinned-in-Ok-true-clause-step g c =

@@ -1,0 +1,17 @@
+use Rattle.pagable_tables.proofs.Words.{◌<◌, arith, sym, ap, ◌∙◌, ◌≡◌, filter, length, subst, rules, filter_from_retain, All-filter, AllPairs-filter, live, is_live_place, IsBefore, IsNext, Place}
+use Rattle.pagable_tables.proofs.{HandleTable.{length-live-filter, live-filter}, Words.AllPairs}
+
+pub returns-clause-becomes : Rattle.pagable_tables.proofs.handle_table.compact.Goals.returns-clause-becomes
+returns-clause-becomes c =
+    let old = c.args.handles.now.places.items in
+    let e : c.retain.new.self.items ≡ filter is_live_place old = filter_from_retain _ is_live_place (λ p x b q called. search rules) _ old c.retain.new.self.items c.retain.ensures.filtered in
+    record {
+      sound = record {
+        ordered = subst (AllPairs IsBefore) (sym e) (AllPairs-filter IsBefore is_live_place old c.requires.ordered);
+        counted = omega (arith, c.requires.counted, length-live-filter old, ap length e, ap (λ l. length (live l)) e, ap length (live-filter old));
+        few = omega arith;
+      };
+      rows = ap live e ∙ live-filter old;
+      capacity = search rules;
+      next = λ q next. subst (IsNext q) (sym e) (All-filter is_live_place (λ (s : Place). s.row.number.0 < q) old next);
+    }

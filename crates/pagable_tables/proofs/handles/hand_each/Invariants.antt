@@ -1,5 +1,0 @@
-use Rattle.pagable_tables.{proofs.Words.{is_in, live, moved, numbers_of, take}, specs.Falling.Becomes}
-use Rattle.pagable_tables.proofs.handles.hand_each.Given as goal
-
-abbrev pub invariant-loop-handle : goal.invariant-loop-handle
-invariant-loop-handle l = Becomes l.fn.handles (moved (is_in (numbers_of (take l.handle-index l.named))) l.owner (live l.fn.handles.places.items)) l.handles

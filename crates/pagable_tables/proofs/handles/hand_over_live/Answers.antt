@@ -1,5 +1,0 @@
-use Rattle.pagable_tables.proofs.{Words.{live, refl, sym}, Worlds.moved-none}
-
-pub returns-in_default : Rattle.pagable_tables.proofs.handles.hand_over_live.Goals.returns-in_default
-returns-in_default c =
-    record { sound = c.requires; rows = sym (moved-none c.args.handle c.args.owner (live c.args.handles.now.places.items) c.in_default.ensures.none); capacity = refl; next = λ q next. next }

@@ -1,7 +1,0 @@
-use Rattle.pagable_tables.proofs.{Alive.{ok-then, sound-push}, Words.refl}
-
-pub returns-clause-sound : Rattle.pagable_tables.proofs.handles.push.Goals.returns-clause-sound
-returns-clause-sound c =
-    let widens = c.make_room.ensures.widens in
-    sound-push c.make_room.new.handles _ c.args.row widens.sound (widens.next c.args.row.number.0 c.requires.next)
-    (ok-then _ c.push.result (c.push.ensures.succeeds c.in_ok-make_room.ensures.ok) c.push.ensures.items) refl

@@ -1,0 +1,20 @@
+use Rattle.pagable_tables.proofs.{LastHandles.{raised-same, raised-then, told-on}, Words.{Place, ap, arith, get_or, get_or_default, ◌∙◌, ◌≡◌}}
+use Rattle.pagable_tables.proofs.load_handles.note_above.Goals as goal
+
+pub loop-place-init : goal.loop-place-init
+loop-place-init c = record { rows = λ l. raised-same _; told = λ l row k d at within above own. absurd (let low = c.place_above-start.ensures k d within in omega arith) }
+
+pub loop-place-preserved : goal.loop-place-preserved
+loop-place-preserved c =
+    let i = c.loop-place.invariant in
+    let n = c.loop-place.place in
+    let places = c.args.handles.now.places.items in
+    let p = c.index-found.result.now in
+    record {
+      rows = λ l. raised-then _ _ _ (i.rows l) (c.note.ensures.rows l);
+      told = told-on c.loop-place.loads c.note.new.loads places c.args.number c.note.ensures.rows n i.told (λ l row d at own.
+          let e : p ≡ get_or places n d = c.index-found.ensures ∙ get_or_default places n p d (omega arith) in
+          let number = ap (λ (x : Place). x.row.number.0) e in
+          let le = c.note.ensures.last l row (ap (λ (x : Place). x.row.owner) e ∙ own) at in
+          omega arith);
+    }

@@ -1,0 +1,14 @@
+use Rattle.pagable_tables.proofs.{LastHandles.{core-same, noted-later}, Words.{None, false, refl, subst, sym}}
+use Rattle.pagable_world.specs.Pager as pager
+use Rattle.pagable_tables.proofs.load_handles.note_all.Goals as goal
+
+pub returns-clause-notes : goal.returns-clause-notes
+returns-clause-notes c =
+    let t = c.args.t.now in
+    let t1 = record t { loads = c.note_above.new.loads; noted = t.holdings.last_handle } in
+    record {
+      same = refl;
+      rows = c.note_above.ensures.rows;
+      whole = record { steady = c.requires.whole.steady; core = subst pager.IsWhole (sym (core-same t t1 refl c.note_above.ensures.rows (λ key. None) false 0)) c.requires.whole.core };
+      later = noted-later t t1 refl c.note_above.ensures.rows refl c.note_above.ensures.told c.requires.later;
+    }

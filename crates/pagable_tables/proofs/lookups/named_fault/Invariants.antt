@@ -1,9 +1,0 @@
-use Rattle.pagable_tables.proofs.Words.{◌≡◌, ◌<◌, ℕ, [], drop, Core, earlier, false, is_in, named_fault, live, seen}
-use Rattle.pagable_tables.proofs.lookups.named_fault.Given as goal
-
-abbrev pub invariant-loop-i : goal.invariant-loop-i
-invariant-loop-i l = record {
-  lowest : (q : ℕ) → q < l.lowest → is_in (seen l.named l.i) q ≡ false;
-  highest : (q : ℕ) → l.highest < q → is_in (seen l.named l.i) q ≡ false;
-  rest : (w : Core) → w.rows ≡ live l.handles.places.items → earlier l.fault (named_fault w l.owner (seen l.named l.i) (drop l.i l.named)) ≡ named_fault w l.owner [] l.named;
-}

@@ -1,0 +1,45 @@
+use Rattle.pagable_tables.proofs.{CallsKeepWhole.keyed-whole, CascadeEnd.stays-first, CascadeStep.{key-fits, keyed-on}}
+use Rattle.pagable_tables.proofs.{OwnedByLoad.{does-as, lazily-so, nothing-shed, sheds-with}, RowCounts.found-among, Views.falling}
+use Rattle.pagable_tables.proofs.Views.{loose-unshared, unturned}
+use Rattle.pagable_tables.proofs.Words.{Falls, GetsKey, Some, [], any_mode, arith, cases_eq, counts_at, if◌then◌else◌, inl, inr, keyed, nat_tests, nobody}
+use Rattle.pagable_tables.proofs.{SameViews.{failed, owner-same, still}, Words.{plain_of, refl, sym, with_key, ◌==◌, ◌∙◌, ◌∷◌, ◌≡◌}}
+use Rattle.pagable_tables.proofs.{Words.live, WorkCounts.work-more}
+use Rattle.pagable_tables.proofs.release.set_data_key.Goals as goal
+
+pub returns-in_err-at : goal.returns-in_err-at
+returns-in_err-at g c =
+    rw (failed c.from_residual.result c.from_residual.ensures.1) (nothing-shed c.requires.whole (λ stored closed failures e. record { does = inl (record { e = c.in_err-at.field-0.0; why = c.in_err-at.ensures.fault stored closed failures any_mode; told = refl; stays = still _ }) }))
+
+pub fall-requires : goal.fall-requires
+fall-requires g c =
+    let t = c.args.t.now.holdings in
+    let n = c.in_ok-at.at.row.node.0 in
+    let y = c.unwrap-counts.result in
+    let b = y.pins == 0 in
+    let w = c.requires.whole.steady in
+    let e = c.set_counts.ensures in
+    let is : counts_at t.nodes n ≡ Some y = sym c.counts_of.ensures ∙ c.unwrap-counts.ensures in
+    let here : counts_at c.set_counts.new.nodes n ≡ Some (keyed y c.get.result t.top) = grind (arith, nat_tests, e.here, c.top_after.ensures) in
+    let top : c.top_after-t.result ≡ (if b then n else t.top) = grind (arith, nat_tests, c.top_after-t.ensures) in
+    let fits = key-fits _ _ _ _ _ _ n y c.get.result w.fits is c.get.ensures.above here e.others e.refs b refl in
+    let worked = work-more (live t.handles.places.items) t.nodes c.set_counts.new.nodes (λ m. rw (e.work m) (omega arith)) w.worked in
+    record { falling = (if b then n ∷ [] else [], record { sound = w.sound; next = w.next; fits = rw top fits; worked = worked }, grind (arith, nat_tests)) }
+
+pub returns : goal.returns
+returns g c =
+    let row = c.in_ok-at.at.row in
+    let t = c.args.t.now in
+    let loose = sym c.is_loose_mode.ensures ∙ c.if-not-is_loose_mode.false in
+    let here : counts_at c.set_counts.new.nodes row.node.0 ≡ Some (keyed c.unwrap-counts.result c.args.key t.holdings.top) =
+    grind (arith, nat_tests, c.set_counts.ensures.here, c.top_after.ensures, c.get.ensures.value) in
+    let is : counts_at t.holdings.nodes row.node.0 ≡ Some c.unwrap-counts.result = sym c.counts_of.ensures ∙ c.unwrap-counts.ensures in
+    let cells : GetsKey (counts_at t.holdings.nodes) (counts_at c.set_counts.new.nodes) row.node.0 c.args.key =
+    λ m. grind (arith, nat_tests, cases_eq m row.node.0, here, is, c.set_counts.ensures.others m, c.get.ensures.above, c.get.ensures.value) in
+    let there = (found-among c.args.handle.0 (plain_of t).rows row c.in_ok-at.ensures.found).0 in
+    let stands = unturned (with_key (plain_of t) row.node c.args.key) (keyed-whole c.requires.whole.core row there c.args.key (loose-unshared row.mode loose)) in
+    let own = owner-same c.args.me row.owner c.in_ok-at.ensures.owner in
+    sheds-with (does-as (lazily-so {lists = c.args.lists} {step = λ w w'. Falls w (with_key w row.node c.args.key) nobody c.fall.result w'}
+    (λ stored closed failures e. c.fall.ensures.falls _ _ nobody (keyed-on t stored closed c.args.lists failures c.requires.whole e row.node c.args.key _ refl cells))
+    c.fall.ensures.steady (λ fell. falling fell stands) refl refl refl)
+    (λ stored closed failures fell e. record { does = inr (row, record { live = c.in_ok-at.ensures.found; own = own; as_asked = refl }, inr (loose, fell e)) }))
+    (stays-first (λ m. grind (arith, nat_tests, cases_eq m row.node.0, here, is, c.set_counts.ensures.others m)) c.fall.ensures.sheds)

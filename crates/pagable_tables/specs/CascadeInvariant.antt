@@ -1,0 +1,81 @@
+-- When handles, nodes and list fit each other, in the midst of giving handles up too.
+use Rattle.pagable_model.specs.declared.numbers.{ArcRef.ArcRef, NodeNumber.NodeNumber}
+use Rattle.pagable_tables.specs.{HandleTable.{AreSound, IsNext, live}, Nodes.{counts_at, falls_in, holds_in, next_in, pins_in, refs_at, work_at}}
+use Rattle.pagable_tables.specs.declared.{cascade.Holdings.Holdings, nodes.{Counts.Counts, NodeRow.NodeRow}, number_table.NumberTable.NumberTable}
+use Rattle.pagable_world.specs.{Calls.row_of, Kinds.{held, is_at, is_handle, is_owned_by, owner_value, pins}, Plain.{one, times}}
+use Rattle.pagable_world.specs.declared.{handles.{HandleRow.HandleRow, Owner.Owner}, rows.Mode.Mode}
+use Rattle.std.specs.Prelude.{Bool, List, None, Option, Some, [], false, if◌then◌else◌, nat_lt, not, sum_by, true, ℕ, ◌&&◌, ◌+◌, ◌==◌, ◌||◌, ◌∷◌, ◌≡◌, ◌≤◌}
+
+-- a new entry of the list
+abbrev pub entry : ℕ → NodeNumber → HandleRow
+entry q node = row_of q node Mode.LooseUnpinned Owner.List
+
+abbrev pub entries_of : Bool → ℕ → NodeNumber → List HandleRow
+entries_of listed q node = if listed then entry q node ∷ [] else []
+
+-- the nodes that fall, from the first one on, by the numbers in their rows
+abbrev pub Chain : (ℕ → Option Counts) → ℕ → List ℕ → Type 0
+Chain at top [] = top ≡ 0
+Chain at top (n ∷ ns) = (top ≡ n) × Chain at (next_in (at n)) ns
+
+abbrev pub is_bare : List ArcRef → Bool
+is_bare [] = true
+is_bare (r ∷ rs) = false
+
+-- A node that falls has lost its value. Another has a handle, and refers to something only where its value is in memory.
+abbrev pub is_right : Counts → Bool → Bool
+is_right c bare = if c.is_falling then c.holds == 0 || (c.pins == 0 && nat_lt 0 c.key) else nat_lt 0 c.holds && (nat_lt 0 c.pins || not (nat_lt 0 c.key) || bare)
+
+abbrev pub Right : Option Counts → List ArcRef → Type 0
+Right None refs = refs ≡ []
+Right (Some c) refs = is_right c (is_bare refs) ≡ true
+
+-- whether the handle of this row has the number and is owned by the node's value
+abbrev pub owns : HandleRow → ℕ → ℕ → ℕ
+owns h n q = one (is_handle q h && is_owned_by (owner_value n) h)
+
+abbrev pub owns_nothing : ℕ → ℕ → ℕ
+owns_nothing n q = 0
+
+-- how often a handle is named, and a node in a list
+abbrev pub named : ℕ → List ArcRef → ℕ
+named q refs = times (λ (r : ArcRef). r.handle.0 == q) refs
+
+abbrev pub often : ℕ → List ℕ → ℕ
+often n ns = times (λ m. m == n) ns
+
+-- Nodes by their counts and references, live handles, and what falls. Besides its references a value may own the handles that extra tells.
+pub record Fits (at : ℕ → Option Counts) (refs : ℕ → List ArcRef) (rows : List HandleRow) (top : ℕ) (stack : List ℕ) (extra : ℕ → ℕ → ℕ) : Type 0 where
+  pub pinned : (n : ℕ) → pins_in (at n) ≡ pins n rows
+  pub holding : (n : ℕ) → holds_in (at n) ≡ held n rows
+  pub owned : (n q : ℕ) → named q (refs n) + extra n q ≡ sum_by (λ h. owns h n q) rows
+  pub chain : Chain at top stack
+  pub marked : (n : ℕ) → often n stack ≡ one (falls_in (at n))
+  pub right : (n : ℕ) → Right (at n) (refs n)
+  pub from_one : at 0 ≡ None
+
+-- whether a worker owns the handle, and it is one of the node
+abbrev pub is_worker : Owner → Bool
+is_worker (Owner.Worker v) = true
+is_worker o = false
+
+abbrev pub is_work : ℕ → HandleRow → Bool
+is_work n h = is_at n h && is_worker h.owner
+
+-- workers own no more of each node's handles than it tells
+abbrev pub AreAtWork : List HandleRow → NumberTable NodeRow → Type 0
+AreAtWork rows nodes = (n : ℕ) → times (is_work n) rows ≤ work_at nodes n
+
+pub record IsFalling (t : Holdings) (stack : List ℕ) (extra : ℕ → ℕ → ℕ) : Type 0 where
+  pub sound : AreSound t.handles
+  pub next : IsNext (t.last_handle + 1) t.handles.places.items
+  pub fits : Fits (counts_at t.nodes) (refs_at t.nodes) (live t.handles.places.items) t.top stack extra
+  pub worked : AreAtWork (live t.handles.places.items) t.nodes
+
+-- how many handles values own
+abbrev pub is_valued : Owner → Bool
+is_valued (Owner.Value n) = true
+is_valued o = false
+
+abbrev pub valued : List HandleRow → ℕ
+valued rows = times (λ h. is_valued h.owner) rows

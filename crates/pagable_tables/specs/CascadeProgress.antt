@@ -1,0 +1,66 @@
+-- What has gone and what has come since handles began to be given up: before a call, in the world that it has made directly, and in the tables.
+use Rattle.pagable_model.specs.declared.{error.Error.Error, numbers.HandleNumber.HandleNumber}
+use Rattle.pagable_tables.specs.{HandleTable.live, Nodes.{cell_in, counts_at}, declared.cascade.Holdings.Holdings}
+use Rattle.pagable_world.specs.Cascade.{AreNewEntries, IsClosed, IsWithin, MustList, TellsListing, is_keyed, left_rows}
+use Rattle.pagable_world.specs.{Kinds.{held, is_handle, is_owned_by, is_pin, is_shared, pins, sharing}, Plain.times, World.{Core, HasRoom, greatest}}
+use Rattle.pagable_world.specs.declared.handles.{HandleRow.HandleRow, Owner.Owner}
+use Rattle.std.specs.Prelude.{Bool, Err, List, None, Ok, Option, Result, Some, filter, is_some, length, map, not, true, vec_capacity, ℕ, ◌&&◌, ◌++◌, ◌+◌}
+use Rattle.std.specs.{Prelude.{◌<◌, ◌==◌, ◌||◌, ◌≡◌, ◌≢◌, ◌≤◌, ◌⊎◌}, VecDeque.deque_capacity}
+
+-- ---- what has gone and what has come since handles began to be given up: before a call, in the world that it has made directly, and in the tables
+
+-- the world with the handles, nodes and list of the tables
+abbrev pub with_tables : Core → Holdings → Core
+with_tables w t = record w {
+  rows = live t.handles.places.items;
+  cells = λ n. cell_in (counts_at t.nodes n);
+  list = t.list.items;
+  last = record w.last { handle = t.last_handle };
+  places = record { handles = vec_capacity t.handles.places; entries = deque_capacity t.list };
+}
+
+-- the answer, by the cause that was kept
+abbrev pub told_by : Option Error → Result (Unit {0}) Error
+told_by None = Ok tt
+told_by (Some e) = Err e
+
+-- a pin of the node that isn't a Shared one
+abbrev pub is_plain_pin : ℕ → HandleRow → Bool
+is_plain_pin n h = is_pin n h && not (is_shared h.mode)
+
+-- What a call has made directly of the world before it, so that handles can be given up.
+pub record Begins (before w : Core) (lists : Bool) : Type 0 where
+  -- cells are listed while the storage is open
+  pub open_storage : lists ≡ not w.closed
+  -- pins are no more, and a node's pins are Shared or not, as before
+  pub fewer : (n : ℕ) → pins n w.rows ≤ pins n before.rows
+  pub shared : (n : ℕ) → sharing n w.rows ≤ sharing n before.rows
+  pub uniform : (n : ℕ) → (sharing n before.rows ≡ 0) ⊎ (times (is_plain_pin n) w.rows ≡ 0)
+  -- the list has no handle but its own, each at most once
+  pub listed : (q : ℕ) → times (λ (h : HandleNumber). h.0 == q) w.list ≤ times (λ h. is_handle q h && is_owned_by Owner.List h) w.rows
+
+-- The given handles have gone from the world w, with more that had to; the tables hold what is left and what came.
+pub record SoFar (before w : Core) (given : ℕ → Bool) (lists : Bool) (t : Holdings) : Type 0 where
+  pub begins : Begins before w lists
+  pub gone : ℕ → Bool
+  pub entries : List HandleRow
+  pub rows : live t.handles.places.items ≡ left_rows gone w.rows ++ entries
+  pub list : t.list.items ≡ filter (λ (q : HandleNumber). not (gone q.0)) w.list ++ map (λ (h : HandleRow). h.number) entries
+  pub last : t.last_handle ≡ w.last.handle + length entries
+  pub within : t.last_handle ≤ greatest
+  pub places : HasRoom w.places (with_tables w t).places
+  pub cells : (n : ℕ) → is_some (counts_at t.nodes n) ≡ true → cell_in (counts_at t.nodes n) ≡ w.cells n
+  pub holds : IsWithin w.rows given gone
+  -- each closed set that has the given handles has all that has gone, whatever entries still come where there are handles
+  pub least : (s : ℕ → Bool) (final : List HandleRow) → ((n : ℕ) → held n (live t.handles.places.items) ≡ 0 → held n final ≡ 0) → IsWithin w.rows given s
+      → IsClosed w.rows (is_keyed w) final s → IsWithin w.rows gone s
+  pub new : AreNewEntries w.last.handle entries
+  pub only : (n : ℕ) → 0 < held n entries → MustList before w (with_tables w t) n × (held n entries ≡ 1)
+  pub tells : TellsListing before w entries (told_by t.unlisted) (with_tables w t)
+  -- while a node falls, rows are no more than at first
+  pub few : t.top ≢ 0 → length (live t.handles.places.items) ≤ length w.rows
+
+-- A handle may go apart from the list: no entry that came has its number, and what is left of the list is the same without it.
+pub record IsApart (before w : Core) (given : ℕ → Bool) (lists : Bool) (t : Holdings) (f : SoFar before w given lists t) (q : ℕ) : Type 0 where
+  pub unentered : times (is_handle q) f.entries ≡ 0
+  pub kept : filter (λ (h : HandleNumber). not (f.gone h.0 || h.0 == q)) w.list ≡ filter (λ (h : HandleNumber). not (f.gone h.0)) w.list

@@ -1,0 +1,138 @@
+-- One step of giving handles up: a handle leaves, an entry may come, a node falls or is done.
+use Rattle.pagable_model.specs.declared.{data_key.OptionalDataKey.OptionalDataKey, error.Error.Error, numbers.NodeNumber.NodeNumber}
+use Rattle.pagable_tables.specs.{CascadeInvariant.{IsFalling, entries_of, owns_nothing}, HandleTable.{AreSound, Becomes, IsNext, live}}
+use Rattle.pagable_tables.specs.Nodes.{cell_in, counts_at, falls_in, has_value}
+use Rattle.pagable_tables.specs.{CascadeInvariant.valued, declared.{cascade.Holdings.Holdings, handle_table.Handles.Handles, nodes.Counts.Counts}}
+use Rattle.pagable_world.specs.{Cascade.{left_rows, only_handle}, Kinds.{held, is_handle, owner_value, pins}}
+use Rattle.pagable_world.specs.{Plain.{SameAt, changed, if_there, one, or_else, updated}, World.{Cell, greatest}}
+use Rattle.pagable_world.specs.declared.{handles.HandleRow.HandleRow, rows.Mode.Mode}
+use Rattle.std.specs.Prelude.{Bool, IfSome, List, None, Option, Some, [], false, if◌then◌else◌, is_some, length, nat_lt, not, sum_by, true, vec_capacity, ℕ}
+use Rattle.std.specs.{Prelude.{◌&&◌, ◌*◌, ◌++◌, ◌+◌, ◌-◌, ◌<◌, ◌==◌, ◌||◌, ◌∷◌, ◌≡◌, ◌≢◌, ◌≤◌, ◌⊎◌}, VecDeque.deque_capacity}
+
+-- whether the last pin of a cell without a key goes with a handle of this mode
+abbrev pub is_listing : Counts → Mode → Bool
+is_listing c Mode.LoosePinned = c.pins == 1 && not (nat_lt 0 c.key)
+is_listing c Mode.LooseUnpinned = false
+is_listing c Mode.Pinned = c.pins == 1 && not (nat_lt 0 c.key)
+is_listing c Mode.Shared = false
+
+-- The counts after a handle has left, or stayed without its pin, and perhaps an entry came. A node falls from now on where its last handle went, or its last pin and
+-- it has a key.
+abbrev pub is_fallen_by : Counts → Bool → ℕ → ℕ → Bool
+is_fallen_by c pinning pins holds = not c.is_falling && (holds == 0 || (pinning && pins == 0 && nat_lt 0 c.key))
+
+abbrev pub after : Counts → Bool → Bool → Bool → ℕ → Counts
+after c pinning stays listed top =
+    let pins = c.pins - one pinning in
+    let holds = (if stays then c.holds else c.holds - 1) + one listed in
+    let falls = is_fallen_by c pinning pins holds in
+    record c { pins = pins; holds = holds; is_falling = c.is_falling || falls; next = if falls then top else c.next }
+
+-- why no entry can come: no number is left, or no place
+abbrev pub IsUnlisted : Holdings → Error → Type 0
+IsUnlisted t Error.NumbersSpent = greatest ≤ t.last_handle
+IsUnlisted t Error.OutOfMemory = (t.last_handle < greatest) × ((vec_capacity t.handles.places ≤ length (live t.handles.places.items)) ⊎ (deque_capacity t.list ≤ length t.list.items))
+IsUnlisted t e = ⊥
+
+-- places are never fewer
+pub record HasPlaces (old new : Holdings) : Type 0 where
+  pub handles : vec_capacity old.handles.places ≤ vec_capacity new.handles.places
+  pub entries : deque_capacity old.list ≤ deque_capacity new.list
+
+-- an entry for the node came to the end of handles and list, or it couldn't
+pub record Comes (old : Holdings) (node : NodeNumber) (listed : Bool) (new : Holdings) : Type 0 where
+  pub sound : AreSound new.handles
+  pub next : IsNext (new.last_handle + 1) new.handles.places.items
+  pub rows : live new.handles.places.items ≡ live old.handles.places.items ++ entries_of listed (old.last_handle + 1) node
+  pub list : new.list.items ≡ old.list.items ++ (if listed then record { 0 = old.last_handle + 1 } ∷ [] else [])
+  pub last : new.last_handle ≡ old.last_handle + one listed
+  pub left : listed ≡ true → old.last_handle < greatest
+  pub places : HasPlaces old new
+  pub nodes : new.nodes ≡ old.nodes
+  pub top : new.top ≡ old.top
+
+-- where an entry is wanted it came, or there is a cause, of which the first is kept; where none is wanted nothing changes
+pub record MayList (old : Holdings) (node : NodeNumber) (wanted listed : Bool) (new : Holdings) : Type 0 where
+  pub comes : Comes old node listed new
+  pub only : listed ≡ true → wanted ≡ true
+  pub told : (listed ≡ true) ⊎ (wanted ≡ false) → new.unlisted ≡ old.unlisted
+  pub why : listed ≡ false → wanted ≡ true → (e : Error) × IsUnlisted old e × (new.unlisted ≡ or_else old.unlisted (Some e))
+
+-- the row of a loose handle without its pin
+abbrev pub unpinned : HandleRow → HandleRow
+unpinned x = record x { mode = Mode.LooseUnpinned }
+
+-- the handle of the row x leaves, or it stays without its pin
+pub record Leaves (old : Handles) (x : HandleRow) (stays : Bool) (new : Handles) : Type 0 where
+  pub becomes : Becomes old (if stays then changed (is_handle x.number.0) unpinned (live old.places.items) else left_rows (only_handle x.number) (live old.places.items)) new
+  pub sums : (f : HandleRow → ℕ) → sum_by f (live new.places.items) + f x ≡ sum_by f (live old.places.items) + (if stays then f (unpinned x) else 0)
+  pub there : (f : HandleRow → ℕ) → f x ≤ sum_by f (live old.places.items)
+
+-- the nodes that are left are the same cells
+abbrev pub CellsStay : (ℕ → Option Counts) → (ℕ → Option Counts) → Type 0
+CellsStay old new = (n : ℕ) → is_some (new n) ≡ true → (is_some (old n) ≡ true) × (cell_in (new n) ≡ cell_in (old n))
+
+-- a node that doesn't fall afterwards didn't before, and has its value or not as before
+abbrev pub ValueStays : Option Counts → Option Counts → Type 0
+ValueStays old new = falls_in new ≡ false → (falls_in old ≡ false) × (has_value new ≡ has_value old)
+
+-- The handle of the row x is given up, or it stays without its pin. Then an entry for its node may come.
+pub record GivesUp (old : Holdings) (stack : List ℕ) (x : HandleRow) (stays lists : Bool) (new : Holdings) : Type 0 where
+  pub left : Handles
+  pub leaves : Leaves old.handles x stays left
+  pub counts : Counts
+  pub is : counts_at old.nodes x.node.0 ≡ Some counts
+  pub listed : Bool
+  pub between : Holdings
+  pub comes : MayList (record old { handles = left }) x.node (lists && is_listing counts x.mode) listed between
+  pub same : new ≡ record between { nodes = new.nodes; top = new.top }
+  pub cells : CellsStay (counts_at old.nodes) (counts_at new.nodes)
+  pub values : (n : ℕ) → ValueStays (counts_at old.nodes n) (counts_at new.nodes n)
+  pub more : List ℕ
+  pub falling : IsFalling new more owns_nothing
+  pub long : length more ≤ length stack + 1
+  -- where its handle stays a node falls only if it has a key
+  pub keyed : stays ≡ true → old.top ≡ 0 → new.top ≢ 0 → nat_lt 0 counts.key ≡ true
+
+-- the counts of a node that falls no more, if it is left
+abbrev pub landed : Counts → Option Counts
+landed c = if c.holds == 0 then None else Some (record c { is_falling = false; next = 0 })
+
+-- the value of the node has gone
+abbrev pub HasFallen : (ℕ → Option Counts) → List HandleRow → ℕ → Type 0
+HasFallen at rows n = (held n rows ≡ 0) ⊎ ((if_there (λ (c : Counts). nat_lt 0 c.key) false (at n) ≡ true) × (pins n rows ≡ 0))
+
+-- a handle of the row x is given up, which the value of the node n owned, that has gone
+pub record FallsBy (old : Holdings) (x : HandleRow) (n : ℕ) (lists : Bool) (new : Holdings) : Type 0 where
+  pub owner : x.owner ≡ owner_value n
+  pub fallen : HasFallen (counts_at old.nodes) (live old.handles.places.items) n
+  pub popped : Holdings
+  pub same : popped ≡ record old { nodes = popped.nodes }
+  pub counts : (m : ℕ) → counts_at popped.nodes m ≡ counts_at old.nodes m
+  pub stack : List ℕ
+  pub gives : GivesUp popped stack x false lists new
+
+-- One step: a handle is given up, or the first node that falls is done, and its value goes.
+pub record Steps (old : Holdings) (stack : List ℕ) (lists : Bool) (r : Option NodeNumber) (new : Holdings) : Type 0 where
+  pub rest : List ℕ
+  pub falling : IsFalling new rest owns_nothing
+  pub less : 2 * valued (live new.handles.places.items) + length rest < 2 * valued (live old.handles.places.items) + length stack
+  pub cells : CellsStay (counts_at old.nodes) (counts_at new.nodes)
+  pub values : (n : ℕ) → r ≢ Some (record { 0 = n }) → ValueStays (counts_at old.nodes n) (counts_at new.nodes n)
+  pub gone : IfSome r (λ n. has_value (counts_at new.nodes n.0) ≡ false)
+  pub fewer : length (live new.handles.places.items) ≤ length (live old.handles.places.items)
+  pub unlisting : lists ≡ false → new.list.items ≡ old.list.items
+  pub what : ((r ≡ Some (record { 0 = old.top })) × (new ≡ record old { nodes = new.nodes; top = new.top })) ⊎ ((x : HandleRow) × (n : ℕ) × (r ≡ None) × FallsBy old x n lists new)
+
+-- whether it is this node
+abbrev pub is_node : Option NodeNumber → ℕ → Bool
+is_node None n = false
+is_node (Some m) n = n == m.0
+
+-- The counts of a node that gets a key: it falls if nothing pins it.
+abbrev pub keyed : Counts → ℕ → ℕ → Counts
+keyed c key top = record c { key = key; is_falling = c.pins == 0; next = if c.pins == 0 then top else c.next }
+
+-- the cells, with this key at one
+abbrev pub GetsKey : (ℕ → Option Counts) → (ℕ → Option Counts) → ℕ → ℕ → Type 0
+GetsKey old new n key = SameAt (updated n (if_there (λ (cell : Cell). Some (record cell { key = OptionalDataKey.Some key })) None (cell_in (old n))) (λ m. cell_in (old m))) (λ m. cell_in (new m))

@@ -1,0 +1,53 @@
+-- Live handles in the order of their numbers, and what they become as a call changes them.
+use Rattle.pagable_tables.specs.declared.handle_table.{Handles.Handles, Place.Place}
+use Rattle.pagable_world.specs.declared.handles.HandleRow.{HandleRow}
+use Rattle.std.specs.{List.AllPairs, Prelude.{All, Bool, List, [], if◌then◌else◌, length, true, vec_capacity, vec_len, ℕ, ◌+◌, ◌-◌, ◌<◌, ◌∷◌, ◌≡◌, ◌≤◌}}
+
+-- the rows that are live, in their order
+abbrev pub live : List Place → List HandleRow
+live [] = []
+live (p ∷ ps) = if p.is_live then p.row ∷ live ps else live ps
+
+abbrev pub alive : HandleRow → Place
+alive row = record { row = row; is_live = true }
+
+abbrev pub is_live_place : Place → Bool
+is_live_place p = p.is_live
+
+abbrev pub IsBefore : Place → Place → Type 0
+IsBefore a b = a.row.number.0 < b.row.number.0
+
+-- the number is above all that are there
+abbrev pub IsNext : ℕ → List Place → Type 0
+IsNext q places = All (λ p. p.row.number.0 < q) places
+
+-- the places are in order, and the dead are counted
+pub record AreCounted (h : Handles) : Type 0 where
+  pub ordered : AllPairs IsBefore h.places.items
+  pub counted : length (live h.places.items) + h.dead ≡ length h.places.items
+
+-- So they are, and no more rows are dead than live: rows take at most twice the places of what lives.
+pub record AreSound (h : Handles) : Type 0 where
+  pub ordered : AllPairs IsBefore h.places.items
+  pub counted : length (live h.places.items) + h.dead ≡ length h.places.items
+  pub few : h.dead ≤ length (live h.places.items)
+
+-- how many rows can come without memory
+abbrev pub room : Handles → ℕ
+room h = vec_capacity h.places - (vec_len h.places - h.dead)
+
+-- ---- what handles become as a call changes them, in order and counted as they were. What a value refers to comes to its node with its handles, where the node has no value
+
+-- these rows are live
+pub record Becomes (old : Handles) (are : List HandleRow) (new : Handles) : Type 0 where
+  pub sound : AreSound new
+  pub rows : live new.places.items ≡ are
+  pub capacity : vec_capacity new.places ≡ vec_capacity old.places
+  pub next : (q : ℕ) → IsNext q old.places.items → IsNext q new.places.items
+
+-- the same rows are, with no less room
+pub record Widens (old new : Handles) : Type 0 where
+  pub sound : AreSound new
+  pub rows : live new.places.items ≡ live old.places.items
+  pub capacity : vec_capacity old.places ≤ vec_capacity new.places
+  pub next : (q : ℕ) → IsNext q old.places.items → IsNext q new.places.items

@@ -1,0 +1,58 @@
+-- Nodes by their numbers: what is counted of each, what its value refers to, and whether it has one.
+use Rattle.pagable_model.specs.declared.{data_key.OptionalDataKey.OptionalDataKey, numbers.{ArcRef.ArcRef, NodeNumber.NodeNumber}}
+use Rattle.pagable_tables.specs.{NumberTable.row_by, declared.{nodes.{Counts.Counts, NodeRow.NodeRow}, number_table.NumberTable.NumberTable}}
+use Rattle.pagable_world.specs.World.{Cell}
+use Rattle.std.specs.Option.{option_map, option_map_or}
+use Rattle.std.specs.Prelude.{Bool, List, None, Option, Some, [], false, if◌then◌else◌, is_some, nat_lt, not, suc, zero, ℕ, ◌||◌}
+
+abbrev pub counts_at : NumberTable NodeRow → ℕ → Option Counts
+counts_at nodes n = option_map (λ (r : NodeRow). r.counts) (row_by nodes n)
+
+abbrev pub refs_at : NumberTable NodeRow → ℕ → List ArcRef
+refs_at nodes n = option_map_or (λ (r : NodeRow). r.references.items) (row_by nodes n) []
+
+-- the node, if it is there
+abbrev pub living : (ℕ → Option Counts) → Option NodeNumber → Option NodeNumber
+living at None = None
+living at (Some n) = if is_some (at n.0) then Some n else None
+
+-- how many handles of the node workers own, at most
+abbrev pub work_at : NumberTable NodeRow → ℕ → ℕ
+work_at nodes n = option_map_or (λ (r : NodeRow). r.at_work) (row_by nodes n) 0
+
+-- the references that come
+abbrev pub coming : Bool → List ArcRef → List ArcRef
+coming comes refs = if comes then refs else []
+
+-- ---- handles, nodes and list in the midst of giving handles up
+
+abbrev pub pins_in : Option Counts → ℕ
+pins_in None = 0
+pins_in (Some c) = c.pins
+
+abbrev pub holds_in : Option Counts → ℕ
+holds_in None = 0
+holds_in (Some c) = c.holds
+
+abbrev pub falls_in : Option Counts → Bool
+falls_in None = false
+falls_in (Some c) = c.is_falling
+
+abbrev pub next_in : Option Counts → ℕ
+next_in None = 0
+next_in (Some c) = c.next
+
+-- the key of this number, if it is one
+abbrev pub key_in : ℕ → OptionalDataKey
+key_in zero = OptionalDataKey.None
+key_in (suc n) = OptionalDataKey.Some (suc n)
+
+-- a node by its type and key
+abbrev pub cell_in : Option Counts → Option Cell
+cell_in None = None
+cell_in (Some c) = Some (record { node_type = c.node_type; key = key_in c.key })
+
+-- whether the value of a node that doesn't fall is in memory: something pins it, or it has no key
+abbrev pub has_value : Option Counts → Bool
+has_value None = false
+has_value (Some c) = nat_lt 0 c.pins || not (nat_lt 0 c.key)

@@ -1,0 +1,162 @@
+//! Which node is known under a kind and a key.
+
+ghost use Rattle.indexmap.specs.IndexMap.{get, spare};
+ghost use Rattle.pagable_model.specs.declared.numbers.NodeNumber.{NodeNumber};
+ghost use Rattle.pagable_tables.specs.Core.{AreLater, Does, IsWhole, MayHold, core_of, plain_of};
+ghost use Rattle.pagable_tables.specs.{CascadeInvariant.owns, Indexes.known_at, Nodes.{counts_at, has_value, living}, NumberTable.row_by, ValuesKept.Sheds};
+ghost use Rattle.pagable_world.specs.{Calls.{OfferCall, RecallCall, offer_fault}, Kinds.{fits_mode, is_pinning, mode_of}};
+ghost use Rattle.pagable_world.specs.{Plain.{Blob, is_pinned_kind, type_of}, Refusals.Owns, World.{Alike, type_at, usable}};
+ghost use Rattle.pagable_world.specs.declared.handles.{HandleRow.HandleRow, Owner.Owner};
+ghost use Rattle.std.specs.Option.{option_map};
+ghost use Rattle.std.specs.Prelude.{Bool, IfErr, IfNone, IfOk, IfSome, IsOk, None, Ok, OnErr, OnOk, Option, Some, false, if◌then◌else◌, is_some, length};
+ghost use Rattle.std.specs.Prelude.{not, true, ℕ, ◌&&◌, ◌*◌, ◌+◌, ◌<◌, ◌||◌, ◌≡◌, ◌≢◌, ◌≤◌, ◌⊎◌};
+
+use crate::checks::own;
+use crate::create::make;
+use crate::kinds::{fits_mode, is_pinned_kind, mode_of};
+use crate::nodes;
+use crate::nodes::{Arcs, Nodes, is_here, is_of};
+use crate::release::give_back;
+use crate::tables::{Cache, Tables};
+use pagable_model::{DataKey, Error, HandleNumber, Kind, NodeNumber};
+use pagable_world::handles::{HandleRow, Owner};
+use std::alloc::AllocError;
+
+/// A node is known under a kind and a key from now on. With room to spare it succeeds.
+pub fn put(cache: &mut Cache, kind: Kind, key: DataKey, node: NodeNumber) -> Result<(), AllocError>
+    ensures here { OnOk result (known_at cache.new kind.0 key ≡ Some node) }
+    ensures others { OnOk result ((k q : ℕ) → (k ≢ kind.0) ⊎ (q ≢ key) → known_at cache.new k q ≡ known_at cache.old k q) }
+    ensures err { OnErr result ((k q : ℕ) → known_at cache.new k q ≡ known_at cache.old k q) }
+    ensures succeeds { 0 < spare cache.old → IsOk result }
+{
+    cache.insert((kind.0, key), node)?;
+    Ok(())
+}
+
+/// The same, if it is to be, where there is room.
+pub fn learn_if(cache: &mut Cache, learns: bool, kind: Kind, key: DataKey, node: NodeNumber)
+    requires { 0 < spare cache.old }
+    ensures here { learns ≡ true → known_at cache.new kind.0 key ≡ Some node }
+    ensures others { (k q : ℕ) → (k ≢ kind.0) ⊎ (q ≢ key) → known_at cache.new k q ≡ known_at cache.old k q }
+    ensures same { learns ≡ false → cache.new ≡ cache.old }
+{
+    if learns {
+        put(cache, kind, key, node).unwrap();
+    }
+}
+
+/// How many entries the cache may have before it is looked through again, beside twice those that were left.
+const FEW_ENTRIES: usize = 64;
+
+/// The cache forgets its entries of nodes that are gone.
+fn keep_living(cache: &mut Cache, nodes: &Nodes)
+    ensures { (kind key : ℕ) → known_at cache.new kind key ≡ living (counts_at nodes.now) (known_at cache.old kind key) }
+{
+    let _many = cache.len();
+    cache.retain(
+        |_under: &(u32, DataKey), node: &mut NodeNumber| -> bool
+            ensures { (result ≡ is_some (counts_at nodes.entry.now node.old.0)) × (node.new ≡ node.old) }
+        { nodes::counts_of(nodes, node.0).is_some() },
+    );
+}
+
+/// Forgets the cache's entries of nodes that are gone, where it has more than its limit, which becomes twice what is
+/// left and some. So an insertion looks at an entry or two besides, and the cache never has more than twice the entries
+/// whose nodes lived when it was last looked through, and some.
+pub fn forget_gone(t: &mut Tables)
+    requires { IsWhole t.old }
+    ensures does { Does t.old Alike t.new }
+    ensures gone { t.old.cache_limit < length t.old.cache.entries → (kind key : ℕ) → IfSome (known_at t.new.cache kind key) (λ n. is_some (counts_at t.old.holdings.nodes n.0) ≡ true) }
+    ensures few { t.old.cache_limit < length t.old.cache.entries → t.new.cache_limit ≤ 2 * length t.new.cache.entries + 64 }
+    ensures same { t.new ≡ record t.old { cache = t.new.cache; cache_limit = t.new.cache_limit } }
+{
+    if t.cache.len() <= t.cache_limit {
+        return;
+    }
+    keep_living(&mut t.cache, &t.holdings.nodes);
+    t.cache_limit = t.cache.len().saturating_mul(2).saturating_add(FEW_ENTRIES);
+}
+
+/// The node that the cache gives for a kind and a key. An entry counts only while its node lives and, as a pin, has its value.
+pub fn usable_of(t: &Tables, kind: Kind, key: DataKey) -> Option<NodeNumber>
+    requires { IsWhole t.now }
+    ensures { (stored : ℕ → Option Blob) (closed : Bool) (failures : ℕ) → option_map (λ (n : NodeNumber). n.0) result ≡ usable (core_of t.now stored closed failures) kind.0 key }
+{
+    let node = t.cache.get(&(kind.0, key)).copied()?;
+    let counts = nodes::counts_of(&t.holdings.nodes, node.0);
+    let is_gone = counts.is_none() || is_pinned_kind(kind) && !is_here(counts);
+    (!is_gone).then_some(node)
+}
+
+/// A handle of the node that the cache gives for a kind and a key, in the kind's mode; or None where it gives none. It is refused as `make` is.
+pub fn cache_get(
+    t: &mut Tables,
+    me: Owner,
+    kind: Kind,
+    key: DataKey,
+) -> Result<Option<HandleNumber>, Error>
+    requires whole { IsWhole t.old }
+    requires holder { MayHold (plain_of t.old) me }
+    ensures does { Does t.old (λ w w'. RecallCall w me kind key result w') t.new }
+    ensures none { IfOk result (λ found. IfNone found (t.new ≡ t.old)) }
+{
+    let Some(node) = usable_of(t, kind, key) else {
+        return Ok(None);
+    };
+    Ok(Some(make(t, node, mode_of(kind), me)?))
+}
+
+/// The row of an own handle that may stand under this kind.
+pub fn offered(t: &Tables, me: Owner, kind: Kind, handle: HandleNumber) -> Result<HandleRow, Error>
+    requires { IsWhole t.now }
+    ensures owns { IfOk result (λ row. Owns (plain_of t.now) me handle (fits_mode kind.0) row) }
+    ensures typed { IfOk result (λ row. type_at (plain_of t.now) row.node.0 ≡ Some (type_of kind.0)) }
+    ensures fault { IfErr result (λ e. (stored : ℕ → Option Blob) (closed : Bool) (failures key : ℕ) → offer_fault (core_of t.now stored closed failures) me kind key handle ≡ Some e) }
+{
+    let at = own(t, me, handle)?;
+    if !fits_mode(kind, at.row.mode) {
+        return Err(Error::WrongMode);
+    }
+    if !is_of(nodes::counts_of(&t.holdings.nodes, at.row.node.0), kind) {
+        return Err(Error::WrongKind);
+    }
+    Ok(at.row)
+}
+
+/// The cache learns a handle's node, while cells are listed. Where it gives a node already, a handle of that is answered, and the one that was offered is given up. While none are listed the handle
+/// itself is answered. It is refused where it isn't an own handle that may stand under the kind, no number is left, or no place or memory.
+#[tactic(auto, using(std::proofs::lemmas::Bool::Decides::nat_tests))]
+pub fn offer<N: Drop>(
+    t: &mut Tables,
+    values: &mut Arcs<N>,
+    me: Owner,
+    kind: Kind,
+    key: DataKey,
+    handle: HandleNumber,
+    lists: bool,
+) -> Result<Option<HandleNumber>, Error>
+    requires whole { IsWhole t.old }
+    requires holder { MayHold (plain_of t.old) me }
+    ensures offered { (stored : ℕ → Option Blob) (closed : Bool) (failures : ℕ) → lists ≡ not closed
+        → OfferCall (core_of t.old stored closed failures) me kind key handle result (core_of t.new stored closed failures) }
+    ensures whole { IsWhole t.new }
+    ensures sheds { ((n : ℕ) → usable (plain_of t.old) kind.0 key ≡ Some n → is_pinning (mode_of kind.0) ≡ true → has_value (counts_at t.old.holdings.nodes n) ≡ true)
+        → Sheds (counts_at t.old.holdings.nodes) (row_by values.old) (counts_at t.new.holdings.nodes) (row_by values.new) }
+    ensures later { AreLater t.old → AreLater t.new }
+{
+    let row = offered(t, me, kind, handle)?;
+    if !lists {
+        return Ok(Some(handle));
+    }
+    let Some(node) = usable_of(t, kind, key) else {
+        put(&mut t.cache, kind, key, row.node)?;
+        forget_gone(t);
+        return Ok(None);
+    };
+    let known = make(t, node, mode_of(kind), me)?;
+    let Ok(at) = own(t, me, handle) else {
+        unreachable!();
+    };
+    let _ = give_back(&mut t.holdings, values, at, true);
+    Ok(Some(known))
+}

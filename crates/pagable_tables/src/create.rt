@@ -1,0 +1,245 @@
+//! Makes nodes, handles of live ones, and pins.
+
+ghost use Rattle.indexmap.specs.IndexMap.{get, spare};
+ghost use Rattle.pagable_model.specs.declared.numbers.NodeNumber.{NodeNumber};
+ghost use Rattle.pagable_tables.specs.Core.{Bears, Does, IsReady, IsWhole, Makes, MayHold, OnlyRoom, PinsHere, Suits, core_of, plain_of};
+ghost use Rattle.pagable_tables.specs.{CascadeInvariant.{IsFalling, is_valued, is_worker, owns, owns_nothing}, CascadeSteps.ValueStays};
+ghost use Rattle.pagable_tables.specs.{HandleTable.{alive, live}, Nodes.{counts_at, has_value, key_in}};
+ghost use Rattle.pagable_tables.specs.{CascadeProgress.with_tables, declared.cascade.Holdings.Holdings};
+ghost use Rattle.pagable_world.specs.Calls.{AwayBirthCall, CloneCall, LoosenCall, PinCall, birth_fault, with_mode};
+ghost use Rattle.pagable_world.specs.{Kinds.{is_loose, is_owned_by, is_pinning, is_shared}, Plain.Blob, Refusals.{Owns, Refused, earlier, references_fault}};
+ghost use Rattle.pagable_world.specs.{World.{Alike, Core}, declared.{handles.{HandleRow.HandleRow, Owner.Owner}, rows.Mode.Mode}};
+ghost use Rattle.std.specs.Prelude.{Bool, IfErr, IsSome, List, None, Ok, OnOk, Option, Some, [], false, slice_get, true, ℕ, ◌+◌, ◌<◌, ◌==◌, ◌||◌, ◌≡◌, ◌⊎◌};
+
+use crate::cascade::Holdings;
+use crate::checks::{own, references_fault};
+use crate::handle_table::HandleAt;
+use crate::kinds::{is_loose_mode, is_worker, pins};
+use crate::nodes::{Counts, NodeRow, add_work, counts_more, is_here, key_in};
+use crate::tables::Tables;
+use crate::{handle_table, nodes};
+use pagable_model::{ArcRef, DataKey, Error, HandleNumber, NodeNumber};
+use pagable_world::handles::{HandleRow, Owner};
+use pagable_world::{Mode, Pinning};
+use std::alloc::Global;
+
+/// Makes room for a handle, a node and what the cache may learn of it, and changes nothing else. NumbersSpent where no number is left for one of them, OutOfMemory where there is no room.
+pub fn make_ready_to_learn(t: &mut Tables) -> Result<(), Error>
+    requires { IsWhole t.old }
+    ensures ready { OnOk result (IsReady t.new) }
+    ensures learns { OnOk result (0 < spare t.new.cache) }
+    ensures does { Does t.old OnlyRoom t.new }
+    ensures refused { (stored : ℕ → Option Blob) (closed : Bool) (failures : ℕ) → IfErr result (λ e. Refused (birth_fault (core_of t.old stored closed failures)) (birth_fault (core_of t.old stored closed failures)) (Unit {0}) (core_of t.old stored closed failures) e (core_of t.new stored closed failures)) }
+    ensures loads { t.new.loads ≡ t.old.loads }
+    ensures workers { t.new.workers ≡ t.old.workers }
+{
+    if t.last_node == u64::MAX || t.holdings.last_handle == u64::MAX {
+        return Err(Error::NumbersSpent);
+    }
+    let handles = handle_table::reserve(&mut t.holdings.handles, 1);
+    let nodes = t.holdings.nodes.reserve(t.last_node + 1);
+    let cache = t.cache.reserve(1);
+    handles.and(nodes).and(cache)?;
+    Ok(())
+}
+
+/// A handle of a live node comes under the next number. NumbersSpent where none is left, OutOfMemory where there is no place.
+#[tactic(auto, using(crate::proofs::CascadeStep::counting))]
+pub fn add(t: &mut Holdings, node: NodeNumber, mode: Mode, me: Owner) -> Result<HandleNumber, Error>
+    requires steady { IsFalling t.old [] owns_nothing }
+    requires live { IsSome (counts_at t.old.nodes node.0) }
+    requires owner { is_valued me ≡ false }
+    ensures made { (w : Core) → Makes (with_tables w t.old) node mode me result (with_tables w t.new) }
+    ensures values { (n : ℕ) → (n ≡ node.0 → is_pinning mode ≡ true → has_value (counts_at t.old.nodes n) ≡ true) → ValueStays (counts_at t.old.nodes n) (counts_at t.new.nodes n) }
+    ensures steady { IsFalling t.new [] owns_nothing }
+{
+    let counts = nodes::counts_of(&t.nodes, node.0).unwrap();
+    if t.last_handle == u64::MAX {
+        return Err(Error::NumbersSpent);
+    }
+    let _taken = t.handles.places.len();
+    let number = HandleNumber(t.last_handle + 1);
+    let row = HandleRow {
+        number,
+        node,
+        mode,
+        owner: me,
+    };
+    handle_table::push(&mut t.handles, row)?;
+    t.last_handle = number.0;
+    let more = counts_more(counts, pins(mode));
+    nodes::set_counts(&mut t.nodes, node.0, more);
+    add_work(&mut t.nodes, node.0, me);
+    Ok(number)
+}
+
+/// The same, and the tables are whole again.
+pub fn make(t: &mut Tables, node: NodeNumber, mode: Mode, me: Owner) -> Result<HandleNumber, Error>
+    requires whole { IsWhole t.old }
+    requires suits { Suits (plain_of t.old) node mode }
+    requires holder { MayHold (plain_of t.old) me }
+    ensures does { Does t.old (λ w w'. Makes w node mode me result w') t.new }
+    ensures values { (n : ℕ) → (n ≡ node.0 → is_pinning mode ≡ true → has_value (counts_at t.old.holdings.nodes n) ≡ true) → ValueStays (counts_at t.old.holdings.nodes n) (counts_at t.new.holdings.nodes n) }
+    ensures same { t.new ≡ record t.old { holdings = t.new.holdings } }
+{
+    add(&mut t.holdings, node, mode, me)
+}
+
+/// A second handle of the same mode, of any live handle.
+pub fn clone(t: &mut Tables, me: Owner, handle: HandleNumber) -> Result<HandleNumber, Error>
+    requires whole { IsWhole t.old }
+    requires holder { MayHold (plain_of t.old) me }
+    ensures { Does t.old (λ w w'. CloneCall w me handle result w') t.new }
+{
+    let Some(at) = handle_table::look(&t.holdings.handles, handle) else {
+        return Err(Error::NoSuchHandle);
+    };
+    make(t, at.row.node, at.row.mode, me)
+}
+
+/// All that can keep a value with these references from becoming a node, and room for it: the references are looked at, then numbers. Nothing else changes. Refused
+/// with the cause of the first reference that has one, with NumbersSpent and OutOfMemory.
+pub fn prepare(t: &mut Tables, me: Owner, references: &[ArcRef]) -> Result<(), Error>
+    requires { IsWhole t.old }
+    ensures ready { OnOk result (IsReady t.new) }
+    ensures fit { OnOk result (references_fault (plain_of t.new) me [] references.now ≡ None) }
+    ensures does { Does t.old OnlyRoom t.new }
+    ensures refused { (stored : ℕ → Option Blob) (closed : Bool) (failures : ℕ) → IfErr result (λ e. Refused (earlier (references_fault (core_of t.old stored closed failures) me [] references.now) (birth_fault (core_of t.old stored closed failures))) None (Unit {0}) (core_of t.old stored closed failures) e (core_of t.new stored closed failures)) }
+{
+    if let Some(e) = references_fault(t, me, references) {
+        return Err(e);
+    }
+    make_ready_to_learn(t)?;
+    Ok(())
+}
+
+/// A new node with this key, 0 for none, whose value has these references, whose handles move to it, and one handle of it. All was made ready for it, so it isn't refused.
+pub fn bear(
+    t: &mut Tables,
+    me: Owner,
+    node_type: u32,
+    key: u128,
+    references: Vec<ArcRef>,
+    mode: Mode,
+) -> HandleNumber
+    requires whole { IsWhole t.old }
+    requires ready { IsReady t.old }
+    requires holder { MayHold (plain_of t.old) me }
+    requires fit { references_fault (plain_of t.old) me [] references.items ≡ None }
+    requires bare { (key ≡ 0) ⊎ ((is_shared mode ≡ false) × ((references.items ≡ []) ⊎ (is_pinning mode ≡ true))) }
+    ensures does { Does t.old (λ w w'. Bears w me node_type key references.items mode result w') t.new }
+    ensures same { t.new ≡ record t.old { holdings = t.new.holdings; last_node = t.new.last_node } }
+{
+    let counts = Counts {
+        node_type,
+        key,
+        pins: pins(mode) as u64,
+        holds: 1,
+        is_falling: false,
+        next: 0,
+    };
+    let node = NodeNumber(t.last_node + 1);
+    let number = HandleNumber(t.holdings.last_handle + 1);
+    handle_table::hand_over_all(&mut t.holdings.handles, &references, Owner::Value(node));
+    let row = HandleRow {
+        number,
+        node,
+        mode,
+        owner: me,
+    };
+    let Ok(()) = handle_table::push(&mut t.holdings.handles, row) else {
+        unreachable!();
+    };
+    let value = NodeRow {
+        counts,
+        references,
+        at_work: is_worker(me) as u64,
+    };
+    t.holdings.nodes.put(node.0, value);
+    t.holdings.last_handle = number.0;
+    t.last_node = node.0;
+    number
+}
+
+/// A new cell that has a key and no value, with one unpinned handle. It is refused where a number is spent, or by memory.
+pub fn new_away(
+    t: &mut Tables,
+    alloc: Global,
+    me: Owner,
+    node_type: u32,
+    key: DataKey,
+) -> Result<HandleNumber, Error>
+    requires whole { IsWhole t.old }
+    requires holder { MayHold (plain_of t.old) me }
+    ensures { Does t.old (λ w w'. AwayBirthCall w me node_type key result w') t.new }
+{
+    make_ready_to_learn(t)?;
+    let mode = Mode::LooseUnpinned;
+    Ok(bear(t, me, node_type, key.get(), Vec::new(alloc), mode))
+}
+
+/// The handle at this place is loose and pins its node from now on.
+#[tactic(auto, using(crate::proofs::CascadeStep::counting))]
+pub fn turn(t: &mut Tables, at: HandleAt)
+    requires whole { IsWhole t.old }
+    requires place { slice_get t.old.holdings.handles.places.items at.place ≡ Some (alive at.row) }
+    requires unshared { is_shared at.row.mode ≡ false }
+    requires unlisted { is_owned_by Owner.List at.row ≡ false }
+    ensures does { Does t.old (λ w w'. Alike (with_mode w at.row.number Mode.LoosePinned) w') t.new }
+    ensures same { t.new ≡ record t.old { holdings = t.new.holdings } }
+{
+    let counts = nodes::counts_of(&t.holdings.nodes, at.row.node.0).unwrap();
+    let _taken = t.holdings.handles.places.len();
+    let mut row = at.row;
+    row.mode = Mode::LoosePinned;
+    handle_table::set(&mut t.holdings.handles, at, row);
+    let mut pinned = counts_more(counts, !pins(at.row.mode));
+    pinned.holds = counts.holds;
+    nodes::set_counts(&mut t.holdings.nodes, at.row.node.0, pinned);
+}
+
+/// A Pinned handle becomes a loose pinned one, under its own number.
+pub fn into_pagable(t: &mut Tables, me: Owner, handle: HandleNumber) -> Result<HandleNumber, Error>
+    requires { IsWhole t.old }
+    ensures { Does t.old (λ w w'. LoosenCall w me handle result w') t.new }
+{
+    let at = own(t, me, handle)?;
+    let Mode::Pinned = at.row.mode else {
+        return Err(Error::WrongMode);
+    };
+    turn(t, at);
+    Ok(at.row.number)
+}
+
+/// A Pinned handle of this loose handle's node, and the handle pins too from now on. It is refused only where no number is left, or no place.
+pub fn pin_here(t: &mut Tables, me: Owner, row: HandleRow) -> Result<HandleNumber, Error>
+    requires whole { IsWhole t.old }
+    requires holder { MayHold (plain_of t.old) me }
+    requires owns { Owns (plain_of t.old) me row.number is_loose row }
+    ensures does { Does t.old (λ w w'. PinsHere w me row result w') t.new }
+    ensures same { t.new ≡ record t.old { holdings = t.new.holdings } }
+{
+    let handle = make(t, row.node, Mode::Pinned, me)?;
+    let Some(loose) = handle_table::look(&t.holdings.handles, row.number) else {
+        unreachable!();
+    };
+    turn(t, loose);
+    Ok(handle)
+}
+
+/// A pin of a loose handle. Or its key, where the value has to be read first. It is refused where it isn't an own loose handle, no number is left, or no place.
+pub fn pin(t: &mut Tables, me: Owner, handle: HandleNumber) -> Result<Pinning, Error>
+    requires whole { IsWhole t.old }
+    requires holder { MayHold (plain_of t.old) me }
+    ensures { Does t.old (λ w w'. PinCall w me handle result w') t.new }
+{
+    let at = own(t, me, handle)?;
+    if !is_loose_mode(at.row.mode) {
+        return Err(Error::WrongMode);
+    }
+    let counts = nodes::counts_of(&t.holdings.nodes, at.row.node.0);
+    if !is_here(counts) {
+        return Ok(Pinning::NeedsLoad(key_in(counts).unwrap()));
+    }
+    Ok(Pinning::Pinned(pin_here(t, me, at.row)?))
+}

@@ -1,0 +1,265 @@
+//! Live handles in the order of their numbers, found by halving. A dead row stays in its place until none behind it lives, or more than half are dead.
+
+ghost use Rattle.indexmap.specs.IndexMap.{get};
+ghost use Rattle.pagable_tables.specs.CascadeInvariant.{AreAtWork, IsFalling, is_valued};
+ghost use Rattle.pagable_tables.specs.HandleTable.{AreCounted, AreSound, Becomes, IsBefore, IsNext, Widens, alive, live};
+ghost use Rattle.pagable_tables.specs.{CascadeInvariant.owns_nothing, HandleTable.room, declared.{cascade.Holdings.Holdings, handle_table.Place.Place}};
+ghost use Rattle.pagable_world.specs.{Calls.{is_named_by, moved, room_of}, Cascade.{left_rows, only_handle}, Kinds.{find_row, is_handle}};
+ghost use Rattle.pagable_world.specs.{LoadCalls.numbers_of, Plain.{changed, is_in}, declared.handles.{HandleRow.HandleRow, Owner.Owner}};
+ghost use Rattle.std.specs.List.{AllPairs, Sorted.IsPartitionPoint};
+ghost use Rattle.std.specs.Prelude.{IfNone, IfSome, None, Ok, OnErr, OnOk, Option, Some, [], false, get_or, if◌then◌else◌, length, slice_get, sum_by, true};
+ghost use Rattle.std.specs.Prelude.{vec_capacity, vec_len, ℕ, ◌&&◌, ◌*◌, ◌++◌, ◌+◌, ◌<◌, ◌==◌, ◌∷◌, ◌≡◌, ◌≤◌};
+
+use pagable_model::{ArcRef, HandleNumber};
+use pagable_world::handles::{HandleRow, Owner};
+use std::alloc::AllocError;
+
+/// A place in the vector of handles: a live row, or a dead one that waits to be cleared away.
+#[derive(Clone, Copy)]
+pub struct Place {
+    pub row: HandleRow,
+    pub is_live: bool,
+}
+
+/// A live row, and where it stands.
+#[derive(Clone, Copy)]
+pub struct HandleAt {
+    pub place: usize,
+    pub row: HandleRow,
+}
+
+/// The handles. They are in order, and the dead are counted (`AreSound`).
+#[derive(Drop)]
+pub struct Handles {
+    pub places: Vec<Place>,
+    pub dead: usize,
+}
+
+/// How many places there are up to this number, found by halving.
+pub fn up_to(places: &[Place], number: u64) -> usize
+    requires { AllPairs IsBefore places.now }
+    ensures within { result ≤ length places.now }
+    ensures point { IsPartitionPoint (λ (p : Place). p.row.number.0 ≤ number) (λ (p : Place). number < p.row.number.0) places.now result }
+{
+    places.partition_point(|place| place.row.number.0 <= number)
+}
+
+/// From which place on all numbers are greater than this one: the guess, where they are from there on, and else found by
+/// halving.
+pub fn up_to_from(places: &[Place], number: u64, guess: usize) -> usize
+    requires { AllPairs IsBefore places.now }
+    ensures within { result ≤ length places.now }
+    ensures above { (k : ℕ) (d : Place) → result ≤ k → k < length places.now → number < (get_or places.now k d).row.number.0 }
+{
+    if guess >= places.len() {
+        return places.len();
+    }
+    if places[guess].row.number.0 <= number {
+        return up_to(places, number);
+    }
+    guess
+}
+
+/// The live handle of this number, with its place, if it stands at this one.
+#[tactic(auto, using(crate::proofs::HandleTable::looks))]
+fn at(places: &[Place], place: usize, number: u64) -> Option<HandleAt>
+    requires { AllPairs IsBefore places.now }
+    ensures none { IfNone result ((p : Place) → slice_get places.now place ≡ Some p → p.row.number.0 ≡ number → p.is_live ≡ false) }
+    ensures place { IfSome result (λ at. slice_get places.now at.place ≡ Some (alive at.row)) }
+    ensures found { IfSome result (λ at. find_row number (live places.now) ≡ Some at.row) }
+    ensures number { IfSome result (λ at. at.row.number.0 ≡ number) }
+{
+    let Place { row, is_live } = *places.get(place)?;
+    (row.number.0 == number && is_live).then_some(HandleAt { place, row })
+}
+
+/// The same, if it stands where it would stand were no number missing from the first one to it, or from it to the last one.
+fn at_once(places: &[Place], number: u64) -> Option<HandleAt>
+    requires { AllPairs IsBefore places.now }
+    ensures place { IfSome result (λ at. slice_get places.now at.place ≡ Some (alive at.row)) }
+    ensures found { IfSome result (λ at. find_row number (live places.now) ≡ Some at.row) }
+    ensures number { IfSome result (λ at. at.row.number.0 ≡ number) }
+{
+    let above = number.checked_sub(places.first()?.row.number.0)?;
+    if let Some(at) = at(places, above as usize, number) {
+        return Some(at);
+    }
+    let end = places.len() - 1;
+    let back = places[end].row.number.0.saturating_sub(number) as usize;
+    at(places, end.saturating_sub(back), number)
+}
+
+/// The live handle of this number, with its place. It costs a look where numbers before it are dense or those behind it, and else the logarithm of their count.
+#[tactic(auto, using(crate::proofs::HandleTable::looks))]
+pub fn look(handles: &Handles, number: HandleNumber) -> Option<HandleAt>
+    requires { AreSound handles.now }
+    ensures none { IfNone result (find_row number.0 (live handles.now.places.items) ≡ None) }
+    ensures place { IfSome result (λ at. slice_get handles.now.places.items at.place ≡ Some (alive at.row)) }
+    ensures found { IfSome result (λ at. find_row number.0 (live handles.now.places.items) ≡ Some at.row) }
+    ensures number { IfSome result (λ at. at.row.number ≡ number) }
+{
+    if let Some(at) = at_once(&handles.places, number.0) {
+        return Some(at);
+    }
+    let last = up_to(&handles.places, number.0).checked_sub(1)?;
+    at(&handles.places, last, number.0)
+}
+
+/// How many handles can still be pushed without a request for memory.
+pub fn room_of(handles: &Handles) -> usize
+    requires { AreSound handles.now }
+    ensures { result ≡ room handles.now }
+{
+    handles.places.capacity() - (handles.places.len() - handles.dead)
+}
+
+/// Clears the dead rows away, in place.
+fn compact(handles: &mut Handles)
+    requires { AreCounted handles.old }
+    ensures becomes { Becomes handles.old (live handles.old.places.items) handles.new }
+    ensures none_dead { handles.new.dead ≡ 0 }
+{
+    handles.places.retain(|place| place.is_live);
+    handles.dead = 0;
+}
+
+/// Clears dead rows away: those at the end, so that who looks from there meets few of them, and all where more than half are dead.
+#[tactic(auto, using(crate::proofs::HandleTable::ends))]
+fn clear(handles: &mut Handles)
+    requires { AreCounted handles.old }
+    ensures { Becomes handles.old (live handles.old.places.items) handles.new }
+{
+    let mut end = handles.places.len();
+    while end > 0 && !handles.places[end - 1].is_live {
+        end -= 1;
+    }
+    handles.dead -= handles.places.len() - end;
+    handles.places.truncate(end);
+    if handles.dead > handles.places.len() - handles.dead {
+        compact(handles);
+    }
+}
+
+/// The handle at this place dies.
+#[tactic(auto, using(crate::proofs::HandleTable::places))]
+pub fn kill(handles: &mut Handles, at: HandleAt)
+    requires sound { AreSound handles.old }
+    requires place { slice_get handles.old.places.items at.place ≡ Some (alive at.row) }
+    ensures becomes { Becomes handles.old (left_rows (only_handle at.row.number) (live handles.old.places.items)) handles.new }
+    ensures sums { (f : HandleRow → ℕ) → sum_by f (live handles.new.places.items) + f at.row ≡ sum_by f (live handles.old.places.items) }
+{
+    handles.places[at.place] = Place {
+        row: at.row,
+        is_live: false,
+    };
+    handles.dead += 1;
+    clear(handles);
+}
+
+/// The handle at this place has another row from now on, of the same number.
+#[tactic(auto, using(crate::proofs::HandleTable::places))]
+pub fn set(handles: &mut Handles, at: HandleAt, row: HandleRow)
+    requires sound { AreSound handles.old }
+    requires place { slice_get handles.old.places.items at.place ≡ Some (alive at.row) }
+    requires number { row.number ≡ at.row.number }
+    ensures becomes { Becomes handles.old (changed (is_handle at.row.number.0) (λ _. row) (live handles.old.places.items)) handles.new }
+    ensures sums { (f : HandleRow → ℕ) → sum_by f (live handles.new.places.items) + f at.row ≡ sum_by f (live handles.old.places.items) + f row }
+{
+    handles.places[at.place] = Place { row, is_live: true };
+}
+
+/// Makes a place free for one more row, if it can.
+fn make_room(handles: &mut Handles) -> Result<(), AllocError>
+    requires { AreSound handles.old }
+    ensures widens { Widens handles.old handles.new }
+    ensures ok { OnOk result (vec_len handles.new.places < vec_capacity handles.new.places) }
+    ensures full { OnErr result (vec_capacity handles.old.places ≤ length (live handles.old.places.items)) }
+{
+    let Err(refused) = handles.places.reserve(1) else {
+        return Ok(());
+    };
+    if handles.dead == 0 {
+        return Err(refused);
+    }
+    compact(handles);
+    Ok(())
+}
+
+/// A handle comes, with a number above all that are there. It is refused only where no place is left.
+#[tactic(auto, using(crate::proofs::HandleTable::pushes))]
+pub fn push(handles: &mut Handles, row: HandleRow) -> Result<(), AllocError>
+    requires sound { AreSound handles.old }
+    requires next { IsNext row.number.0 handles.old.places.items }
+    ensures sound { AreSound handles.new }
+    ensures rows { OnOk result (live handles.new.places.items ≡ live handles.old.places.items ++ row ∷ []) }
+    ensures err { OnErr result (live handles.new.places.items ≡ live handles.old.places.items) }
+    ensures full { OnErr result (vec_capacity handles.old.places ≤ length (live handles.old.places.items)) }
+    ensures capacity { vec_capacity handles.old.places ≤ vec_capacity handles.new.places }
+    ensures next { OnOk result (IsNext (row.number.0 + 1) handles.new.places.items) }
+    ensures err_next { OnErr result (IsNext row.number.0 handles.new.places.items) }
+{
+    make_room(handles)?;
+    handles.places.push(Place { row, is_live: true }).unwrap();
+    Ok(())
+}
+
+/// Makes places ready for so many more handles, if it can.
+pub fn reserve(handles: &mut Handles, more: usize) -> Result<(), AllocError>
+    requires { AreSound handles.old }
+    ensures widens { Widens handles.old handles.new }
+    ensures ok { OnOk result (more ≤ room handles.new) }
+    ensures err { OnErr result (room handles.new < more) }
+{
+    if room_of(handles) < more {
+        compact(handles);
+        handles.places.reserve(more)?;
+    }
+    Ok(())
+}
+
+/// The handle at this place has this owner from now on.
+pub fn hand_over(handles: &mut Handles, at: HandleAt, owner: Owner)
+    requires sound { AreSound handles.old }
+    requires place { slice_get handles.old.places.items at.place ≡ Some (alive at.row) }
+    ensures becomes { Becomes handles.old (moved (only_handle at.row.number) owner (live handles.old.places.items)) handles.new }
+    ensures stands { (t : Holdings) → is_valued at.row.owner ≡ false → is_valued owner ≡ false
+        → AreAtWork (moved (only_handle at.row.number) owner (live handles.old.places.items)) t.nodes → IsFalling (record t { handles = handles.old }) [] owns_nothing
+        → IsFalling (record t { handles = handles.new }) [] owns_nothing }
+    ensures sums { (f : HandleRow → ℕ) → sum_by f (live handles.new.places.items) + f at.row
+        ≡ sum_by f (live handles.old.places.items) + f (record at.row { owner = owner }) }
+{
+    let row = HandleRow { owner, ..at.row };
+    set(handles, at, row);
+}
+
+/// The handle of this number, if it is live, has this owner from now on.
+fn hand_over_live(handles: &mut Handles, handle: HandleNumber, owner: Owner)
+    requires { AreSound handles.old }
+    ensures { Becomes handles.old (moved (only_handle handle) owner (live handles.old.places.items)) handles.new }
+{
+    if let Some(at) = look(handles, handle) {
+        hand_over(handles, at, owner);
+    }
+}
+
+/// The live handles that these references name have this owner from now on.
+#[tactic(auto, using(crate::proofs::SameViews::naming))]
+pub fn hand_over_all(handles: &mut Handles, references: &[ArcRef], owner: Owner)
+    requires { AreSound handles.old }
+    ensures { Becomes handles.old (moved (is_named_by references.now) owner (live handles.old.places.items)) handles.new }
+{
+    for reference in references {
+        hand_over_live(handles, reference.handle, owner);
+    }
+}
+
+/// The live handles of these numbers have this owner from now on.
+#[tactic(auto, using(crate::proofs::SameViews::handing))]
+pub fn hand_each(handles: &mut Handles, named: &[HandleNumber], owner: Owner)
+    requires { AreSound handles.old }
+    ensures { Becomes handles.old (moved (is_in (numbers_of named.now)) owner (live handles.old.places.items)) handles.new }
+{
+    for handle in named {
+        hand_over_live(handles, *handle, owner);
+    }
+}

@@ -1,0 +1,285 @@
+//! Loads: they begin, and get handles of what they read.
+
+ghost use Rattle.indexmap.specs.IndexMap.{get, spare};
+ghost use Rattle.pagable_model.specs.declared.numbers.{LoadNumber.LoadNumber, NodeNumber.NodeNumber};
+ghost use Rattle.pagable_tables.specs.Core.{AreLater, Does, IsReady, IsWhole, MayHold, core_of, plain_of};
+ghost use Rattle.pagable_tables.specs.{CascadeInvariant.{IsFalling, owns_nothing}, CascadeProgress.{SoFar, with_tables}, HandleTable.live};
+ghost use Rattle.pagable_tables.specs.{Nodes.{counts_at, has_value, key_in}, ValuesKept.Sheds};
+ghost use Rattle.pagable_tables.specs.{EndingLoads.{AsksKnown, early_fault}, NumberTable.row_by};
+ghost use Rattle.pagable_tables.specs.declared.{cascade.Holdings.Holdings, load_table.LoadRow.LoadRow};
+ghost use Rattle.pagable_world.specs.{Calls.{IsNext, is_named_by}, Cascade.{FallsAnyhow, nobody}, Kinds.{is_pinning, is_shared, mode_of}};
+ghost use Rattle.pagable_world.specs.{LoadCalls.{Adopts, BeginCall, BeginKeyCall, LazyCall, adopt_fault, adopted, first_key, is_owned_in}, Pager.MayOwnLoad};
+ghost use Rattle.pagable_world.specs.{Plain.{Blob, is_loose_kind, is_pinned_kind}, Refusals.{Refused, earlier, load_fault, references_fault}};
+ghost use Rattle.pagable_world.specs.{World.{Alike, Cell, Core, usable}, declared.{handles.Owner.Owner, rows.Mode.Mode}};
+ghost use Rattle.std.specs.Prelude.{Bool, IfErr, IfNone, IfOk, IfSome, None, Ok, Option, Some, [], false, if◌then◌else◌, length, not, true, ℕ, ◌+◌, ◌/◌};
+ghost use Rattle.std.specs.Prelude.{◌<◌, ◌==◌, ◌||◌, ◌≡◌, ◌≤◌, ◌⊎◌};
+ghost use Rattle.pagable_world.specs.declared.handles.Owner.TheVariants as owners;
+
+use crate::cache::cache_get;
+use crate::cascade::{Holdings, fall};
+use crate::checks::{load_fault, load_row, own, references_fault};
+use crate::create::{add, bear, make, make_ready_to_learn};
+use crate::kinds::{earlier, is_loose_kind, is_loose_mode, is_pinned_kind, mode_of};
+use crate::load_table::{LoadRoot, LoadRow};
+use crate::nodes::{Arcs, is_here};
+use crate::release::give_next;
+use crate::tables::Tables;
+use crate::{cache, load_table, nodes};
+use pagable_model::{ArcRef, DataKey, Error, HandleNumber, Kind, LoadNumber, NodeNumber};
+use pagable_world::handles::Owner;
+use pagable_world::{Beginning, Mode};
+use std::alloc::Global;
+
+/// A load of a loose handle's cell, whose value has to be read first; or nothing, where it is in memory. It is refused where the handle isn't an own loose one,
+/// no number of a load or a handle is left, or memory is wanting.
+#[tactic(auto, using(crate::proofs::CascadeStep::counting))]
+pub fn load_begin(t: &mut Tables, me: Owner, handle: HandleNumber) -> Result<Beginning, Error>
+    requires whole { IsWhole t.old }
+    requires later { AreLater t.old }
+    requires owner { MayOwnLoad (plain_of t.old) me }
+    ensures { Does t.old (λ w w'. BeginCall w me handle result w') t.new }
+{
+    let at = own(t, me, handle)?;
+    if !is_loose_mode(at.row.mode) {
+        return Err(Error::WrongMode);
+    }
+    let counts = nodes::counts_of(&t.holdings.nodes, at.row.node.0);
+    if is_here(counts) {
+        return Ok(Beginning::InMemory);
+    }
+    let key = nodes::key_in(counts).unwrap();
+    if t.last_load == u64::MAX || t.holdings.last_handle == u64::MAX {
+        return Err(Error::NumbersSpent);
+    }
+    let load = LoadNumber(t.last_load + 1);
+    let row = LoadRow {
+        owner: me,
+        key,
+        root: LoadRoot::Cell(at.row.node, counts.unwrap().node_type, at.row.number),
+        since: t.holdings.last_handle,
+        last: t.holdings.last_handle,
+    };
+    load_table::open(&mut t.loads, load.0, row)?;
+    let mode = Mode::LooseUnpinned;
+    if let Err(e) = add(&mut t.holdings, at.row.node, mode, Owner::Load(load)) {
+        load_table::close(&mut t.loads, load.0);
+        return Err(e);
+    }
+    t.last_load = load.0;
+    Ok(Beginning::Load(load, key))
+}
+
+/// A handle of the load's, of the node that the cache gives for a kind and a key; or None where it gives none, and what stands under the key has to be read. It is
+/// refused where the load isn't an own open one, or where no number is left for that handle, or no place.
+pub fn load_known(
+    t: &mut Tables,
+    me: Owner,
+    load: LoadNumber,
+    kind: Kind,
+    key: DataKey,
+) -> Result<Option<HandleNumber>, Error>
+    requires whole { IsWhole t.old }
+    requires later { AreLater t.old }
+    ensures does { Does t.old (λ w w'. AsksKnown w me load kind key result w') t.new }
+    ensures none { IfOk result (λ found. IfNone found (t.new ≡ t.old)) }
+{
+    let _row = load_row(t, me, load)?;
+    cache_get(t, Owner::Load(load), kind, key)
+}
+
+/// A load of a key.
+pub fn load_key(t: &mut Tables, me: Owner, key: DataKey) -> Result<Beginning, Error>
+    requires whole { IsWhole t.old }
+    requires later { AreLater t.old }
+    requires owner { MayOwnLoad (plain_of t.old) me }
+    ensures { Does t.old (λ w w'. BeginKeyCall w me key result w') t.new }
+{
+    if t.last_load == u64::MAX {
+        return Err(Error::NumbersSpent);
+    }
+    let load = t.last_load + 1;
+    let row = LoadRow {
+        owner: me,
+        key,
+        root: LoadRoot::Key,
+        since: t.holdings.last_handle,
+        last: t.holdings.last_handle,
+    };
+    load_table::open(&mut t.loads, load, row)?;
+    t.last_load = load;
+    Ok(Beginning::Load(LoadNumber(load), key))
+}
+
+/// A new node with a handle of the load's, which the cache knows from now on, where it is to learn. All was made ready for it, so it isn't refused.
+fn bear_known(
+    t: &mut Tables,
+    load: LoadNumber,
+    kind: Kind,
+    key: DataKey,
+    own_key: u128,
+    references: Vec<ArcRef>,
+    lists: bool,
+) -> HandleNumber
+    requires whole { IsWhole t.old }
+    requires ready { IsReady t.old }
+    requires learns { 0 < spare t.old.cache }
+    requires holder { MayHold (plain_of t.old) (owners.Load load) }
+    requires fit { references_fault (plain_of t.old) (owners.Load load) [] references.items ≡ None }
+    requires bare { (own_key ≡ 0) ⊎ ((is_shared (mode_of kind.0) ≡ false) × ((references.items ≡ []) ⊎ (is_pinning (mode_of kind.0) ≡ true))) }
+    ensures { Does t.old (λ w w'. IsNext result w × (lists ≡ not w.closed → Alike (adopted w load kind key (key_in own_key) references.items) w')) t.new }
+{
+    let me = Owner::Load(load);
+    let handle = bear(t, me, kind.0 / 3, own_key, references, mode_of(kind));
+    cache::learn_if(&mut t.cache, lists, kind, key, NodeNumber(t.last_node));
+    handle
+}
+
+/// A new node with a handle of the load's, which the cache knows from now on, where it is to learn. All was made ready for it, so it isn't refused. And the cache may forget
+/// entries of nodes that are gone.
+fn learn_new(
+    t: &mut Tables,
+    load: LoadNumber,
+    kind: Kind,
+    key: DataKey,
+    own_key: u128,
+    references: Vec<ArcRef>,
+    lists: bool,
+) -> HandleNumber
+    requires whole { IsWhole t.old }
+    requires ready { IsReady t.old }
+    requires learns { 0 < spare t.old.cache }
+    requires holder { MayHold (plain_of t.old) (owners.Load load) }
+    requires fit { references_fault (plain_of t.old) (owners.Load load) [] references.items ≡ None }
+    requires bare { (own_key ≡ 0) ⊎ ((is_shared (mode_of kind.0) ≡ false) × ((references.items ≡ []) ⊎ (is_pinning (mode_of kind.0) ≡ true))) }
+    ensures { Does t.old (λ w w'. IsNext result w × (lists ≡ not w.closed → Alike (adopted w load kind key (key_in own_key) references.items) w')) t.new }
+{
+    let handle = bear_known(t, load, kind, key, own_key, references, lists);
+    cache::forget_gone(t);
+    handle
+}
+
+/// A handle of the load's, of the cell that the cache gives for a loose kind and a key, or of a new one that has this key and no value. It is refused where the load isn't
+/// an own open one, the kind isn't a loose one, a number is spent, or memory is wanting.
+pub fn load_lazy(
+    t: &mut Tables,
+    me: Owner,
+    load: LoadNumber,
+    kind: Kind,
+    key: DataKey,
+    lists: bool,
+    alloc: Global,
+) -> Result<HandleNumber, Error>
+    requires whole { IsWhole t.old }
+    requires later { AreLater t.old }
+    ensures { Does t.old (λ w w'. lists ≡ not w.closed → LazyCall w me load kind key result w') t.new }
+{
+    let _row = load_row(t, me, load)?;
+    if !is_loose_kind(kind) {
+        return Err(Error::WrongKind);
+    }
+    if let Some(node) = cache::usable_of(t, kind, key) {
+        return make(t, node, mode_of(kind), Owner::Load(load));
+    }
+    make_ready_to_learn(t)?;
+    Ok(learn_new(t, load, kind, key, key.get(), Vec::new(alloc), lists))
+}
+
+/// Why what a load has read can't become a node, apart from numbers and memory.
+fn adopt_fault(
+    t: &Tables,
+    me: Owner,
+    load: LoadNumber,
+    kind: Kind,
+    node_type: u32,
+    references: &[ArcRef],
+) -> Option<Error>
+    requires { IsWhole t.now }
+    ensures { (stored : ℕ → Option Blob) (closed : Bool) (failures : ℕ) → result ≡ early_fault (core_of t.now stored closed failures) me load kind node_type references.now }
+{
+    let own = load_fault(load_table::load_of(&t.loads, load.0), me);
+    let mode = is_loose_kind(kind).then_some(Error::WrongMode);
+    let typed = (node_type != kind.0 / 3).then_some(Error::WrongKind);
+    let fit = references_fault(t, Owner::Load(load), references);
+    earlier(own, earlier(mode, earlier(typed, fit)))
+}
+
+/// The handles that the references name are given up, with all that goes with them. The load owns them.
+#[tactic(auto, using(crate::proofs::CascadeEnd::shedding))]
+fn give_named<N: Drop>(
+    t: &mut Holdings,
+    values: &mut Arcs<N>,
+    load: LoadNumber,
+    references: &[ArcRef],
+    lists: bool,
+)
+    requires { IsFalling t.old [] owns_nothing }
+    ensures steady { IsFalling t.new [] owns_nothing }
+    ensures sheds { Sheds (counts_at t.old.nodes) (row_by values.old) (counts_at t.new.nodes) (row_by values.new) }
+    ensures falls { (before w : Core) → SoFar before w nobody lists (record t.old { unlisted = None }) → length (live t.old.handles.places.items) ≤ length w.rows → ((q : ℕ) → is_named_by references.now q ≡ true → is_owned_in w (owners.Load load) q ≡ true) → FallsAnyhow before w (is_named_by references.now) (with_tables w t.new) }
+{
+    t.unlisted = None;
+    for reference in references {
+        give_next(t, values, load, reference.handle, lists);
+    }
+    let _ = fall(t, values, lists);
+}
+
+/// Where the cache gives a node already, what a load has read is dropped: the load gets a handle of that node, and the handles that the references name are given up. None where the cache gives none;
+/// nothing changes then. It is refused where the load isn't an own open one, the kind is a loose one or not the value's, a reference isn't the load's, or the handle has no number or no place.
+pub fn adopt_if_known<N: Drop>(
+    t: &mut Tables,
+    values: &mut Arcs<N>,
+    me: Owner,
+    load: LoadNumber,
+    kind: Kind,
+    key: DataKey,
+    node_type: u32,
+    references: &[ArcRef],
+    lists: bool,
+) -> Result<Option<HandleNumber>, Error>
+    requires whole { IsWhole t.old }
+    requires later { AreLater t.old }
+    requires valued { (n : ℕ) → usable (plain_of t.old) kind.0 key ≡ Some n → is_loose_kind kind.0 ≡ false → has_value (counts_at t.old.holdings.nodes n) ≡ true }
+    ensures known { (stored : ℕ → Option Blob) (closed : Bool) (failures : ℕ) → lists ≡ not closed → IfOk result (λ found. IfSome found (λ k. Adopts (core_of t.old stored closed failures) me load kind key node_type references.now k (core_of t.new stored closed failures))) }
+    ensures fresh { (stored : ℕ → Option Blob) (closed : Bool) (failures : ℕ) → IfOk result (λ found. IfNone found (early_fault (core_of t.old stored closed failures) me load kind node_type references.now ≡ None)) }
+    ensures given { IfOk result (λ found. IfSome found (λ k. (n : ℕ) × (usable (plain_of t.old) kind.0 key ≡ Some n))) }
+    ensures unknown { IfOk result (λ found. IfNone found (usable (plain_of t.old) kind.0 key ≡ None)) }
+    ensures same { IfOk result (λ found. IfNone found (t.new ≡ t.old)) }
+    ensures kept { IfOk result (λ found. IfNone found (values.new ≡ values.old)) }
+    ensures refused { (stored : ℕ → Option Blob) (closed : Bool) (failures : ℕ) → IfErr result (λ e. Refused (adopt_fault (core_of t.old stored closed failures) me load kind key node_type references.now) (load_fault (core_of t.old stored closed failures) me load) (Unit {0}) (core_of t.old stored closed failures) e (core_of t.new stored closed failures)) }
+    ensures whole { IsWhole t.new }
+    ensures later { AreLater t.new }
+    ensures sheds { Sheds (counts_at t.old.holdings.nodes) (row_by values.old) (counts_at t.new.holdings.nodes) (row_by values.new) }
+{
+    if let Some(e) = adopt_fault(t, me, load, kind, node_type, references) {
+        return Err(e);
+    }
+    let Some(node) = cache::usable_of(t, kind, key) else {
+        return Ok(None);
+    };
+    let handle = make(t, node, mode_of(kind), Owner::Load(load))?;
+    give_named(&mut t.holdings, values, load, references, lists);
+    Ok(Some(handle))
+}
+
+/// What a load has read becomes a new node with a handle of the load's, which the cache knows from now on. `adopt_if_known` found no cause against it and no node in
+/// the cache, and `make_ready_to_learn` made all ready for it, so it isn't refused.
+pub fn adopt(
+    t: &mut Tables,
+    load: LoadNumber,
+    kind: Kind,
+    key: DataKey,
+    references: Vec<ArcRef>,
+    lists: bool,
+) -> HandleNumber
+    requires whole { IsWhole t.old }
+    requires later { AreLater t.old }
+    requires ready { IsReady t.old }
+    requires learns { 0 < spare t.old.cache }
+    requires asked { (me : Owner) × (node_type : ℕ) × (early_fault (plain_of t.old) me load kind node_type references.items ≡ None) }
+    requires unknown { usable (plain_of t.old) kind.0 key ≡ None }
+    ensures { Does t.old (λ w w'. IsNext result w × (lists ≡ not w.closed → Alike (adopted w load kind key (first_key kind.0 key) references.items) w')) t.new }
+{
+    let own_key = if is_pinned_kind(kind) { key.get() } else { 0 };
+    learn_new(t, load, kind, key, own_key, references, lists)
+}

@@ -1,0 +1,352 @@
+//! How a load ends: with a pin, by handing its handles over, or dropped with all that it owns.
+
+ghost use Rattle.pagable_model.specs.declared.numbers.{LoadNumber.LoadNumber, NodeNumber.NodeNumber};
+ghost use Rattle.pagable_tables.specs.Core.{AreLater, Does, DoesShed, IsOwnedAbove, IsOwnedUpTo, IsWhole, OnlyRoom, core_of, load_in};
+ghost use Rattle.pagable_tables.specs.{CascadeInvariant.{AreAtWork, is_worker}, HandleTable.{AreSound, Becomes, live, room}};
+ghost use Rattle.pagable_tables.specs.Nodes.{coming, counts_at, holds_in, refs_at, work_at};
+ghost use Rattle.pagable_tables.specs.{EndingLoads.{HasPlace, IsReady as IsEndReady, ShedsBeside, Unends}, NumberTable.row_by};
+ghost use Rattle.pagable_tables.specs.declared.{cascade.Holdings.Holdings, load_table.LoadRow.LoadRow, release.Giving.Giving};
+ghost use Rattle.pagable_world.specs.{Calls.{is_named_by, moved}, Kinds.{find_row, held, is_owner, owner_value}};
+ghost use Rattle.pagable_world.specs.{LoadCalls.{DropCall, HandOverCall, Installs, end_fault, hand_over_fault, numbers_of, root_fault}, Pager.IsHandleBefore};
+ghost use Rattle.pagable_world.specs.{Plain.{Blob, if_there, is_in}, Refusals.{OwnsLoad, Refused, earlier, load_fault, references_fault}};
+ghost use Rattle.pagable_world.specs.{World.{Cell, OpenLoad}, declared.handles.{HandleRow.HandleRow, Owner.Owner}};
+ghost use Rattle.std.specs.List.{AllPairs};
+ghost use Rattle.std.specs.Prelude.{Bool, IfErr, IfOk, IfSome, IsSome, None, Ok, Option, Some, false, if◌then◌else◌, not, true, ℕ, ◌&&◌, ◌*◌, ◌<◌, ◌==◌};
+ghost use Rattle.std.specs.Prelude.{◌≡◌, ◌≢◌, ◌≤◌};
+
+use crate::cascade::Holdings;
+use crate::checks::{hand_over_fault, load_fault, load_row, own, references_fault};
+use crate::create::pin_here;
+use crate::handle_table::Handles;
+use crate::kinds::{earlier, is_owner, is_worker};
+use crate::load_handles::last_of;
+use crate::load_table::{LoadRoot, LoadRow};
+use crate::nodes::{Arcs, Nodes, is_here};
+use crate::release::{Giving, give_all};
+use crate::tables::{Reach, Tables};
+use crate::{handle_table, load_table, nodes};
+use pagable_model::{ArcRef, Error, HandleNumber, LoadNumber, NodeNumber};
+use pagable_world::handles::{HandleRow, Owner};
+
+/// A load of a cell that can end: its row, the row of the handle by which it was begun, and whether the cell has no value.
+#[derive(Clone, Copy)]
+pub struct Ending {
+    pub load: LoadRow,
+    pub row: HandleRow,
+    pub is_away: bool,
+}
+
+/// Why a load of a cell doesn't end with a value.
+#[derive(Drop)]
+pub enum Unended {
+    /// It is refused, and the load stays open.
+    Refused(Error),
+    /// The handle by which it was begun is gone or another's: the load has to be closed.
+    InVain(Error),
+}
+
+/// Why a load can't end with a value of this type, if it is open: it is of a key, or of a cell of another type; or no number is left, where the owner has the handle that is to be pinned.
+#[tactic(auto, using(std::proofs::lemmas::Bool::Decides::nat_tests))]
+fn root_fault(t: &Tables, me: Owner, load: LoadNumber, node_type: u32) -> Option<Error>
+    requires { IsWhole t.now }
+    ensures { (stored : ℕ → Option Blob) (closed : Bool) (failures : ℕ)
+        → result ≡ if_there (λ (load : OpenLoad). root_fault (core_of t.now stored closed failures) me node_type load.root) None ((core_of t.now stored closed failures).loads load.0) }
+{
+    let LoadRoot::Cell(_, cell_type, handle) = load_table::load_of(&t.loads, load.0)?.root else {
+        return Some(Error::WrongMode);
+    };
+    let typed = (node_type != cell_type).then_some(Error::WrongKind);
+    let Some(at) = handle_table::look(&t.holdings.handles, handle) else {
+        return typed;
+    };
+    let is_spent = is_owner(me, at.row.owner) && t.holdings.last_handle == u64::MAX;
+    earlier(typed, is_spent.then_some(Error::NumbersSpent))
+}
+
+/// Why a load of a cell can't end, apart from memory.
+fn end_fault(
+    t: &Tables,
+    me: Owner,
+    load: LoadNumber,
+    node_type: u32,
+    references: &[ArcRef],
+) -> Option<Error>
+    requires { IsWhole t.now }
+    ensures { (stored : ℕ → Option Blob) (closed : Bool) (failures : ℕ) → result ≡ end_fault (core_of t.now stored closed failures) me load node_type references.now }
+{
+    let own = load_fault(load_table::load_of(&t.loads, load.0), me);
+    let root = root_fault(t, me, load, node_type);
+    let fit = references_fault(t, Owner::Load(load), references);
+    earlier(own, earlier(root, fit))
+}
+
+/// The load of a cell that can end with a value of this type and these references, with room for the handle that is made then. It is refused where none is open or a handle
+/// of the references isn't live; where another began it or owns one of those handles; where it is of a key; where it is of a cell of another type; where no number is left; or
+/// by memory. It is in vain where the handle by which it was begun is gone or another's; nothing changes then.
+pub fn prepare_end(
+    t: &mut Tables,
+    me: Owner,
+    load: LoadNumber,
+    node_type: u32,
+    references: &[ArcRef],
+) -> Result<Ending, Unended>
+    requires { IsWhole t.old }
+    ensures ready { IfOk result (λ e. (stored : ℕ → Option Blob) (closed : Bool) (failures : ℕ) → IsEndReady (core_of t.new stored closed failures) me load node_type references.now e) }
+    ensures place { IfOk result (λ e. HasPlace t.new load e) }
+    ensures unended { IfErr result (λ u. (stored : ℕ → Option Blob) (closed : Bool) (failures : ℕ)
+        → Unends (core_of t.old stored closed failures) me load node_type references.now u (core_of t.new stored closed failures)) }
+    ensures does { Does t.old OnlyRoom t.new }
+    ensures nodes { t.new.holdings.nodes ≡ t.old.holdings.nodes }
+{
+    if let Some(e) = end_fault(t, me, load, node_type, references) {
+        return Err(Unended::Refused(e));
+    }
+    let row = load_table::load_of(&t.loads, load.0).unwrap();
+    let LoadRoot::Cell(_, _, handle) = row.root else {
+        unreachable!();
+    };
+    match own(t, me, handle) {
+        Ok(at) => {
+            let is_away = !is_here(nodes::counts_of(&t.holdings.nodes, at.row.node.0));
+            match handle_table::reserve(&mut t.holdings.handles, 1) {
+                Ok(()) => Ok(Ending {
+                    load: row,
+                    row: at.row,
+                    is_away,
+                }),
+                Err(e) => Err(Unended::Refused(e.into())),
+            }
+        }
+        Err(e) => Err(Unended::InVain(e)),
+    }
+}
+
+/// What a value refers to comes to its node with its handles, if it is to. Else nothing changes.
+fn join(t: &mut Holdings, node: NodeNumber, references: Vec<ArcRef>, comes: bool)
+    requires sound { AreSound t.old.handles }
+    requires live { IsSome (counts_at t.old.nodes node.0) }
+    ensures handles { Becomes t.old.handles (moved (is_named_by (coming comes references.items)) (owner_value node.0) (live t.old.handles.places.items)) t.new.handles }
+    ensures counts { (n : ℕ) → counts_at t.new.nodes n ≡ counts_at t.old.nodes n }
+    ensures work { (n : ℕ) → work_at t.new.nodes n ≡ work_at t.old.nodes n }
+    ensures here { comes ≡ true → refs_at t.new.nodes node.0 ≡ references.items }
+    ensures others { (n : ℕ) → n ≢ node.0 → refs_at t.new.nodes n ≡ refs_at t.old.nodes n }
+    ensures none { comes ≡ false → t.new ≡ t.old }
+    ensures same { t.new ≡ record t.old { handles = t.new.handles; nodes = t.new.nodes } }
+{
+    if comes {
+        handle_table::hand_over_all(&mut t.handles, &references, Owner::Value(node));
+        nodes::set_references(&mut t.nodes, node.0, references);
+    }
+}
+
+/// A load of a cell ends as by `install`, where what it owns has numbers up to `until`.
+fn install_up_to<N: Drop>(
+    t: &mut Tables,
+    values: &mut Arcs<N>,
+    me: Owner,
+    load: LoadNumber,
+    node_type: u32,
+    references: Vec<ArcRef>,
+    ending: Ending,
+    until: u64,
+    lists: bool,
+) -> HandleNumber
+    requires whole { IsWhole t.old }
+    requires ready { (stored : ℕ → Option Blob) (closed : Bool) (failures : ℕ) → IsEndReady (core_of t.old stored closed failures) me load node_type references.items ending }
+    requires place { 1 ≤ room t.old.holdings.handles }
+    requires above { IsOwnedAbove t.old load ending.load.since }
+    requires up_to { IsOwnedUpTo t.old load until }
+    ensures does { Does t.old (λ w w'. lists ≡ not w.closed → Installs w me load ending.row.node ending.row.number result references.items w') t.new }
+    ensures sheds { ShedsBeside ending.row.node (counts_at t.old.holdings.nodes) (row_by values.old) (counts_at t.new.holdings.nodes) (row_by values.new) }
+{
+    let Ok(handle) = pin_here(t, me, ending.row) else {
+        unreachable!();
+    };
+    let node = ending.row.node;
+    join(&mut t.holdings, node, references, ending.is_away);
+    load_table::close(&mut t.loads, load.0);
+    let since = ending.load.since;
+    let giving = Giving::Load(load);
+    let reach = Reach { since, beside: 0 };
+    let _ = give_all(
+        &mut t.holdings,
+        values,
+        &t.loads,
+        giving,
+        reach,
+        until,
+        lists,
+    );
+    handle
+}
+
+/// A load of a cell ends: the handle by which it was begun is pinned, a Pinned one is made, and the load gives up what it still owns. Where the cell has no value, the value's references
+/// come to it with their handles before; the value itself stands among the values already.
+pub fn install<N: Drop>(
+    t: &mut Tables,
+    values: &mut Arcs<N>,
+    me: Owner,
+    load: LoadNumber,
+    node_type: u32,
+    references: Vec<ArcRef>,
+    ending: Ending,
+    lists: bool,
+) -> HandleNumber
+    requires whole { IsWhole t.old }
+    requires later { AreLater t.old }
+    requires ready { (stored : ℕ → Option Blob) (closed : Bool) (failures : ℕ) → IsEndReady (core_of t.old stored closed failures) me load node_type references.items ending }
+    requires place { HasPlace t.old load ending }
+    ensures does { Does t.old (λ w w'. lists ≡ not w.closed → Installs w me load ending.row.node ending.row.number result references.items w') t.new }
+    ensures sheds { ShedsBeside ending.row.node (counts_at t.old.holdings.nodes) (row_by values.old) (counts_at t.new.holdings.nodes) (row_by values.new) }
+{
+    let until = last_of(t, load, ending.load.since);
+    install_up_to(
+        t, values, me, load, node_type, references, ending, until, lists,
+    )
+}
+
+/// An open load of this row is given up, with all that it owns, which has numbers up to `until`.
+fn drop_up_to<N: Drop>(
+    t: &mut Tables,
+    values: &mut Arcs<N>,
+    me: Owner,
+    load: LoadNumber,
+    row: LoadRow,
+    until: u64,
+    lists: bool,
+) -> Result<(), Error>
+    requires whole { IsWhole t.old }
+    requires own { (stored : ℕ → Option Blob) (closed : Bool) (failures : ℕ)
+        → OwnsLoad (core_of t.old stored closed failures) me load (load_in row) }
+    requires above { IsOwnedAbove t.old load row.since }
+    requires up_to { IsOwnedUpTo t.old load until }
+    ensures { DoesShed lists t.old values.old (λ w w'. DropCall w me load result w') t.new values.new }
+{
+    load_table::close(&mut t.loads, load.0);
+    let since = row.since;
+    let giving = Giving::Load(load);
+    let reach = Reach { since, beside: 0 };
+    give_all(
+        &mut t.holdings,
+        values,
+        &t.loads,
+        giving,
+        reach,
+        until,
+        lists,
+    )
+}
+
+/// An open load is given up, with all that it owns. NoSuchHandle where none is open, NotYours where another began it. NumbersSpent or OutOfMemory where a cell that had to be listed isn't.
+pub fn load_drop<N: Drop>(
+    t: &mut Tables,
+    values: &mut Arcs<N>,
+    me: Owner,
+    load: LoadNumber,
+    lists: bool,
+) -> Result<(), Error>
+    requires whole { IsWhole t.old }
+    requires later { AreLater t.old }
+    ensures { DoesShed lists t.old values.old (λ w w'. DropCall w me load result w') t.new values.new }
+{
+    let row = load_row(t, me, load)?;
+    let until = last_of(t, load, row.since);
+    drop_up_to(t, values, me, load, row, until, lists)
+}
+
+/// Workers may own each handle that this one's node has, as far as the node tells from now on.
+#[tactic(auto, using(crate::proofs::CascadeStep::counting))]
+fn may_work(handles: &Handles, nodes: &mut Nodes, handle: HandleNumber)
+    requires sound { AreSound handles.now }
+    requires holding { (n : ℕ) → holds_in (counts_at nodes.old n) ≡ held n (live handles.now.places.items) }
+    ensures here { IfSome (find_row handle.0 (live handles.now.places.items))
+        (λ row. held row.node.0 (live handles.now.places.items) ≤ work_at nodes.new row.node.0) }
+    ensures work { (n : ℕ) → work_at nodes.old n ≤ work_at nodes.new n }
+    ensures counts { (n : ℕ) → counts_at nodes.new n ≡ counts_at nodes.old n }
+    ensures refs { (n : ℕ) → refs_at nodes.new n ≡ refs_at nodes.old n }
+{
+    if let Some(at) = handle_table::look(handles, handle) {
+        let node = at.row.node.0;
+        let counts = nodes::counts_of(nodes, node).unwrap();
+        let work = nodes::work_of(nodes, node).max(counts.holds);
+        nodes::set_work(nodes, node, work);
+    }
+}
+
+/// The same for each of these handles, where they come to a worker.
+fn all_may_work(handles: &Handles, nodes: &mut Nodes, named: &[HandleNumber], me: Owner)
+    requires sound { AreSound handles.now }
+    requires ordered { AllPairs IsHandleBefore (live handles.now.places.items) }
+    requires holding { (n : ℕ) → holds_in (counts_at nodes.old n) ≡ held n (live handles.now.places.items) }
+    requires worked { AreAtWork (live handles.now.places.items) nodes.old }
+    ensures worked { AreAtWork (moved (is_in (numbers_of named.now)) me (live handles.now.places.items)) nodes.new }
+    ensures work { (n : ℕ) → work_at nodes.old n ≤ work_at nodes.new n }
+    ensures counts { (n : ℕ) → counts_at nodes.new n ≡ counts_at nodes.old n }
+    ensures refs { (n : ℕ) → refs_at nodes.new n ≡ refs_at nodes.old n }
+{
+    if !is_worker(me) {
+        return;
+    }
+    for handle in named {
+        may_work(handles, nodes, *handle);
+    }
+}
+
+/// A load of a key, of which nothing stands against that, hands over the handles that are named, gives up the rest, which has
+/// numbers up to `until`, and is closed.
+fn take_up_to<N: Drop>(
+    t: &mut Tables,
+    values: &mut Arcs<N>,
+    me: Owner,
+    load: LoadNumber,
+    named: &[HandleNumber],
+    until: u64,
+    lists: bool,
+)
+    requires whole { IsWhole t.old }
+    requires later { AreLater t.old }
+    requires free { (stored : ℕ → Option Blob) (closed : Bool) (failures : ℕ)
+        → hand_over_fault (core_of t.old stored closed failures) me load named.now ≡ None }
+    requires up_to { IsOwnedUpTo t.old load until }
+    ensures { DoesShed lists t.old values.old (λ w w'. HandOverCall w me load named.now (Ok tt) w') t.new values.new }
+{
+    let row = load_table::load_of(&t.loads, load.0).unwrap();
+    load_table::close(&mut t.loads, load.0);
+    all_may_work(&t.holdings.handles, &mut t.holdings.nodes, named, me);
+    handle_table::hand_each(&mut t.holdings.handles, named, me);
+    let since = row.since;
+    let giving = Giving::Load(load);
+    let reach = Reach { since, beside: 0 };
+    let _ = give_all(
+        &mut t.holdings,
+        values,
+        &t.loads,
+        giving,
+        reach,
+        until,
+        lists,
+    );
+}
+
+/// A load of a key hands over the handles that are named, gives up the rest and is closed. NoSuchHandle where no load is open or a named handle isn't live;
+/// NotYours where another began the load or owns a named handle, or one is named twice; WrongMode where it is a load of a cell.
+pub fn load_take<N: Drop>(
+    t: &mut Tables,
+    values: &mut Arcs<N>,
+    me: Owner,
+    load: LoadNumber,
+    named: &[HandleNumber],
+    lists: bool,
+) -> Result<(), Error>
+    requires whole { IsWhole t.old }
+    requires later { AreLater t.old }
+    ensures { DoesShed lists t.old values.old (λ w w'. HandOverCall w me load named.now result w') t.new values.new }
+{
+    if let Some(e) = hand_over_fault(t, me, load, named) {
+        return Err(e);
+    }
+    let row = load_table::load_of(&t.loads, load.0).unwrap();
+    let until = last_of(t, load, row.since);
+    take_up_to(t, values, me, load, named, until, lists);
+    Ok(())
+}

@@ -1,0 +1,79 @@
+//! Which handles a load owns, as its row notes it.
+
+ghost use Rattle.pagable_model.specs.declared.numbers.LoadNumber.{LoadNumber};
+ghost use Rattle.pagable_tables.specs.{Core.{AreLater, AreRaised, AreTold, IsOwnedUpTo, IsWhole, Notes}, HandleTable.AreSound, Indexes.load_at};
+ghost use Rattle.pagable_tables.specs.declared.{handle_table.Place.Place, load_table.LoadRow.LoadRow};
+ghost use Rattle.pagable_world.specs.declared.handles.{HandleRow.HandleRow, Owner.Owner};
+ghost use Rattle.std.specs.Prelude.{None, Some, get_or, length, ℕ, ◌<◌, ◌≡◌, ◌≤◌};
+
+use crate::handle_table::Handles;
+use crate::load_table::Loads;
+use crate::tables::Tables;
+use crate::{handle_table, load_table};
+use pagable_model::LoadNumber;
+use pagable_world::handles::{HandleRow, Owner};
+
+/// The row of the load that owns this handle, if one does, tells of it.
+fn note(loads: &mut Loads, handle: HandleRow)
+    ensures rows { AreRaised loads.old loads.new }
+    ensures last { (l : LoadNumber) (row : LoadRow) → handle.owner ≡ Owner.Load l
+        → load_at loads.new l.0 ≡ Some row → handle.number.0 ≤ row.last }
+{
+    let Owner::Load(load) = handle.owner else {
+        return;
+    };
+    if let Some(row) = loads.get_mut(&load.0) {
+        row.last = row.last.max(handle.number.0);
+    }
+}
+
+/// From which place on numbers are above this one.
+fn place_above(handles: &Handles, number: u64) -> usize
+    requires { AreSound handles.now }
+    ensures { (k : ℕ) (d : Place) → k < result → (get_or handles.now.places.items k d).row.number.0 ≤ number }
+{
+    handle_table::up_to(&handles.places, number)
+}
+
+/// The rows of the loads tell of all handles above this number.
+fn note_above(loads: &mut Loads, handles: &Handles, number: u64)
+    requires { AreSound handles.now }
+    ensures rows { AreRaised loads.old loads.new }
+    ensures told { AreTold loads.new handles.now.places.items number (length handles.now.places.items) }
+{
+    let start = place_above(handles, number);
+    for place in start..handles.places.len() {
+        let found = handles.places[place];
+        note(loads, found.row);
+    }
+}
+
+/// The rows of the loads tell of all handles that there are. It looks at each handle once, however often it is called.
+fn note_all(t: &mut Tables)
+    requires whole { IsWhole t.old }
+    requires later { AreLater t.old }
+    ensures notes { Notes t.old t.new }
+    ensures all { t.new.noted ≡ t.old.holdings.last_handle }
+{
+    note_above(&mut t.loads, &t.holdings.handles, t.noted);
+    t.noted = t.holdings.last_handle;
+}
+
+/// Up to which number the handles are that this load owns, which began after the handle `since`. Where many were given
+/// since then, the rows of the loads tell it, and else the last of all is near enough.
+pub fn last_of(t: &mut Tables, load: LoadNumber, since: u64) -> u64
+    requires whole { IsWhole t.old }
+    requires later { AreLater t.old }
+    ensures notes { Notes t.old t.new }
+    ensures last { IsOwnedUpTo t.new load result }
+{
+    let last = t.holdings.last_handle;
+    if last.saturating_sub(since) < 16 {
+        return last;
+    }
+    note_all(t);
+    match load_table::load_of(&t.loads, load.0) {
+        Some(row) => row.last,
+        None => last,
+    }
+}

@@ -1,0 +1,173 @@
+//! Nodes by their numbers: what is counted of each, and what its value refers to.
+
+ghost use Rattle.indexmap.specs.IndexMap.{get};
+ghost use Rattle.pagable_model.specs.declared.data_key.OptionalDataKey.{OptionalDataKey};
+ghost use Rattle.pagable_tables.specs.{CascadeInvariant.is_worker, Nodes.{cell_in, counts_at, key_in, pins_in, refs_at, work_at}};
+ghost use Rattle.pagable_tables.specs.NumberTable.{place_at, row_by};
+ghost use Rattle.pagable_world.specs.{Kinds.is_in_memory, Plain.{if_there, one, type_of}, Refusals.is_type, World.Cell, declared.handles.Owner.Owner};
+ghost use Rattle.std.specs.Option.{option_to_list};
+ghost use Rattle.std.specs.Prelude.{IfNone, IsSome, None, Option, Some, [], false, true, ℕ, ◌++◌, ◌+◌, ◌/◌, ◌<◌, ◌==◌, ◌^◌, ◌||◌, ◌≡◌, ◌≢◌, ◌≤◌};
+
+use crate::kinds::is_worker;
+use crate::number_table::{NumberTable, chunk_of, place_of};
+use pagable_model::{ArcRef, DataKey, Kind, OptionalDataKey};
+use pagable_world::handles::Owner;
+use std::sync::Arc;
+
+/// Nodes, loads and workers by their numbers, and what the cache knows under a kind and a key.
+pub type Nodes = NumberTable<NodeRow>;
+
+/// The values in memory, by the numbers of their nodes. They stand beside the tables.
+pub type Arcs<N> = NumberTable<Arc<N>>;
+
+/// What is kept of a node, beside the references of its value. The widest fields come first, so that none leaves a gap.
+#[derive(Clone, Copy)]
+pub struct Counts {
+    /// The number of its key, 0 where it has none.
+    pub key: u128,
+    /// How many handles pin it.
+    pub pins: u64,
+    /// How many handles it has.
+    pub holds: u64,
+    /// The node whose value's references are given up after those of this one, 0 where it is none.
+    pub next: u64,
+    /// Whether its value has gone and what that refers to is still to be given up.
+    pub is_falling: bool,
+    pub node_type: u32,
+}
+
+/// A node.
+#[derive(Drop)]
+pub struct NodeRow {
+    pub counts: Counts,
+    /// What its value refers to, where that is in memory: the value owns the handles.
+    pub references: Vec<ArcRef>,
+    /// How many of its handles workers own, at most.
+    pub at_work: u64,
+}
+
+/// The counts of a node.
+pub fn counts_of(nodes: &Nodes, node: u64) -> Option<Counts>
+    ensures { result ≡ counts_at nodes.now node }
+{
+    Some(nodes.get(node)?.counts)
+}
+
+/// Other counts for a node.
+#[tactic(auto, unfolding(crate::specs::NumberTable::place_at, crate::specs::NumberTable::row_by))]
+pub fn set_counts(nodes: &mut Nodes, node: u64, counts: Counts)
+    requires { IsSome (counts_at nodes.old node) }
+    ensures here { counts_at nodes.new node ≡ Some counts }
+    ensures others { (q : ℕ) → q ≢ node → counts_at nodes.new q ≡ counts_at nodes.old q }
+    ensures refs { (q : ℕ) → refs_at nodes.new q ≡ refs_at nodes.old q }
+    ensures work { (q : ℕ) → work_at nodes.new q ≡ work_at nodes.old q }
+{
+    let rows = &mut nodes.chunks[chunk_of(node)];
+    if let Some(row) = &mut rows[place_of(node)] {
+        row.counts = counts;
+    }
+}
+
+/// How many handles of a node workers own, at most.
+pub fn work_of(nodes: &Nodes, node: u64) -> u64
+    ensures { result ≡ work_at nodes.now node }
+{
+    nodes.get(node).map_or(0, |row| row.at_work)
+}
+
+/// Other work for a node.
+#[tactic(auto, unfolding(crate::specs::NumberTable::place_at, crate::specs::NumberTable::row_by))]
+pub fn set_work(nodes: &mut Nodes, node: u64, work: u64)
+    requires { IsSome (counts_at nodes.old node) }
+    ensures here { work_at nodes.new node ≡ work }
+    ensures others { (q : ℕ) → q ≢ node → work_at nodes.new q ≡ work_at nodes.old q }
+    ensures counts { (q : ℕ) → counts_at nodes.new q ≡ counts_at nodes.old q }
+    ensures refs { (q : ℕ) → refs_at nodes.new q ≡ refs_at nodes.old q }
+{
+    let rows = &mut nodes.chunks[chunk_of(node)];
+    if let Some(row) = &mut rows[place_of(node)] {
+        row.at_work = work;
+    }
+}
+
+/// Takes the last reference of a node.
+#[tactic(auto, unfolding(crate::specs::NumberTable::place_at, crate::specs::NumberTable::row_by))]
+pub fn pop_reference(nodes: &mut Nodes, node: u64) -> Option<ArcRef>
+    ensures counts { (q : ℕ) → counts_at nodes.new q ≡ counts_at nodes.old q }
+    ensures others { (q : ℕ) → q ≢ node → refs_at nodes.new q ≡ refs_at nodes.old q }
+    ensures here { refs_at nodes.old node ≡ refs_at nodes.new node ++ option_to_list result }
+    ensures none { IfNone result (refs_at nodes.new node ≡ []) }
+    ensures work { (q : ℕ) → work_at nodes.new q ≡ work_at nodes.old q }
+{
+    let rows = nodes.chunks.get_mut(chunk_of(node))?;
+    match rows.get_mut(place_of(node))? {
+        Some(row) => row.references.pop(),
+        None => None,
+    }
+}
+
+/// What the value of a node refers to from now on.
+#[tactic(auto, unfolding(crate::specs::NumberTable::place_at, crate::specs::NumberTable::row_by))]
+pub fn set_references(nodes: &mut Nodes, node: u64, references: Vec<ArcRef>)
+    requires { IsSome (counts_at nodes.old node) }
+    ensures counts { (q : ℕ) → counts_at nodes.new q ≡ counts_at nodes.old q }
+    ensures here { refs_at nodes.new node ≡ references.items }
+    ensures others { (q : ℕ) → q ≢ node → refs_at nodes.new q ≡ refs_at nodes.old q }
+    ensures work { (q : ℕ) → work_at nodes.new q ≡ work_at nodes.old q }
+{
+    let rows = &mut nodes.chunks[chunk_of(node)];
+    if let Some(row) = &mut rows[place_of(node)] {
+        row.references = references;
+    }
+}
+
+/// The key of a node of these counts.
+pub fn key_in(counts: Option<Counts>) -> OptionalDataKey
+    ensures { result ≡ if_there (λ (cell : Cell). cell.key) OptionalDataKey.None (cell_in counts) }
+{
+    match counts {
+        Some(c) if c.key != 0 => OptionalDataKey::Some(DataKey::new(c.key).unwrap()),
+        Some(_) | None => OptionalDataKey::None,
+    }
+}
+
+/// Whether a node of these counts has its value in memory.
+pub fn is_here(counts: Option<Counts>) -> bool
+    ensures { result ≡ is_in_memory (pins_in counts) (if_there (λ (cell : Cell). cell.key) OptionalDataKey.None (cell_in counts)) }
+{
+    counts.map_or(true, |c| c.pins > 0 || c.key == 0)
+}
+
+/// Whether a node of these counts has the type of this kind.
+pub fn is_of(counts: Option<Counts>, kind: Kind) -> bool
+    ensures { result ≡ is_type (type_of kind.0) (if_there (λ (cell : Cell). Some cell.node_type) None (cell_in counts)) }
+{
+    counts.map_or(false, |c| c.node_type == kind.0 / 3)
+}
+
+/// The counts after one handle more.
+pub fn counts_more(counts: Counts, pinning: bool) -> Counts
+    requires pins { counts.pins < 2 ^ 63 }
+    requires holds { counts.holds < 2 ^ 63 }
+    ensures { result ≡ record counts { pins = counts.pins + one pinning; holds = counts.holds + 1 } }
+{
+    Counts {
+        pins: counts.pins + pinning as u64,
+        holds: counts.holds + 1,
+        ..counts
+    }
+}
+
+/// A handle of a live node has come to this owner.
+pub fn add_work(nodes: &mut Nodes, node: u64, owner: Owner)
+    requires { IsSome (counts_at nodes.old node) }
+    ensures here { (k : ℕ) → k < 2 ^ 64 → k ≤ work_at nodes.old node + one (is_worker owner) → k ≤ work_at nodes.new node }
+    ensures others { (q : ℕ) → work_at nodes.old q ≤ work_at nodes.new q }
+    ensures counts { (q : ℕ) → counts_at nodes.new q ≡ counts_at nodes.old q }
+    ensures refs { (q : ℕ) → refs_at nodes.new q ≡ refs_at nodes.old q }
+{
+    if is_worker(owner) {
+        let work = work_of(nodes, node).saturating_add(1);
+        set_work(nodes, node, work);
+    }
+}

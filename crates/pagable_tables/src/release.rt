@@ -1,0 +1,304 @@
+//! Releases handles, one or all that a load, a worker or the list owns; unpins loose ones; sets keys.
+
+ghost use Rattle.indexmap.specs.IndexMap.{get};
+ghost use Rattle.pagable_model.specs.declared.numbers.{LoadNumber.LoadNumber, NodeNumber.NodeNumber, WorkerNumber.WorkerNumber};
+ghost use Rattle.pagable_tables.specs.Core.{AreLater, DoesShed, InReach, IsLast, IsWhole, LoadsAre, core_of, gives_row, passes_in};
+ghost use Rattle.pagable_tables.specs.{CascadeInvariant.{AreAtWork, IsFalling, is_valued, owns_nothing}, CascadeProgress.{SoFar, with_tables}};
+ghost use Rattle.pagable_tables.specs.{HandleTable.{AreSound, alive, live}, Nodes.counts_at, ValuesKept.Sheds};
+ghost use Rattle.pagable_tables.specs.{Nodes.work_at, NumberTable.row_by, declared.{cascade.Holdings.Holdings, release.Giving.Giving}};
+ghost use Rattle.pagable_world.specs.{Calls.{CloseCall, ReleaseCall, SetKeyCall, UnpinCall}, Cascade.{Falls, nobody, only_handle}, Kinds.is_owner};
+ghost use Rattle.pagable_world.specs.{LoadCalls.is_owned_in, Plain.Blob, World.Core, declared.{handles.{HandleRow.HandleRow, Owner.Owner}, rows.Mode.Mode}};
+ghost use Rattle.std.specs.Prelude.{Bool, IfNone, IfSome, List, None, Ok, Option, Some, [], false, length, slice_get, true, ℕ, ◌&&◌, ◌<◌, ◌==◌, ◌||◌, ◌≡◌};
+ghost use Rattle.std.specs.Prelude.{◌≤◌};
+
+use crate::cascade::{Holdings, fall, give_up, shed, top_after};
+use crate::checks::own;
+use crate::handle_table::{HandleAt, Handles};
+use crate::kinds::{is_loose_mode, is_owner};
+use crate::load_table::Loads;
+use crate::nodes::{Arcs, Nodes};
+use crate::tables::{Reach, Tables};
+use crate::{handle_table, load_table, nodes};
+use pagable_model::{DataKey, Error, HandleNumber, LoadNumber, NodeNumber, WorkerNumber};
+use pagable_world::Mode;
+use pagable_world::handles::{HandleRow, Owner};
+
+/// Whose handles are given up together.
+#[derive(Clone, Copy)]
+pub enum Giving {
+    /// All that this load owns.
+    Load(LoadNumber),
+    /// All that this worker owns at this node.
+    AtNode(WorkerNumber, NodeNumber),
+    /// All that this worker owns, or one of its loads.
+    Worker(WorkerNumber),
+    /// All that the list owns, which has no entry any more.
+    Listed,
+}
+
+/// Whether the handle of this row is given up.
+fn gives(loads: &Loads, giving: Giving, row: HandleRow) -> bool
+    ensures gives { (w : Core) → LoadsAre loads.now w → result ≡ gives_row w giving row }
+    ensures plain { result ≡ true → is_valued row.owner ≡ false }
+{
+    match giving {
+        Giving::Load(load) => is_owner(Owner::Load(load), row.owner),
+        Giving::AtNode(worker, node) => {
+            is_owner(Owner::Worker(worker), row.owner) && row.node.0 == node.0
+        }
+        Giving::Worker(worker) => match row.owner {
+            Owner::Load(load) => match load_table::load_of(loads, load.0) {
+                Some(row) => is_owner(Owner::Worker(worker), row.owner),
+                None => false,
+            },
+            owner => is_owner(Owner::Worker(worker), owner),
+        },
+        Giving::Listed => is_owner(Owner::List, row.owner),
+    }
+}
+
+/// The last handle that is given up, of a number above `since` and not above `left`. It is looked for from the place
+/// `guess` down, where numbers above `left` begin there.
+#[tactic(auto, using(crate::proofs::OwnedByLoad::places))]
+fn last(
+    handles: &Handles,
+    loads: &Loads,
+    giving: Giving,
+    since: u64,
+    left: u64,
+    guess: usize,
+) -> Option<HandleAt>
+    requires { AreSound handles.now }
+    ensures last { IfSome result (IsLast handles.now.places.items loads.now giving (λ q. since < q) left) }
+    ensures none { IfNone result ((w : Core) (q : ℕ) → LoadsAre loads.now w → since < q → q ≤ left → passes_in (gives_row w giving) (live handles.now.places.items) q ≡ false) }
+{
+    let mut place = handle_table::up_to_from(&handles.places, left, guess);
+    while place > 0 {
+        place -= 1;
+        let found = handles.places[place];
+        if found.row.number.0 <= since {
+            return None;
+        }
+        let row = found.row;
+        if found.is_live && row.number.0 <= left && gives(loads, giving, row) {
+            return Some(HandleAt { place, row });
+        }
+    }
+    None
+}
+
+/// Whether handles at a node are given up of which workers have none.
+fn is_done(nodes: &Nodes, giving: Giving) -> bool
+    ensures { result ≡ true → (v : WorkerNumber) × (n : NodeNumber) × (giving ≡ Giving.AtNode v n) × (work_at nodes.now n.0 ≡ 0) }
+{
+    match giving {
+        Giving::AtNode(_, node) => nodes::work_of(nodes, node.0) == 0,
+        Giving::Load(_) | Giving::Worker(_) | Giving::Listed => false,
+    }
+}
+
+/// The last handle in reach that is given up, of a number not above `left`.
+fn last_given(
+    handles: &Handles,
+    nodes: &Nodes,
+    loads: &Loads,
+    giving: Giving,
+    reach: Reach,
+    left: u64,
+    guess: usize,
+) -> Option<HandleAt>
+    requires sound { AreSound handles.now }
+    requires worked { AreAtWork (live handles.now.places.items) nodes.now }
+    ensures last { IfSome result (IsLast handles.now.places.items loads.now giving (InReach reach) left) }
+    ensures none { IfNone result ((w : Core) (q : ℕ) → LoadsAre loads.now w → InReach reach q → q ≤ left → passes_in (gives_row w giving) (live handles.now.places.items) q ≡ false) }
+{
+    if is_done(nodes, giving) {
+        return None;
+    }
+    if let Some(at) = last(handles, loads, giving, reach.since, left, guess) {
+        return Some(at);
+    }
+    if reach.beside == 0 || left < reach.beside {
+        return None;
+    }
+    match handle_table::look(handles, HandleNumber(reach.beside)) {
+        Some(at) if gives(loads, giving, at.row) => Some(at),
+        Some(_) | None => None,
+    }
+}
+
+/// From which place on numbers are likely to be above `until`: where no number is missing behind it.
+fn first_guess(handles: &Handles, last: u64, until: u64) -> usize {
+    let behind = last.saturating_sub(until) as usize;
+    handles.places.len().saturating_sub(behind)
+}
+
+/// All these handles, which are in this reach and of numbers up to `until`, are given up, from the last to the first, with
+/// all that goes with them. It is refused as `fall` is.
+#[tactic(auto, using(crate::proofs::CascadeEnd::shedding))]
+pub fn give_all<N: Drop>(
+    t: &mut Holdings,
+    values: &mut Arcs<N>,
+    loads: &Loads,
+    giving: Giving,
+    reach: Reach,
+    until: u64,
+    lists: bool,
+) -> Result<(), Error>
+    requires steady { IsFalling t.old [] owns_nothing }
+    requires listed { giving ≡ Giving.Listed → (lists ≡ false) × (t.old.list.items ≡ []) }
+    ensures steady { IsFalling t.new [] owns_nothing }
+    ensures falls { (before u w : Core) → LoadsAre loads.now w → SoFar before u nobody lists (record t.old { unlisted = None }) → length (live t.old.handles.places.items) ≤ length u.rows
+        → ((q : ℕ) → passes_in (gives_row w giving) u.rows q ≡ true → InReach reach q × (q ≤ until)) → Falls before u (passes_in (gives_row w giving) u.rows) result (with_tables u t.new) }
+    ensures sheds { Sheds (counts_at t.old.nodes) (row_by values.old) (counts_at t.new.nodes) (row_by values.new) }
+{
+    t.unlisted = None;
+    let mut left = until;
+    let mut guess = first_guess(&t.handles, t.last_handle, until);
+    while let Some(at) = last_given(&t.handles, &t.nodes, loads, giving, reach, left, guess) {
+        left = at.row.number.0 - 1;
+        guess = at.place;
+        shed(t, values, at, lists);
+    }
+    fall(t, values, lists)
+}
+
+/// The storage is closed: the list gives up its entries, with all that goes with them, and the cache forgets all. No cell is listed by that. It takes no memory.
+pub fn close<N: Drop>(t: &mut Tables, values: &mut Arcs<N>)
+    requires whole { IsWhole t.old }
+    ensures closed { (stored : ℕ → Option Blob) (closed : Bool) (failures failures' : ℕ) → failures ≤ failures' → CloseCall (core_of t.old stored closed failures) (Ok tt) (core_of t.new (λ key. None) true failures') }
+    ensures whole { IsWhole t.new }
+    ensures later { AreLater t.old → AreLater t.new }
+    ensures sheds { Sheds (counts_at t.old.holdings.nodes) (row_by values.old) (counts_at t.new.holdings.nodes) (row_by values.new) }
+{
+    t.cache.clear();
+    t.holdings.list.clear();
+    let giving = Giving::Listed;
+    let since = 0;
+    let reach = Reach { since, beside: 0 };
+    let until = t.holdings.last_handle;
+    let _ = give_all(
+        &mut t.holdings,
+        values,
+        &t.loads,
+        giving,
+        reach,
+        until,
+        false,
+    );
+}
+
+/// The handle of this number is given up, if the load owns it, with all that goes with it.
+pub fn give_next<N: Drop>(
+    t: &mut Holdings,
+    values: &mut Arcs<N>,
+    load: LoadNumber,
+    handle: HandleNumber,
+    lists: bool,
+)
+    requires { IsFalling t.old [] owns_nothing }
+    ensures steady { IsFalling t.new [] owns_nothing }
+    ensures fewer { length (live t.new.handles.places.items) ≤ length (live t.old.handles.places.items) }
+    ensures so_far { (before w : Core) (given : ℕ → Bool) → SoFar before w given lists t.old → length (live t.old.handles.places.items) ≤ length w.rows → SoFar before w (λ q. given q || (q == handle.0 && is_owned_in w (Owner.Load load) q)) lists t.new }
+    ensures sheds { Sheds (counts_at t.old.nodes) (row_by values.old) (counts_at t.new.nodes) (row_by values.new) }
+{
+    if let Some(at) = handle_table::look(&t.handles, handle) {
+        if is_owner(Owner::Load(load), at.row.owner) {
+            shed(t, values, at, lists);
+        }
+    }
+}
+
+/// The handle at this place is given up, with all that goes with it. NumbersSpent or OutOfMemory where a cell that had to be listed isn't.
+#[tactic(auto, using(crate::proofs::CascadeEnd::shedding))]
+pub fn give_back<N: Drop>(
+    t: &mut Holdings,
+    values: &mut Arcs<N>,
+    at: HandleAt,
+    lists: bool,
+) -> Result<(), Error>
+    requires steady { IsFalling t.old [] owns_nothing }
+    requires place { slice_get t.old.handles.places.items at.place ≡ Some (alive at.row) }
+    requires plain { is_valued at.row.owner ≡ false }
+    requires free { is_owner Owner.List at.row.owner ≡ false }
+    ensures steady { IsFalling t.new [] owns_nothing }
+    ensures falls { (before w : Core) → SoFar before w nobody lists (record t.old { unlisted = None }) → length (live t.old.handles.places.items) ≤ length w.rows
+        → Falls before w (only_handle at.row.number) result (with_tables w t.new) }
+    ensures sheds { Sheds (counts_at t.old.nodes) (row_by values.old) (counts_at t.new.nodes) (row_by values.new) }
+{
+    t.unlisted = None;
+    shed(t, values, at, lists);
+    fall(t, values, lists)
+}
+
+/// An own handle is given up, with all that goes with it. NumbersSpent or OutOfMemory where a cell that had to be listed isn't.
+pub fn release<N: Drop>(
+    t: &mut Tables,
+    values: &mut Arcs<N>,
+    me: Owner,
+    handle: HandleNumber,
+    lists: bool,
+) -> Result<(), Error>
+    requires whole { IsWhole t.old }
+    requires plain { is_valued me ≡ false }
+    requires free { is_owner Owner.List me ≡ false }
+    ensures { DoesShed lists t.old values.old (λ w w'. ReleaseCall w me handle result w') t.new values.new }
+{
+    let at = own(t, me, handle)?;
+    give_back(&mut t.holdings, values, at, lists)
+}
+
+/// An own loose handle lets its pin go, or has none. NumbersSpent or OutOfMemory where a cell that had to be listed isn't.
+pub fn unpin<N: Drop>(
+    t: &mut Tables,
+    values: &mut Arcs<N>,
+    me: Owner,
+    handle: HandleNumber,
+    lists: bool,
+) -> Result<(), Error>
+    requires whole { IsWhole t.old }
+    requires plain { is_valued me ≡ false }
+    ensures { DoesShed lists t.old values.old (λ w w'. UnpinCall w me handle result w') t.new values.new }
+{
+    let at = own(t, me, handle)?;
+    match at.row.mode {
+        Mode::LooseUnpinned => Ok(()),
+        Mode::LoosePinned => {
+            t.holdings.unlisted = None;
+            give_up(&mut t.holdings, at, true, lists);
+            fall(&mut t.holdings, values, lists)
+        }
+        Mode::Pinned | Mode::Shared => Err(Error::WrongMode),
+    }
+}
+
+/// The cell of an own loose handle gets a key, and its value goes if nothing pins it. Through a handle of another mode nothing happens. NumbersSpent or
+/// OutOfMemory where a cell that had to be listed isn't.
+#[tactic(auto, using(crate::proofs::CascadeStep::counting))]
+pub fn set_data_key<N: Drop>(
+    t: &mut Tables,
+    values: &mut Arcs<N>,
+    me: Owner,
+    handle: HandleNumber,
+    key: DataKey,
+    lists: bool,
+) -> Result<(), Error>
+    requires whole { IsWhole t.old }
+    ensures { DoesShed lists t.old values.old (λ w w'. SetKeyCall w me handle key result w') t.new values.new }
+{
+    let at = own(t, me, handle)?;
+    if !is_loose_mode(at.row.mode) {
+        return Ok(());
+    }
+    let node = at.row.node.0;
+    let mut counts = nodes::counts_of(&t.holdings.nodes, node).unwrap();
+    let is_falling = counts.pins == 0;
+    counts.key = key.get();
+    counts.is_falling = is_falling;
+    // where the node falls, what fell first up to now is done after it
+    counts.next = top_after(false, is_falling, t.holdings.top, counts.next);
+    nodes::set_counts(&mut t.holdings.nodes, node, counts);
+    t.holdings.top = top_after(false, is_falling, node, t.holdings.top);
+    t.holdings.unlisted = None;
+    fall(&mut t.holdings, values, lists)
+}

@@ -1,0 +1,259 @@
+//! Whether all tables agree, as tests ask it.
+
+ghost use Rattle.indexmap.specs.IndexMap.{get};
+ghost use Rattle.pagable_model.specs.declared.numbers.{ArcRef.ArcRef as Reference, HandleNumber.HandleNumber as Number, NodeNumber.NodeNumber};
+ghost use Rattle.pagable_tables.specs.{Nodes.{counts_at, has_value, refs_at}, NumberTable.row_by};
+ghost use Rattle.pagable_tables.specs.Soundness.{agree, are_counts_sound, are_handles_sound, are_nodes_sound, are_places_sound, are_references_owned};
+ghost use Rattle.pagable_tables.specs.Soundness.{at_node};
+ghost use Rattle.pagable_tables.specs.Soundness.{is_cache_sound, is_had, is_known_soundly, is_list_sound, is_node_sound, is_owned_once, is_row_sound};
+ghost use Rattle.pagable_tables.specs.Soundness.{is_sound};
+ghost use Rattle.pagable_tables.specs.{Soundness.{pins_node, shares_node}, declared.handle_table.Place.{Place, Place as Row}};
+ghost use Rattle.pagable_world.specs.{Kinds.{is_owner, is_shared, is_unpinned}, declared.{handles.{HandleRow.HandleRow, Owner.Owner}, rows.Mode.Mode}};
+ghost use Rattle.std.specs.Prelude.{List, None, Some, [], count_by, false, is_some, not, true, ◌%◌, ◌&&◌, ◌*◌, ◌/◌, ◌<◌, ◌==◌, ◌||◌, ◌≡◌};
+
+use crate::handle_table::Place;
+use crate::kinds::{is_owner, is_unpinned, pins};
+use crate::nodes::{Arcs, Counts, Nodes};
+use crate::tables::Tables;
+use crate::{load_table, nodes};
+use pagable_model::{ArcRef, Kind, NodeNumber};
+use pagable_world::Mode;
+use pagable_world::handles::{HandleRow, Owner};
+
+fn is_shared(mode: Mode) -> bool
+    ensures { result ≡ is_shared mode }
+{
+    matches!(mode, Mode::Shared)
+}
+
+// How many live handles are of a node, how many of them pin it, and how many are Shared.
+fn count_handles(places: &[Place], node: u64) -> usize
+    ensures { result ≡ count_by (at_node node) places.now }
+{
+    places
+        .iter()
+        .filter(|place| place.is_live && place.row.node.0 == node)
+        .count()
+}
+
+fn count_pins(places: &[Place], node: u64) -> usize
+    ensures { result ≡ count_by (pins_node node) places.now }
+{
+    places
+        .iter()
+        .filter(|place| place.is_live && place.row.node.0 == node && pins(place.row.mode))
+        .count()
+}
+
+fn count_shares(places: &[Place], node: u64) -> usize
+    ensures { result ≡ count_by (shares_node node) places.now }
+{
+    places
+        .iter()
+        .filter(|place| place.is_live && place.row.node.0 == node && is_shared(place.row.mode))
+        .count()
+}
+
+// Whether the handle is live, once, and this one owns it.
+fn is_owned_once(places: &[Place], owner: Owner, handle: u64) -> bool
+    ensures { result ≡ is_owned_once places.now owner handle }
+{
+    let owned = places.iter().filter(|place| {
+        place.is_live && place.row.number.0 == handle && is_owner(owner, place.row.owner)
+    });
+    owned.count() == 1
+}
+
+// The references of a node's value, none where it isn't in memory.
+fn references_of(nodes: &Nodes, node: u64) -> &[ArcRef]
+    ensures { result.now ≡ refs_at nodes.now node }
+{
+    match nodes.get(node) {
+        Some(row) => row.references.as_slice(),
+        None => &[],
+    }
+}
+
+fn is_named_once(references: &[ArcRef], handle: u64) -> bool
+    ensures { result ≡ (count_by (λ (r : Reference). r.handle.0 == handle) references.now == 1) }
+{
+    let named = references.iter().filter(|r| r.handle.0 == handle);
+    named.count() == 1
+}
+
+fn is_listed_once(t: &Tables, handle: u64) -> bool
+    ensures { result ≡ (count_by (λ (q : Number). q.0 == handle) t.now.holdings.list.items == 1) }
+{
+    let listed = t.holdings.list.iter().filter(|q| q.0 == handle);
+    listed.count() == 1
+}
+
+// Whether who owns a handle has it.
+fn is_had(t: &Tables, row: HandleRow) -> bool
+    ensures { result ≡ is_had t.now row row.owner }
+{
+    match row.owner {
+        Owner::Caller => true,
+        Owner::Value(node) => {
+            is_named_once(references_of(&t.holdings.nodes, node.0), row.number.0)
+        }
+        Owner::List => is_unpinned(row.mode) && is_listed_once(t, row.number.0),
+        Owner::Load(load) => load_table::load_of(&t.loads, load.0).is_some(),
+        Owner::Worker(worker) => t.workers.get(&worker.0).is_some(),
+    }
+}
+
+// Whether a live handle has a number that was given, a node and an owner.
+fn is_row_sound(t: &Tables, row: HandleRow) -> bool
+    ensures { result ≡ is_row_sound t.now row }
+{
+    let is_given = 1 <= row.number.0 && row.number.0 <= t.holdings.last_handle;
+    is_given && nodes::counts_of(&t.holdings.nodes, row.node.0).is_some() && is_had(t, row)
+}
+
+// Whether both are true, or neither.
+fn agree(left: bool, right: bool) -> bool
+    ensures { result ≡ agree left right }
+{
+    if left { right } else { !right }
+}
+
+// Whether a node's counts are those of its handles, and its value is in memory exactly where it has to be.
+#[tactic(auto, unfolding(crate::specs::Soundness::are_counts_sound))]
+fn are_counts_sound(places: &[Place], node: u64, is_here: bool, counts: Counts) -> bool
+    ensures { result ≡ are_counts_sound places.now node is_here counts }
+{
+    let shares = count_shares(places, node) as u64;
+    let are_counted = counts.pins == count_pins(places, node) as u64
+        && counts.holds == count_handles(places, node) as u64;
+    let is_held = 1 <= counts.holds && !counts.is_falling;
+    let has_value = 1 <= counts.pins || counts.key == 0;
+    let is_uniform = shares == 0 || (shares == counts.holds && counts.key == 0);
+    are_counted && is_held && (agree(is_here, has_value) && is_uniform)
+}
+
+// Whether the value of a node owns each handle by which it refers.
+#[tactic(auto, unfolding(crate::specs::Soundness::are_references_owned))]
+fn are_references_owned(t: &Tables, node: u64) -> bool
+    ensures { result ≡ are_references_owned t.now node }
+{
+    let places = t.holdings.handles.places.as_slice();
+    let owner = Owner::Value(NodeNumber(node));
+    references_of(&t.holdings.nodes, node)
+        .iter()
+        .all(|r| is_owned_once(places, owner, r.handle.0))
+}
+
+// Whether a node, if it is there, is in step with its handles, its value and the handles by which that refers.
+fn is_node_sound(t: &Tables, node: u64, is_here: bool) -> bool
+    ensures { result ≡ is_node_sound t.now node is_here (counts_at t.now.holdings.nodes node) }
+{
+    let places = t.holdings.handles.places.as_slice();
+    match nodes::counts_of(&t.holdings.nodes, node) {
+        Some(counts) => {
+            are_counts_sound(places, node, is_here, counts) && are_references_owned(t, node)
+        }
+        None => !is_here,
+    }
+}
+
+// Whether a node has its value in memory.
+fn has_value<N: Drop>(values: &Arcs<N>, node: u64) -> bool
+    ensures { result ≡ is_some (row_by values.now node) }
+{
+    values.get(node).is_some()
+}
+
+fn is_number_sound<N: Drop>(t: &Tables, values: &Arcs<N>, node: u64) -> bool
+    ensures { result ≡ is_node_sound t.now node (is_some (row_by values.now node)) (counts_at t.now.holdings.nodes node) }
+{
+    is_node_sound(t, node, has_value(values, node))
+}
+
+// Whether the nodes of all numbers that were given are.
+#[tactic(auto, using(crate::proofs::NodesSound::stepping))]
+fn are_nodes_sound<N: Drop>(t: &Tables, values: &Arcs<N>) -> bool
+    ensures { result ≡ are_nodes_sound t.now values.now t.now.last_node }
+{
+    let mut left = t.last_node;
+    while left > 0 {
+        if !is_number_sound(t, values, left) {
+            return false;
+        }
+        left -= 1;
+    }
+    true
+}
+
+fn count_dead(places: &[Place]) -> usize
+    ensures { result ≡ count_by (λ (p : Row). not p.is_live) places.now }
+{
+    places.iter().filter(|place| !place.is_live).count()
+}
+
+// Whether the live handles are sound.
+#[tactic(auto, unfolding(crate::specs::Soundness::are_places_sound))]
+fn are_places_sound(t: &Tables) -> bool
+    ensures { result ≡ are_places_sound t.now }
+{
+    let places = t.holdings.handles.places.as_slice();
+    places
+        .iter()
+        .all(|place| !place.is_live || is_row_sound(t, place.row))
+}
+
+// Whether they are, and the dead ones are counted.
+fn are_handles_sound(t: &Tables) -> bool
+    ensures { result ≡ are_handles_sound t.now }
+{
+    let dead = count_dead(t.holdings.handles.places.as_slice());
+    are_places_sound(t) && dead == t.holdings.handles.dead
+}
+
+// Whether each entry of the list is a handle that the list owns.
+#[tactic(auto, unfolding(crate::specs::Soundness::is_list_sound))]
+fn is_list_sound(t: &Tables) -> bool
+    ensures { result ≡ is_list_sound t.now }
+{
+    let places = t.holdings.handles.places.as_slice();
+    t.holdings
+        .list
+        .iter()
+        .all(|entry| is_owned_once(places, Owner::List, entry.0))
+}
+
+// Whether what the cache knows under a kind was given, and fits the kind while it lives.
+fn is_known_soundly(t: &Tables, kind: Kind, node: NodeNumber) -> bool
+    ensures { result ≡ is_known_soundly t.now kind.0 node.0 (counts_at t.now.holdings.nodes node.0) }
+{
+    let is_given = node.0 <= t.last_node;
+    match nodes::counts_of(&t.holdings.nodes, node.0) {
+        Some(counts) => {
+            let is_shared = 1 <= count_shares(t.holdings.handles.places.as_slice(), node.0);
+            is_given && (counts.node_type == kind.0 / 3 && agree(is_shared, kind.0 % 3 == 0))
+        }
+        None => is_given,
+    }
+}
+
+#[tactic(auto, unfolding(crate::specs::Soundness::is_cache_sound))]
+fn is_cache_sound(t: &Tables) -> bool
+    ensures { result ≡ is_cache_sound t.now }
+{
+    t.cache
+        .iter()
+        .all(|(known, node)| is_known_soundly(t, Kind(known.0), *node))
+}
+
+/// Computes whether handles, nodes and their counts, list, cache, loads, workers and values are in step: each live
+/// handle has a node and an owner that has it once, each node counts its handles and has its value exactly while one
+/// pins it or it has no key, each value owns the handles by which it refers, and the cache knows what was given. It takes
+/// time for each pair of a node and a handle.
+#[tactic(auto, unfolding(crate::specs::Soundness::is_sound))]
+pub fn is_sound<N: Drop>(t: &Tables, values: &Arcs<N>) -> bool
+    ensures { result ≡ is_sound t.now values.now }
+{
+    are_handles_sound(t)
+        && (is_list_sound(t) && is_cache_sound(t))
+        && (t.holdings.top == 0 && are_nodes_sound(t, values))
+}

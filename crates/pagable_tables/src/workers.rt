@@ -1,0 +1,119 @@
+//! Page-out workers: they begin, release what they have at a node, and end.
+
+ghost use Rattle.indexmap.specs.IndexMap.{get};
+ghost use Rattle.pagable_model.specs.declared.numbers.{NodeNumber.NodeNumber, WorkerNumber.WorkerNumber};
+ghost use Rattle.pagable_tables.specs.{Core.{AreLater, BeginsWorker, Does, DoesShed, IsWhole, TakesWorker, left_load}, Indexes.{load_at, reach_at, worker_at}};
+ghost use Rattle.pagable_tables.specs.declared.{load_table.LoadRow.LoadRow, release.Giving.Giving};
+ghost use Rattle.pagable_world.specs.{Cascade.FallsAnyhow, Kinds.{is_owner, owner_worker}, Plain.updated, Workers.{WorkerEnds, is_workers_at}};
+ghost use Rattle.pagable_world.specs.declared.handles.Owner.{Owner};
+ghost use Rattle.std.specs.Prelude.{IfOk, Ok, is_some, length, not, true, ℕ, ◌+◌, ◌<◌, ◌==◌, ◌≡◌};
+
+use crate::kinds::is_owner;
+use crate::load_table;
+use crate::load_table::{LoadRow, Loads};
+use crate::nodes::Arcs;
+use crate::pending::take_pending;
+use crate::release::{Giving, give_all};
+use crate::tables::{Reach, Tables, Workers};
+use pagable_model::{Error, NodeNumber, WorkerNumber};
+use pagable_world::handles::Owner;
+
+/// One worker more is at work. NumbersSpent where no number is left for it, OutOfMemory where it has no place.
+#[tactic(auto, using(crate::proofs::OwnedByLoad::working))]
+pub fn worker_begin(t: &mut Tables) -> Result<WorkerNumber, Error>
+    requires { IsWhole t.old }
+    ensures does { Does t.old (λ w w'. BeginsWorker w result w') t.new }
+    ensures number { IfOk result (λ v. (v.0 ≡ t.old.last_worker + 1) × (t.new.last_worker ≡ t.old.last_worker + 1)) }
+    ensures more { IfOk result (λ v. (q : ℕ) → is_some (worker_at t.new.workers q) ≡ updated (t.old.last_worker + 1) true (λ u. is_some (worker_at t.old.workers u)) q) }
+    ensures same { t.new ≡ record t.old { workers = t.new.workers; last_worker = t.new.last_worker } }
+{
+    if t.last_worker == u64::MAX {
+        return Err(Error::NumbersSpent);
+    }
+    let worker = t.last_worker + 1;
+    let since = t.holdings.last_handle;
+    let reach = Reach { since, beside: 0 };
+    load_table::open(&mut t.workers, worker, reach)?;
+    t.last_worker = worker;
+    Ok(WorkerNumber(worker))
+}
+
+/// The same, for the entry at this place of the list, which moves to the worker.
+pub fn worker_take(t: &mut Tables, place: usize) -> Result<WorkerNumber, Error>
+    requires whole { IsWhole t.old }
+    requires within { place < length t.old.holdings.list.items }
+    ensures { Does t.old (λ w w'. TakesWorker w place result w') t.new }
+{
+    let worker = worker_begin(t)?;
+    let _ = take_pending(t, Owner::Worker(worker), place);
+    Ok(worker)
+}
+
+/// Which handles this worker may have.
+fn reach_of(workers: &Workers, worker: WorkerNumber) -> Reach
+    ensures { result ≡ reach_at workers.now worker.0 }
+{
+    let beside = 0;
+    let nothing = Reach { since: 0, beside };
+    workers.get(&worker.0).copied().unwrap_or(nothing)
+}
+
+/// A worker gives up all handles that it has at a node, with all that goes with them.
+pub fn release_node<N: Drop>(
+    t: &mut Tables,
+    values: &mut Arcs<N>,
+    worker: WorkerNumber,
+    node: NodeNumber,
+    lists: bool,
+)
+    requires whole { IsWhole t.old }
+    requires later { AreLater t.old }
+    ensures { DoesShed lists t.old values.old (λ w w'. FallsAnyhow w w (is_workers_at w worker.0 node.0) w') t.new values.new }
+{
+    let giving = Giving::AtNode(worker, node);
+    let reach = reach_of(&t.workers, worker);
+    let until = t.holdings.last_handle;
+    let _ = give_all(
+        &mut t.holdings,
+        values,
+        &t.loads,
+        giving,
+        reach,
+        until,
+        lists,
+    );
+}
+
+/// The worker's loads aren't open any more.
+fn close_loads(loads: &mut Loads, worker: WorkerNumber)
+    ensures { (l : ℕ) → load_at loads.new l ≡ left_load worker.0 (load_at loads.old l) }
+{
+    let _many = loads.len();
+    loads.retain(
+        |_load: &u64, row: &mut LoadRow| -> bool
+            ensures { (result ≡ not (is_owner (owner_worker worker.0) row.old.owner)) × (row.new ≡ row.old) }
+        { !is_owner(Owner::Worker(worker), row.owner) },
+    );
+}
+
+/// A worker ends: its loads are closed, and it gives up whatever it and they still have, with all that goes with it.
+pub fn worker_end<N: Drop>(t: &mut Tables, values: &mut Arcs<N>, worker: WorkerNumber, lists: bool)
+    requires whole { IsWhole t.old }
+    requires later { AreLater t.old }
+    ensures { DoesShed lists t.old values.old (λ w w'. WorkerEnds w worker.0 w') t.new values.new }
+{
+    let giving = Giving::Worker(worker);
+    let reach = reach_of(&t.workers, worker);
+    let until = t.holdings.last_handle;
+    let _ = give_all(
+        &mut t.holdings,
+        values,
+        &t.loads,
+        giving,
+        reach,
+        until,
+        lists,
+    );
+    close_loads(&mut t.loads, worker);
+    load_table::close(&mut t.workers, worker.0);
+}
