@@ -22,7 +22,7 @@ pub use Rattle.pagable_tables.specs.{CascadeProgress.{Begins, IsApart, SoFar, is
 pub use Rattle.pagable_tables.specs.HandleTable.{AreSound, IsBefore, IsNext, alive, is_live_place, live}
 pub use Rattle.pagable_tables.specs.{CascadeProgress.{told_by, with_tables}, Core.named_at, EndingLoads.{IsReady, has_come}}
 pub use Rattle.pagable_tables.specs.declared.{cascade.Holdings.Holdings, handle_table.Handles.Handles, release.Giving.Giving}
-pub use Rattle.pagable_tables.specs.declared.{handle_table.Place.Place, load_end.Ending.Ending, load_table.LoadRow.LoadRow}
+pub use Rattle.pagable_tables.specs.declared.{load_end.Ending.Ending, load_table.LoadRow.LoadRow, place.Place.Place}
 pub use Rattle.pagable_tables.specs.declared.{nodes.{Counts.Counts, NodeRow.NodeRow}, number_table.NumberTable.NumberTable}
 pub use Rattle.pagable_tables.specs.declared.tables.{Reach.Reach, Tables.Tables}
 pub use Rattle.pagable_world.specs.Calls.{AwayBirthCall, ClearCall, CloneCall, CloseCall, LoosenCall, PinCall, RecallCall, ReserveCall, ScheduleCall, SetKeyCall, TakeCall, UnpinCall, birth_fault}

@@ -9,7 +9,7 @@ use Rattle.pagable_world.specs.{Workers.is_load_of, World.{Alike, Core, HasRoom,
 use Rattle.pagable_tables.specs.{CascadeInvariant.{IsFalling, is_valued, owns_nothing}, HandleTable.{alive, live, room}}
 use Rattle.pagable_tables.specs.{Indexes.{known_at, load_at, reach_at, worker_at}, Nodes.{cell_in, counts_at, key_in}, ValuesKept.Sheds}
 use Rattle.pagable_tables.specs.NumberTable.{place_at, row_by}
-use Rattle.pagable_tables.specs.declared.{handle_table.{HandleAt.HandleAt, Place.Place}, load_table.{LoadRoot.LoadRoot, LoadRow.LoadRow}}
+use Rattle.pagable_tables.specs.declared.{handle_table.HandleAt.HandleAt, load_table.{LoadRoot.LoadRoot, LoadRow.LoadRow}, place.Place.Place}
 use Rattle.pagable_tables.specs.declared.{number_table.NumberTable.NumberTable, release.Giving.Giving, tables.{Reach.Reach, Tables.Tables}}
 use Rattle.pagable_world.specs.Pager as pager
 

@@ -1,5 +1,5 @@
 -- Live handles in the order of their numbers, and what they become as a call changes them.
-use Rattle.pagable_tables.specs.declared.handle_table.{Handles.Handles, Place.Place}
+use Rattle.pagable_tables.specs.declared.{handle_table.Handles.Handles, place.Place.Place}
 use Rattle.pagable_world.specs.declared.handles.HandleRow.{HandleRow}
 use Rattle.std.specs.{List.AllPairs, Prelude.{All, Bool, List, [], if◌then◌else◌, length, true, vec_capacity, vec_len, ℕ, ◌+◌, ◌-◌, ◌<◌, ◌∷◌, ◌≡◌, ◌≤◌}}
 

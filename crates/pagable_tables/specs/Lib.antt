@@ -1,4 +1,6 @@
 pub mod NumberTable
+pub mod HandlePlace
+pub mod PackedPlace
 pub mod HandleTable
 pub mod Nodes
 pub mod Indexes

@@ -2,7 +2,7 @@
 use Rattle.std.specs.{List.list_all, Prelude.{Bool, List, None, Option, Some, count_by, false, is_some, nat_le, not, suc, true, zero, ℕ, ◌&&◌, ◌==◌, ◌||◌}}
 use Rattle.pagable_model.specs.declared.numbers.{ArcRef.ArcRef, HandleNumber.HandleNumber, NodeNumber.NodeNumber}
 use Rattle.pagable_tables.specs.{Indexes.{load_at, worker_at}, Nodes.{counts_at, refs_at}, NumberTable.row_by}
-use Rattle.pagable_tables.specs.declared.{handle_table.Place.Place, nodes.Counts.Counts, number_table.NumberTable.NumberTable, tables.Tables.Tables}
+use Rattle.pagable_tables.specs.declared.{nodes.Counts.Counts, number_table.NumberTable.NumberTable, place.Place.Place, tables.Tables.Tables}
 use Rattle.pagable_world.specs.{Kinds.{is_at, is_handle, is_owned_by, is_pin, is_share, is_unpinned, owner_value}, Plain.{is_shared_kind, type_of}, declared.{handles.{HandleRow.HandleRow, Owner.Owner}}}
 
 -- live places: of a node, that pin it, that are Shared ones of it; and of a handle that this one owns

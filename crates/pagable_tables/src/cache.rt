@@ -2,8 +2,8 @@
 
 ghost use Rattle.indexmap.specs.IndexMap.{get, spare};
 ghost use Rattle.pagable_model.specs.declared.numbers.NodeNumber.{NodeNumber};
-ghost use Rattle.pagable_tables.specs.Core.{AreLater, Does, IsWhole, MayHold, core_of, plain_of};
-ghost use Rattle.pagable_tables.specs.{CascadeInvariant.owns, Indexes.known_at, Nodes.{counts_at, has_value, living}, NumberTable.row_by, ValuesKept.Sheds};
+ghost use Rattle.pagable_tables.specs.{CascadeInvariant.owns, Core.{AreLater, Does, IsWhole, MayHold, core_of, plain_of}, Indexes.known_at};
+ghost use Rattle.pagable_tables.specs.{Nodes.{counts_at, has_value, living}, NumberTable.row_by, ValuesKept.Sheds};
 ghost use Rattle.pagable_world.specs.{Calls.{OfferCall, RecallCall, offer_fault}, Kinds.{fits_mode, is_pinning, mode_of}};
 ghost use Rattle.pagable_world.specs.{Plain.{Blob, is_pinned_kind, type_of}, Refusals.Owns, World.{Alike, type_at, usable}};
 ghost use Rattle.pagable_world.specs.declared.handles.{HandleRow.HandleRow, Owner.Owner};

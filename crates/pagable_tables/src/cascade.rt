@@ -1,11 +1,10 @@
 //! Releases a handle with all that goes with it: values that nobody pins, and what they refer to. Cells whose last pin goes are pushed to the pending list.
 
 ghost use Rattle.pagable_model.specs.declared.numbers.NodeNumber.{NodeNumber};
-ghost use Rattle.pagable_tables.specs.{CascadeInvariant.IsFalling, CascadeProgress.{IsApart, SoFar}};
-ghost use Rattle.pagable_tables.specs.{CascadeSteps.{Comes, GivesUp, IsUnlisted, Leaves, MayList, Steps}, HandleTable.{AreSound, IsNext}, ValuesKept.Sheds};
-ghost use Rattle.pagable_tables.specs.{CascadeInvariant.{is_valued, is_worker, owns, owns_nothing}, CascadeSteps.{after, is_listing, is_node, landed}};
-ghost use Rattle.pagable_tables.specs.{HandleTable.{alive, live}, Nodes.counts_at};
-ghost use Rattle.pagable_tables.specs.{CascadeProgress.{told_by, with_tables}, Nodes.{refs_at, work_at}, NumberTable.row_by};
+ghost use Rattle.pagable_tables.specs.CascadeInvariant.{IsFalling, is_valued, is_worker, owns, owns_nothing};
+ghost use Rattle.pagable_tables.specs.CascadeProgress.{IsApart, SoFar, told_by, with_tables};
+ghost use Rattle.pagable_tables.specs.CascadeSteps.{Comes, GivesUp, IsUnlisted, Leaves, MayList, Steps, after, is_listing, is_node, landed};
+ghost use Rattle.pagable_tables.specs.{HandleTable.{AreSound, IsNext, alive, live}, Nodes.{counts_at, refs_at, work_at}, NumberTable.row_by, ValuesKept.Sheds};
 ghost use Rattle.pagable_tables.specs.declared.cascade.Holdings.{Holdings};
 ghost use Rattle.pagable_world.specs.{Cascade.Falls, Kinds.is_owner, Plain.one, World.Core};
 ghost use Rattle.pagable_world.specs.declared.{handles.{HandleRow.HandleRow, Owner.Owner}, rows.Mode.Mode};

@@ -2,10 +2,10 @@
 
 ghost use Rattle.indexmap.specs.IndexMap.{get, spare};
 ghost use Rattle.pagable_model.specs.declared.numbers.NodeNumber.{NodeNumber};
+ghost use Rattle.pagable_tables.specs.{CascadeInvariant.{IsFalling, is_valued, is_worker, owns, owns_nothing}, CascadeProgress.with_tables};
+ghost use Rattle.pagable_tables.specs.CascadeSteps.{ValueStays};
 ghost use Rattle.pagable_tables.specs.Core.{Bears, Does, IsReady, IsWhole, Makes, MayHold, OnlyRoom, PinsHere, Suits, core_of, plain_of};
-ghost use Rattle.pagable_tables.specs.{CascadeInvariant.{IsFalling, is_valued, is_worker, owns, owns_nothing}, CascadeSteps.ValueStays};
-ghost use Rattle.pagable_tables.specs.{HandleTable.{alive, live}, Nodes.{counts_at, has_value, key_in}};
-ghost use Rattle.pagable_tables.specs.{CascadeProgress.with_tables, declared.cascade.Holdings.Holdings};
+ghost use Rattle.pagable_tables.specs.{HandleTable.{alive, live}, Nodes.{counts_at, has_value, key_in}, declared.cascade.Holdings.Holdings};
 ghost use Rattle.pagable_world.specs.Calls.{AwayBirthCall, CloneCall, LoosenCall, PinCall, birth_fault, with_mode};
 ghost use Rattle.pagable_world.specs.{Kinds.{is_loose, is_owned_by, is_pinning, is_shared}, Plain.Blob, Refusals.{Owns, Refused, earlier, references_fault}};
 ghost use Rattle.pagable_world.specs.{World.{Alike, Core}, declared.{handles.{HandleRow.HandleRow, Owner.Owner}, rows.Mode.Mode}};
@@ -15,7 +15,7 @@ use crate::cascade::Holdings;
 use crate::checks::{own, references_fault};
 use crate::handle_table::HandleAt;
 use crate::kinds::{is_loose_mode, is_worker, pins};
-use crate::nodes::{Counts, NodeRow, add_work, counts_more, is_here, key_in};
+use crate::nodes::{Counts, NodeRow, PackedCounts, add_work, counts_more, is_here, key_in};
 use crate::tables::Tables;
 use crate::{handle_table, nodes};
 use pagable_model::{ArcRef, DataKey, Error, HandleNumber, NodeNumber};
@@ -151,7 +151,7 @@ pub fn bear(
         unreachable!();
     };
     let value = NodeRow {
-        counts,
+        counts: PackedCounts::new(counts),
         references,
         at_work: is_worker(me) as u64,
     };

@@ -1,25 +1,19 @@
 //! Live handles in the order of their numbers, found by halving. A dead row stays in its place until none behind it lives, or more than half are dead.
 
 ghost use Rattle.indexmap.specs.IndexMap.{get};
-ghost use Rattle.pagable_tables.specs.CascadeInvariant.{AreAtWork, IsFalling, is_valued};
-ghost use Rattle.pagable_tables.specs.HandleTable.{AreCounted, AreSound, Becomes, IsBefore, IsNext, Widens, alive, live};
-ghost use Rattle.pagable_tables.specs.{CascadeInvariant.owns_nothing, HandleTable.room, declared.{cascade.Holdings.Holdings, handle_table.Place.Place}};
+ghost use Rattle.pagable_tables.specs.CascadeInvariant.{AreAtWork, IsFalling, is_valued, owns_nothing};
+ghost use Rattle.pagable_tables.specs.HandleTable.{AreCounted, AreSound, Becomes, IsBefore, IsNext, Widens, alive, live, room};
+ghost use Rattle.pagable_tables.specs.declared.{cascade.Holdings.Holdings, place.Place.Place};
 ghost use Rattle.pagable_world.specs.{Calls.{is_named_by, moved, room_of}, Cascade.{left_rows, only_handle}, Kinds.{find_row, is_handle}};
 ghost use Rattle.pagable_world.specs.{LoadCalls.numbers_of, Plain.{changed, is_in}, declared.handles.{HandleRow.HandleRow, Owner.Owner}};
 ghost use Rattle.std.specs.List.{AllPairs, Sorted.IsPartitionPoint};
 ghost use Rattle.std.specs.Prelude.{IfNone, IfSome, None, Ok, OnErr, OnOk, Option, Some, [], false, get_or, if◌then◌else◌, length, slice_get, sum_by, true};
 ghost use Rattle.std.specs.Prelude.{vec_capacity, vec_len, ℕ, ◌&&◌, ◌*◌, ◌++◌, ◌+◌, ◌<◌, ◌==◌, ◌∷◌, ◌≡◌, ◌≤◌};
 
+use crate::place::Place;
 use pagable_model::{ArcRef, HandleNumber};
 use pagable_world::handles::{HandleRow, Owner};
 use std::alloc::AllocError;
-
-/// A place in the vector of handles: a live row, or a dead one that waits to be cleared away.
-#[derive(Clone, Copy)]
-pub struct Place {
-    pub row: HandleRow,
-    pub is_live: bool,
-}
 
 /// A live row, and where it stands.
 #[derive(Clone, Copy)]
@@ -41,7 +35,7 @@ pub fn up_to(places: &[Place], number: u64) -> usize
     ensures within { result ≤ length places.now }
     ensures point { IsPartitionPoint (λ (p : Place). p.row.number.0 ≤ number) (λ (p : Place). number < p.row.number.0) places.now result }
 {
-    places.partition_point(|place| place.row.number.0 <= number)
+    places.partition_point(|place| place.number() <= number)
 }
 
 /// From which place on all numbers are greater than this one: the guess, where they are from there on, and else found by
@@ -54,7 +48,7 @@ pub fn up_to_from(places: &[Place], number: u64, guess: usize) -> usize
     if guess >= places.len() {
         return places.len();
     }
-    if places[guess].row.number.0 <= number {
+    if places[guess].number() <= number {
         return up_to(places, number);
     }
     guess
@@ -69,8 +63,12 @@ fn at(places: &[Place], place: usize, number: u64) -> Option<HandleAt>
     ensures found { IfSome result (λ at. find_row number (live places.now) ≡ Some at.row) }
     ensures number { IfSome result (λ at. at.row.number.0 ≡ number) }
 {
-    let Place { row, is_live } = *places.get(place)?;
-    (row.number.0 == number && is_live).then_some(HandleAt { place, row })
+    let found = places.get(place)?;
+    if found.number() != number || !found.is_live() {
+        return None;
+    }
+    let row = found.row();
+    Some(HandleAt { place, row })
 }
 
 /// The same, if it stands where it would stand were no number missing from the first one to it, or from it to the last one.
@@ -80,12 +78,12 @@ fn at_once(places: &[Place], number: u64) -> Option<HandleAt>
     ensures found { IfSome result (λ at. find_row number (live places.now) ≡ Some at.row) }
     ensures number { IfSome result (λ at. at.row.number.0 ≡ number) }
 {
-    let above = number.checked_sub(places.first()?.row.number.0)?;
+    let above = number.checked_sub(places.first()?.number())?;
     if let Some(at) = at(places, above as usize, number) {
         return Some(at);
     }
     let end = places.len() - 1;
-    let back = places[end].row.number.0.saturating_sub(number) as usize;
+    let back = places[end].number().saturating_sub(number) as usize;
     at(places, end.saturating_sub(back), number)
 }
 
@@ -119,7 +117,7 @@ fn compact(handles: &mut Handles)
     ensures becomes { Becomes handles.old (live handles.old.places.items) handles.new }
     ensures none_dead { handles.new.dead ≡ 0 }
 {
-    handles.places.retain(|place| place.is_live);
+    handles.places.retain(|place| place.is_live());
     handles.dead = 0;
 }
 
@@ -130,7 +128,7 @@ fn clear(handles: &mut Handles)
     ensures { Becomes handles.old (live handles.old.places.items) handles.new }
 {
     let mut end = handles.places.len();
-    while end > 0 && !handles.places[end - 1].is_live {
+    while end > 0 && !handles.places[end - 1].is_live() {
         end -= 1;
     }
     handles.dead -= handles.places.len() - end;
@@ -148,10 +146,7 @@ pub fn kill(handles: &mut Handles, at: HandleAt)
     ensures becomes { Becomes handles.old (left_rows (only_handle at.row.number) (live handles.old.places.items)) handles.new }
     ensures sums { (f : HandleRow → ℕ) → sum_by f (live handles.new.places.items) + f at.row ≡ sum_by f (live handles.old.places.items) }
 {
-    handles.places[at.place] = Place {
-        row: at.row,
-        is_live: false,
-    };
+    handles.places[at.place] = Place::new(at.row, false);
     handles.dead += 1;
     clear(handles);
 }
@@ -165,7 +160,7 @@ pub fn set(handles: &mut Handles, at: HandleAt, row: HandleRow)
     ensures becomes { Becomes handles.old (changed (is_handle at.row.number.0) (λ _. row) (live handles.old.places.items)) handles.new }
     ensures sums { (f : HandleRow → ℕ) → sum_by f (live handles.new.places.items) + f at.row ≡ sum_by f (live handles.old.places.items) + f row }
 {
-    handles.places[at.place] = Place { row, is_live: true };
+    handles.places[at.place] = Place::new(row, true);
 }
 
 /// Makes a place free for one more row, if it can.
@@ -199,7 +194,7 @@ pub fn push(handles: &mut Handles, row: HandleRow) -> Result<(), AllocError>
     ensures err_next { OnErr result (IsNext row.number.0 handles.new.places.items) }
 {
     make_room(handles)?;
-    handles.places.push(Place { row, is_live: true }).unwrap();
+    handles.places.push(Place::new(row, true)).unwrap();
     Ok(())
 }
 

@@ -2,10 +2,9 @@
 
 ghost use Rattle.indexmap.specs.IndexMap.{get, spare};
 ghost use Rattle.pagable_model.specs.declared.numbers.{LoadNumber.LoadNumber, NodeNumber.NodeNumber};
-ghost use Rattle.pagable_tables.specs.Core.{AreLater, Does, IsReady, IsWhole, MayHold, core_of, plain_of};
-ghost use Rattle.pagable_tables.specs.{CascadeInvariant.{IsFalling, owns_nothing}, CascadeProgress.{SoFar, with_tables}, HandleTable.live};
-ghost use Rattle.pagable_tables.specs.{Nodes.{counts_at, has_value, key_in}, ValuesKept.Sheds};
-ghost use Rattle.pagable_tables.specs.{EndingLoads.{AsksKnown, early_fault}, NumberTable.row_by};
+ghost use Rattle.pagable_tables.specs.{CascadeInvariant.{IsFalling, owns_nothing}, CascadeProgress.{SoFar, with_tables}};
+ghost use Rattle.pagable_tables.specs.{Core.{AreLater, Does, IsReady, IsWhole, MayHold, core_of, plain_of}, EndingLoads.{AsksKnown, early_fault}};
+ghost use Rattle.pagable_tables.specs.{HandleTable.live, Nodes.{counts_at, has_value, key_in}, NumberTable.row_by, ValuesKept.Sheds};
 ghost use Rattle.pagable_tables.specs.declared.{cascade.Holdings.Holdings, load_table.LoadRow.LoadRow};
 ghost use Rattle.pagable_world.specs.{Calls.{IsNext, is_named_by}, Cascade.{FallsAnyhow, nobody}, Kinds.{is_pinning, is_shared, mode_of}};
 ghost use Rattle.pagable_world.specs.{LoadCalls.{Adopts, BeginCall, BeginKeyCall, LazyCall, adopt_fault, adopted, first_key, is_owned_in}, Pager.MayOwnLoad};

@@ -1,10 +1,10 @@
 //! How a load ends: with a pin, by handing its handles over, or dropped with all that it owns.
 
 ghost use Rattle.pagable_model.specs.declared.numbers.{LoadNumber.LoadNumber, NodeNumber.NodeNumber};
+ghost use Rattle.pagable_tables.specs.CascadeInvariant.{AreAtWork, is_worker};
 ghost use Rattle.pagable_tables.specs.Core.{AreLater, Does, DoesShed, IsOwnedAbove, IsOwnedUpTo, IsWhole, OnlyRoom, core_of, load_in};
-ghost use Rattle.pagable_tables.specs.{CascadeInvariant.{AreAtWork, is_worker}, HandleTable.{AreSound, Becomes, live, room}};
-ghost use Rattle.pagable_tables.specs.Nodes.{coming, counts_at, holds_in, refs_at, work_at};
-ghost use Rattle.pagable_tables.specs.{EndingLoads.{HasPlace, IsReady as IsEndReady, ShedsBeside, Unends}, NumberTable.row_by};
+ghost use Rattle.pagable_tables.specs.{EndingLoads.{HasPlace, IsReady as IsEndReady, ShedsBeside, Unends}, HandleTable.{AreSound, Becomes, live, room}};
+ghost use Rattle.pagable_tables.specs.{Nodes.{coming, counts_at, holds_in, refs_at, work_at}, NumberTable.row_by};
 ghost use Rattle.pagable_tables.specs.declared.{cascade.Holdings.Holdings, load_table.LoadRow.LoadRow, release.Giving.Giving};
 ghost use Rattle.pagable_world.specs.{Calls.{is_named_by, moved}, Kinds.{find_row, held, is_owner, owner_value}};
 ghost use Rattle.pagable_world.specs.{LoadCalls.{DropCall, HandOverCall, Installs, end_fault, hand_over_fault, numbers_of, root_fault}, Pager.IsHandleBefore};

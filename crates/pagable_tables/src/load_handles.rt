@@ -2,7 +2,7 @@
 
 ghost use Rattle.pagable_model.specs.declared.numbers.LoadNumber.{LoadNumber};
 ghost use Rattle.pagable_tables.specs.{Core.{AreLater, AreRaised, AreTold, IsOwnedUpTo, IsWhole, Notes}, HandleTable.AreSound, Indexes.load_at};
-ghost use Rattle.pagable_tables.specs.declared.{handle_table.Place.Place, load_table.LoadRow.LoadRow};
+ghost use Rattle.pagable_tables.specs.declared.{load_table.LoadRow.LoadRow, place.Place.Place};
 ghost use Rattle.pagable_world.specs.declared.handles.{HandleRow.HandleRow, Owner.Owner};
 ghost use Rattle.std.specs.Prelude.{None, Some, get_or, length, ℕ, ◌<◌, ◌≡◌, ◌≤◌};
 
@@ -43,8 +43,8 @@ fn note_above(loads: &mut Loads, handles: &Handles, number: u64)
 {
     let start = place_above(handles, number);
     for place in start..handles.places.len() {
-        let found = handles.places[place];
-        note(loads, found.row);
+        let found = &handles.places[place];
+        note(loads, found.row());
     }
 }
 

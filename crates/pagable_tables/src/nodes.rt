@@ -12,6 +12,7 @@ use crate::kinds::is_worker;
 use crate::number_table::{NumberTable, chunk_of, place_of};
 use pagable_model::{ArcRef, DataKey, Kind, OptionalDataKey};
 use pagable_world::handles::Owner;
+use std::marker::Model;
 use std::sync::Arc;
 
 /// Nodes, loads and workers by their numbers, and what the cache knows under a kind and a key.
@@ -20,7 +21,7 @@ pub type Nodes = NumberTable<NodeRow>;
 /// The values in memory, by the numbers of their nodes. They stand beside the tables.
 pub type Arcs<N> = NumberTable<Arc<N>>;
 
-/// What is kept of a node, beside the references of its value. The widest fields come first, so that none leaves a gap.
+/// What is counted of a node, with its key.
 #[derive(Clone, Copy)]
 pub struct Counts {
     /// The number of its key, 0 where it has none.
@@ -36,10 +37,64 @@ pub struct Counts {
     pub node_type: u32,
 }
 
+/// The counts as a row keeps them: the key is in two halves, so that a row has no gap but behind its last field.
+#[derive(Drop)]
+pub struct PackedCounts {
+    key_high: u64,
+    key_low: u64,
+    pins: u64,
+    holds: u64,
+    next: u64,
+    node_type: u32,
+    is_falling: bool,
+}
+
+impl Model for PackedCounts {
+    ghost use Rattle.pagable_tables.specs.declared.nodes.Counts.{Counts};
+    ghost use Rattle.std.specs.Prelude.{◌*◌, ◌+◌, ◌^◌};
+
+    ghost Value = { Counts };
+
+    ghost view = { λ a. record { key = a.key_high * 2 ^ 64 + a.key_low; pins = a.pins; holds = a.holds; next = a.next; is_falling = a.is_falling; node_type = a.node_type } };
+}
+
+const HALF: u128 = 1 << 64;
+
+impl PackedCounts {
+    /// Packs the counts.
+    pub fn new(counts: Counts) -> PackedCounts
+        ensures { result ≡ counts }
+    {
+        PackedCounts {
+            key_high: (counts.key / HALF) as u64,
+            key_low: (counts.key % HALF) as u64,
+            pins: counts.pins,
+            holds: counts.holds,
+            next: counts.next,
+            node_type: counts.node_type,
+            is_falling: counts.is_falling,
+        }
+    }
+
+    /// Gives the counts back.
+    pub fn get(&self) -> Counts
+        ensures { result ≡ self.now }
+    {
+        Counts {
+            key: self.key_high as u128 * HALF + self.key_low as u128,
+            pins: self.pins,
+            holds: self.holds,
+            next: self.next,
+            is_falling: self.is_falling,
+            node_type: self.node_type,
+        }
+    }
+}
+
 /// A node.
 #[derive(Drop)]
 pub struct NodeRow {
-    pub counts: Counts,
+    pub counts: PackedCounts,
     /// What its value refers to, where that is in memory: the value owns the handles.
     pub references: Vec<ArcRef>,
     /// How many of its handles workers own, at most.
@@ -50,7 +105,7 @@ pub struct NodeRow {
 pub fn counts_of(nodes: &Nodes, node: u64) -> Option<Counts>
     ensures { result ≡ counts_at nodes.now node }
 {
-    Some(nodes.get(node)?.counts)
+    Some(nodes.get(node)?.counts.get())
 }
 
 /// Other counts for a node.
@@ -64,7 +119,7 @@ pub fn set_counts(nodes: &mut Nodes, node: u64, counts: Counts)
 {
     let rows = &mut nodes.chunks[chunk_of(node)];
     if let Some(row) = &mut rows[place_of(node)] {
-        row.counts = counts;
+        row.counts = PackedCounts::new(counts);
     }
 }
 
@@ -171,3 +226,5 @@ pub fn add_work(nodes: &mut Nodes, node: u64, owner: Owner)
         set_work(nodes, node, work);
     }
 }
+
+const _: () = prove!(size_of::<Option<NodeRow>>() == 88);

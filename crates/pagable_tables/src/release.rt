@@ -2,10 +2,10 @@
 
 ghost use Rattle.indexmap.specs.IndexMap.{get};
 ghost use Rattle.pagable_model.specs.declared.numbers.{LoadNumber.LoadNumber, NodeNumber.NodeNumber, WorkerNumber.WorkerNumber};
-ghost use Rattle.pagable_tables.specs.Core.{AreLater, DoesShed, InReach, IsLast, IsWhole, LoadsAre, core_of, gives_row, passes_in};
 ghost use Rattle.pagable_tables.specs.{CascadeInvariant.{AreAtWork, IsFalling, is_valued, owns_nothing}, CascadeProgress.{SoFar, with_tables}};
-ghost use Rattle.pagable_tables.specs.{HandleTable.{AreSound, alive, live}, Nodes.counts_at, ValuesKept.Sheds};
-ghost use Rattle.pagable_tables.specs.{Nodes.work_at, NumberTable.row_by, declared.{cascade.Holdings.Holdings, release.Giving.Giving}};
+ghost use Rattle.pagable_tables.specs.Core.{AreLater, DoesShed, InReach, IsLast, IsWhole, LoadsAre, core_of, gives_row, passes_in};
+ghost use Rattle.pagable_tables.specs.{HandleTable.{AreSound, alive, live}, Nodes.{counts_at, work_at}, NumberTable.row_by, ValuesKept.Sheds};
+ghost use Rattle.pagable_tables.specs.declared.{cascade.Holdings.Holdings, release.Giving.Giving};
 ghost use Rattle.pagable_world.specs.{Calls.{CloseCall, ReleaseCall, SetKeyCall, UnpinCall}, Cascade.{Falls, nobody, only_handle}, Kinds.is_owner};
 ghost use Rattle.pagable_world.specs.{LoadCalls.is_owned_in, Plain.Blob, World.Core, declared.{handles.{HandleRow.HandleRow, Owner.Owner}, rows.Mode.Mode}};
 ghost use Rattle.std.specs.Prelude.{Bool, IfNone, IfSome, List, None, Ok, Option, Some, [], false, length, slice_get, true, ℕ, ◌&&◌, ◌<◌, ◌==◌, ◌||◌, ◌≡◌};
@@ -75,12 +75,12 @@ fn last(
     let mut place = handle_table::up_to_from(&handles.places, left, guess);
     while place > 0 {
         place -= 1;
-        let found = handles.places[place];
-        if found.row.number.0 <= since {
+        let found = &handles.places[place];
+        if found.number() <= since {
             return None;
         }
-        let row = found.row;
-        if found.is_live && row.number.0 <= left && gives(loads, giving, row) {
+        let row = found.row();
+        if found.is_live() && row.number.0 <= left && gives(loads, giving, row) {
             return Some(HandleAt { place, row });
         }
     }

@@ -4,16 +4,14 @@ ghost use Rattle.indexmap.specs.IndexMap.{get};
 ghost use Rattle.pagable_model.specs.declared.numbers.{ArcRef.ArcRef as Reference, HandleNumber.HandleNumber as Number, NodeNumber.NodeNumber};
 ghost use Rattle.pagable_tables.specs.{Nodes.{counts_at, has_value, refs_at}, NumberTable.row_by};
 ghost use Rattle.pagable_tables.specs.Soundness.{agree, are_counts_sound, are_handles_sound, are_nodes_sound, are_places_sound, are_references_owned};
-ghost use Rattle.pagable_tables.specs.Soundness.{at_node};
-ghost use Rattle.pagable_tables.specs.Soundness.{is_cache_sound, is_had, is_known_soundly, is_list_sound, is_node_sound, is_owned_once, is_row_sound};
-ghost use Rattle.pagable_tables.specs.Soundness.{is_sound};
-ghost use Rattle.pagable_tables.specs.{Soundness.{pins_node, shares_node}, declared.handle_table.Place.{Place, Place as Row}};
+ghost use Rattle.pagable_tables.specs.Soundness.{at_node, is_cache_sound, is_had, is_known_soundly, is_list_sound, is_node_sound, is_owned_once};
+ghost use Rattle.pagable_tables.specs.{Soundness.{is_row_sound, is_sound, pins_node, shares_node}, declared.place.Place.{Place, Place as Row}};
 ghost use Rattle.pagable_world.specs.{Kinds.{is_owner, is_shared, is_unpinned}, declared.{handles.{HandleRow.HandleRow, Owner.Owner}, rows.Mode.Mode}};
 ghost use Rattle.std.specs.Prelude.{List, None, Some, [], count_by, false, is_some, not, true, ◌%◌, ◌&&◌, ◌*◌, ◌/◌, ◌<◌, ◌==◌, ◌||◌, ◌≡◌};
 
-use crate::handle_table::Place;
 use crate::kinds::{is_owner, is_unpinned, pins};
 use crate::nodes::{Arcs, Counts, Nodes};
+use crate::place::Place;
 use crate::tables::Tables;
 use crate::{load_table, nodes};
 use pagable_model::{ArcRef, Kind, NodeNumber};
@@ -32,7 +30,7 @@ fn count_handles(places: &[Place], node: u64) -> usize
 {
     places
         .iter()
-        .filter(|place| place.is_live && place.row.node.0 == node)
+        .filter(|place| place.is_live() && place.row().node.0 == node)
         .count()
 }
 
@@ -41,7 +39,7 @@ fn count_pins(places: &[Place], node: u64) -> usize
 {
     places
         .iter()
-        .filter(|place| place.is_live && place.row.node.0 == node && pins(place.row.mode))
+        .filter(|place| place.is_live() && place.row().node.0 == node && pins(place.row().mode))
         .count()
 }
 
@@ -50,7 +48,9 @@ fn count_shares(places: &[Place], node: u64) -> usize
 {
     places
         .iter()
-        .filter(|place| place.is_live && place.row.node.0 == node && is_shared(place.row.mode))
+        .filter(|place| place.is_live()
+            && place.row().node.0 == node
+            && is_shared(place.row().mode))
         .count()
 }
 
@@ -59,7 +59,7 @@ fn is_owned_once(places: &[Place], owner: Owner, handle: u64) -> bool
     ensures { result ≡ is_owned_once places.now owner handle }
 {
     let owned = places.iter().filter(|place| {
-        place.is_live && place.row.number.0 == handle && is_owner(owner, place.row.owner)
+        place.is_live() && place.number() == handle && is_owner(owner, place.row().owner)
     });
     owned.count() == 1
 }
@@ -188,7 +188,7 @@ fn are_nodes_sound<N: Drop>(t: &Tables, values: &Arcs<N>) -> bool
 fn count_dead(places: &[Place]) -> usize
     ensures { result ≡ count_by (λ (p : Row). not p.is_live) places.now }
 {
-    places.iter().filter(|place| !place.is_live).count()
+    places.iter().filter(|place| !place.is_live()).count()
 }
 
 // Whether the live handles are sound.
@@ -199,7 +199,7 @@ fn are_places_sound(t: &Tables) -> bool
     let places = t.holdings.handles.places.as_slice();
     places
         .iter()
-        .all(|place| !place.is_live || is_row_sound(t, place.row))
+        .all(|place| !place.is_live() || is_row_sound(t, place.row()))
 }
 
 // Whether they are, and the dead ones are counted.

@@ -1,4 +1,4 @@
-use Rattle.pagable_tables.proofs.{LastHandles.{raised-same, raised-then, told-on}, Words.{Place, ap, arith, get_or, get_or_default, ◌∙◌, ◌≡◌}}
+use Rattle.pagable_tables.proofs.{LastHandles.{raised-same, raised-then, told-on}, Words.{HandleRow, Place, ap, arith, get_or, get_or_default, ◌∙◌, ◌≡◌}}
 use Rattle.pagable_tables.proofs.load_handles.note_above.Goals as goal
 
 pub loop-place-init : goal.loop-place-init
@@ -15,6 +15,7 @@ loop-place-preserved c =
       told = told-on c.loop-place.loads c.note.new.loads places c.args.number c.note.ensures.rows n i.told (λ l row d at own.
           let e : p ≡ get_or places n d = c.index-found.ensures ∙ get_or_default places n p d (omega arith) in
           let number = ap (λ (x : Place). x.row.number.0) e in
-          let le = c.note.ensures.last l row (ap (λ (x : Place). x.row.owner) e ∙ own) at in
+          let same = ap (λ (x : HandleRow). x.number.0) c.row.ensures in
+          let le = c.note.ensures.last l row (ap (λ (x : HandleRow). x.owner) c.row.ensures ∙ ap (λ (x : Place). x.row.owner) e ∙ own) at in
           omega arith);
     }

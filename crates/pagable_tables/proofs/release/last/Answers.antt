@@ -1,17 +1,18 @@
-use Rattle.pagable_tables.proofs.{OwnedByLoad.{below-to, none-from, places}, Words.{arith, gives_row, nat_tests, ◌-◌}}
+use Rattle.pagable_tables.proofs.{OwnedByLoad.{below-to, none-from, places}, Words.{HandleRow, ap, arith, gives_row, nat_tests, ◌-◌}}
 use Rattle.pagable_tables.proofs.release.last.Goals as goal
 
-pub returns-then-found-since-clause-none : goal.returns-then-found-since-clause-none
-returns-then-found-since-clause-none c w q loads above below =
+pub returns-then-number-since-clause-none : goal.returns-then-number-since-clause-none
+returns-then-number-since-clause-none c w q loads above below =
     let ss = c.args.handles.now.places.items in
     none-from (gives_row w c.args.giving) ss c.loop-place.place q c.args.left
-    (λ k d lt. below-to ss (c.loop-place.place - 1) c.index-found.result.now (omega arith) c.index-found.ensures c.args.since q c.requires.ordered c.if-found-since.true above k d (omega arith)) below
+    (λ k d lt. below-to ss (c.loop-place.place - 1) c.index-found.result.now (omega arith) c.index-found.ensures c.args.since q c.requires.ordered (omega arith) above k d (omega arith)) below
     (λ k d. c.loop-place.invariant.passed w k d loads)
 
 pub returns-then-gives-clause-last : goal.returns-then-gives-clause-last
 returns-then-gives-clause-last c =
     let ss = c.args.handles.now.places.items in
     let p = c.index-found.result.now in
+    let same = ap (λ (x : HandleRow). x.number.0) c.row-row.ensures in
     record {
       place = grind (arith, places);
       found = grind (arith, places);
@@ -19,7 +20,7 @@ returns-then-gives-clause-last c =
       gives = λ w loads. grind (arith, nat_tests, c.gives.ensures.gives w loads);
       plain = grind (arith, nat_tests, c.gives.ensures.plain);
       last = λ w q loads asked above below. none-from (gives_row w c.args.giving) ss c.loop-place.place q c.args.left
-          (λ k d lt. below-to ss (c.loop-place.place - 1) p (omega arith) c.index-found.ensures p.row.number.0 q c.requires.ordered (omega arith) above k d (omega arith)) below
+          (λ k d lt. below-to ss (c.loop-place.place - 1) p (omega arith) c.index-found.ensures p.row.number.0 q c.requires.ordered (omega arith) (omega arith) k d (omega arith)) below
           (λ k d. c.loop-place.invariant.passed w k d loads);
     }
 

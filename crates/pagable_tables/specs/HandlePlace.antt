@@ -1,0 +1,45 @@
+-- A place of the vector of handles as contracts see it, and an owner as a kind and a number.
+use Rattle.pagable_tables.specs.declared.place.OwnerKind.{OwnerKind}
+use Rattle.pagable_world.specs.declared.handles.{HandleRow.HandleRow, Owner.Owner}
+use Rattle.std.specs.Prelude.{Bool, ℕ, refl, ◌≡◌}
+
+pub record HandlePlace : Type 0 where
+  pub row : HandleRow
+  pub is_live : Bool
+
+abbrev pub owner_in : OwnerKind → ℕ → Owner
+owner_in OwnerKind.Caller n = Owner.Caller
+owner_in OwnerKind.Value n = Owner.Value (record { 0 = n })
+owner_in OwnerKind.List n = Owner.List
+owner_in OwnerKind.Load n = Owner.Load (record { 0 = n })
+owner_in OwnerKind.Worker n = Owner.Worker (record { 0 = n })
+
+abbrev pub kind_in : Owner → OwnerKind
+kind_in Owner.Caller = OwnerKind.Caller
+kind_in (Owner.Value n) = OwnerKind.Value
+kind_in Owner.List = OwnerKind.List
+kind_in (Owner.Load l) = OwnerKind.Load
+kind_in (Owner.Worker v) = OwnerKind.Worker
+
+-- 0 where it has none
+abbrev pub number_in : Owner → ℕ
+number_in Owner.Caller = 0
+number_in (Owner.Value n) = n.0
+number_in Owner.List = 0
+number_in (Owner.Load l) = l.0
+number_in (Owner.Worker v) = v.0
+
+-- nothing is lost by that
+pub owner-again : (o : Owner) → owner_in (kind_in o) (number_in o) ≡ o
+owner-again Owner.Caller = refl
+owner-again (Owner.Value n) = refl
+owner-again Owner.List = refl
+owner-again (Owner.Load l) = refl
+owner-again (Owner.Worker v) = refl
+
+pub kind-again : (k : OwnerKind) (n : ℕ) → kind_in (owner_in k n) ≡ k
+kind-again OwnerKind.Caller n = refl
+kind-again OwnerKind.Value n = refl
+kind-again OwnerKind.List n = refl
+kind-again OwnerKind.Load n = refl
+kind-again OwnerKind.Worker n = refl
