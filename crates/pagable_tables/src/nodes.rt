@@ -55,7 +55,14 @@ impl Model for PackedCounts {
 
     ghost Value = { Counts };
 
-    ghost view = { λ a. record { key = a.key_high * 2 ^ 64 + a.key_low; pins = a.pins; holds = a.holds; next = a.next; is_falling = a.is_falling; node_type = a.node_type } };
+    ghost view = { λ a. record {
+      key = a.key_high * 2 ^ 64 + a.key_low;
+      pins = a.pins;
+      holds = a.holds;
+      next = a.next;
+      is_falling = a.is_falling;
+      node_type = a.node_type;
+    } };
 }
 
 const HALF: u128 = 1 << 64;

@@ -18,8 +18,8 @@ pub enum OwnerKind {
     Worker,
 }
 
-/// A place in the vector of handles: a live row, or a dead one that waits to be cleared away. The owner is kept as a kind and a number, so that
-/// the place takes 32 bytes.
+/// A place in the vector of handles: a live row, or a dead one that waits to be cleared away. The owner is kept as a
+/// kind and a number, so that the place takes 32 bytes.
 #[derive(Clone, Copy)]
 pub struct Place {
     number: HandleNumber,
