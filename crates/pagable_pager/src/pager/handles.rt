@@ -16,7 +16,10 @@ use pagable_model::{
     ArcRef, DataKey, Error, HandleNumber, Kind, LoadNumber, NodeNumber, OptionalDataKey,
     WorkerNumber,
 };
-use pagable_tables::{cache, create, handle_table, kinds, load_end, load_table, pending, queries, release, tables, workers};
+use pagable_tables::{
+    cache, create, handle_table, kinds, load_end, load_table, pending, queries, release, tables,
+    workers,
+};
 use pagable_world::handles::{HandleRow, Owner};
 use pagable_world::{Beginning, Pinning};
 
