@@ -2,14 +2,17 @@
 
 ghost use Rattle.indexmap.specs.IndexMap.{get, spare};
 ghost use Rattle.pagable_model.specs.declared.numbers.NodeNumber.{NodeNumber};
-ghost use Rattle.pagable_tables.specs.{CascadeInvariant.owns, Core.{AreLater, Does, IsWhole, MayHold, core_of, plain_of}, Indexes.known_at};
+ghost use Rattle.pagable_tables.specs.CascadeInvariant.{owns};
+ghost use Rattle.pagable_tables.specs.{Core.{AreLater, Does, IsWhole, MayHold, core_of, plain_of}, Indexes.known_at};
 ghost use Rattle.pagable_tables.specs.{Nodes.{counts_at, has_value, living}, NumberTable.row_by, ValuesKept.Sheds};
-ghost use Rattle.pagable_world.specs.{Calls.{OfferCall, RecallCall, offer_fault}, Kinds.{fits_mode, is_pinning, mode_of}};
-ghost use Rattle.pagable_world.specs.{Plain.{Blob, is_pinned_kind, type_of}, Refusals.Owns, World.{Alike, type_at, usable}};
+ghost use Rattle.pagable_world.specs.Calls.{OfferCall, RecallCall, offer_fault};
+ghost use Rattle.pagable_world.specs.{Kinds.{fits_mode, is_pinning, mode_of}, Plain.{Blob, is_pinned_kind, type_of}};
+ghost use Rattle.pagable_world.specs.{Refusals.Owns, World.{Alike, type_at, usable}};
 ghost use Rattle.pagable_world.specs.declared.handles.{HandleRow.HandleRow, Owner.Owner};
 ghost use Rattle.std.specs.Option.{option_map};
-ghost use Rattle.std.specs.Prelude.{Bool, IfErr, IfNone, IfOk, IfSome, IsOk, None, Ok, OnErr, OnOk, Option, Some, false, if◌then◌else◌, is_some, length};
-ghost use Rattle.std.specs.Prelude.{not, true, ℕ, ◌&&◌, ◌*◌, ◌+◌, ◌<◌, ◌||◌, ◌≡◌, ◌≢◌, ◌≤◌, ◌⊎◌};
+ghost use Rattle.std.specs.Prelude.{Bool, IfErr, IfNone, IfOk, IfSome, IsOk, None, Ok, OnErr, OnOk, Option, Some};
+ghost use Rattle.std.specs.Prelude.{false, if◌then◌else◌, is_some, length, not, true, ℕ, ◌&&◌, ◌*◌, ◌+◌, ◌<◌, ◌||◌};
+ghost use Rattle.std.specs.Prelude.{◌≡◌, ◌≢◌, ◌≤◌, ◌⊎◌};
 
 use crate::checks::own;
 use crate::create::make;

@@ -1,15 +1,19 @@
-//! Releases a handle with all that goes with it: values that nobody pins, and what they refer to. Cells whose last pin goes are pushed to the pending list.
+//! Releases a handle with all that goes with it: values that nobody pins, and what they refer to. Cells whose last pin
+//! goes are pushed to the pending list.
 
 ghost use Rattle.pagable_model.specs.declared.numbers.NodeNumber.{NodeNumber};
 ghost use Rattle.pagable_tables.specs.CascadeInvariant.{IsFalling, is_valued, is_worker, owns, owns_nothing};
 ghost use Rattle.pagable_tables.specs.CascadeProgress.{IsApart, SoFar, told_by, with_tables};
-ghost use Rattle.pagable_tables.specs.CascadeSteps.{Comes, GivesUp, IsUnlisted, Leaves, MayList, Steps, after, is_listing, is_node, landed};
-ghost use Rattle.pagable_tables.specs.{HandleTable.{AreSound, IsNext, alive, live}, Nodes.{counts_at, refs_at, work_at}, NumberTable.row_by, ValuesKept.Sheds};
+ghost use Rattle.pagable_tables.specs.CascadeSteps.{Comes, GivesUp, IsUnlisted, Leaves, MayList, Steps, after};
+ghost use Rattle.pagable_tables.specs.CascadeSteps.{is_listing, is_node, landed};
+ghost use Rattle.pagable_tables.specs.HandleTable.{AreSound, IsNext, alive, live};
+ghost use Rattle.pagable_tables.specs.{Nodes.{counts_at, refs_at, work_at}, NumberTable.row_by, ValuesKept.Sheds};
 ghost use Rattle.pagable_tables.specs.declared.cascade.Holdings.{Holdings};
 ghost use Rattle.pagable_world.specs.{Cascade.Falls, Kinds.is_owner, Plain.one, World.Core};
 ghost use Rattle.pagable_world.specs.declared.{handles.{HandleRow.HandleRow, Owner.Owner}, rows.Mode.Mode};
-ghost use Rattle.std.specs.Prelude.{Bool, IfErr, IsSome, List, None, Ok, Option, Some, [], false, if◌then◌else◌, length, not, slice_get, true, ℕ, ◌&&◌, ◌*◌};
-ghost use Rattle.std.specs.{Prelude.{◌+◌, ◌<◌, ◌==◌, ◌^◌, ◌||◌, ◌≡◌, ◌≢◌, ◌≤◌, ◌⊎◌}, Result.is_ok};
+ghost use Rattle.std.specs.Prelude.{Bool, IfErr, IsSome, List, None, Ok, Option, Some, [], false, if◌then◌else◌};
+ghost use Rattle.std.specs.Prelude.{length, not, slice_get, true, ℕ, ◌&&◌, ◌*◌, ◌+◌, ◌<◌, ◌==◌, ◌^◌, ◌||◌, ◌≡◌, ◌≢◌};
+ghost use Rattle.std.specs.{Prelude.{◌≤◌, ◌⊎◌}, Result.is_ok};
 
 use crate::handle_table::{HandleAt, Handles};
 use crate::kinds::{is_worker, pins};

@@ -1,16 +1,18 @@
 //! Why a call is refused for its handles, references or load. Nothing changes by that.
 
 ghost use Rattle.pagable_model.specs.declared.numbers.LoadNumber.{LoadNumber};
-ghost use Rattle.pagable_tables.specs.{Core.{IsWhole, core_of, load_in, plain_of, seen}, HandleTable.{AreSound, alive, live}, Indexes.load_at};
+ghost use Rattle.pagable_tables.specs.Core.{IsWhole, core_of, load_in, plain_of, seen};
+ghost use Rattle.pagable_tables.specs.{HandleTable.{AreSound, alive, live}, Indexes.load_at};
 ghost use Rattle.pagable_tables.specs.declared.load_table.LoadRow.{LoadRow};
-ghost use Rattle.pagable_world.specs.{Calls.is_named_by, Kinds.{find_row, fits_mode, is_owner}, LoadCalls.{cell_fault, hand_over_fault}};
-ghost use Rattle.pagable_world.specs.Plain.{Blob, if_there, is_in};
-ghost use Rattle.pagable_world.specs.Refusals.{OwnsLoad, earlier, handle_fault, load_fault, named_fault, reference_fault, references_fault, refused_if};
-ghost use Rattle.pagable_world.specs.{Refusals.row_fault, Workers.claim_fault, World.{Cell, Core, OpenLoad}};
+ghost use Rattle.pagable_world.specs.{Calls.is_named_by, Kinds.{find_row, fits_mode, is_owner}};
+ghost use Rattle.pagable_world.specs.{LoadCalls.{cell_fault, hand_over_fault}, Plain.{Blob, if_there, is_in}};
+ghost use Rattle.pagable_world.specs.Refusals.{OwnsLoad, earlier, handle_fault, load_fault, named_fault};
+ghost use Rattle.pagable_world.specs.Refusals.{reference_fault, references_fault, refused_if, row_fault};
+ghost use Rattle.pagable_world.specs.{Workers.claim_fault, World.{Cell, Core, OpenLoad}};
 ghost use Rattle.pagable_world.specs.declared.{handles.{HandleRow.HandleRow, Owner.Owner}, rows.Mode.Mode};
 ghost use Rattle.std.specs.Option.{option_map};
-ghost use Rattle.std.specs.Prelude.{Bool, IfErr, IfOk, List, None, Ok, Option, Some, [], false, if◌then◌else◌, length, not, slice_get, true, ℕ, ◌<◌, ◌==◌};
-ghost use Rattle.std.specs.Prelude.{◌||◌, ◌≡◌, ◌≤◌};
+ghost use Rattle.std.specs.Prelude.{Bool, IfErr, IfOk, List, None, Ok, Option, Some, [], false, if◌then◌else◌};
+ghost use Rattle.std.specs.Prelude.{length, not, slice_get, true, ℕ, ◌<◌, ◌==◌, ◌||◌, ◌≡◌, ◌≤◌};
 ghost use Rattle.pagable_model.specs.declared.error.Error.TheVariants as errors;
 
 use crate::handle_table::{HandleAt, Handles};

@@ -2,14 +2,17 @@
 
 ghost use Rattle.indexmap.specs.IndexMap.{get, spare};
 ghost use Rattle.pagable_model.specs.declared.numbers.NodeNumber.{NodeNumber};
-ghost use Rattle.pagable_tables.specs.{CascadeInvariant.{IsFalling, is_valued, is_worker, owns, owns_nothing}, CascadeProgress.with_tables};
-ghost use Rattle.pagable_tables.specs.CascadeSteps.{ValueStays};
-ghost use Rattle.pagable_tables.specs.Core.{Bears, Does, IsReady, IsWhole, Makes, MayHold, OnlyRoom, PinsHere, Suits, core_of, plain_of};
-ghost use Rattle.pagable_tables.specs.{HandleTable.{alive, live}, Nodes.{counts_at, has_value, key_in}, declared.cascade.Holdings.Holdings};
+ghost use Rattle.pagable_tables.specs.CascadeInvariant.{IsFalling, is_valued, is_worker, owns, owns_nothing};
+ghost use Rattle.pagable_tables.specs.{CascadeProgress.with_tables, CascadeSteps.ValueStays};
+ghost use Rattle.pagable_tables.specs.Core.{Bears, Does, IsReady, IsWhole, Makes, MayHold, OnlyRoom, PinsHere};
+ghost use Rattle.pagable_tables.specs.{Core.{Suits, core_of, plain_of}, HandleTable.{alive, live}};
+ghost use Rattle.pagable_tables.specs.{Nodes.{counts_at, has_value, key_in}, declared.cascade.Holdings.Holdings};
 ghost use Rattle.pagable_world.specs.Calls.{AwayBirthCall, CloneCall, LoosenCall, PinCall, birth_fault, with_mode};
-ghost use Rattle.pagable_world.specs.{Kinds.{is_loose, is_owned_by, is_pinning, is_shared}, Plain.Blob, Refusals.{Owns, Refused, earlier, references_fault}};
-ghost use Rattle.pagable_world.specs.{World.{Alike, Core}, declared.{handles.{HandleRow.HandleRow, Owner.Owner}, rows.Mode.Mode}};
-ghost use Rattle.std.specs.Prelude.{Bool, IfErr, IsSome, List, None, Ok, OnOk, Option, Some, [], false, slice_get, true, ℕ, ◌+◌, ◌<◌, ◌==◌, ◌||◌, ◌≡◌, ◌⊎◌};
+ghost use Rattle.pagable_world.specs.{Kinds.{is_loose, is_owned_by, is_pinning, is_shared}, Plain.Blob};
+ghost use Rattle.pagable_world.specs.{Refusals.{Owns, Refused, earlier, references_fault}, World.{Alike, Core}};
+ghost use Rattle.pagable_world.specs.declared.{handles.{HandleRow.HandleRow, Owner.Owner}, rows.Mode.Mode};
+ghost use Rattle.std.specs.Prelude.{Bool, IfErr, IsSome, List, None, Ok, OnOk, Option, Some, [], false, slice_get};
+ghost use Rattle.std.specs.Prelude.{true, ℕ, ◌+◌, ◌<◌, ◌==◌, ◌||◌, ◌≡◌, ◌⊎◌};
 
 use crate::cascade::Holdings;
 use crate::checks::{own, references_fault};

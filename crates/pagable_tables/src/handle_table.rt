@@ -1,14 +1,18 @@
-//! Live handles in the order of their numbers, found by halving. A dead row stays in its place until none behind it lives, or more than half are dead.
+//! Live handles in the order of their numbers, found by halving. A dead row stays in its place until none behind it
+//! lives, or more than half are dead.
 
 ghost use Rattle.indexmap.specs.IndexMap.{get};
 ghost use Rattle.pagable_tables.specs.CascadeInvariant.{AreAtWork, IsFalling, is_valued, owns_nothing};
-ghost use Rattle.pagable_tables.specs.HandleTable.{AreCounted, AreSound, Becomes, IsBefore, IsNext, Widens, alive, live, room};
+ghost use Rattle.pagable_tables.specs.HandleTable.{AreCounted, AreSound, Becomes, IsBefore, IsNext, Widens, alive};
+ghost use Rattle.pagable_tables.specs.HandleTable.{live, room};
 ghost use Rattle.pagable_tables.specs.declared.{cascade.Holdings.Holdings, place.Place.Place};
-ghost use Rattle.pagable_world.specs.{Calls.{is_named_by, moved, room_of}, Cascade.{left_rows, only_handle}, Kinds.{find_row, is_handle}};
-ghost use Rattle.pagable_world.specs.{LoadCalls.numbers_of, Plain.{changed, is_in}, declared.handles.{HandleRow.HandleRow, Owner.Owner}};
+ghost use Rattle.pagable_world.specs.{Calls.{is_named_by, moved, room_of}, Cascade.{left_rows, only_handle}};
+ghost use Rattle.pagable_world.specs.{Kinds.{find_row, is_handle}, LoadCalls.numbers_of, Plain.{changed, is_in}};
+ghost use Rattle.pagable_world.specs.declared.handles.{HandleRow.HandleRow, Owner.Owner};
 ghost use Rattle.std.specs.List.{AllPairs, Sorted.IsPartitionPoint};
-ghost use Rattle.std.specs.Prelude.{IfNone, IfSome, None, Ok, OnErr, OnOk, Option, Some, [], false, get_or, if◌then◌else◌, length, slice_get, sum_by, true};
-ghost use Rattle.std.specs.Prelude.{vec_capacity, vec_len, ℕ, ◌&&◌, ◌*◌, ◌++◌, ◌+◌, ◌<◌, ◌==◌, ◌∷◌, ◌≡◌, ◌≤◌};
+ghost use Rattle.std.specs.Prelude.{IfNone, IfSome, None, Ok, OnErr, OnOk, Option, Some, [], false, get_or};
+ghost use Rattle.std.specs.Prelude.{if◌then◌else◌, length, slice_get, sum_by, true, vec_capacity, vec_len, ℕ, ◌&&◌};
+ghost use Rattle.std.specs.Prelude.{◌*◌, ◌++◌, ◌+◌, ◌<◌, ◌==◌, ◌∷◌, ◌≡◌, ◌≤◌};
 
 use crate::place::Place;
 use pagable_model::{ArcRef, HandleNumber};

@@ -1,8 +1,9 @@
 //! Modes, owners and kinds, and which of two refusals comes first.
 
 ghost use Rattle.pagable_tables.specs.CascadeInvariant.{is_worker};
-ghost use Rattle.pagable_world.specs.{Kinds.{fits_mode, is_loose, is_owner, is_pinning, is_unpinned, mode_of}, Plain.{is_loose_kind, is_pinned_kind}};
-ghost use Rattle.pagable_world.specs.{Refusals.{earlier, rank}, declared.{handles.Owner.Owner, rows.Mode.Mode}};
+ghost use Rattle.pagable_world.specs.Kinds.{fits_mode, is_loose, is_owner, is_pinning, is_unpinned, mode_of};
+ghost use Rattle.pagable_world.specs.{Plain.{is_loose_kind, is_pinned_kind}, Refusals.{earlier, rank}};
+ghost use Rattle.pagable_world.specs.declared.{handles.Owner.Owner, rows.Mode.Mode};
 ghost use Rattle.std.specs.Prelude.{List, None, Option, Some, false, true, ◌%◌, ◌<◌, ◌==◌, ◌≡◌};
 
 use pagable_model::{Error, Kind};

@@ -2,16 +2,22 @@
 
 ghost use Rattle.indexmap.specs.IndexMap.{get, spare};
 ghost use Rattle.pagable_model.specs.declared.numbers.{LoadNumber.LoadNumber, NodeNumber.NodeNumber};
-ghost use Rattle.pagable_tables.specs.{CascadeInvariant.{IsFalling, owns_nothing}, CascadeProgress.{SoFar, with_tables}};
-ghost use Rattle.pagable_tables.specs.{Core.{AreLater, Does, IsReady, IsWhole, MayHold, core_of, plain_of}, EndingLoads.{AsksKnown, early_fault}};
-ghost use Rattle.pagable_tables.specs.{HandleTable.live, Nodes.{counts_at, has_value, key_in}, NumberTable.row_by, ValuesKept.Sheds};
+ghost use Rattle.pagable_tables.specs.CascadeInvariant.{IsFalling, owns_nothing};
+ghost use Rattle.pagable_tables.specs.CascadeProgress.{SoFar, with_tables};
+ghost use Rattle.pagable_tables.specs.Core.{AreLater, Does, IsReady, IsWhole, MayHold, core_of, plain_of};
+ghost use Rattle.pagable_tables.specs.{EndingLoads.{AsksKnown, early_fault}, HandleTable.live};
+ghost use Rattle.pagable_tables.specs.{Nodes.{counts_at, has_value, key_in}, NumberTable.row_by, ValuesKept.Sheds};
 ghost use Rattle.pagable_tables.specs.declared.{cascade.Holdings.Holdings, load_table.LoadRow.LoadRow};
-ghost use Rattle.pagable_world.specs.{Calls.{IsNext, is_named_by}, Cascade.{FallsAnyhow, nobody}, Kinds.{is_pinning, is_shared, mode_of}};
-ghost use Rattle.pagable_world.specs.{LoadCalls.{Adopts, BeginCall, BeginKeyCall, LazyCall, adopt_fault, adopted, first_key, is_owned_in}, Pager.MayOwnLoad};
-ghost use Rattle.pagable_world.specs.{Plain.{Blob, is_loose_kind, is_pinned_kind}, Refusals.{Refused, earlier, load_fault, references_fault}};
-ghost use Rattle.pagable_world.specs.{World.{Alike, Cell, Core, usable}, declared.{handles.Owner.Owner, rows.Mode.Mode}};
-ghost use Rattle.std.specs.Prelude.{Bool, IfErr, IfNone, IfOk, IfSome, None, Ok, Option, Some, [], false, if◌then◌else◌, length, not, true, ℕ, ◌+◌, ◌/◌};
-ghost use Rattle.std.specs.Prelude.{◌<◌, ◌==◌, ◌||◌, ◌≡◌, ◌≤◌, ◌⊎◌};
+ghost use Rattle.pagable_world.specs.{Calls.{IsNext, is_named_by}, Cascade.{FallsAnyhow, nobody}};
+ghost use Rattle.pagable_world.specs.Kinds.{is_pinning, is_shared, mode_of};
+ghost use Rattle.pagable_world.specs.LoadCalls.{Adopts, BeginCall, BeginKeyCall, LazyCall, adopt_fault, adopted};
+ghost use Rattle.pagable_world.specs.{LoadCalls.{first_key, is_owned_in}, Pager.MayOwnLoad};
+ghost use Rattle.pagable_world.specs.Plain.{Blob, is_loose_kind, is_pinned_kind};
+ghost use Rattle.pagable_world.specs.Refusals.{Refused, earlier, load_fault, references_fault};
+ghost use Rattle.pagable_world.specs.World.{Alike, Cell, Core, usable};
+ghost use Rattle.pagable_world.specs.declared.{handles.Owner.Owner, rows.Mode.Mode};
+ghost use Rattle.std.specs.Prelude.{Bool, IfErr, IfNone, IfOk, IfSome, None, Ok, Option, Some, [], false};
+ghost use Rattle.std.specs.Prelude.{if◌then◌else◌, length, not, true, ℕ, ◌+◌, ◌/◌, ◌<◌, ◌==◌, ◌||◌, ◌≡◌, ◌≤◌, ◌⊎◌};
 ghost use Rattle.pagable_world.specs.declared.handles.Owner.TheVariants as owners;
 
 use crate::cache::cache_get;

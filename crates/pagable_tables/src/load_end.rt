@@ -2,17 +2,22 @@
 
 ghost use Rattle.pagable_model.specs.declared.numbers.{LoadNumber.LoadNumber, NodeNumber.NodeNumber};
 ghost use Rattle.pagable_tables.specs.CascadeInvariant.{AreAtWork, is_worker};
-ghost use Rattle.pagable_tables.specs.Core.{AreLater, Does, DoesShed, IsOwnedAbove, IsOwnedUpTo, IsWhole, OnlyRoom, core_of, load_in};
-ghost use Rattle.pagable_tables.specs.{EndingLoads.{HasPlace, IsReady as IsEndReady, ShedsBeside, Unends}, HandleTable.{AreSound, Becomes, live, room}};
+ghost use Rattle.pagable_tables.specs.Core.{AreLater, Does, DoesShed, IsOwnedAbove, IsOwnedUpTo, IsWhole, OnlyRoom};
+ghost use Rattle.pagable_tables.specs.Core.{core_of, load_in};
+ghost use Rattle.pagable_tables.specs.EndingLoads.{HasPlace, IsReady as IsEndReady, ShedsBeside, Unends};
+ghost use Rattle.pagable_tables.specs.HandleTable.{AreSound, Becomes, live, room};
 ghost use Rattle.pagable_tables.specs.{Nodes.{coming, counts_at, holds_in, refs_at, work_at}, NumberTable.row_by};
-ghost use Rattle.pagable_tables.specs.declared.{cascade.Holdings.Holdings, load_table.LoadRow.LoadRow, release.Giving.Giving};
+ghost use Rattle.pagable_tables.specs.declared.{cascade.Holdings.Holdings, load_table.LoadRow.LoadRow};
+ghost use Rattle.pagable_tables.specs.declared.release.Giving.{Giving};
 ghost use Rattle.pagable_world.specs.{Calls.{is_named_by, moved}, Kinds.{find_row, held, is_owner, owner_value}};
-ghost use Rattle.pagable_world.specs.{LoadCalls.{DropCall, HandOverCall, Installs, end_fault, hand_over_fault, numbers_of, root_fault}, Pager.IsHandleBefore};
-ghost use Rattle.pagable_world.specs.{Plain.{Blob, if_there, is_in}, Refusals.{OwnsLoad, Refused, earlier, load_fault, references_fault}};
+ghost use Rattle.pagable_world.specs.LoadCalls.{DropCall, HandOverCall, Installs, end_fault, hand_over_fault};
+ghost use Rattle.pagable_world.specs.{LoadCalls.{numbers_of, root_fault}, Pager.IsHandleBefore};
+ghost use Rattle.pagable_world.specs.Plain.{Blob, if_there, is_in};
+ghost use Rattle.pagable_world.specs.Refusals.{OwnsLoad, Refused, earlier, load_fault, references_fault};
 ghost use Rattle.pagable_world.specs.{World.{Cell, OpenLoad}, declared.handles.{HandleRow.HandleRow, Owner.Owner}};
 ghost use Rattle.std.specs.List.{AllPairs};
-ghost use Rattle.std.specs.Prelude.{Bool, IfErr, IfOk, IfSome, IsSome, None, Ok, Option, Some, false, if◌then◌else◌, not, true, ℕ, ◌&&◌, ◌*◌, ◌<◌, ◌==◌};
-ghost use Rattle.std.specs.Prelude.{◌≡◌, ◌≢◌, ◌≤◌};
+ghost use Rattle.std.specs.Prelude.{Bool, IfErr, IfOk, IfSome, IsSome, None, Ok, Option, Some, false, if◌then◌else◌};
+ghost use Rattle.std.specs.Prelude.{not, true, ℕ, ◌&&◌, ◌*◌, ◌<◌, ◌==◌, ◌≡◌, ◌≢◌, ◌≤◌};
 
 use crate::cascade::Holdings;
 use crate::checks::{hand_over_fault, load_fault, load_row, own, references_fault};

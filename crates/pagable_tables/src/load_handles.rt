@@ -1,7 +1,8 @@
 //! Which handles a load owns, as its row notes it.
 
 ghost use Rattle.pagable_model.specs.declared.numbers.LoadNumber.{LoadNumber};
-ghost use Rattle.pagable_tables.specs.{Core.{AreLater, AreRaised, AreTold, IsOwnedUpTo, IsWhole, Notes}, HandleTable.AreSound, Indexes.load_at};
+ghost use Rattle.pagable_tables.specs.Core.{AreLater, AreRaised, AreTold, IsOwnedUpTo, IsWhole, Notes};
+ghost use Rattle.pagable_tables.specs.{HandleTable.AreSound, Indexes.load_at};
 ghost use Rattle.pagable_tables.specs.declared.{load_table.LoadRow.LoadRow, place.Place.Place};
 ghost use Rattle.pagable_world.specs.declared.handles.{HandleRow.HandleRow, Owner.Owner};
 ghost use Rattle.std.specs.Prelude.{None, Some, get_or, length, ℕ, ◌<◌, ◌≡◌, ◌≤◌};

@@ -11,6 +11,7 @@ use pagable_model::{DataKey, HandleNumber, NodeNumber};
 use pagable_world::handles::Owner;
 use std::alloc::AllocError;
 
+/// Open loads by their numbers.
 pub type Loads = IndexMap<u64, LoadRow>;
 
 /// What a load reads its key for.

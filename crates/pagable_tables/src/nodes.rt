@@ -2,11 +2,14 @@
 
 ghost use Rattle.indexmap.specs.IndexMap.{get};
 ghost use Rattle.pagable_model.specs.declared.data_key.OptionalDataKey.{OptionalDataKey};
-ghost use Rattle.pagable_tables.specs.{CascadeInvariant.is_worker, Nodes.{cell_in, counts_at, key_in, pins_in, refs_at, work_at}};
+ghost use Rattle.pagable_tables.specs.CascadeInvariant.{is_worker};
+ghost use Rattle.pagable_tables.specs.Nodes.{cell_in, counts_at, key_in, pins_in, refs_at, work_at};
 ghost use Rattle.pagable_tables.specs.NumberTable.{place_at, row_by};
-ghost use Rattle.pagable_world.specs.{Kinds.is_in_memory, Plain.{if_there, one, type_of}, Refusals.is_type, World.Cell, declared.handles.Owner.Owner};
+ghost use Rattle.pagable_world.specs.{Kinds.is_in_memory, Plain.{if_there, one, type_of}, Refusals.is_type};
+ghost use Rattle.pagable_world.specs.{World.Cell, declared.handles.Owner.Owner};
 ghost use Rattle.std.specs.Option.{option_to_list};
-ghost use Rattle.std.specs.Prelude.{IfNone, IsSome, None, Option, Some, [], false, true, ℕ, ◌++◌, ◌+◌, ◌/◌, ◌<◌, ◌==◌, ◌^◌, ◌||◌, ◌≡◌, ◌≢◌, ◌≤◌};
+ghost use Rattle.std.specs.Prelude.{IfNone, IsSome, None, Option, Some, [], false, true, ℕ, ◌++◌, ◌+◌, ◌/◌, ◌<◌};
+ghost use Rattle.std.specs.Prelude.{◌==◌, ◌^◌, ◌||◌, ◌≡◌, ◌≢◌, ◌≤◌};
 
 use crate::kinds::is_worker;
 use crate::number_table::{NumberTable, chunk_of, place_of};
@@ -15,7 +18,7 @@ use pagable_world::handles::Owner;
 use std::marker::Model;
 use std::sync::Arc;
 
-/// Nodes, loads and workers by their numbers, and what the cache knows under a kind and a key.
+/// Nodes by their numbers.
 pub type Nodes = NumberTable<NodeRow>;
 
 /// The values in memory, by the numbers of their nodes. They stand beside the tables.

@@ -3,8 +3,8 @@
 
 ghost use Rattle.indexmap.specs.IndexMap.{get};
 ghost use Rattle.pagable_tables.specs.NumberTable.{place_at, row_by, row_in};
-ghost use Rattle.std.specs.Prelude.{IsSome, None, Ok, OnOk, Option, Some, [], option_copied, slice_get, vec_capacity, vec_len, ℕ, ◌%◌, ◌&&◌, ◌+◌, ◌/◌, ◌<◌};
-ghost use Rattle.std.specs.Prelude.{◌==◌, ◌||◌, ◌≡◌, ◌≢◌, ◌≤◌};
+ghost use Rattle.std.specs.Prelude.{IsSome, None, Ok, OnOk, Option, Some, [], option_copied, slice_get};
+ghost use Rattle.std.specs.Prelude.{vec_capacity, vec_len, ℕ, ◌%◌, ◌&&◌, ◌+◌, ◌/◌, ◌<◌, ◌==◌, ◌||◌, ◌≡◌, ◌≢◌, ◌≤◌};
 
 use std::alloc::{AllocError, Global};
 

@@ -1,8 +1,10 @@
 //! The list of cells that wait for page-out: entries are put there, and taken.
 
 ghost use Rattle.pagable_model.specs.declared.numbers.LoadNumber.{LoadNumber};
-ghost use Rattle.pagable_tables.specs.{Core.{AreLater, DoesShed, InReach, IsNoLess, IsWhole, MayHold, core_of, plain_of}, Indexes.{reach_at, worker_at}};
-ghost use Rattle.pagable_world.specs.{Calls.{ScheduleCall, TakeCall}, Kinds.{is_owner, is_unpinned, owner_worker}, Plain.Blob, declared.handles.Owner.Owner};
+ghost use Rattle.pagable_tables.specs.Core.{AreLater, DoesShed, InReach, IsNoLess, IsWhole, MayHold, core_of};
+ghost use Rattle.pagable_tables.specs.{Core.plain_of, Indexes.{reach_at, worker_at}};
+ghost use Rattle.pagable_world.specs.{Calls.{ScheduleCall, TakeCall}, Kinds.{is_owner, is_unpinned, owner_worker}};
+ghost use Rattle.pagable_world.specs.{Plain.Blob, declared.handles.Owner.Owner};
 ghost use Rattle.std.specs.Prelude.{Bool, List, None, Ok, Option, Some, false, is_some, true, ℕ, ◌<◌, ◌≡◌};
 
 use crate::checks::own;

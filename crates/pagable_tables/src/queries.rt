@@ -1,11 +1,14 @@
 //! What is asked of a handle or a node. Nothing changes by that.
 
 ghost use Rattle.indexmap.specs.IndexMap.{get};
-ghost use Rattle.pagable_model.specs.declared.{data_key.OptionalDataKey.OptionalDataKey, numbers.NodeNumber.NodeNumber};
+ghost use Rattle.pagable_model.specs.declared.{data_key.OptionalDataKey.OptionalDataKey};
+ghost use Rattle.pagable_model.specs.declared.numbers.NodeNumber.{NodeNumber};
 ghost use Rattle.pagable_tables.specs.{Core.{IsWhole, core_of, plain_of}, Nodes.key_in};
-ghost use Rattle.pagable_world.specs.{Calls.{AwayCall, CountCall, KeyCall, Looks, NodeCall, TypeCall}, Events.IsEntry, Kinds.{is_loose, is_pinning}};
-ghost use Rattle.pagable_world.specs.{Plain.Blob, World.key_at, declared.handles.HandleRow.HandleRow};
-ghost use Rattle.std.specs.Prelude.{Bool, IfNone, IfSome, None, Ok, Option, Some, if◌then◌else◌, length, ℕ, ◌*◌, ◌<◌, ◌≡◌, ◌≤◌};
+ghost use Rattle.pagable_world.specs.{Calls.{AwayCall, CountCall, KeyCall, Looks, NodeCall, TypeCall}, Events.IsEntry};
+ghost use Rattle.pagable_world.specs.{Kinds.{is_loose, is_pinning}, Plain.Blob, World.key_at};
+ghost use Rattle.pagable_world.specs.declared.handles.HandleRow.{HandleRow};
+ghost use Rattle.std.specs.Prelude.{Bool, IfNone, IfSome, None, Ok, Option, Some, if◌then◌else◌, length, ℕ, ◌*◌};
+ghost use Rattle.std.specs.Prelude.{◌<◌, ◌≡◌, ◌≤◌};
 
 use crate::kinds::{is_loose_mode, pins};
 use crate::nodes::{is_here, key_in};

@@ -1,15 +1,20 @@
 //! Releases handles, one or all that a load, a worker or the list owns; unpins loose ones; sets keys.
 
 ghost use Rattle.indexmap.specs.IndexMap.{get};
-ghost use Rattle.pagable_model.specs.declared.numbers.{LoadNumber.LoadNumber, NodeNumber.NodeNumber, WorkerNumber.WorkerNumber};
-ghost use Rattle.pagable_tables.specs.{CascadeInvariant.{AreAtWork, IsFalling, is_valued, owns_nothing}, CascadeProgress.{SoFar, with_tables}};
-ghost use Rattle.pagable_tables.specs.Core.{AreLater, DoesShed, InReach, IsLast, IsWhole, LoadsAre, core_of, gives_row, passes_in};
-ghost use Rattle.pagable_tables.specs.{HandleTable.{AreSound, alive, live}, Nodes.{counts_at, work_at}, NumberTable.row_by, ValuesKept.Sheds};
+ghost use Rattle.pagable_model.specs.declared.numbers.{LoadNumber.LoadNumber, NodeNumber.NodeNumber};
+ghost use Rattle.pagable_model.specs.declared.numbers.WorkerNumber.{WorkerNumber};
+ghost use Rattle.pagable_tables.specs.CascadeInvariant.{AreAtWork, IsFalling, is_valued, owns_nothing};
+ghost use Rattle.pagable_tables.specs.CascadeProgress.{SoFar, with_tables};
+ghost use Rattle.pagable_tables.specs.Core.{AreLater, DoesShed, InReach, IsLast, IsWhole, LoadsAre, core_of};
+ghost use Rattle.pagable_tables.specs.{Core.{gives_row, passes_in}, HandleTable.{AreSound, alive, live}};
+ghost use Rattle.pagable_tables.specs.{Nodes.{counts_at, work_at}, NumberTable.row_by, ValuesKept.Sheds};
 ghost use Rattle.pagable_tables.specs.declared.{cascade.Holdings.Holdings, release.Giving.Giving};
-ghost use Rattle.pagable_world.specs.{Calls.{CloseCall, ReleaseCall, SetKeyCall, UnpinCall}, Cascade.{Falls, nobody, only_handle}, Kinds.is_owner};
-ghost use Rattle.pagable_world.specs.{LoadCalls.is_owned_in, Plain.Blob, World.Core, declared.{handles.{HandleRow.HandleRow, Owner.Owner}, rows.Mode.Mode}};
-ghost use Rattle.std.specs.Prelude.{Bool, IfNone, IfSome, List, None, Ok, Option, Some, [], false, length, slice_get, true, ℕ, ◌&&◌, ◌<◌, ◌==◌, ◌||◌, ◌≡◌};
-ghost use Rattle.std.specs.Prelude.{◌≤◌};
+ghost use Rattle.pagable_world.specs.Calls.{CloseCall, ReleaseCall, SetKeyCall, UnpinCall};
+ghost use Rattle.pagable_world.specs.{Cascade.{Falls, nobody, only_handle}, Kinds.is_owner, LoadCalls.is_owned_in};
+ghost use Rattle.pagable_world.specs.{Plain.Blob, World.Core};
+ghost use Rattle.pagable_world.specs.declared.{handles.{HandleRow.HandleRow, Owner.Owner}, rows.Mode.Mode};
+ghost use Rattle.std.specs.Prelude.{Bool, IfNone, IfSome, List, None, Ok, Option, Some, [], false, length};
+ghost use Rattle.std.specs.Prelude.{slice_get, true, ℕ, ◌&&◌, ◌<◌, ◌==◌, ◌||◌, ◌≡◌, ◌≤◌};
 
 use crate::cascade::{Holdings, fall, give_up, shed, top_after};
 use crate::checks::own;

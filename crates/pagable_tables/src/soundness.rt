@@ -1,13 +1,18 @@
 //! Whether all tables agree, as tests ask it.
 
 ghost use Rattle.indexmap.specs.IndexMap.{get};
-ghost use Rattle.pagable_model.specs.declared.numbers.{ArcRef.ArcRef as Reference, HandleNumber.HandleNumber as Number, NodeNumber.NodeNumber};
+ghost use Rattle.pagable_model.specs.declared.numbers.{ArcRef.ArcRef as Reference};
+ghost use Rattle.pagable_model.specs.declared.numbers.{HandleNumber.HandleNumber as Number, NodeNumber.NodeNumber};
 ghost use Rattle.pagable_tables.specs.{Nodes.{counts_at, has_value, refs_at}, NumberTable.row_by};
-ghost use Rattle.pagable_tables.specs.Soundness.{agree, are_counts_sound, are_handles_sound, are_nodes_sound, are_places_sound, are_references_owned};
-ghost use Rattle.pagable_tables.specs.Soundness.{at_node, is_cache_sound, is_had, is_known_soundly, is_list_sound, is_node_sound, is_owned_once};
-ghost use Rattle.pagable_tables.specs.{Soundness.{is_row_sound, is_sound, pins_node, shares_node}, declared.place.Place.{Place, Place as Row}};
-ghost use Rattle.pagable_world.specs.{Kinds.{is_owner, is_shared, is_unpinned}, declared.{handles.{HandleRow.HandleRow, Owner.Owner}, rows.Mode.Mode}};
-ghost use Rattle.std.specs.Prelude.{List, None, Some, [], count_by, false, is_some, not, true, ◌%◌, ◌&&◌, ◌*◌, ◌/◌, ◌<◌, ◌==◌, ◌||◌, ◌≡◌};
+ghost use Rattle.pagable_tables.specs.Soundness.{agree, are_counts_sound, are_handles_sound, are_nodes_sound};
+ghost use Rattle.pagable_tables.specs.Soundness.{are_places_sound, are_references_owned, at_node, is_cache_sound};
+ghost use Rattle.pagable_tables.specs.Soundness.{is_had, is_known_soundly, is_list_sound, is_node_sound};
+ghost use Rattle.pagable_tables.specs.Soundness.{is_owned_once, is_row_sound, is_sound, pins_node, shares_node};
+ghost use Rattle.pagable_tables.specs.declared.place.Place.{Place, Place as Row};
+ghost use Rattle.pagable_world.specs.Kinds.{is_owner, is_shared, is_unpinned};
+ghost use Rattle.pagable_world.specs.declared.{handles.{HandleRow.HandleRow, Owner.Owner}, rows.Mode.Mode};
+ghost use Rattle.std.specs.Prelude.{List, None, Some, [], count_by, false, is_some, not, true, ◌%◌, ◌&&◌, ◌*◌, ◌/◌};
+ghost use Rattle.std.specs.Prelude.{◌<◌, ◌==◌, ◌||◌, ◌≡◌};
 
 use crate::kinds::{is_owner, is_unpinned, pins};
 use crate::nodes::{Arcs, Counts, Nodes};

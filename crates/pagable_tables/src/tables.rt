@@ -1,10 +1,12 @@
 //! All tables of a pager together, with room for handles and for entries of the list.
 
 ghost use Rattle.pagable_model.specs.declared.numbers.NodeNumber.{NodeNumber};
-ghost use Rattle.pagable_tables.specs.{Core.{AreLater, Does, IsWhole, plain_of}, HandleTable.room, Indexes.{known_at, load_at, worker_at}, Nodes.counts_at};
+ghost use Rattle.pagable_tables.specs.{Core.{AreLater, Does, IsWhole, plain_of}, HandleTable.room};
+ghost use Rattle.pagable_tables.specs.{Indexes.{known_at, load_at, worker_at}, Nodes.counts_at};
 ghost use Rattle.pagable_tables.specs.declared.cascade.Holdings.{Holdings};
 ghost use Rattle.pagable_world.specs.Calls.{ClearCall, ReserveCall, room_of};
-ghost use Rattle.std.specs.{Prelude.{None, Ok, OnErr, OnOk, [], length, ℕ, ◌+◌, ◌<◌, ◌≡◌, ◌≤◌}, VecDeque.deque_capacity};
+ghost use Rattle.std.specs.Prelude.{None, Ok, OnErr, OnOk, [], length, ℕ, ◌+◌, ◌<◌, ◌≡◌, ◌≤◌};
+ghost use Rattle.std.specs.VecDeque.{deque_capacity};
 
 use crate::cascade::Holdings;
 use crate::handle_table;
@@ -16,8 +18,10 @@ use pagable_model::{DataKey, Error, HandleNumber, NodeNumber};
 use std::alloc::{AllocError, Global};
 use std::collections::VecDeque;
 
+/// The workers at work by their numbers, and which handles each may have.
 pub type Workers = IndexMap<u64, Reach>;
 
+/// The nodes that the cache knows, by kinds and keys.
 pub type Cache = IndexMap<(u32, DataKey), NodeNumber>;
 
 /// Which handles a worker may have: those of numbers above `since`, and that of number `beside`, 0 where it is none.

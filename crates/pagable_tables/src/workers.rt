@@ -2,10 +2,11 @@
 
 ghost use Rattle.indexmap.specs.IndexMap.{get};
 ghost use Rattle.pagable_model.specs.declared.numbers.{NodeNumber.NodeNumber, WorkerNumber.WorkerNumber};
-ghost use Rattle.pagable_tables.specs.{Core.{AreLater, BeginsWorker, Does, DoesShed, IsWhole, TakesWorker, left_load}, Indexes.{load_at, reach_at, worker_at}};
+ghost use Rattle.pagable_tables.specs.Core.{AreLater, BeginsWorker, Does, DoesShed, IsWhole, TakesWorker, left_load};
+ghost use Rattle.pagable_tables.specs.Indexes.{load_at, reach_at, worker_at};
 ghost use Rattle.pagable_tables.specs.declared.{load_table.LoadRow.LoadRow, release.Giving.Giving};
-ghost use Rattle.pagable_world.specs.{Cascade.FallsAnyhow, Kinds.{is_owner, owner_worker}, Plain.updated, Workers.{WorkerEnds, is_workers_at}};
-ghost use Rattle.pagable_world.specs.declared.handles.Owner.{Owner};
+ghost use Rattle.pagable_world.specs.{Cascade.FallsAnyhow, Kinds.{is_owner, owner_worker}, Plain.updated};
+ghost use Rattle.pagable_world.specs.{Workers.{WorkerEnds, is_workers_at}, declared.handles.Owner.Owner};
 ghost use Rattle.std.specs.Prelude.{IfOk, Ok, is_some, length, not, true, ℕ, ◌+◌, ◌<◌, ◌==◌, ◌≡◌};
 
 use crate::kinds::is_owner;
