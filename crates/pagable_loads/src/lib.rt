@@ -14,4 +14,4 @@ pub use cell_reading::CellReading;
 pub use decoding::{Decoded, GotReferences, decode};
 pub use pinning::{BegunPin, begin_reading};
 pub use reading::{Frame, Need, Reading};
-pub use step::{pin_over, pin_with_state_over, read_over};
+pub use step::{pin_over, pin_with_state_over, read_over, share_pinned};

@@ -23,6 +23,26 @@ pub struct Frame {
     pub got: Vec<ArcRef>,
 }
 
+impl Frame {
+    /// Makes the frame of a root's blob. A root is no reference and becomes no node of its own, so nothing asks for the kind that stands there.
+    pub fn of_root(
+        alloc: Global,
+        key: DataKey,
+        node_type: u32,
+        blob: Arc<PagableData>,
+    ) -> Frame
+        ensures { frame_of result ≡ root_frame key node_type (blob_of (arc_value blob)) }
+    {
+        Frame {
+            kind: Kind(3),
+            key,
+            node_type,
+            blob,
+            got: Vec::new(alloc),
+        }
+    }
+}
+
 /// A load's own side: its number, the key and the type of its root, whether it is a load of a cell, the blobs that it reads, and its steps.
 #[derive(Drop)]
 pub struct Reading {
@@ -239,13 +259,7 @@ impl Reading {
         // (by this count its references are known to be fewer than numbers go)
         let _count = blob.as_ref().arcs.len();
         self.below.clear();
-        self.top = Some(Frame {
-            kind: Kind(3),
-            key: self.key,
-            node_type: self.node_type,
-            blob,
-            got: Vec::new(alloc),
-        });
+        self.top = Some(Frame::of_root(alloc, self.key, self.node_type, blob));
     }
 
     /// A reference's blob is the innermost, over the one that asked for it. Refused with TooDeep where it would be the 129th below the root.

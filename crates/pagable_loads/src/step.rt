@@ -375,9 +375,13 @@ fn unpin_again<E: Env<Node: NodeSet<E>>, A: Access<E>>(
     }
 }
 
-// The value that a new pin shares. A handle that pins nothing, which no pin is where the access tells its state, has none: NoSuchHandle.
+/// Shares the value that a new pin holds.
+///
+/// # Errors
+/// - NoSuchHandle: the handle pins nothing, which no pin is where the access tells its state.
+/// - OutOfMemory: the value can't be shared.
 #[tactic(auto, using(crate::proofs::Stepped::pinning))]
-fn share_pinned<E: Env<Node: NodeSet<E>>, A: Access<E>>(
+pub fn share_pinned<E: Env<Node: NodeSet<E>>, A: Access<E>>(
     access: &A,
     pinned: HandleNumber,
 ) -> Result<Arc<E::Node>, Error>

@@ -1,7 +1,7 @@
 //! Pins of a lent pager, whose cells are read where their values aren't in memory. What they do is told as long as the storage is honest afterwards.
 
 ghost use Rattle.std.specs.{Arc.arc_value, Prelude.{IsTrue, true, ◌≡◌}};
-ghost use Rattle.{pagable_core.specs.Data.blob_of, pagable_loads.specs.{Frames.reading_of, Starting.SharesPinned, Telling.{Acts, Tells, values_at}}};
+ghost use Rattle.{pagable_core.specs.Data.blob_of, pagable_loads.specs.{Frames.reading_of, Telling.{Acts, values_at}}};
 ghost use Rattle.pagable_pager.specs.{Leaf.{EndsCell, SharesNew, rooted_reading}, View.{state_in, telling}};
 ghost use Rattle.pagable_world.specs.{Access.PinsOver, World.seen_as};
 
@@ -9,8 +9,8 @@ use crate::lent::Lent;
 use crate::pager::Pager;
 use pagable_codec::{Env, NodeSet};
 use pagable_core::{PagableData, PagableStorage};
-use pagable_loads::{Access, Frame, Reading, pin_over};
-use pagable_model::{DataKey, Error, HandleNumber, Kind, LoadNumber};
+use pagable_loads::{Access, Frame, Reading, pin_over, share_pinned};
+use pagable_model::{DataKey, Error, HandleNumber, LoadNumber};
 use pagable_world::LoadAnswer;
 use pagable_world::handles::Owner;
 use std::alloc::Global;
@@ -30,13 +30,7 @@ pub(crate) fn rooted(
     ensures key { result.key ≡ key }
     ensures of_cell { result.for_cell ≡ true }
 {
-    let top = Frame {
-        kind: Kind(3),
-        key,
-        node_type,
-        blob,
-        got: Vec::new(alloc),
-    };
+    let top = Frame::of_root(alloc, key, node_type, blob);
     Reading {
         load,
         key,
@@ -63,20 +57,6 @@ pub(crate) fn read_rest<E: Env<Node: NodeSet<E>>, A: Access<E>>(
         LoadAnswer::Pinned(pinned) => Ok(pinned),
         LoadAnswer::Refused(e) => Err(e),
         LoadAnswer::Read(_) => unreachable!(),
-    }
-}
-
-// The value that a new pin shares. A handle that pins nothing, which no pin is where the access tells its state, has none: NoSuchHandle.
-#[tactic(auto, using(pagable_loads::proofs::Stepped::pinning))]
-fn share_pinned<E: Env<Node: NodeSet<E>>, A: Access<E>>(
-    access: &A,
-    pinned: HandleNumber,
-) -> Result<Arc<E::Node>, Error>
-    ensures { Tells (A.told access.now) (λ s. SharesPinned arc_value s pinned result) }
-{
-    match access.share(pinned)? {
-        Some(value) => Ok(value),
-        None => Err(Error::NoSuchHandle),
     }
 }
 
