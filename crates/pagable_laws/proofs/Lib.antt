@@ -28,4 +28,6 @@ mod Refusing
 mod Telling
 mod OnePiece
 mod Heights
+pub mod ValueRows
+pub mod ValuesOwned
 mod Laws

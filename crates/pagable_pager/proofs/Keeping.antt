@@ -4,8 +4,8 @@ use Rattle.{pagable_laws.proofs.Taking.{row-held, row-pins}, pagable_loads.{proo
 use Rattle.{either.specs.declared.Either.Either, pagable_loads.specs.Telling.{AsksFor, Brings, IsMade}, pagable_model.specs.{Stored.{Adds, RefusesFetch, RefusesStore}, declared.{data_key.OptionalDataKey.OptionalDataKey, numbers.WorkerNumber.WorkerNumber}}}
 use Rattle.pagable_world.specs.LoadCalls.{AdoptCall, Adopts, AskCall, BeginCall, DropCall, EndCall, EndRefused, GetsKnown, Installs, LazyCall, MayEnd, adopt_fault, adopted, end_fault, first_key, from_cache}
 use Rattle.{pagable_loads.specs.Starting.StartsPin, pagable_model.specs.declared.numbers.{ArcRef.ArcRef, HandleNumber.HandleNumber, Kind.Kind, LoadNumber.LoadNumber, NodeNumber.NodeNumber}}
-use Rattle.pagable_steps.proofs.Owning.{IsRight, IsShut, Leaves, Rests, Spares, adopts-new, born, closed, installed_away, installed_there, known-here}
-use Rattle.pagable_steps.proofs.Owning.{not-load, pinned-here, recalls, rests-then, spared, spares-same, starts-listed, stayed, unmoved}
+use Rattle.pagable_laws.proofs.ValuesOwned.{IsRight, IsShut, Leaves, Rests, Spares, adopts-new, born, closed, installed_away, installed_there, known-here}
+use Rattle.pagable_laws.proofs.ValuesOwned.{not-load, pinned-here, recalls, rests-then, spared, spares-same, starts-listed, stayed, unmoved}
 use Rattle.pagable_tables.proofs.SameViews.{adopted-past}
 use Rattle.pagable_tables.proofs.SameViews.{adopts-new as made-new, born-past, early-past, fault-by, next-past, no-load-fault, refused-memory, refused-new}
 use Rattle.pagable_tables.proofs.SameViews.{room-alike, room-fault, still, told-later}

@@ -1,7 +1,7 @@
 -- Cells that are pinned at once: the loads that this stands for leave the pager well-formed at each step, and are a pin's run.
 use Rattle.pagable_pager.proofs.Keeping.{here-in, here-told, in-step}
 use Rattle.pagable_pager.specs.{Leaf.{LeafBegun, LeafDropped, LeafFetched, LeafLoads, LeafPinned, LeafUnbegun, rooted_reading}, View.{AsksStorage, IsPager, OnlyStorage, OnlyTables, PagerView, Telling, ValuesByNode, core_in, state_in, value_in, with_value}}
-use Rattle.{pagable_leaf.specs.{Leaf.{DropsLeaf, IsLeaf, PinsLeaf}, declared.leaf.Leaf.Leaf}, pagable_loads.{proofs.Stepped.begun_is, specs.{Decoding.IsReadAs, Starting.is_unpinned_at, Telling.Brings}}, pagable_steps.proofs.Owning.{IsShut, begins, installed_away, load_closed, pinned-here, spared}}
+use Rattle.{pagable_leaf.specs.{Leaf.{DropsLeaf, IsLeaf, PinsLeaf}, declared.leaf.Leaf.Leaf}, pagable_loads.{proofs.Stepped.begun_is, specs.{Decoding.IsReadAs, Starting.is_unpinned_at, Telling.Brings}}, pagable_laws.proofs.ValuesOwned.{IsShut, begins, installed_away, load_closed, pinned-here, spared}}
 use Rattle.pagable_laws.proofs.{Taking.row-pins, Trees.same_some}
 use Rattle.pagable_model.specs.{Stored.RefusesFetch, declared.{error.Error.Error}}
 use Rattle.pagable_model.specs.declared.numbers.{ArcRef.ArcRef, HandleNumber.HandleNumber, LoadNumber.LoadNumber, NodeNumber.NodeNumber}

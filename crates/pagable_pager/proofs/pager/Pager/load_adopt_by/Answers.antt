@@ -1,4 +1,4 @@
-use Rattle.{pagable_pager.proofs.Keeping.{known-valued, none-so, not-adopted, only-less, same-so, shed}, pagable_steps.proofs.Owning.adopted_known}
+use Rattle.{pagable_pager.proofs.Keeping.{known-valued, none-so, not-adopted, only-less, same-so, shed}, pagable_laws.proofs.ValuesOwned.adopted_known}
 use Rattle.pagable_tables.proofs.OwnedByLoad.{eager-pins}
 use Rattle.std.proofs.Common.{ap, inl, not, refl, ◌∙◌}
 use Rattle.pagable_pager.proofs.pager.Pager.load_adopt_by.Goals as goal

@@ -1,4 +1,4 @@
-use Rattle.{pagable_pager.proofs.Keeping.{shed-by}, pagable_steps.proofs.Owning.dropped}
+use Rattle.{pagable_pager.proofs.Keeping.{shed-by}, pagable_laws.proofs.ValuesOwned.dropped}
 
 pub invariant_of-self : Rattle.pagable_pager.proofs.pager.Pager.load_drop_by.Goals.invariant_of-self
 invariant_of-self g c =

@@ -1,4 +1,4 @@
-use Rattle.{pagable_pager.proofs.Keeping.{owner-free, shed-by}, pagable_steps.proofs.Owning.handed_over}
+use Rattle.{pagable_pager.proofs.Keeping.{owner-free, shed-by}, pagable_laws.proofs.ValuesOwned.handed_over}
 
 pub invariant_of-self : Rattle.pagable_pager.proofs.pager.Pager.load_take_by.Goals.invariant_of-self
 invariant_of-self g c = (shed-by c.self.invariant _ _ c.load_take.ensures c.has_closed-lists.ensures

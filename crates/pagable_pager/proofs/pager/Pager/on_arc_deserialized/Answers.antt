@@ -1,4 +1,4 @@
-use Rattle.{pagable_pager.proofs.Keeping.{caller-free, known-valued, only-less, shed}, pagable_steps.proofs.Owning.offered, std.proofs.Common.{ap, not}}
+use Rattle.{pagable_pager.proofs.Keeping.{caller-free, known-valued, only-less, shed}, pagable_laws.proofs.ValuesOwned.offered, std.proofs.Common.{ap, not}}
 
 pub invariant_of-self : Rattle.pagable_pager.proofs.pager.Pager.on_arc_deserialized.Goals.invariant_of-self
 invariant_of-self g c =

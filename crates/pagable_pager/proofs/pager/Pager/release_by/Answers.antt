@@ -1,4 +1,4 @@
-use Rattle.{pagable_pager.proofs.Keeping.{owner-free, shed-by}, pagable_steps.proofs.Owning.released}
+use Rattle.{pagable_pager.proofs.Keeping.{owner-free, shed-by}, pagable_laws.proofs.ValuesOwned.released}
 
 pub invariant_of-self : Rattle.pagable_pager.proofs.pager.Pager.release_by.Goals.invariant_of-self
 invariant_of-self g c =

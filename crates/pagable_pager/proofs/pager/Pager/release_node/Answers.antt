@@ -1,4 +1,4 @@
-use Rattle.{pagable_pager.proofs.Keeping.{shed-by}, pagable_steps.proofs.Owning.worker_released}
+use Rattle.{pagable_pager.proofs.Keeping.{shed-by}, pagable_laws.proofs.ValuesOwned.worker_released}
 
 pub invariant_of-self : Rattle.pagable_pager.proofs.pager.Pager.release_node.Goals.invariant_of-self
 invariant_of-self g c =

@@ -1,4 +1,4 @@
-use Rattle.{pagable_pager.proofs.Keeping.{owner-free, shed-by}, pagable_steps.proofs.Owning.scheduled}
+use Rattle.{pagable_pager.proofs.Keeping.{owner-free, shed-by}, pagable_laws.proofs.ValuesOwned.scheduled}
 
 pub invariant_of-self : Rattle.pagable_pager.proofs.pager.Pager.schedule_for_paging_by.Goals.invariant_of-self
 invariant_of-self g c = (shed-by c.self.invariant _ _ c.schedule_for_paging.ensures c.has_closed-lists.ensures

@@ -1,4 +1,4 @@
-use Rattle.{pagable_pager.proofs.Keeping.{owner-free, shed-by}, pagable_steps.proofs.Owning.key_set}
+use Rattle.{pagable_pager.proofs.Keeping.{owner-free, shed-by}, pagable_laws.proofs.ValuesOwned.key_set}
 
 pub invariant_of-self : Rattle.pagable_pager.proofs.pager.Pager.set_data_key_by.Goals.invariant_of-self
 invariant_of-self g c =

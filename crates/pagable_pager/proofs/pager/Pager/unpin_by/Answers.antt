@@ -1,4 +1,4 @@
-use Rattle.{pagable_pager.proofs.Keeping.{owner-free, shed-by}, pagable_steps.proofs.Owning.unpinned}
+use Rattle.{pagable_pager.proofs.Keeping.{owner-free, shed-by}, pagable_laws.proofs.ValuesOwned.unpinned}
 
 pub invariant_of-self : Rattle.pagable_pager.proofs.pager.Pager.unpin_by.Goals.invariant_of-self
 invariant_of-self g c =

@@ -1,4 +1,4 @@
-use Rattle.{pagable_pager.proofs.Keeping.{shed-by}, pagable_steps.proofs.Owning.worker_ended}
+use Rattle.{pagable_pager.proofs.Keeping.{shed-by}, pagable_laws.proofs.ValuesOwned.worker_ended}
 
 pub invariant_of-self : Rattle.pagable_pager.proofs.pager.Pager.worker_end.Goals.invariant_of-self
 invariant_of-self g c =

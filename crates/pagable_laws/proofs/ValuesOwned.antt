@@ -1,9 +1,9 @@
 -- What is done before handles go, part by part: it leaves what values own as it is, and a value comes to a node that had none. With what calls are by which no value comes or goes.
 use Rattle.pagable_laws.proofs.{Decoding.among-either, Existing.outlast, Following.one-less, Goes.{NotLoads, NotValues, Stands, among-changed, among-found, fell-away, found-number, good, no-pins}}
 use Rattle.pagable_laws.proofs.{Goes.{or-none, same-owner, stands-changed, stands-left, stands-whole}, SparingSteps.{found, named-among, neither}, Taking.row-held, Trees.{at-most-sum, counted}}
-use Rattle.{pagable_laws.proofs.Trees.{same-number, self-number, sum-le}, pagable_steps.proofs.Values.{AreFree, At, Has, Keeps, OwnsAlike, among-named, by-row, holds_value, listed-free, load-free}}
-use Rattle.pagable_steps.proofs.Values.{mode-here, mode-others, mode-owns, moved-pins, own-free, owned-test, owns-changed, owns-handle, owns-same, owns-then, rests-cached, row-here, rowed, sits}
-use Rattle.pagable_steps.proofs.Values.{same-value, settled, shut-alike, sits-on, spares-handle, spares-keeps, spares-known, spares-moved, spares-then, turned}
+use Rattle.{pagable_laws.proofs.Trees.{same-number, self-number, sum-le}, pagable_laws.proofs.ValueRows.{AreFree, At, Has, Keeps, OwnsAlike, among-named, by-row, holds_value, listed-free, load-free}}
+use Rattle.pagable_laws.proofs.ValueRows.{mode-here, mode-others, mode-owns, moved-pins, own-free, owned-test, owns-changed, owns-handle, owns-same, owns-then, rests-cached, row-here, rowed, sits}
+use Rattle.pagable_laws.proofs.ValueRows.{same-value, settled, shut-alike, sits-on, spares-handle, spares-keeps, spares-known, spares-moved, spares-then, turned}
 use Rattle.pagable_world.{proofs.Elements.among-left, specs.Calls.{AwayBirthCall, BirthCall, CloseCall, OfferCall, ReleaseCall, ScheduleCall, SetKeyCall, UnpinCall, is_named_by, moved, next_node}}
 use Rattle.pagable_world.specs.{Calls.{row_of, with_handle, with_key, with_mode, with_node}, Cascade.{AreNewEntries, Falls, FallsAnyhow, fallen, is_keyed, is_outside, left_rows, loses_value}}
 use Rattle.pagable_world.specs.{Cascade.{only_handle, owned_outside}, Kinds.{held, is_at, is_loose, is_owned_by, is_owner, is_pin, is_pinning, mode_of, owner_value, owner_worker, pins}}
@@ -14,8 +14,8 @@ use Rattle.{pagable_world.specs.declared.{handles.{HandleRow.HandleRow, Owner.Ow
 use Rattle.std.proofs.{Common.{inl, inr, map, refl, subst, suc, sym, true, ℕ, ◌&&◌, ◌++◌, ◌+◌, ◌<◌, ◌==◌, ◌||◌, ◌∙◌, ◌∷◌, ◌≡◌, ◌≤◌}, lemmas.Bool.{and_parts, cases_Bool, false_from_ne_true}}
 use Rattle.std.{proofs.lemmas.{Bool.Decides.nat_tests, List.Sums.{sum_by-append, sum_by-cons, sum_by_push}}, specs.Prelude.{Result, filter, is_some, nat_lt, not, slice_get}}
 use Rattle.pagable_laws.proofs.Effects as effects
-pub use Rattle.pagable_steps.proofs.Values.{IsRight, IsShut, Leaves, Rests, Spares, asked, begins, begins-key, clones, known-here, loosens, not-load, pinned-here, pins-it, recalls, rests-then, spared}
-pub use Rattle.pagable_steps.proofs.Values.{spares-same, starts-listed, stayed, takes, unmoved}
+pub use Rattle.pagable_laws.proofs.ValueRows.{IsRight, IsShut, Leaves, Rests, Spares, asked, begins, begins-key, clones, known-here, loosens, not-load, pinned-here, pins-it, recalls, rests-then, spared}
+pub use Rattle.pagable_laws.proofs.ValueRows.{spares-same, starts-listed, stayed, takes, unmoved}
 
 -- ---- calls by which values go: they go with a cascade. Where a call has done what it does directly, a value stays exactly where its node is in memory afterwards, and owns what it did
 
