@@ -3,7 +3,7 @@
 than the file has, as file:line, and nothing else; the status is 1 where it does.
 
 In the src/ of every library crate `Error::OutOfMemory` is written as a value in one function alone, which makes it of a growth that the allocator refused
-(crates/pagable_model/src/error.rt). All others pass such a refusal on, so none says that memory is wanting where no growth was refused. It may stand in
+(crates/pagable_value_spec/src/error.rt). All others pass such a refusal on, so none says that memory is wanting where no growth was refused. It may stand in
 patterns, clauses and comments. `AllocError` and `AllocFailed`, the refused growth itself, are values nowhere; and only what `regex` and the kit's `sqlite`
 refuse is named by `Error::of_library`, which takes its caller's word.
 
@@ -20,7 +20,7 @@ from pathlib import Path
 
 CRATES = Path(__file__).resolve().parent.parent / "crates"
 # The programs, and the crates of rows and examples, which make refusals of their own to test.
-OTHERS = ("pagectl", "vectors", "pagable_rows", "pagable_examples")
+OTHERS = ("pagectl", "vectors", "pagable_testkit", "pagable_examples")
 CONVERSION = "fn out_of_memory() -> Error"
 OF_LIBRARY = ("pagable_traits/src/saved_regex.rt", "pagable_file/src/stats.rt")
 NOT_CODE = re.compile(r"//.*|\"(?:\\.|[^\"\\])*\"|^\s*(?:pub )?(?:use|ghost|ensures|requires|invariant|decreases)\b.*")
@@ -125,7 +125,7 @@ def main():
         if file.relative_to(CRATES).parts[0] in OTHERS:
             continue
         found, allowed = offences(file.read_text(encoding="utf-8"), str(file.relative_to(CRATES)))
-        is_home = file == CRATES / "pagable_model/src/error.rt"
+        is_home = file == CRATES / "pagable_value_spec/src/error.rt"
         lines += [(file, number) for number in found + (allowed[1:] if is_home else allowed)]
     lines += lengthy_locks() + stale_code()
     for file, number in lines:

@@ -18,8 +18,8 @@ HERE = pathlib.Path(__file__).resolve().parent
 TOP = HERE.parent.parent
 # What the tests of a crate use beside what the crate does.
 USES = {
-    "pagable_budget": " pagable_rows",
-    "pagable_changes": " pagable pagable_file pagable_rows sqlite",
+    "pagable_budget": " pagable_testkit",
+    "pagable_changes": " pagable pagable_file pagable_testkit sqlite",
 }
 RESULT = re.compile(r"^test result: (ok|FAILED)\. (\d+) passed; (\d+) failed; 0 ignored", re.MULTILINE)
 

@@ -18,7 +18,7 @@ TOP = HERE.parent.parent
 sys.path.insert(0, str(TOP / "tools" / "speed"))
 from build import compiled_in, source_in
 
-USES = ("times: pagable_model pagable_flavors pagable_codec pagable_core pagable_file sqlite sqlite_disk sqlite_store"
+USES = ("times: pagable_value_spec pagable_flavors pagable_codec pagable_core pagable_file sqlite sqlite_disk sqlite_store"
         " sqlite_trees sqlite_value sqlite_wal anyhow\n")
 SIZES = [(300, 300), (100, 10_000)]
 TIME = re.compile(r"(stored|fetched|opened) in (\d+) ms")

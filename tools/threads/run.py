@@ -4,7 +4,7 @@
     tools/threads/run.py
     tools/threads/run.py --wrong [NAME+..]      # tries the wrong bodies of wrong.edits, or these
 
-They run unproved, by `rt try`, in a copy of the repository's crates, as modules of `pagable_held`: a proof of a test
+They run unproved, by `rt try`, in a copy of the repository's crates, as modules of `pagable_locked_examples`: a proof of a test
 says no more than that it ends, and these tests would take as long to prove as the calls that they run. The files are
 named X.rattle, since the gate stops at a file X.rt that it doesn't check.
 
@@ -24,7 +24,7 @@ import tempfile
 
 HERE = pathlib.Path(__file__).resolve().parent
 TOP = HERE.parent.parent
-CRATE = pathlib.Path("crates") / "pagable_held"
+CRATE = pathlib.Path("crates") / "pagable_locked_examples"
 # What the tests use beside what the crate does.
 USES = " pagable_examples indexmap smallvec"
 RESULT = re.compile(r"^test result: (ok|FAILED)\. (\d+) passed; (\d+) failed; 0 ignored", re.MULTILINE)

@@ -6,7 +6,7 @@ use history::{Commit, History};
 use pagable::cells::{follow, insert};
 use pagable::paging::page_out_pending;
 use pagable::typed_references::loose;
-use pagable::{Error, HandleNumber, InMemoryBlobs, OfKind, OneNode, Pager};
+use pagable::{Error, HandleNumber, InMemoryBlobs, OneNode, Pager, RawRef};
 use std::alloc::Global;
 use std::sync::Arc;
 
@@ -28,7 +28,7 @@ fn insert_commit(
     };
     if let Some(handle) = parent {
         let reference = loose::<Commit, History, _>(pager, handle)?;
-        commit.parent = OfKind::from_reference(reference.reference::<History>());
+        commit.parent = RawRef::from_reference(reference.reference::<History>());
     }
     let node = OneNode::new(Arc::new(alloc, commit)?);
     Ok(insert(alloc, pager, node)?)

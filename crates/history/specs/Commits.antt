@@ -1,6 +1,6 @@
 -- How commits are spelled and what they mean.
 use Rattle.history.specs.declared.commit.Commit.{Commit}
-use Rattle.{pagable_model.specs.Shape.Shape, pagable_traits.specs.ReadBack.IsReadThroughout, std.specs.{Int.w64, Prelude.ℕ}}
+use Rattle.{pagable_value_spec.specs.Shape.Shape, pagable_traits.specs.ReadBack.IsReadThroughout, std.specs.{Int.w64, Prelude.ℕ}}
 use Rattle.pagable_nodes.specs.Spelled.{Spelled, fields, number, one, optional, text, two}
 
 -- the fields in their order, the first and the pair of the others

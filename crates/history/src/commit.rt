@@ -6,10 +6,10 @@ ghost use Rattle.pagable_nodes.specs.Nodes.{one_held, zero_is_small};
 
 use pagable_core::Sha256Key;
 use pagable_flavors::Error;
-use pagable_nodes::{NodeValue, OneNode, write_listed};
+use pagable_nodes::{NodeValue, OneNode, write_with_refs};
 use pagable_traits::{
-    ArcRef, Canonical, Carried, Env, OfKind, OfNode, OneMeaning, PagableDeserialize,
-    PagableDeserializer, PagableSerialize, PagableSerializer, Refers, references_of,
+    ArcRef, Canonical, Carried, Env, OfNode, OneMeaning, PagableDeserialize, PagableDeserializer,
+    PagableSerialize, PagableSerializer, RawRef, Refers, references_of,
 };
 use std::alloc::Global;
 use std::sync::Arc;
@@ -27,7 +27,7 @@ impl Env for History {
 
     type CtxValue = ();
 
-    ghost use Rattle.pagable_model.specs.Shape.{nothing};
+    ghost use Rattle.pagable_value_spec.specs.Shape.{nothing};
 
     ghost parts = { λ e number. nothing };
 }
@@ -38,8 +38,8 @@ pub struct Commit {
     /// When it was made, in seconds since 1970.
     pub time: u64,
     pub message: String,
-    pub parent: Option<OfKind<1>>,
-    pub merged: Option<OfKind<1>>,
+    pub parent: Option<RawRef<1>>,
+    pub merged: Option<RawRef<1>>,
 }
 
 impl<E: Env> Carried<E> for Commit {
@@ -100,7 +100,7 @@ impl<E: Env> NodeValue<E> for Commit {
     }
 
     fn write<S: PagableSerializer<E>>(&self, serializer: &mut S) -> Result<(), Error> {
-        write_listed(self, serializer)
+        write_with_refs(self, serializer)
     }
 
     fn read<D: PagableDeserializer<E>>(

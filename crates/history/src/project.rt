@@ -7,10 +7,10 @@ ghost use Rattle.pagable_nodes.specs.Nodes.{first_held, second_held, third_held,
 use crate::commit::Commit;
 use pagable_core::Sha256Key;
 use pagable_flavors::Error;
-use pagable_nodes::{EitherNode, NodeValue, OneNode, write_listed};
+use pagable_nodes::{EitherNode, NodeValue, OneNode, write_with_refs};
 use pagable_traits::{
-    ArcRef, Canonical, Carried, Env, OfKind, OfNode, OneMeaning, PagableDeserialize,
-    PagableDeserializer, PagableSerialize, PagableSerializer, Refers, references_of,
+    ArcRef, Canonical, Carried, Env, OfNode, OneMeaning, PagableDeserialize, PagableDeserializer,
+    PagableSerialize, PagableSerializer, RawRef, Refers, references_of,
 };
 use std::alloc::Global;
 use std::sync::Arc;
@@ -28,7 +28,7 @@ impl Env for Project {
 
     type CtxValue = ();
 
-    ghost use Rattle.pagable_model.specs.Shape.{nothing};
+    ghost use Rattle.pagable_value_spec.specs.Shape.{nothing};
 
     ghost parts = { λ e number. nothing };
 }
@@ -40,8 +40,8 @@ pub type ProjectNode = EitherNode<Commit, Folder, File>;
 #[derive(Drop)]
 pub struct Folder {
     pub name: String,
-    pub since: OfKind<1>,
-    pub files: Vec<OfKind<7>>,
+    pub since: RawRef<1>,
+    pub files: Vec<RawRef<7>>,
 }
 
 impl<E: Env> Carried<E> for Folder {
@@ -95,7 +95,7 @@ impl<E: Env> NodeValue<E> for Folder {
     }
 
     fn write<S: PagableSerializer<E>>(&self, serializer: &mut S) -> Result<(), Error> {
-        write_listed(self, serializer)
+        write_with_refs(self, serializer)
     }
 
     fn read<D: PagableDeserializer<E>>(
@@ -111,7 +111,7 @@ impl<E: Env> NodeValue<E> for Folder {
 pub struct File {
     pub length: u64,
     pub text: String,
-    pub folder: Option<OfKind<4>>,
+    pub folder: Option<RawRef<4>>,
 }
 
 impl<E: Env> Carried<E> for File {
@@ -169,7 +169,7 @@ impl<E: Env> NodeValue<E> for File {
     }
 
     fn write<S: PagableSerializer<E>>(&self, serializer: &mut S) -> Result<(), Error> {
-        write_listed(self, serializer)
+        write_with_refs(self, serializer)
     }
 
     fn read<D: PagableDeserializer<E>>(alloc: Global, deserializer: &mut D) -> Result<File, Error> {

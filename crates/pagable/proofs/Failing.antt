@@ -1,6 +1,6 @@
 -- A page-out of the list, by which no other worker fails.
-use Rattle.pagable_walk.specs.{Over.seen_as_failure, Turns.plain, declared.tasks.PageOutError.PageOutError}
-use Rattle.pagable_world.specs.{Access.{ListRun, fails, no-more, pages, skips}, Pager.PagerState, World.{Seen, Values}, declared.events.WorkerAnswer.WorkerAnswer}
+use Rattle.pagable_pageout.specs.{PageOuts.seen_as_failure, Turns.plain, declared.tasks.PageOutError.PageOutError}
+use Rattle.pagable_pager_spec.specs.{Access.{ListRun, fails, no-more, pages, skips}, Pager.PagerState, World.{Seen, Values}, declared.events.WorkerAnswer.WorkerAnswer}
 use Rattle.std.proofs.Common.{Err, IfErr, Ok, Result, refl, ℕ, ◌≡◌}
 use Rattle.pagable.specs.Paged.{IsRefusal}
 

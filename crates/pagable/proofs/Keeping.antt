@@ -1,17 +1,17 @@
 -- What a machine keeps of loads and workers stays in step with its pager, whatever event happens: by what each call, each step and each begin and end leaves, and what it leaves to others' workers.
 use Rattle.pagable.specs.Driving.{AllKept, AllOnTables, Answer, Drives, IsInStep, IsOnTable, is_done, kept_at, Forgets, Given, Holding, IsKept, IsServing, IsWalkKept, KeepsOne, Kept, Makes, holding, machine_of, plain_answer, plain_event, plainly}
-use Rattle.{pagable.specs.{Driving.{readings_in, walking_of, work_of}, declared.workers.{Held.Held, Walk.Walk}}, pagable_laws.proofs.{Called.calls-go, Effects.{Effect, Spares, listed-free}}}
-use Rattle.pagable_laws.proofs.{Effects.{then-fell, worker-apart}, Goes.{Goes, RowsGo, fell-anyhow, quiet-goes, stands-whole}, ReadingSteps.{caller-free, event-goes}, SparingSteps.event-spares}
-use Rattle.{pagable_laws.{proofs.Trees.{counted, one-true, same-number, same_some, self-number}, specs.TreeSteps.{Change, nothing_felt}}, pagable_loads.specs.{Frames.reading_of, Telling.Acting}}
-use Rattle.{pagable_loads.specs.declared.reading.Reading.Reading as Own, pagable_model.specs.declared.numbers.{ArcRef.ArcRef, HandleNumber.HandleNumber}, pagable_pager.specs.View.PagerView}
+use Rattle.{pagable.specs.{Driving.{readings_in, walking_of, work_of}, declared.workers.{Held.Held, Walk.Walk}}, pagable_theorems.proofs.{CallEffects.calls-go, Effects.{Effect, Spares, listed-free}}}
+use Rattle.pagable_theorems.proofs.{Effects.{then-fell, worker-apart}, HandlesKept.{Goes, RowsGo, fell-anyhow, quiet-goes, stands-whole}, ReadingSteps.{caller-free, event-goes}, StepBounds.event-spares}
+use Rattle.{pagable_theorems.{proofs.Trees.{counted, one-true, same-number, same_some, self-number}, specs.TreeSteps.{Change, nothing_felt}}, pagable_load.specs.{Frames.reading_of, AccessView.Acting}}
+use Rattle.{pagable_load.specs.declared.reading.Reading.Reading as Own, pagable_value_spec.specs.declared.numbers.{ArcRef.ArcRef, HandleNumber.HandleNumber}, pagable_pager.specs.View.PagerView}
 use Rattle.pagable_pager.specs.View.{Telling, core_in, state_in}
 use Rattle.pagable_tables.proofs.SameViews.{still}
-use Rattle.pagable_walk.specs.{Both.both, Turns.{IsOfKind, LeavesFit, TaskFits}}
-use Rattle.pagable_walk.specs.declared.{lent_table.LentTable.LentTable, tasks.{Task.Task, Turn.Turn}}
-use Rattle.pagable_world.specs.{Access.{Called, Told}, Calls.{CloseCall, is_listed, shut}, Cascade.fallen, Events.{CallStep, Does, Ends, Happens, ReadingsAre, Stays, WorkStays}, Kinds.is_owner}
-use Rattle.pagable_world.specs.{Kinds.owner_worker, Order.step_of, Pager.{EventBrings, EventHolds, HandlesAreWhole, IsMachineWhole, IsReadingWhole, IsWalkingWhole, IsWhole, Moves, OwnersAreThere, PagerState}}
-use Rattle.pagable_world.specs.{Pager.{ReplyWrites, WellFormed, world_of}, Plain.{SameAt, if_there, one, times, updated}, World.{Alike, Cell, Core, OpenLoad, Reading, Seen, Values, Walking, World}}
-use Rattle.{pagable_world.specs.declared.{calls.{Call.Call, Reply.Reply}, events.{Event.Event, EventReply.EventReply, WorkerAnswer.WorkerAnswer}, handles.Owner.Owner}, std.proofs.Common.{Bool, List, None}}
+use Rattle.pagable_pageout.specs.{Joint.both, Turns.{IsOfKind, LeavesFit, TaskFits}}
+use Rattle.pagable_pageout.specs.declared.{lent_table.LentTable.LentTable, tasks.{Task.Task, Turn.Turn}}
+use Rattle.pagable_pager_spec.specs.{Access.{Called, Told}, Calls.{CloseCall, is_listed, shut}, Cascade.fallen, Events.{CallStep, Does, Ends, Happens, ReadingsAre, Stays, WorkStays}, Kinds.is_owner}
+use Rattle.pagable_pager_spec.specs.{Kinds.owner_worker, Order.step_of, Pager.{EventBrings, EventHolds, HandlesAreWhole, IsMachineWhole, IsReadingWhole, IsWalkingWhole, IsWhole, Moves, OwnersAreThere, PagerState}}
+use Rattle.pagable_pager_spec.specs.{Pager.{ReplyWrites, WellFormed, world_of}, Basics.{SameAt, if_there, one, times, updated}, World.{Alike, Cell, Core, OpenLoad, Reading, Seen, Values, Walking, World}}
+use Rattle.{pagable_pager_spec.specs.declared.{calls.{Call.Call, Reply.Reply}, events.{Event.Event, EventReply.EventReply, WorkerAnswer.WorkerAnswer}, handle_row.Owner.Owner}, std.proofs.Common.{Bool, List, None}}
 use Rattle.std.proofs.Common.{Option, Some, [], ap, arith, false, inl, inr, length, refl, rules, subst, sym, true, ℕ, ◌<◌, ◌==◌, ◌∙◌, ◌≡◌, ◌≢◌, ◌≤◌, ◌⊎◌}
 use Rattle.std.{proofs.lemmas.{Bool.{Decides.nat_tests, false_from_ne_true}, Grind.common_steps}, specs.{Option.option_map, Prelude.{IsTrue, Result, if◌then◌else◌, is_some}}}
 use Rattle.pagable_codec.specs.declared.{env.Env.Ghosts as Environments, hash.KeyHash.Ghosts as Hashes, nodes.NodeSet.Ghosts as Nodes}

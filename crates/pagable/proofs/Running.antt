@@ -3,18 +3,18 @@ use Rattle.{pagable.proofs.Keeping.{Leaves, are-these, as-before, at-one, end-le
 use Rattle.{pagable.specs.Driving.{Answer, Drives, plain_answer, plain_event, plain_moved, plainly, readings_in, shelf_at, table_view, view_of, walking_of}, std.specs.Map.lookup}
 use Rattle.pagable.specs.Driving.{Given, Holding, IsInStep, IsServing, IsWalkKept, KeepsOne, MachineView, Makes, Runs, WalksOn, claims_at, claims_of, holding, machine_in, machine_of}
 use Rattle.{pagable.specs.declared.workers.{Held.Held, Walk.Walk}, pagable_core.specs.declared.{context.writing.SerializedData.SerializedData, storage.data.PagableData.PagableData}}
-use Rattle.{pagable_laws.proofs.{Chains.headline_law, Effects.owned-mine, Goes.updated-at, ReadingSteps.{FrontMine, walk-goes}, Trees.{chains_join, same-number}}, std.specs.Option.option_map}
-use Rattle.{pagable_model.specs.declared.numbers.WorkerNumber.WorkerNumber, pagable_pager.specs.View.{PagerView, Telling, state_in}, pagable_walk.specs.{Slots.{is_same, slot_of}, Table.shelf_of}}
-use Rattle.pagable_walk.specs.{Tasks.{IsWay, todo_of, todos}, Turns.{LeavesFit, Stepped, TaskFits, answer_in, plain, plain_took, plan}}
-use Rattle.{pagable_walk.specs.declared.{lent_table.LentTable.LentTable, tasks.{Task.Task, Turn.Turn}}, pagable_world.specs.{Events.{Ends, Happens, WorkerSteps, no_shelf, steps_after}, Kinds.{is_owner, owner_worker}}}
-use Rattle.pagable_world.specs.{Pager.{MachineState, PagerState, TodoBrings, WellFormed, world_of}, Plain.{if_there, updated}, Runs.{AreMoments, Does, HasRun, Moment, state_after}}
-use Rattle.pagable_world.specs.{Workers.{Site, answer_after, is_counted}, World.{Core, SameShelf, Seen, Shelf, Todo, Values, Written}, declared.events.{Event.Event, EventReply.EventReply, Took.Took}}
-use Rattle.{pagable_world.specs.declared.events.{WorkerAnswer.WorkerAnswer, WorkerReply.WorkerReply}, std.proofs.Common.{Bool, List, None, Ok, Option, Some, [], ap, arith, false, if◌then◌else◌, inl}}
+use Rattle.{pagable_theorems.proofs.{Chains.headline_law, Effects.owned-mine, HandlesKept.updated-at, ReadingSteps.{FrontMine, walk-goes}, Trees.{chains_join, same-number}}, std.specs.Option.option_map}
+use Rattle.{pagable_value_spec.specs.declared.numbers.WorkerNumber.WorkerNumber, pagable_pager.specs.View.{PagerView, Telling, state_in}, pagable_pageout.specs.{Slots.{is_same, slot_of}, Table.shelf_of}}
+use Rattle.pagable_pageout.specs.{Tasks.{IsWay, todo_of, todos}, Turns.{LeavesFit, Stepped, TaskFits, answer_in, plain, plain_took, plan}}
+use Rattle.{pagable_pageout.specs.declared.{lent_table.LentTable.LentTable, tasks.{Task.Task, Turn.Turn}}, pagable_pager_spec.specs.{Events.{Ends, Happens, WorkerSteps, no_shelf, steps_after}, Kinds.{is_owner, owner_worker}}}
+use Rattle.pagable_pager_spec.specs.{Pager.{MachineState, PagerState, TodoBrings, WellFormed, world_of}, Basics.{if_there, updated}, Runs.{AreMoments, Does, HasRun, Moment, state_after}}
+use Rattle.pagable_pager_spec.specs.{Workers.{Site, answer_after, is_counted}, World.{Core, SameShelf, Seen, Shelf, Todo, Values, Written}, declared.events.{Event.Event, EventReply.EventReply, Action.Action}}
+use Rattle.{pagable_pager_spec.specs.declared.events.{WorkerAnswer.WorkerAnswer, WorkerReply.WorkerReply}, std.proofs.Common.{Bool, List, None, Ok, Option, Some, [], ap, arith, false, if◌then◌else◌, inl}}
 use Rattle.std.proofs.{Common.{inr, length, map, refl, rules, subst, suc, sym, true, zero, ℕ, ◌++◌, ◌==◌, ◌∙◌, ◌∷◌, ◌≡◌, ◌≢◌, ◌≤◌}, Math.{ListN.set, Path.fun_ext}, lemmas.Bool.Decides.nat_tests}
 use Rattle.std.proofs.lemmas.{Grind.common_steps, List.{append-nil, append_assoc, get_or-set_other, get_or-set_same, length-map, length-set, map-append, nil_from_length}, Map.Made.lookup-map_values}
 use Rattle.std.proofs.lemmas.Option.{slice_get-map, slice_get_cases, slice_get_past, slice_get_read, slice_get_within}
 use Rattle.std.specs.{Prelude.{IsTrue, is_none, is_some, nat_eq}, declared.{alloc.Global.Global, sync.Arc.Arc}}
-use Rattle.pagable_world.specs.Workers as workers
+use Rattle.pagable_pager_spec.specs.Workers as workers
 use Rattle.pagable_codec.specs.declared.{env.Env.Ghosts as Environments, hash.KeyHash.Ghosts as Hashes, nodes.NodeSet.Ghosts as Nodes}
 use Rattle.std.specs.declared.cmp.{Ord.Ghosts as Orders, PartialEq.Ghosts as Equalities, PartialOrd.Ghosts as PartialOrders}
 
@@ -24,7 +24,7 @@ set-at : {Y : Type 0} (xs : List Y) (place q : ℕ) (x y : Y) → slice_get xs p
 set-at xs place q x y is = grind (arith, nat_tests, get_or-set_other, get_or-set_same, length-set, set, slice_get_cases, slice_get_past, slice_get_read, slice_get_within)
 
 -- a worker's step sees no blob
-as-does : {N : Type 0} (v : Values N) (n : ℕ) (s s' : Site) (todo : List Todo) (step : Took Written) → workers.Does (plain v) n s todo step s' → workers.Does (plainly v) n s todo step s'
+as-does : {N : Type 0} (v : Values N) (n : ℕ) (s s' : Site) (todo : List Todo) (step : Action Written) → workers.Does (plain v) n s todo step s' → workers.Does (plainly v) n s todo step s'
 as-does v n s s' todo step d = grind (arith, nat_tests)
 
 -- the load that it goes on with is its own
@@ -57,14 +57,14 @@ module _ {X XN XH XK XV : Type 0} {g : Environments X XN XH XK XV} {gh : Hashes 
   abbrev turn : Turn X XN XH XK XV g gh go gq gp gn
   turn = on.moved.turn
 
-  abbrev step : Took Written
-  step = plain_took on.moved.took
+  abbrev step : Action Written
+  step = plain_took on.moved.action
 
   abbrev todo : List Todo
   todo = todo_of on.task ∷ todos k.path.items
 
   abbrev told : WorkerReply Written
-  told = record { took = step; answer = answer_in turn; steps = k'.steps }
+  told = record { action = step; answer = answer_in turn; steps = k'.steps }
 
   mine : IsWalkKept s.core (length h.tables) n.0 k
   mine = serving.walks n.0 k kept

@@ -1,8 +1,8 @@
 -- What calls on one cell do that are made of a few of the pager's own.
 use Rattle.std.specs.Prelude.{Bool, Err, IfErr, IfOk, None, Ok, Option, Result, Some, is_some, ℕ, ◌≡◌}
-use Rattle.{either.specs.declared.Either.Either, pagable_model.specs.Stored.RefusesFetch, pagable_pager.specs.View.{Calls, OnlyLess, OnlyTables, PagerView, Telling, core_in, state_in}}
-use Rattle.pagable_world.specs.{Access.PinsOver, Calls.{Asked, AwayBirthCall, BirthCall, CloneCall, RecallCall, ReleaseCall, UnpinCall}, Pager.{IsNewNode, Moves, ValueCall}}
-use Rattle.pagable_world.specs.{Plain.{Error, HandleNumber, Kind}, World.{Core, Values}, declared.{handles.Owner.Owner, rows.Mode.Mode}}
+use Rattle.{either.specs.declared.Either.Either, pagable_value_spec.specs.Stored.RefusesFetch, pagable_pager.specs.View.{Calls, OnlyLess, OnlyTables, PagerView, Telling, core_in, state_in}}
+use Rattle.pagable_pager_spec.specs.{Access.PinsOver, Calls.{Asked, AwayBirthCall, BirthCall, CloneCall, RecallCall, ReleaseCall, UnpinCall}, Pager.{IsNewNode, Moves, ValueCall}}
+use Rattle.pagable_pager_spec.specs.{Basics.{Error, HandleNumber, Kind}, World.{Core, Values}, declared.{handle_row.Owner.Owner, mode.Mode.Mode}}
 
 -- the storage was asked whether it has a blob under the key
 pub record AsksWhether (w : Core) (key : ℕ) (r : Result Bool Error) (w' : Core) : Type 0 where

@@ -1,17 +1,17 @@
 -- What a machine keeps of loads, tables and workers, as the plain world knows it, and when it is in step with its pager; what its calls, events and runs are.
 use Rattle.std.specs.{Arc.arc_value, HashMap.{HashMap, get}, Map.lookup, Option.option_map, Prelude.{Bool, List, None, Option, Some, is_none, is_some, length, map, nat_eq, set, slice_get, suc}}
 use Rattle.std.specs.{Prelude.{IsTrue, true, zero, ℕ, ◌++◌, ◌<◌, ◌≡◌, ◌≢◌, ◌≤◌, ◌⊎◌}, declared.{alloc.Global.Global, hash.{BuildHasherDefault.BuildHasherDefault, FoldHasher.FoldHasher}, sync.Arc.Arc}}
-use Rattle.{pagable.specs.declared.workers.{Begun.Begun, Held.Held, Walk.Walk}, pagable_core.specs.Data.blob_of, pagable_loads.specs.{Frames.{IsLoadOf, is_cell, reading_of}, Stepping.IsSameLoad}}
-use Rattle.{pagable_core.specs.declared.{context.writing.SerializedData.SerializedData, storage.data.PagableData.PagableData}, pagable_world.specs.declared.handles.Owner.Owner}
-use Rattle.{pagable_loads.specs.declared.reading.Reading.Reading as Own, pagable_model.specs.declared.numbers.LoadNumber.LoadNumber, pagable_pager.specs.View.{PagerView, Telling, core_in, state_in}}
-use Rattle.pagable_walk.specs.{Slots.{is_same, slot_of, written_of}, Table.shelf_of, Tasks.{IsPlain, IsWay, todos}, Turns.{LeavesFit, StepsTo, answer_in, plain_took, plan}}
-use Rattle.pagable_walk.specs.declared.{lent_table.LentTable.LentTable, tasks.{Moved.Moved, Task.Task, Turn.Turn}}
-use Rattle.pagable_world.specs.{Access.ReadingStep, declared.events.{Event.Event, EventReply.EventReply, LoadAnswer.LoadAnswer, LoadReply.LoadReply, TableNumber.TableNumber, WorkerReply.WorkerReply}}
-use Rattle.pagable_world.specs.{Events.{CallStep, new_walking, no_shelf, steps_after}, Headline.Headline, Kinds.{identity_of, owner_worker}}
-use Rattle.pagable_world.specs.Pager.{CallBrings, FitsRoot, IsIdle, IsMachineWhole, MachineState}
-use Rattle.pagable_world.specs.{Pager.{Moves, PagerState}, Plain.{Identity, if_there}, Runs.{AreMoments, Does, HasRun, Moment, state_after}, Workers.fresh, World.{Core, OpenLoad, Seen}}
-use Rattle.pagable_world.specs.{World.{Reading, Shelf, Slot, Values, Walking, Work, Written, of_entry, of_item, one_more, seen_as}, declared.calls.{Call.Call, Found.Found, Reply.Reply}}
-use Rattle.pagable_world.specs.World as world
+use Rattle.{pagable.specs.declared.workers.{Begun.Begun, Held.Held, Walk.Walk}, pagable_core.specs.Data.blob_of, pagable_load.specs.{Frames.{IsLoadOf, is_cell, reading_of}, LoadSteps.IsSameLoad}}
+use Rattle.{pagable_core.specs.declared.{context.writing.SerializedData.SerializedData, storage.data.PagableData.PagableData}, pagable_pager_spec.specs.declared.handle_row.Owner.Owner}
+use Rattle.{pagable_load.specs.declared.reading.Reading.Reading as Own, pagable_value_spec.specs.declared.numbers.LoadNumber.LoadNumber, pagable_pager.specs.View.{PagerView, Telling, core_in, state_in}}
+use Rattle.pagable_pageout.specs.{Slots.{is_same, slot_of, written_of}, Table.shelf_of, Tasks.{IsPlain, IsWay, todos}, Turns.{LeavesFit, StepsTo, answer_in, plain_took, plan}}
+use Rattle.pagable_pageout.specs.declared.{lent_table.LentTable.LentTable, tasks.{StepResult.StepResult, Task.Task, Turn.Turn}}
+use Rattle.pagable_pager_spec.specs.{Access.ReadingStep, declared.events.{Event.Event, EventReply.EventReply, LoadAnswer.LoadAnswer, LoadReply.LoadReply, TableNumber.TableNumber, WorkerReply.WorkerReply}}
+use Rattle.pagable_pager_spec.specs.{Events.{CallStep, new_walking, no_shelf, steps_after}, Rightness.Headline, Kinds.{identity_of, owner_worker}}
+use Rattle.pagable_pager_spec.specs.Pager.{CallBrings, FitsRoot, IsIdle, IsMachineWhole, MachineState}
+use Rattle.pagable_pager_spec.specs.{Pager.{Moves, PagerState}, Basics.{Identity, if_there}, Runs.{AreMoments, Does, HasRun, Moment, state_after}, Workers.fresh, World.{Core, OpenLoad, Seen}}
+use Rattle.pagable_pager_spec.specs.{World.{Reading, Shelf, Slot, Values, Walking, Work, Written, of_entry, of_item, one_more, seen_as}, declared.calls.{Call.Call, Found.Found, Reply.Reply}}
+use Rattle.pagable_pager_spec.specs.World as world
 use Rattle.pagable_codec.specs.declared.{env.Env.Ghosts as Environments, hash.KeyHash.Ghosts as Hashes, nodes.NodeSet.Ghosts as Nodes}
 use Rattle.std.specs.declared.cmp.{Ord.Ghosts as Orders, PartialEq.Ghosts as Equalities, PartialOrd.Ghosts as PartialOrders}
 
@@ -46,7 +46,7 @@ module _ {X XN XH XK XV : Type 0} {g : Environments X XN XH XK XV} {gh : Hashes 
     pub plain : (x : Task X XN XH XK XV g gh go gq gp gn) → k.turn ≡ Turn.Goes x → IsPlain x
 
   -- the worker after a step
-  pub record IsAfter (k : Walk X XN XH XK XV g gh go gq gp gn) (moved : Moved X XN XH XK XV g gh go gq gp gn) (k' : Walk X XN XH XK XV g gh go gq gp gn) : Type 0 where
+  pub record IsAfter (k : Walk X XN XH XK XV g gh go gq gp gn) (moved : StepResult X XN XH XK XV g gh go gq gp gn) (k' : Walk X XN XH XK XV g gh go gq gp gn) : Type 0 where
     pub table : k'.table ≡ k.table
     pub begun : k'.begun ≡ k.begun
     pub steps : k'.steps ≡ steps_after k.steps moved.counted
@@ -59,7 +59,7 @@ module _ {X XN XH XK XV : Type 0} {g : Environments X XN XH XK XV} {gh : Hashes 
     pub task : Task X XN XH XK XV g gh go gq gp gn
     pub table : LentTable X XN XH XK XV g gh go gq gp gn
     pub table' : LentTable X XN XH XK XV g gh go gq gp gn
-    pub moved : Moved X XN XH XK XV g gh go gq gp gn
+    pub moved : StepResult X XN XH XK XV g gh go gq gp gn
     pub place : ℕ
     pub had : k.turn ≡ Turn.Goes task
     pub on : k.table ≡ suc place
@@ -68,7 +68,7 @@ module _ {X XN XH XK XV : Type 0} {g : Environments X XN XH XK XV} {gh : Hashes 
     pub steps : StepsTo v (owner_worker n) n (shelf_of table) task (todos k.path.items) (shelf_of table') moved (plan moved.turn k'.path.items) s s'
     pub way : IsWay (plan moved.turn k'.path.items)
     pub after : IsAfter k moved k'
-    pub replies : reply ≡ record { took = moved.took; answer = answer_in moved.turn; steps = k'.steps }
+    pub replies : reply ≡ record { action = moved.action; answer = answer_in moved.turn; steps = k'.steps }
 
   -- there is such a table
   abbrev pub IsIn : ℕ → List (LentTable X XN XH XK XV g gh go gq gp gn) → Type 0
@@ -186,7 +186,7 @@ plain_reply (Reply.Away r) = Reply.Away r
 plain_reply (Reply.Node r) = Reply.Node r
 plain_reply (Reply.NodeType t) = Reply.NodeType t
 plain_reply (Reply.Length n) = Reply.Length n
-plain_reply (Reply.Taken h) = Reply.Taken h
+plain_reply (Reply.PinnedOrLoading h) = Reply.PinnedOrLoading h
 plain_reply (Reply.FromCache r) = Reply.FromCache r
 plain_reply (Reply.Fetched r) = Reply.Fetched (seen_as arc_value r)
 plain_reply (Reply.Stored r) = Reply.Stored r
@@ -206,7 +206,7 @@ plain_event (Event.WorkerListed t i) = Event.WorkerListed t i
 plain_event (Event.WorkerStep v) = Event.WorkerStep v
 
 abbrev pub plain_moved : WorkerReply (Arc SerializedData Global) → WorkerReply Written
-plain_moved r = record { took = plain_took r.took; answer = r.answer; steps = r.steps }
+plain_moved r = record { action = plain_took r.action; answer = r.answer; steps = r.steps }
 
 abbrev pub plain_answer : {N : Type 0} → EventReply N (Arc PagableData Global) (Arc SerializedData Global) → EventReply N PagableData Written
 plain_answer (EventReply.CallReply r) = EventReply.CallReply (plain_reply r)

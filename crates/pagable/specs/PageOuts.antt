@@ -1,8 +1,8 @@
 -- The page-out of one cell: the calls by which a clone of its handle is listed, and the page-out of that entry.
 use Rattle.std.specs.Prelude.{Err, None, Ok, Option, Result, Some, length, ℕ, ◌+◌, ◌≡◌}
 use Rattle.{pagable.specs.Cells.{Releases, Unpins}, pagable_pager.specs.View.{Calls, OnlyLess, OnlyTables, PagerView, Telling, core_in, state_in}}
-use Rattle.pagable_walk.specs.{Over.PagesEntryIfThere, declared.tasks.PageOutError.PageOutError}
-use Rattle.pagable_world.specs.{Calls.{CloneCall, KeyCall, LoosenCall, ScheduleCall}, Pager.PagerState, Plain.{Error, HandleNumber, OptionalDataKey}, World.Values, declared.handles.Owner.Owner}
+use Rattle.pagable_pageout.specs.{PageOuts.PagesEntryIfThere, declared.tasks.PageOutError.PageOutError}
+use Rattle.pagable_pager_spec.specs.{Calls.{CloneCall, KeyCall, LoosenCall, ScheduleCall}, Pager.PagerState, Basics.{Error, HandleNumber, OptionalDataKey}, World.Values, declared.handle_row.Owner.Owner}
 
 -- the last entry of the list is paged out, if there is one
 pub data PagesLastEntry {N E : Type 0} (v : Values N) (s : PagerState N E) : Result (Option ℕ) PageOutError → PagerState N E → Type 0 where

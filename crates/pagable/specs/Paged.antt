@@ -1,8 +1,8 @@
 -- What a page-out over a lent pager answers, and what it leaves; and what is read of a key as a value of a type of the caller's.
 use Rattle.std.specs.Prelude.{Err, None, Ok, Option, Result, Some, length, ℕ, ◌≡◌, ◌⊎◌}
-use Rattle.{pagable_model.specs.declared.error.Error.Error, pagable_walk.specs.{Over.seen_as_failure, Turns.plain, declared.tasks.PageOutError.PageOutError}}
-use Rattle.pagable_world.specs.{Access.{AllHaveResults, ListRun, PagesOutItemOver, ReadsOver}, Pager.PagerState, World.{Shelf, Values, Written}, declared.events.WorkerAnswer.WorkerAnswer}
-use Rattle.pagable_model.specs.declared.error.Error.TheVariants as errors
+use Rattle.{pagable_value_spec.specs.declared.error.Error.Error, pagable_pageout.specs.{PageOuts.seen_as_failure, Turns.plain, declared.tasks.PageOutError.PageOutError}}
+use Rattle.pagable_pager_spec.specs.{Access.{AllHaveResults, ListRun, PagesOutItemOver, ReadsOver}, Pager.PagerState, World.{Shelf, Values, Written}, declared.events.WorkerAnswer.WorkerAnswer}
+use Rattle.pagable_value_spec.specs.declared.error.Error.TheVariants as errors
 
 -- an item, on a table of which each claim has a result
 pub record PagesOutItem {N E : Type 0} (v : Values N) (s : PagerState N E) (shelf : Shelf) (item : Written) (answer : WorkerAnswer) (s' : PagerState N E) (shelf' : Shelf) : Type 0 where

@@ -1,6 +1,6 @@
 -- Typed references of handles, and why a handle has none.
 use Rattle.std.specs.Prelude.{None, Ok, Option, Some, ℕ, ◌≡◌, ◌≢◌, ◌⊎◌}
-use Rattle.pagable_world.specs.{Pager.{PagerState, ValueCall}, Plain.{ArcRef, Error, HandleNumber, NodeNumber}, World.{Core, row_at, type_at}, declared.handles.HandleRow.HandleRow}
+use Rattle.pagable_pager_spec.specs.{Pager.{PagerState, ValueCall}, Basics.{ArcRef, Error, HandleNumber, NodeNumber}, World.{Core, row_at, type_at}, declared.handle_row.HandleRow.HandleRow}
 
 -- the handle is live, and its node is this one and of this type
 pub record IsAt (w : Core) (h : HandleNumber) (t : ℕ) (node : NodeNumber) : Type 0 where

@@ -1,15 +1,15 @@
 //! The page-out of one cell of a lent pager.
 
 ghost use Rattle.std.specs.Prelude.{IsTrue, ◌≡◌};
-ghost use Rattle.{pagable.specs.PageOuts.{ListsClone, PagesLast, PagesLastEntry, PagesOutCell, PagesOutClone}, pagable_loads.specs.Telling.values_at, pagable_pager.specs.View.{state_in, telling}};
-ghost use Rattle.pagable_walk.specs.Over.{PagesEntryIfThere};
-ghost use Rattle.pagable_world.specs.declared.handles.Owner.TheVariants as owners;
+ghost use Rattle.{pagable.specs.PageOuts.{ListsClone, PagesLast, PagesLastEntry, PagesOutCell, PagesOutClone}, pagable_load.specs.AccessView.values_at, pagable_pager.specs.View.{state_in, telling}};
+ghost use Rattle.pagable_pageout.specs.PageOuts.{PagesEntryIfThere};
+ghost use Rattle.pagable_pager_spec.specs.declared.handle_row.Owner.TheVariants as owners;
 
 use pagable_codec::{Env, NodeSet};
 use pagable_core::PagableStorage;
-use pagable_model::{DataKey, Error, HandleNumber, OptionalDataKey};
+use pagable_pageout::{LentTable, PageOutError, page_out_entry};
 use pagable_pager::{Lent, Pager};
-use pagable_walk::{LentTable, PageOutError, page_out_entry};
+use pagable_value_spec::{DataKey, Error, HandleNumber, OptionalDataKey};
 use std::alloc::Global;
 
 fn entry_by<'a, E: Env<Node: NodeSet<E>>, S: PagableStorage<E>>(

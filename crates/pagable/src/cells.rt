@@ -1,18 +1,18 @@
 //! Calls on one cell of a lent pager, each made of a few of the pager's own.
 
 ghost use Rattle.std.specs.{Arc.arc_value, Fn.FnOnceReturnsAt, Prelude.{IfErr, IfOk, IsTrue, None, ◌≡◌}};
-ghost use Rattle.{pagable.specs.Cells.{AsksWhether, Follows, InsertsCell, Looks, LooksByPin, OpensCell}, pagable_loads.specs.Telling.values_at};
-ghost use Rattle.{pagable_model.specs.Stored.RefusesFetch, pagable_pager.specs.View.{AsksStorage, core_in, state_in, telling}};
+ghost use Rattle.{pagable.specs.Cells.{AsksWhether, Follows, InsertsCell, Looks, LooksByPin, OpensCell}, pagable_load.specs.AccessView.values_at};
+ghost use Rattle.{pagable_value_spec.specs.Stored.RefusesFetch, pagable_pager.specs.View.{AsksStorage, core_in, state_in, telling}};
 ghost use Rattle.pagable_traits.specs.References.{loose_kind};
-ghost use Rattle.pagable_world.specs.World.{seen_as};
+ghost use Rattle.pagable_pager_spec.specs.World.{seen_as};
 
 use crate::paging::pin;
 use either::Either;
 use pagable_codec::{Env, NodeSet, OfNode};
 use pagable_core::PagableStorage;
-use pagable_model::{DataKey, Error, HandleNumber};
 use pagable_pager::Pager;
 use pagable_traits::{ArcErase, PagableArc};
+use pagable_value_spec::{DataKey, Error, HandleNumber};
 use std::alloc::Global;
 use std::sync::Arc;
 

@@ -2,18 +2,18 @@
 
 ghost use Rattle.std.specs.{Arc.arc_value, Prelude.{IfErr, IsTrue, None, OnOk, false, is_none, true, ◌*◌, ◌≡◌}};
 ghost use Rattle.pagable.specs.Driving.{Drives, Forgets, IsInStep, IsPrepared, KeepsOne, Serves, Stepped, kept_at, plain_found, rest_after};
-ghost use Rattle.{pagable_core.specs.Data.blob_of, pagable_loads.specs.Telling.values_at, pagable_pager.specs.View.{core_in, given_as, state_in, telling}};
-ghost use Rattle.pagable_world.specs.{Events.given_of, World.seen_as, declared.handles.Owner.Owner};
+ghost use Rattle.{pagable_core.specs.Data.blob_of, pagable_load.specs.AccessView.values_at, pagable_pager.specs.View.{core_in, given_as, state_in, telling}};
+ghost use Rattle.pagable_pager_spec.specs.{Events.given_of, World.seen_as, declared.handle_row.Owner.Owner};
 
 use crate::workers::{Held, put, table_new, worker_item, worker_listed, worker_step};
 use either::Either;
 use indexmap::IndexMap;
 use pagable_codec::{Env, NodeSet};
 use pagable_core::{PagableData, PagableStorage, SerializedData};
-use pagable_loads::Reading;
-use pagable_model::{DataKey, Error, HandleNumber, LoadNumber};
+use pagable_load::Reading;
 use pagable_pager::{Lent, Pager};
-use pagable_world::{Beginning, Call, Event, EventReply, Found, LoadAnswer, LoadReply, Reply};
+use pagable_pager_spec::{Beginning, Call, Event, EventReply, Found, LoadAnswer, LoadReply, Reply};
+use pagable_value_spec::{DataKey, Error, HandleNumber, LoadNumber};
 use std::alloc::Global;
 use std::sync::Arc;
 
@@ -57,7 +57,7 @@ fn make_call<E: Env<Node: NodeSet<E>>, S: PagableStorage<E>>(
         Call::NodeLive(node) => Reply::NodeType(pager.node_live(node)),
         Call::ScheduleForPaging(handle) => Reply::Done(pager.schedule_for_paging(handle)),
         Call::Pending => Reply::Length(pager.pending() as u64),
-        Call::TakePending(place) => Reply::Taken(pager.take_pending(place as usize)),
+        Call::TakePending(place) => Reply::PinnedOrLoading(pager.take_pending(place as usize)),
         Call::CacheGet(kind, key) => Reply::FromCache(pager.cache_get(kind, key)),
         Call::OnArcDeserialized(kind, key, handle) => {
             Reply::FromCache(pager.on_arc_deserialized(kind, key, handle))

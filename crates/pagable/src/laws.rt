@@ -1,7 +1,7 @@
 //! What the laws of the definitions give for carried types, and what is always so of blobs in memory, as contracts of functions that do nothing.
 
 ghost use Rattle.std.specs.Prelude.{IsTrue};
-ghost use Rattle.{pagable_laws.specs.FormLaws.{IsReadAgain, IsPrefixFree}, pagable_traits.specs.ReadBack.IsReadThroughout};
+ghost use Rattle.{pagable_theorems.specs.FormLaws.{IsReadAgain, IsPrefixFree}, pagable_traits.specs.ReadBack.IsReadThroughout};
 
 use pagable_core::{InMemoryBlobs, PagableStorage};
 use pagable_traits::{Carried, Env};
@@ -10,7 +10,7 @@ use pagable_traits::{Carried, Env};
 /// like say of each type that is read: whatever follows a form, reading gives what was written and leaves what follows, and
 /// no form of one meaning begins a form of another. So where a value of the type is read from a form of another, by the
 /// contract of `pagable_deserialize`, it means the same.
-#[tactic(auto, using(pagable_laws::proofs::Again::read_again, pagable_laws::proofs::Again::prefix_free))]
+#[tactic(auto, using(pagable_theorems::proofs::RoundTrip::read_again, pagable_theorems::proofs::RoundTrip::prefix_free))]
 pub fn forms_are_read_again<A, B, E: Env, T: Carried<E>>()
     ensures again { (e : E) → IsReadThroughout (E.parts e) (T.shape e) → IsReadAgain A B (E.parts e) (T.shape e) }
     ensures prefix_free { (e : E) → IsReadThroughout (E.parts e) (T.shape e) → IsPrefixFree A (E.parts e) (T.shape e) }

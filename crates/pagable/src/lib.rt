@@ -16,11 +16,11 @@ mod workers;
 
 /// The numbers of cells and handles, the references that values hold, and what the sorts of these have in common.
 pub mod arc_erase {
-    pub use pagable_model::{ArcRef, HandleNumber, Identity, Kind, NodeNumber};
     pub use pagable_traits::{
-        ArcErase, ArcEraseType, OfKind, Refers, StdArcEraseType, deserialize_arc, read_reference,
+        ArcErase, ArcEraseType, RawRef, Refers, StdArcEraseType, deserialize_arc, read_reference,
         references_of, write_reference,
     };
+    pub use pagable_value_spec::{ArcRef, HandleNumber, Identity, Kind, NodeNumber};
 }
 
 /// The forms in which values are written and read, with what they refer to, and the keys of blobs.
@@ -48,24 +48,24 @@ pub mod impls {
 /// The pager, the machine that takes lists of events, and the references to shared values.
 pub mod pagable_arc {
     pub use crate::machine::Machine;
-    pub use pagable_model::{LoadNumber, WorkerNumber};
     pub use pagable_pager::{ArcCell, DeserializedArcCache, Pager};
+    pub use pagable_pager_spec::handle_row::Owner;
+    pub use pagable_pager_spec::{
+        Action, Beginning, Call, Claim, Event, EventReply, Found, LoadAnswer, LoadReply, Mode,
+        PinStep, Pinning, Reply, TableNumber, Want, WorkerAnswer, WorkerReply,
+    };
     pub use pagable_traits::{
         Arc, FirstHandle, HoldingArc, NewPin, PagableArc, PinFuture, PinStage, PinnedPagableArc,
         PinnedPagableArcBorrow,
     };
-    pub use pagable_world::handles::Owner;
-    pub use pagable_world::{
-        Beginning, Call, Claim, Event, EventReply, Found, LoadAnswer, LoadReply, Mode, PinStep,
-        Pinning, Reply, TableNumber, Took, Want, WorkerAnswer, WorkerReply,
-    };
+    pub use pagable_value_spec::{LoadNumber, WorkerNumber};
 }
 
 /// Nodes of environments of one value type or three, an environment of records, and values without references as bytes.
 pub mod nodes {
     pub use pagable_nodes::bytes::{from_bytes, to_bytes};
     pub use pagable_nodes::{
-        EitherNode, OneNode, Record, RecordNode, RecordRef, Records, write_listed,
+        EitherNode, OneNode, Record, RecordNode, RecordRef, Records, write_with_refs,
     };
 }
 
@@ -104,28 +104,28 @@ pub mod storage {
     /// and what goes over any of them; what is known of the nodes that items refer to, and why a page-out fails.
     pub mod traits {
         pub use pagable_core::{PagableStorage, Roots, Setting};
-        pub use pagable_loads::{Access, WorkerAccess, pin_over, read_over};
+        pub use pagable_load::{Access, WorkerAccess, pin_over, read_over};
         pub use pagable_locked::{
             ArcSerSlot, ClaimShare, Gate, Locked, NoGate, PageOutReport, SharedClaims, SlotTable,
             TableGuard,
         };
-        pub use pagable_pager::{DeserializedArcCache, Lent};
-        pub use pagable_walk::{
+        pub use pagable_pageout::{
             Claims, LentTable, PageOutError, SlotResult, page_out_item_over, page_out_pending_over,
         };
+        pub use pagable_pager::{DeserializedArcCache, Lent};
     }
 }
 
 /// What a value can be written to and read from, and the traits of values.
 pub mod traits {
-    pub use pagable_model::PagableCursor;
-    pub use pagable_traits::alike::{CarriedAs, ReadAs};
+    pub use pagable_traits::encoded_as::{DecodedAs, EncodedAs};
     pub use pagable_traits::{
         Canonical, Carried, EagerlyCarried, OneMeaning, Pagable, PagableBoxDeserialize,
         PagableDeserialize, PagableDeserializeOwned, PagableDeserializer, PagableEagerDeserialize,
         PagableEagerSerialize, PagableKey, PagableOrdKey, PagableSerialize, PagableSerializer,
         SessionContext,
     };
+    pub use pagable_value_spec::PagableCursor;
 }
 
 /// Tagged types, and the registries of their readers.
@@ -143,25 +143,25 @@ pub type Result<O> = std::result::Result<O, Error>;
 pub use pagable_flavors::{
     DataKey, Error, OptionalDataKey, PagableSlice, PagableVecFlavor, Reason,
 };
-pub use pagable_model::{
-    ArcRef, HandleNumber, Identity, Kind, LoadNumber, NodeNumber, PagableCursor, WorkerNumber,
-};
 pub use pagable_nodes::bytes::{from_bytes, to_bytes};
 pub use pagable_nodes::{
-    EitherNode, OneNode, Record, RecordNode, RecordRef, Records, write_listed,
+    EitherNode, OneNode, Record, RecordNode, RecordRef, Records, write_with_refs,
 };
-pub use pagable_traits::alike::{CarriedAs, ReadAs};
+pub use pagable_traits::encoded_as::{DecodedAs, EncodedAs};
 pub use pagable_traits::{
     Arc, ArcErase, ArcEraseType, Canonical, Carried, EagerlyCarried, Env, ForTag,
-    HasStaticValueRegistry, HasTypetagRegistry, HoldingArc, InNode, KeyHash, NodeSet, OfKind,
-    OfNode, OneMeaning, Pagable, PagableArc, PagableBoxDeserialize, PagableDeserialize,
+    HasStaticValueRegistry, HasTypetagRegistry, HoldingArc, InNode, KeyHash, NodeSet, OfNode,
+    OneMeaning, Pagable, PagableArc, PagableBoxDeserialize, PagableDeserialize,
     PagableDeserializeOwned, PagableDeserializer, PagableEagerDeserialize, PagableEagerSerialize,
     PagableKey, PagableOrdKey, PagableRegisteredFor, PagableSerialize, PagableSerializer,
-    PagableTagged, PathText, PinnedPagableArc, PinnedPagableArcBorrow, Reader, Refers, SavedRegex,
-    SessionContext, SessionMap, SessionValue, StaticBytes, StaticStr, StaticValue,
+    PagableTagged, PathText, PinnedPagableArc, PinnedPagableArcBorrow, RawRef, Reader, Refers,
+    SavedRegex, SessionContext, SessionMap, SessionValue, StaticBytes, StaticStr, StaticValue,
     StaticValueEntry, StaticValueRegistry, StdArcEraseType, TagReader, Thin, TypetagRegistration,
     TypetagRegistry, deserialize_arc, deserialize_tagged, read_reference, references_of,
     serialize_slice, serialize_str, write_reference,
+};
+pub use pagable_value_spec::{
+    ArcRef, HandleNumber, Identity, Kind, LoadNumber, NodeNumber, PagableCursor, WorkerNumber,
 };
 
 // Of pagers, and of what stores their values.
@@ -171,18 +171,18 @@ pub use pagable_core::{
     PagableSerializerImpl, PagableStorage, References, Roots, SerializedData, SerializerForPaging,
     Setting, Sha256Key, WeighHash,
 };
-pub use pagable_loads::{Access, WorkerAccess, pin_over, read_over};
+pub use pagable_load::{Access, WorkerAccess, pin_over, read_over};
 pub use pagable_locked::{
     ArcSerSlot, ClaimShare, Gate, InMemoryPagableStorage, Locked, NoGate, PagableStorageHandle,
     PageOutReport, SharedClaims, SlotTable, TableGuard,
 };
-pub use pagable_pager::{ArcCell, DeserializedArcCache, Lent, Pager};
-pub use pagable_traits::{FirstHandle, NewPin};
-pub use pagable_walk::{
+pub use pagable_pageout::{
     Claims, LentTable, PageOutError, SlotResult, page_out_item_over, page_out_pending_over,
 };
-pub use pagable_world::handles::Owner;
-pub use pagable_world::{
-    Beginning, Call, Claim, Event, EventReply, Found, LoadAnswer, LoadReply, Mode, PinStep,
-    Pinning, Reply, TableNumber, Took, Want, WorkerAnswer, WorkerReply,
+pub use pagable_pager::{ArcCell, DeserializedArcCache, Lent, Pager};
+pub use pagable_pager_spec::handle_row::Owner;
+pub use pagable_pager_spec::{
+    Action, Beginning, Call, Claim, Event, EventReply, Found, LoadAnswer, LoadReply, Mode, PinStep,
+    Pinning, Reply, TableNumber, Want, WorkerAnswer, WorkerReply,
 };
+pub use pagable_traits::{FirstHandle, NewPin};

@@ -1,17 +1,17 @@
 //! A pager that is driven by lists of events.
 
 ghost use Rattle.std.specs.Prelude.{◌≡◌, IfOk, IfErr, IsTrue, OnErr};
-ghost use Rattle.{pagable_laws.specs.{FallLaws.StartsWell, PageOutLaws.NobodyWorks}, pagable_loads.specs.Telling.values_at, pagable.specs.Driving.{Runs, machine_in}};
-ghost use Rattle.{pagable_pager.specs.View.{core_in, state_in, telling}, pagable_world.specs.Pager.{IsIdle, IsNew}};
+ghost use Rattle.{pagable_theorems.specs.{SmallWorlds.StartsWell, PageOutLaws.NobodyWorks}, pagable_load.specs.AccessView.values_at, pagable.specs.Driving.{Runs, machine_in}};
+ghost use Rattle.{pagable_pager.specs.View.{core_in, state_in, telling}, pagable_pager_spec.specs.Pager.{IsIdle, IsNew}};
 
 use crate::events;
 use crate::workers::Held;
 use indexmap::IndexMap;
 use pagable_codec::{Env, NodeSet};
 use pagable_core::{PagableData, PagableStorage, SerializedData};
-use pagable_model::Error;
 use pagable_pager::Pager;
-use pagable_world::{Event, EventReply};
+use pagable_pager_spec::{Event, EventReply};
+use pagable_value_spec::Error;
 use std::alloc::Global;
 use std::collections::VecDeque;
 use std::marker::Model;

@@ -1,17 +1,17 @@
 //! Pins, readings and page-outs of a lent pager. What they do is told as long as the storage is honest afterwards.
 
 ghost use Rattle.std.specs.{Arc.arc_value, Prelude.{IfErr, IsTrue, ◌≡◌}};
-ghost use Rattle.{pagable.specs.Paged.{IsRefusal, PagesOutItem, PagesOutList, ReadsValue}, pagable_loads.specs.Telling.values_at, pagable_pager.specs.View.{state_in, telling}};
-ghost use Rattle.{pagable_walk.specs.{Over.{answer_of, PagesItem, PagesList}, Slots.written_of, Table.shelf_of}, pagable_world.specs.Access.ReadsOver};
-ghost use Rattle.pagable_world.specs.declared.handles.Owner.TheVariants as owners;
+ghost use Rattle.{pagable.specs.Paged.{IsRefusal, PagesOutItem, PagesOutList, ReadsValue}, pagable_load.specs.AccessView.values_at, pagable_pager.specs.View.{state_in, telling}};
+ghost use Rattle.{pagable_pageout.specs.{PageOuts.{answer_of, PagesItem, PagesList}, Slots.written_of, Table.shelf_of}, pagable_pager_spec.specs.Access.ReadsOver};
+ghost use Rattle.pagable_pager_spec.specs.declared.handle_row.Owner.TheVariants as owners;
 
 use pagable_codec::{Env, NodeSet, OfNode};
 use pagable_core::{PagableStorage, SerializedData};
-use pagable_loads::read_over;
-use pagable_model::{DataKey, Error};
+use pagable_load::read_over;
+use pagable_pageout::{LentTable, PageOutError, page_out_item_over, page_out_pending_over};
 pub use pagable_pager::pin;
 use pagable_pager::{Lent, Pager};
-use pagable_walk::{LentTable, PageOutError, page_out_item_over, page_out_pending_over};
+use pagable_value_spec::{DataKey, Error};
 use std::alloc::Global;
 use std::sync::Arc;
 

@@ -7,9 +7,9 @@ ghost use Rattle.pagable_traits.specs.References.{holding, holding_kind, loose, 
 
 use pagable_codec::{ArcRef, Env, NodeSet, OfNode};
 use pagable_core::PagableStorage;
-use pagable_model::{Error, HandleNumber, NodeNumber};
 use pagable_pager::Pager;
 use pagable_traits::{ArcErase, HoldingArc, PagableArc};
+use pagable_value_spec::{Error, HandleNumber, NodeNumber};
 use std::alloc::Global;
 
 // The node of a handle, where it is of this type.

@@ -1,20 +1,20 @@
 //! What a machine keeps beside its pager; tables of page-out, workers on them, and a worker's step.
 
 ghost use Rattle.std.specs.{HashMap.spare, Prelude.{◌≡◌, ◌<◌, ◌⊎◌, ℕ, Some, IfOk, IsTrue, IfErr, OnOk, false, true, ◌∷◌, length, is_some}};
-ghost use Rattle.{pagable.specs.Driving.{Drives, IsInStep, KeepsOne, kept_at, IsBegun, IsIn, IsOnTable, WalksOn, is_done}, pagable_loads.specs.Telling.values_at};
-ghost use Rattle.{pagable_pager.specs.View.{core_in, state_in, telling}, pagable_walk.specs.{Slots.written_of, Table.shelf_of, Tasks.{IsWay, todo_of, todos}, Turns.{StepsTo, answer_in, plan}}};
-ghost use Rattle.pagable_world.specs.{Kinds.{identity_of, owner_worker}, World.{of_entry, of_item}, declared.events.{Event.Event, EventReply.EventReply}};
+ghost use Rattle.{pagable.specs.Driving.{Drives, IsInStep, KeepsOne, kept_at, IsBegun, IsIn, IsOnTable, WalksOn, is_done}, pagable_load.specs.AccessView.values_at};
+ghost use Rattle.{pagable_pager.specs.View.{core_in, state_in, telling}, pagable_pageout.specs.{Slots.written_of, Table.shelf_of, Tasks.{IsWay, todo_of, todos}, Turns.{StepsTo, answer_in, plan}}};
+ghost use Rattle.pagable_pager_spec.specs.{Kinds.{identity_of, owner_worker}, World.{of_entry, of_item}, declared.events.{Event.Event, EventReply.EventReply}};
 
 use indexmap::IndexMap;
 use pagable_codec::{Env, NodeSet};
 use pagable_core::{PagableStorage, SerializedData};
-use pagable_loads::{Reading, WorkerAccess};
-use pagable_model::{ArcRef, Error, WorkerNumber};
+use pagable_load::{Reading, WorkerAccess};
+use pagable_pageout::stack::{start_entry, start_item};
+use pagable_pageout::step::step;
+use pagable_pageout::{LentTable, StepResult, Task, Turn, Waiting};
 use pagable_pager::{Lent, Pager};
-use pagable_walk::stack::{start_entry, start_item};
-use pagable_walk::step::step;
-use pagable_walk::{LentTable, Moved, Task, Turn, Waiting};
-use pagable_world::{TableNumber, WorkerAnswer, WorkerReply};
+use pagable_pager_spec::{TableNumber, WorkerAnswer, WorkerReply};
+use pagable_value_spec::{ArcRef, Error, WorkerNumber};
 use std::alloc::Global;
 use std::mem::replace;
 use std::sync::Arc;
@@ -182,7 +182,7 @@ fn step_by<'a, E: Env<Node: NodeSet<E>>, S: PagableStorage<E>>(
     worker: WorkerNumber,
     path: &mut Vec<Waiting<E>>,
     task: Task<E>,
-) -> Moved<E>
+) -> StepResult<E>
     requires me { lent.old.me ≡ owner_worker worker.0 }
     requires way { IsWay (todo_of task ∷ todos path.old.items) }
     ensures way { IsWay (plan result.turn path.new.items) }
@@ -231,7 +231,7 @@ fn walk_on<E: Env<Node: NodeSet<E>>, S: PagableStorage<E>>(
     walk.steps = walk.steps.saturating_add(u64::from(moved.counted));
     walk.turn = moved.turn;
     WorkerReply {
-        took: moved.took,
+        action: moved.action,
         answer: answer_of(&walk.turn),
         steps: walk.steps,
     }

@@ -3,8 +3,8 @@ use Rattle.std.specs.Prelude.{[], Bool, Err, List, None, Ok, Option, Result, Som
 use Rattle.{lru.specs.LruCache.{LruCache, promoted}, std.specs.Map.lookup}
 use Rattle.pagable_budget.specs.declared.{bound.BudgetStats.BudgetStats, evictions.KeptPin.KeptPin}
 use Rattle.pagable.specs.{Cells.{Pins, Releases}, PageOuts.Clones, Paged.PagesOutList}
-use Rattle.{pagable_pager.specs.View.{PagerView, Telling, core_in}, pagable_walk.specs.declared.tasks.PageOutError.PageOutError}
-use Rattle.pagable_world.specs.{Calls.NodeCall, Pager.PagerState, Plain.{Error, HandleNumber, NodeNumber}, World.{Values, greatest}}
+use Rattle.{pagable_pager.specs.View.{PagerView, Telling, core_in}, pagable_pageout.specs.declared.tasks.PageOutError.PageOutError}
+use Rattle.pagable_pager_spec.specs.{Calls.NodeCall, Pager.PagerState, Basics.{Error, HandleNumber, NodeNumber}, World.{Values, greatest}}
 
 -- the number of a cell, and the pin that is kept of it
 abbrev pub Kept : Type 0

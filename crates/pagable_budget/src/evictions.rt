@@ -8,8 +8,8 @@ ghost use Rattle.pagable_pager.specs.View.{telling};
 use lru::LruCache;
 use pagable_codec::{Env, NodeSet};
 use pagable_core::PagableStorage;
-use pagable_model::HandleNumber;
 use pagable_pager::Pager;
+use pagable_value_spec::HandleNumber;
 
 /// A pin that a budget keeps of a cell.
 #[derive(Clone, Copy, Debug, PartialEq, Eq)]

@@ -1,14 +1,14 @@
 //! Page-outs of what waits for them, once it is too much.
 
 ghost use Rattle.std.specs.Prelude.{IsTrue};
-ghost use Rattle.{pagable_budget.specs.Budgets.PagesOutAbove, pagable_loads.specs.Telling.values_at};
+ghost use Rattle.{pagable_budget.specs.Budgets.PagesOutAbove, pagable_load.specs.AccessView.values_at};
 ghost use Rattle.pagable_pager.specs.View.{state_in, telling};
 
 use pagable::paging::page_out_pending;
 use pagable_codec::{Env, NodeSet};
 use pagable_core::PagableStorage;
+use pagable_pageout::PageOutError;
 use pagable_pager::Pager;
-use pagable_walk::PageOutError;
 use std::alloc::Global;
 
 /// Pages out all cells that wait for it, as `paging::page_out_pending`, if there are more than `most`; else does

@@ -1,13 +1,13 @@
 -- Which keys cells have after a call: those that they had, but for the one that it sets; and that keys of references make a node's own.
 use Rattle.pagable_changes.specs.Changes.{AllHave, FoundKeys, HasKey, none-are-asked, one-more-has}
-use Rattle.pagable_laws.proofs.Decoding.{among-left, among-right}
-use Rattle.pagable_laws.specs.TreeSteps.{Bears, CallFeels, Change, CoreGoes, Sets}
-use Rattle.pagable_laws.specs.TreeSteps.{feels-adopted, feels-away, feels-birth, feels-end, feels-key, feels-known, feels-lazy, feels-nothing}
-use Rattle.pagable_model.specs.{Deep.{Kid, kid, tree_of_kid}, Merkle.{KeyOf, KeysOf, more-keys, no-keys}, Trees.{Tree, Types}}
-use Rattle.pagable_world.specs.Pager.{kids_of}
-use Rattle.pagable_world.specs.Plain.{Among, ArcRef, Blob, HandleNumber, OptionalDataKey, if_there}
-use Rattle.pagable_world.specs.World.{Cell, Core, Values, key_at, row_at, type_at}
-use Rattle.pagable_world.specs.declared.{calls.{Call.Call, Reply.Reply}, handles.{HandleRow.HandleRow, Owner.Owner}}
+use Rattle.pagable_theorems.proofs.Decoding.{among-left, among-right}
+use Rattle.pagable_theorems.specs.TreeSteps.{Bears, CallFeels, Change, CoreGoes, Sets}
+use Rattle.pagable_theorems.specs.TreeSteps.{feels-adopted, feels-away, feels-birth, feels-end, feels-key, feels-known, feels-lazy, feels-nothing}
+use Rattle.pagable_value_spec.specs.{Height.{Kid, kid, tree_of_kid}, Merkle.{KeyOf, KeysOf, more-keys, no-keys}, Trees.{Tree, Types}}
+use Rattle.pagable_pager_spec.specs.Pager.{kids_of}
+use Rattle.pagable_pager_spec.specs.Basics.{Among, ArcRef, Blob, HandleNumber, OptionalDataKey, if_there}
+use Rattle.pagable_pager_spec.specs.World.{Cell, Core, Values, key_at, row_at, type_at}
+use Rattle.pagable_pager_spec.specs.declared.{calls.{Call.Call, Reply.Reply}, handle_row.{HandleRow.HandleRow, Owner.Owner}}
 use Rattle.std.proofs.Common.{List, None, Some, [], ap, arith, inl, inr, refl, subst, sym, ℕ, ◌++◌, ◌∙◌, ◌∷◌, ◌≡◌, ◌⊎◌}
 use Rattle.std.proofs.lemmas.{Bool.Decides.nat_tests, List.map-append}
 

@@ -4,8 +4,8 @@ use Rattle.pagable_changes.specs.Changes.{Stage, StoresBlob, TakesKey, Turn, Tur
 use Rattle.pagable_changes.specs.Changes.{goes-down, isnt-entered, key-is-refused, key-was-found, last-is-left, none-are-asked, none-is-open, none-was-found, nothing_found, one-goes-first, one-more-has}
 use Rattle.pagable_changes.specs.Changes.{one-more-turn, stage, turns-once, walk-is-refused, written_of}
 use Rattle.pagable_changes.specs.declared.{keys.FoundKey.FoundKey, nodes.OpenNode.OpenNode}
-use Rattle.pagable_model.specs.Merkle.{blob_of}
-use Rattle.pagable_world.specs.{Access.Called, Pager.PagerState, Plain.{ArcRef, Blob, Error, HandleNumber, is_loose_kind}, World.{Core, Values, Written}}
+use Rattle.pagable_value_spec.specs.Merkle.{blob_of}
+use Rattle.pagable_pager_spec.specs.{Access.Called, Pager.PagerState, Basics.{ArcRef, Blob, Error, HandleNumber, is_loose_kind}, World.{Core, Values, Written}}
 use Rattle.std.proofs.Common.{Err, IfErr, List, None, Ok, OnOk, Option, Result, Some, [], ap, arith, false, length, refl, subst, sym, take, true, ℕ, ◌%◌, ◌++◌, ◌+◌, ◌∙◌, ◌∷◌, ◌≡◌, ◌≢◌, ◌≤◌}
 use Rattle.std.proofs.lemmas.{Bool.Decides.nat_tests, List.{take_all, take_more}, Option.{get_or_from_slice_get, slice_get_within}}
 use Rattle.std.specs.Prelude.{slice_get}

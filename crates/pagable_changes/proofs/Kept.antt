@@ -8,18 +8,18 @@ use Rattle.pagable_changes.specs.Changes.{key-is-found, key-is-refused, key-was-
 use Rattle.pagable_changes.specs.Changes.{nothing-is-stored, nothing_found, one-goes, one-goes-first, one-more-has, one-more-turn, pin-is-refused, root-has-key, root-has-none, root-is-refused}
 use Rattle.pagable_changes.specs.Changes.{no-handle, root-is-walked, stage, walk-is-refused, way-is-refused, written_of}
 use Rattle.pagable_changes.specs.declared.{keys.FoundKey.FoundKey, nodes.OpenNode.OpenNode}
-use Rattle.pagable_laws.proofs.{Answered.{After, after-then, rows-stay}, Called.calls-go, Decoding.{among-left, among-right}, Following.{given-of, leads-on, tree-form, wrote}, Goes.{among-found, found-number}}
-use Rattle.pagable_laws.proofs.{Moments.{Stands, call-stays, no-value, still-settled}, ReadingSteps.caller-free, Related.keeps_forms, Taking.{pushed, row-held, tree-stays}}
-use Rattle.pagable_laws.proofs.{Again.{Looked, all-looked, form-again, one-looked}, Trees.{same-number, same_some}}
-use Rattle.pagable_laws.specs.{CallerLaws.IsCall, FormLaws.rest}
-use Rattle.pagable_laws.specs.TreeSteps.{CallFeels, Change, CoreGoes, FollowsTo, Ground, KeepsStored, WroteTree, followed-leads, pair-leads, reference-leads, variant-leads}
-use Rattle.pagable_model.specs.{Canonical.IsReadableType, Merkle.{KeyOf, KeysOf, StoredAs, blob_of, key-of, key_of_ref, kind_of_ref}, Meaning.{Meaning, rename}, Reading.{deepest, read}, Writing.kind_of_arc}
-use Rattle.pagable_model.specs.Trees.{IsFollowed, KeyRef, ReadsAs, ReadsTree, Tree, Types, integer-followed, key_ref, none-followed, number-followed, pair-followed, pattern-followed, reference-followed, text-followed, type_of, variant-followed}
-use Rattle.pagable_world.specs.{Access.Called, Events.Does, Pager.{NodeStands, PagerState, SameTrees, WellFormed, away, here, kids_of}, Runs.{AsksWell, KeepsOpen}}
-use Rattle.pagable_world.specs.Plain.{Among, ArcRef, Blob, Error, HandleNumber, NodeNumber, OptionalDataKey, if_there, is_loose_kind}
-use Rattle.pagable_world.specs.{Calls.{KeyCall, NodeCall}, Kinds.{held, is_loose}, Refusals.Owns}
-use Rattle.pagable_world.specs.World.{Core, IsLawful, Seen, Values, Written, key_at, row_at}
-use Rattle.pagable_world.specs.declared.{calls.{Call.Call, Reply.Reply}, events.Event.Event, handles.{HandleRow.HandleRow, Owner.Owner}}
+use Rattle.pagable_theorems.proofs.{LoadResults.{After, after-then, rows-stay}, CallEffects.calls-go, Decoding.{among-left, among-right}, FormsOfTrees.{given-of, leads-on, tree-form, wrote}, HandlesKept.{among-found, found-number}}
+use Rattle.pagable_theorems.proofs.{Moments.{Stands, call-stays, no-value, still-settled}, ReadingSteps.caller-free, Naturality.keeps_forms, LoadProgress.{pushed, row-held, tree-stays}}
+use Rattle.pagable_theorems.proofs.{RoundTrip.{Looked, all-looked, form-again, one-looked}, Trees.{same-number, same_some}}
+use Rattle.pagable_theorems.specs.{CallerLaws.IsCall, FormLaws.rest}
+use Rattle.pagable_theorems.specs.TreeSteps.{CallFeels, Change, CoreGoes, FollowsTo, Ground, KeepsStored, WroteTree, followed-leads, pair-leads, reference-leads, variant-leads}
+use Rattle.pagable_value_spec.specs.{Canonical.IsReadableType, Merkle.{KeyOf, KeysOf, StoredAs, blob_of, key-of, key_of_ref, kind_of_ref}, Meaning.{Meaning, rename}, Reading.{deepest, read}, Writing.kind_of_arc}
+use Rattle.pagable_value_spec.specs.Trees.{IsFollowed, KeyRef, ReadsAs, ReadsTree, Tree, Types, integer-followed, key_ref, none-followed, number-followed, pair-followed, pattern-followed, reference-followed, text-followed, type_of, variant-followed}
+use Rattle.pagable_pager_spec.specs.{Access.Called, Events.Does, Pager.{NodeStands, PagerState, SameTrees, WellFormed, away, here, kids_of}, Runs.{AsksWell, KeepsOpen}}
+use Rattle.pagable_pager_spec.specs.Basics.{Among, ArcRef, Blob, Error, HandleNumber, NodeNumber, OptionalDataKey, if_there, is_loose_kind}
+use Rattle.pagable_pager_spec.specs.{Calls.{KeyCall, NodeCall}, Kinds.{held, is_loose}, Refusals.Owns}
+use Rattle.pagable_pager_spec.specs.World.{Core, IsLawful, Seen, Values, Written, key_at, row_at}
+use Rattle.pagable_pager_spec.specs.declared.{calls.{Call.Call, Reply.Reply}, events.Event.Event, handle_row.{HandleRow.HandleRow, Owner.Owner}}
 use Rattle.std.proofs.Common.{Err, IfOk, List, Ok, Option, Result, Some, [], ap, append-nil, arith, if◌then◌else◌, inl, inr, map, refl, subst, suc, sym, true, zero, ℕ, ◌++◌, ◌==◌, ◌∙◌, ◌∷◌, ◌≡◌, ◌<◌, ◌≤◌}
 use Rattle.std.proofs.lemmas.{Bool.{Decides.nat_tests, cases_Bool}, List.map-append}
 

@@ -1,12 +1,12 @@
 -- A page-out of what has no key: which node it comes to, what it writes and stores of it, and what it gives up, call by call of the pager.
 use Rattle.std.specs.Prelude.{Err, List, None, Ok, Option, Result, Some, [], false, slice_get, true, ℕ, ◌++◌, ◌∷◌, ◌≡◌, ◌≢◌}
 use Rattle.pagable_changes.specs.declared.{keys.FoundKey.FoundKey, nodes.OpenNode.OpenNode}
-use Rattle.{pagable_core.specs.declared.context.writing.SerializedData.SerializedData, pagable_model.specs.Merkle.blob_of, pagable_world.specs.Access.Called}
-use Rattle.pagable_world.specs.Calls.{CloneCall, KeyCall, LoosenCall, NodeCall, PinCall, ReleaseCall, SetKeyCall, StoreCall}
-use Rattle.pagable_world.specs.{Kinds.loose_kind, Pager.{PagerState, ValueCall}}
-use Rattle.pagable_world.specs.Plain.{Among, ArcRef, Blob, Error, HandleNumber, OptionalDataKey, is_loose_kind, type_of}
-use Rattle.pagable_world.specs.declared.{answers.Pinning.Pinning, handles.Owner.Owner}
-use Rattle.pagable_world.specs.World.{Core, HasForm, Values, Written, digest, type_at}
+use Rattle.{pagable_core.specs.declared.context.writing.SerializedData.SerializedData, pagable_value_spec.specs.Merkle.blob_of, pagable_pager_spec.specs.Access.Called}
+use Rattle.pagable_pager_spec.specs.Calls.{CloneCall, KeyCall, LoosenCall, NodeCall, PinCall, ReleaseCall, SetKeyCall, StoreCall}
+use Rattle.pagable_pager_spec.specs.{Kinds.loose_kind, Pager.{PagerState, ValueCall}}
+use Rattle.pagable_pager_spec.specs.Basics.{Among, ArcRef, Blob, Error, HandleNumber, OptionalDataKey, is_loose_kind, type_of}
+use Rattle.pagable_pager_spec.specs.declared.{pinning.Pinning.Pinning, handle_row.Owner.Owner}
+use Rattle.pagable_pager_spec.specs.World.{Core, HasForm, Values, Written, digest, type_at}
 
 abbrev pub written_of : SerializedData → Written
 written_of d = record { bytes = d.bytes.items; references = d.arcs.items }

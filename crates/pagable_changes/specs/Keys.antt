@@ -1,9 +1,9 @@
 -- The law of a page-out that takes the keys which are there: the trees that they read as stay, the answered key reads as the root's, and it is its Merkle key
 -- where those that are there are.
 use Rattle.std.specs.Prelude.{IfOk, Result, Some, ℕ, ◌≡◌}
-use Rattle.{pagable_changes.specs.Changes.PagesOutChanged, pagable_laws.specs.PageOutLaws.NobodyWorks, pagable_model.specs.{Canonical.IsReadableType, Merkle.KeyOf}}
-use Rattle.pagable_world.specs.Pager.{PagerState, Represents, SameTrees, WellFormed}
-use Rattle.pagable_world.specs.{Plain.{Error, HandleNumber, OptionalDataKey, ReadsTree, Tree}, Runs.HoldsSettled, World.{IsLawful, Values, key_at, row_at}, declared.handles.HandleRow.HandleRow}
+use Rattle.{pagable_changes.specs.Changes.PagesOutChanged, pagable_theorems.specs.PageOutLaws.NobodyWorks, pagable_value_spec.specs.{Canonical.IsReadableType, Merkle.KeyOf}}
+use Rattle.pagable_pager_spec.specs.Pager.{PagerState, Represents, SameTrees, WellFormed}
+use Rattle.pagable_pager_spec.specs.{Basics.{Error, HandleNumber, OptionalDataKey, ReadsTree, Tree}, Runs.HoldsSettled, World.{IsLawful, Values, key_at, row_at}, declared.handle_row.HandleRow.HandleRow}
 
 -- each cell that has a key has the Merkle key of its tree
 abbrev pub HasMerkleKeys : {N E : Type 0} → Values N → PagerState N E → (ℕ → Tree) → Type 0

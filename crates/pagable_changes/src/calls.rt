@@ -2,17 +2,17 @@
 
 ghost use Rattle.std.specs.Prelude.{IsTrue, Ok, true, ◌≡◌};
 ghost use Rattle.pagable_changes.specs.{Changes.LetsGo, Keeping.KeepsStorage};
-ghost use Rattle.{pagable_core.specs.Data.blob_of, pagable_loads.specs.Telling.values_at, pagable_model.specs.Blob.key_of};
+ghost use Rattle.{pagable_core.specs.Data.blob_of, pagable_load.specs.AccessView.values_at, pagable_value_spec.specs.Blob.key_of};
 ghost use Rattle.pagable_pager.specs.View.{core_in, state_in, telling};
-ghost use Rattle.pagable_world.specs.Access.{Called};
-ghost use Rattle.pagable_world.specs.Calls.{CloneCall, LoosenCall, NodeCall, PinCall, ReleaseCall, SetKeyCall, StoreCall};
-ghost use Rattle.pagable_world.specs.declared.handles.Owner.TheVariants as owners;
+ghost use Rattle.pagable_pager_spec.specs.Access.{Called};
+ghost use Rattle.pagable_pager_spec.specs.Calls.{CloneCall, LoosenCall, NodeCall, PinCall, ReleaseCall, SetKeyCall, StoreCall};
+ghost use Rattle.pagable_pager_spec.specs.declared.handle_row.Owner.TheVariants as owners;
 
 use pagable_codec::{Env, NodeSet};
 use pagable_core::{PagableData, PagableStorage};
-use pagable_model::{DataKey, Error, HandleNumber, NodeNumber};
 use pagable_pager::Pager;
-use pagable_world::Pinning;
+use pagable_pager_spec::Pinning;
+use pagable_value_spec::{DataKey, Error, HandleNumber, NodeNumber};
 use std::alloc::Global;
 
 // Tells whether the handle is live, and of this node.

@@ -1,15 +1,15 @@
 //! The page-out of a root at the cost of what changed.
 
 ghost use Rattle.std.specs.Prelude.{IfOk, IsTrue, ◌≡◌};
-ghost use Rattle.{pagable_changes.specs.{Changes.{IsRoot, PagesOutChanged, PagesOutKeyless}, Keys.KeepsTrees}, pagable_loads.specs.Telling.values_at};
+ghost use Rattle.{pagable_changes.specs.{Changes.{IsRoot, PagesOutChanged, PagesOutKeyless}, Keys.KeepsTrees}, pagable_load.specs.AccessView.values_at};
 ghost use Rattle.pagable_pager.specs.View.{core_in, state_in, telling};
 
 use crate::nodes::enter;
 use crate::turns::walk;
 use pagable_codec::{Env, NodeSet};
 use pagable_core::PagableStorage;
-use pagable_model::{ArcRef, DataKey, Error, HandleNumber, Kind, OptionalDataKey};
 use pagable_pager::Pager;
+use pagable_value_spec::{ArcRef, DataKey, Error, HandleNumber, Kind, OptionalDataKey};
 use std::alloc::Global;
 
 // The loose reference that the handle of a cell would be.

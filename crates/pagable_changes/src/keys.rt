@@ -1,16 +1,16 @@
 //! The keys that references have: of a cell its own, and of any other node the one that was found in this page-out.
 
 ghost use Rattle.std.specs.Prelude.{[], IfOk, Ok, OnOk, slice_get, ◌++◌, ◌∷◌, ◌≡◌};
-ghost use Rattle.{pagable_changes.specs.Changes.{AllHave, IsFound, TakesKey}, pagable_world.specs.Calls.{KeyCall, NodeCall}};
+ghost use Rattle.{pagable_changes.specs.Changes.{AllHave, IsFound, TakesKey}, pagable_pager_spec.specs.Calls.{KeyCall, NodeCall}};
 ghost use Rattle.pagable_pager.specs.View.{core_in, telling};
 ghost use Rattle.pagable_tables.specs.NumberTable.{row_by};
 
 use crate::calls::is_at;
 use pagable_codec::{Env, NodeSet};
 use pagable_core::PagableStorage;
-use pagable_model::{ArcRef, DataKey, Error, NodeNumber, OptionalDataKey};
 use pagable_pager::Pager;
 use pagable_tables::number_table::NumberTable;
+use pagable_value_spec::{ArcRef, DataKey, Error, NodeNumber, OptionalDataKey};
 use std::alloc::Global;
 
 /// The greatest number of references on a path that are read together.

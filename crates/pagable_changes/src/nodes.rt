@@ -2,15 +2,15 @@
 
 ghost use Rattle.std.specs.Prelude.{IfErr, IfOk, true, ◌≡◌};
 ghost use Rattle.pagable_changes.specs.Changes.{EnterFails, Enters, IsFormOf, PinsLoosely, TakeFails, Takes, Writes, WritesTaken, written_of};
-ghost use Rattle.{pagable_changes.specs.Keeping.KeepsStorage, pagable_loads.specs.Telling.values_at};
-ghost use Rattle.{pagable_pager.specs.View.{state_in, telling}, pagable_world.specs.Plain.is_loose_kind};
+ghost use Rattle.{pagable_changes.specs.Keeping.KeepsStorage, pagable_load.specs.AccessView.values_at};
+ghost use Rattle.{pagable_pager.specs.View.{state_in, telling}, pagable_pager_spec.specs.Basics.is_loose_kind};
 
 use crate::calls::{clone, is_at, let_go, loosen, pin, release};
 use pagable_codec::{Env, NodeSet};
 use pagable_core::{PagableStorage, SerializedData, SerializerForPaging, SessionOf};
-use pagable_model::{ArcRef, Error, HandleNumber};
 use pagable_pager::Pager;
-use pagable_world::Pinning;
+use pagable_pager_spec::Pinning;
+use pagable_value_spec::{ArcRef, Error, HandleNumber};
 use std::alloc::Global;
 
 /// A node that is being written.

@@ -2,7 +2,7 @@
 
 ghost use Rattle.std.specs.Prelude.{[], IfErr, IfNone, IfOk, IfSome, IsSome, IsTrue, OnErr, OnOk, Some, slice_get, ◌++◌, ◌∷◌, ◌≡◌};
 ghost use Rattle.pagable_changes.specs.Changes.{GivesUp, GoesDown, GoesNowhere, IsOver, IsUnset, LeaveFails, Leaves, SetsFor, Turn, TurnFails, Turned, TurnsFail, TurnsOut, Walks, stage};
-ghost use Rattle.{pagable_changes.specs.Keeping.KeepsStorage, pagable_core.specs.Data.blob_of, pagable_loads.specs.Telling.values_at};
+ghost use Rattle.{pagable_changes.specs.Keeping.KeepsStorage, pagable_core.specs.Data.blob_of, pagable_load.specs.AccessView.values_at};
 ghost use Rattle.pagable_pager.specs.View.{core_in, state_in, telling};
 ghost use Rattle.pagable_tables.specs.NumberTable.{place_at, row_by};
 
@@ -11,9 +11,9 @@ use crate::keys::{FoundKey, FoundKeys, LONGEST_PATH, collect_keys, find};
 use crate::nodes::{OpenNode, enter};
 use pagable_codec::{Env, NodeSet};
 use pagable_core::{PagableData, PagableStorage};
-use pagable_model::{ArcRef, DataKey, Error};
 use pagable_pager::Pager;
 use pagable_tables::number_table::NumberTable;
+use pagable_value_spec::{ArcRef, DataKey, Error};
 use std::alloc::Global;
 use std::mem;
 

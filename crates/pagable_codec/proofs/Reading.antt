@@ -1,6 +1,6 @@
 -- What reading a part gives, and where a deserializer stands then.
-use Rattle.{pagable_flavors.specs.Calls.Reads, pagable_model.specs.{Gives.{Gives, never}, Meaning.Meaning, Numbers.Read, Reading.{Rest, bytes_of}, Standing.{Answer, Gave, MovesOn}}}
-use Rattle.{pagable_model.specs.{Standing.Standing, Track.{GoesOn, Track, left}, declared.{error.Error.Error, numbers.ArcRef.ArcRef}}, std.proofs.Common.{List, Ok, Result, arith, refl, ℕ, ◌∙◌, ◌≡◌}}
+use Rattle.{pagable_flavors.specs.Calls.Reads, pagable_value_spec.specs.{Outcomes.{Gives, never}, Meaning.Meaning, Numbers.Read, Reading.{Rest, bytes_of}, Cursor.{Answer, Gave, MovesOn}}}
+use Rattle.{pagable_value_spec.specs.{Cursor.Standing, Progress.{GoesOn, Track, left}, declared.{error.Error.Error, numbers.ArcRef.ArcRef}}, std.proofs.Common.{List, Ok, Result, arith, refl, ℕ, ◌∙◌, ◌≡◌}}
 
 pub moves_trans : {N : Type 0} (a b c : Standing N) → MovesOn a b → MovesOn b c → MovesOn a c
 moves_trans a b c g h = record { whole = h.whole ∙ g.whole; lent = h.lent ∙ g.lent; bytes = omega (arith, g.bytes, h.bytes); refs = omega (arith, g.refs, h.refs); within = λ w. h.within (g.within w) }

@@ -1,11 +1,11 @@
 -- What writing a part adds, and what has no form.
-use Rattle.pagable_model.specs.{Basic.{bool_form, char_form, longest, text_form}, Form.{flag-form, letter-form, nothing-form, reference-form}}
-use Rattle.pagable_model.specs.{Form.{signed-form, text-form, unsigned-form}, Gives.{Extends, long_or, memory}, Lengths.long_or_memory, Meaning.{Meaning, integer, number}, Numbers.{IsSigned, bound}}
-use Rattle.pagable_model.specs.{Numbers.{signed_form, unsigned_form}, Refusals.is_writing_fault, Shape.{Shape, signed, unsigned}, Standing.Is, Writing.{FormAt, Grows, Nesting, NoForm, Out, Refused}}
-use Rattle.{pagable_model.specs.{Writing.{Writes, WritesSome, added, kind_of_arc}, declared.{error.Error.Error, numbers.ArcRef.ArcRef}}, std.proofs.Common.{Bool, List, Result, [], ap, append_assoc}}
+use Rattle.pagable_value_spec.specs.{BasicValues.{bool_form, char_form, longest, text_form}, Form.{flag-form, letter-form, nothing-form, reference-form}}
+use Rattle.pagable_value_spec.specs.{Form.{signed-form, text-form, unsigned-form}, Outcomes.{Extends, long_or, memory}, Lengths.long_or_memory, Meaning.{Meaning, integer, number}, Numbers.{IsSigned, bound}}
+use Rattle.pagable_value_spec.specs.{Numbers.{signed_form, unsigned_form}, Refusals.is_writing_fault, Shape.{Shape, signed, unsigned}, Cursor.Is, Writing.{FormAt, Grows, Nesting, NoForm, Out, Refused}}
+use Rattle.{pagable_value_spec.specs.{Writing.{Writes, WritesSome, added, kind_of_arc}, declared.{error.Error.Error, numbers.ArcRef.ArcRef}}, std.proofs.Common.{Bool, List, Result, [], ap, append_assoc}}
 use Rattle.std.{proofs.{Common.{arith, false, length, refl, sym, ℕ, ◌++◌, ◌<◌, ◌∙◌, ◌∷◌, ◌≡◌, ◌≤◌}, lemmas.List.append-nil}, specs.{Char.IsScalar, Int.Width, Prelude.{IfErr, ℤ}, Str.IsUtf8}}
-use Rattle.pagable_model.specs.Meaning as meanings
-use Rattle.pagable_model.specs.Shape as shapes
+use Rattle.pagable_value_spec.specs.Meaning as meanings
+use Rattle.pagable_value_spec.specs.Shape as shapes
 
 pub out_is : (b c : List ℕ) (r s : List ArcRef) → b ≡ c → r ≡ s → (let x : Out = record { bytes = b; refs = r } in x) ≡ (let y : Out = record { bytes = c; refs = s } in y)
 out_is b c r s e f = rw (e, f) refl

@@ -1,14 +1,14 @@
 //! What values are read from.
 
 ghost use Rattle.std.specs.{Arc.arc_value, Borrow.{Lends, sem}, Prelude.{◌≡◌, ◌≤◌, ◌<◌, ◌+◌, ◌-◌, ℕ, Option, Some, drop, option_and_then, option_map, OnOk, IfOk, IfErr}};
-ghost use Rattle.pagable_model.specs.{Gives.{Gives, memory, never}, Meaning.reference as meaning_of, Reading.{Rest, reference_at, deepest}, Standing.{Answer, Standing, rest_at, answer_at, IsLent, IsWithin}};
-ghost use Rattle.pagable_model.specs.{Standing.MovesOn, Track.{left, GoesOn}, declared.numbers.ArcRef.ArcRef as Reference};
+ghost use Rattle.pagable_value_spec.specs.{Outcomes.{Gives, memory, never}, Meaning.reference as meaning_of, Reading.{Rest, reference_at, deepest}, Cursor.{Answer, Standing, rest_at, answer_at, IsLent, IsWithin}};
+ghost use Rattle.pagable_value_spec.specs.{Cursor.MovesOn, Progress.{left, GoesOn}, declared.numbers.ArcRef.ArcRef as Reference};
 
 use crate::env::Env;
 use crate::of_node::OfNode;
 use crate::session::SessionContext;
 use pagable_flavors::{Error, Reader};
-use pagable_model::{ArcRef, Kind, PagableCursor};
+use pagable_value_spec::{ArcRef, Kind, PagableCursor};
 use std::alloc::Global;
 use std::sync::Arc;
 

@@ -1,6 +1,6 @@
 //! The caller's environment.
 
-ghost use Rattle.{pagable_model.specs.Shape.Shape, std.specs.Prelude.ℕ};
+ghost use Rattle.{pagable_value_spec.specs.Shape.Shape, std.specs.Prelude.ℕ};
 
 use crate::hash::KeyHash;
 

@@ -17,7 +17,7 @@ pub use hash::KeyHash;
 pub use nodes::NodeSet;
 pub use of_node::OfNode;
 pub use pagable_flavors::Reader;
-pub use pagable_model::{
+pub use pagable_value_spec::{
     ArcRef, HandleNumber, Identity, Kind, LoadNumber, NodeNumber, PagableCursor, WorkerNumber,
 };
 pub use serializer::PagableSerializer;

@@ -1,15 +1,15 @@
 //! The values of nodes: one case for each value type of an environment.
 
-ghost use Rattle.pagable_model.specs.{Meaning.Meaning, Reading.read_typed, References.{SameReferences, references_in}, Refusals.{is_own_reading, may_refuse_writing}, Shape.Shape, Standing.GivesSome};
-ghost use Rattle.pagable_model.specs.{Standing.{HoldsLent, MovesOn, SomeMeaning, handles_at}, Writing.{Grows, Refused, WritesSome, nesting}, declared.error.Error.Error as Refusal};
-ghost use Rattle.pagable_model.specs.declared.numbers.ArcRef.{ArcRef as Reference};
+ghost use Rattle.pagable_value_spec.specs.{Meaning.Meaning, Reading.read_typed, References.{SameReferences, references_in}, Refusals.{is_own_reading, may_refuse_writing}, Shape.Shape, Cursor.GivesSome};
+ghost use Rattle.pagable_value_spec.specs.{Cursor.{HoldsLent, MovesOn, SomeMeaning, handles_at}, Writing.{Grows, Refused, WritesSome, nesting}, declared.error.Error.Error as Refusal};
+ghost use Rattle.pagable_value_spec.specs.declared.numbers.ArcRef.{ArcRef as Reference};
 ghost use Rattle.std.specs.Prelude.{IfErr, IfOk, List, OnOk, Option, Some, true, ℕ, ◌++◌, ◌<◌, ◌^◌, ◌≡◌};
 
 use crate::deserializer::PagableDeserializer;
 use crate::env::Env;
 use crate::serializer::PagableSerializer;
 use pagable_flavors::Error;
-use pagable_model::ArcRef;
+use pagable_value_spec::ArcRef;
 use std::alloc::Global;
 
 /// A type with one case for each value type of an environment.

@@ -1,6 +1,6 @@
 //! How the values of a type stand in nodes.
 
-ghost use Rattle.pagable_model.specs.Gives.{memory};
+ghost use Rattle.pagable_value_spec.specs.Outcomes.{memory};
 ghost use Rattle.std.specs.{Arc.arc_value, Prelude.{IfErr, IfOk, Option, Some, option_map, ℕ, ◌<◌, ◌^◌, ◌≡◌}};
 
 use crate::env::Env;

@@ -1,7 +1,7 @@
 //! The parts of values that hold others: flags and counts. Each later type is written and read by these.
 
-ghost use Rattle.pagable_model.specs.{Basic.{bool_at, bool_form, length_at, length_form, longest}, Gives.{Gives, memory, never}, Lengths.long_or_memory, Reading.bytes_of, Standing.MovesOn};
-ghost use Rattle.pagable_model.specs.Writing.{Grows, added};
+ghost use Rattle.pagable_value_spec.specs.{BasicValues.{bool_at, bool_form, length_at, length_form, longest}, Outcomes.{Gives, memory, never}, Lengths.long_or_memory, Reading.bytes_of, Cursor.MovesOn};
+ghost use Rattle.pagable_value_spec.specs.Writing.{Grows, added};
 ghost use Rattle.std.specs.Prelude.{IfErr, OnOk, [], length, min, ◌≡◌, ◌≤◌};
 
 use crate::deserializer::PagableDeserializer;

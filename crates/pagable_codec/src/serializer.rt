@@ -1,12 +1,12 @@
 //! What values are written to.
 
 ghost use Rattle.std.specs.{Borrow.{Lends, sem}, Prelude.{◌≡◌, ◌<◌, ◌≤◌, ◌+◌, ◌-◌, List, ℕ, [], ◌∷◌, length, OnOk, OnErr, IfErr}};
-ghost use Rattle.{pagable_flavors.specs.contracts.vec_flavor.PagableVecFlavor.the_row as writer_row, pagable_model.specs.{Reading.deepest, Writing.{Out, added, end_of, overwritten}}};
+ghost use Rattle.{pagable_flavors.specs.contracts.vec_flavor.PagableVecFlavor.the_row as writer_row, pagable_value_spec.specs.{Reading.deepest, Writing.{Out, added, end_of, overwritten}}};
 
 use crate::env::Env;
 use crate::session::SessionContext;
 use pagable_flavors::{Error, PagableVecFlavor};
-use pagable_model::{ArcRef, PagableCursor};
+use pagable_value_spec::{ArcRef, PagableCursor};
 
 /// What values are written to: a writer of bytes, and a list of the references in their order.
 pub trait PagableSerializer<E: Env> {

@@ -1,6 +1,6 @@
 //! What one session of reading and writing shares among its values: a map under a lock.
 
-ghost use Rattle.{pagable_model.specs.{Gives.memory, Lifted.MayHold, Session.{IsBack, IsCloneOf, Under}}, std.{proofs.Common.rules, specs.{BTreeMap.{IsEmpty, IsUnchanged, Updates, get}, Cmp.Rules.comparing, Sync.Mutex.mutex_guard_value}}};
+ghost use Rattle.{pagable_value_spec.specs.{Outcomes.memory, Composite.MayHold, Session.{IsBack, IsCloneOf, Under}}, std.{proofs.Common.rules, specs.{BTreeMap.{IsEmpty, IsUnchanged, Updates, get}, Cmp.Rules.comparing, Sync.Mutex.mutex_guard_value}}};
 ghost use Rattle.std.specs.Prelude.{IfErr, IfOk, IfSome, IsSome, IsTrue, None, OnErr, OnOk, Some, refl, ◌≡◌};
 
 use pagable_flavors::Error;
@@ -134,7 +134,7 @@ impl<K: Ord + Drop, V: Drop> SessionContext<K, V> {
 
 impl<K: Ord + Drop, V: SessionValue> SessionContext<K, V> {
     /// Takes the lock, under which the map is lent.
-    #[tactic(auto, unfolding(pagable_model::specs::Lifted::MayHold))]
+    #[tactic(auto, unfolding(pagable_value_spec::specs::Composite::MayHold))]
     fn lent<R: Wait>(&self, rt: &R) -> MutexGuard<'_, SessionMap<K, V>>
         ensures { MayHold self.now (mutex_guard_value result) }
     {
@@ -142,7 +142,7 @@ impl<K: Ord + Drop, V: SessionValue> SessionContext<K, V> {
     }
 
     /// Gives the lock back, and with it the map as it is.
-    #[tactic(auto, unfolding(pagable_model::specs::Lifted::MayHold))]
+    #[tactic(auto, unfolding(pagable_value_spec::specs::Composite::MayHold))]
     fn give_back(&self, map: MutexGuard<'_, SessionMap<K, V>>)
         ensures { MayHold self.now (mutex_guard_value map.entry) }
     {

@@ -1,9 +1,9 @@
 -- Taking the next answer of a list of references.
 use Rattle.std.{proofs.{Common.{◌≡◌, ℕ, zero, suc, ◌+◌, ◌<◌, ◌≤◌, List, [], ◌∷◌, length, drop, Option, Result, Ok, Err, Some, arith, refl, ap, inl}, lemmas.List.drop_all}, specs.Prelude.slice_get}
-use Rattle.{pagable_core.specs.Context.{answers_from, standing_of}, pagable_model.specs.{Gives.{Gives, never}, Meaning.Meaning, Reading.{Rest, reference_at}, Standing.{Answer, answer_at, rest_at}}}
-use Rattle.pagable_model.specs.{Standing.MovesOn, Steps.◌>>=◌, Track.Track, declared.{error.Error.Error, numbers.ArcRef.ArcRef}}
-use Rattle.pagable_model.specs.declared.error.Error.TheVariants as errors
-use Rattle.pagable_model.specs.Meaning as meanings
+use Rattle.{pagable_core.specs.Context.{answers_from, standing_of}, pagable_value_spec.specs.{Outcomes.{Gives, never}, Meaning.Meaning, Reading.{Rest, reference_at}, Cursor.{Answer, answer_at, rest_at}}}
+use Rattle.pagable_value_spec.specs.{Cursor.MovesOn, ReadSteps.◌>>=◌, Progress.Track, declared.{error.Error.Error, numbers.ArcRef.ArcRef}}
+use Rattle.pagable_value_spec.specs.declared.error.Error.TheVariants as errors
+use Rattle.pagable_value_spec.specs.Meaning as meanings
 
 module _ (answer : ℕ → ℕ → ℕ → Result ArcRef Error) where
   pub length_of_answers : (place : ℕ) (keys : List ℕ) → length (answers_from answer place keys) ≡ length keys

@@ -1,7 +1,7 @@
 -- What a serializer and a deserializer over memory stand for.
 use Rattle.std.{proofs.Common.{arith, ap}, specs.{Global.Global, Prelude.{ℕ, ◌+◌, List, [], ◌∷◌, Option, Result, Vec, refl}}}
-use Rattle.{pagable_core.specs.declared.context.writing.{SerializedData.SerializedData, SerializerOver.SerializerOver}, pagable_model.specs.Reading.Rest}
-use Rattle.pagable_model.specs.{Standing.{Answer, Standing, MovesOn}, Track.{Track, GoesOn}, Writing.Out, declared.{error.Error.Error, numbers.ArcRef.ArcRef}}
+use Rattle.{pagable_core.specs.declared.context.writing.{SerializedData.SerializedData, SerializerOver.SerializerOver}, pagable_value_spec.specs.Reading.Rest}
+use Rattle.pagable_value_spec.specs.{Cursor.{Answer, Standing, MovesOn}, Progress.{Track, GoesOn}, Writing.Out, declared.{error.Error.Error, numbers.ArcRef.ArcRef}}
 
 -- nothing was written
 abbrev pub nothing : Out

@@ -1,7 +1,7 @@
 -- Blobs as the code keeps them, and what the hashes have taken.
 use Rattle.std.specs.{Arc.arc_value, Global.Global, HashMap.{HashMap, get}, Prelude.{◌≡◌, ◌%◌, ◌^◌, ◌+◌, List, ℕ, length, Option, option_map, nat_eq}}
 use Rattle.std.specs.declared.{hash.{BuildHasherDefault.BuildHasherDefault, FoldHasher.FoldHasher}, sync.Arc.Arc}
-use Rattle.{pagable_core.specs.declared.storage.{data.PagableData.PagableData, weigh.WeighHash.WeighHash}, pagable_model.specs.Blob.{Blob, weight}}
+use Rattle.{pagable_core.specs.declared.storage.{data.PagableData.PagableData, weigh.WeighHash.WeighHash}, pagable_value_spec.specs.Blob.{Blob, weight}}
 
 -- the blob without where it lies in memory
 abbrev pub blob_of : PagableData → Blob

@@ -1,7 +1,7 @@
 -- Names that stand for keys in a storage of blobs.
 use Rattle.std.specs.Prelude.{◌≡◌, ℕ, Bool, true, if◌then◌else◌, List, Option, Some, None, IsSome}
 use Rattle.std.specs.Str.{bytes_eq}
-use Rattle.pagable_model.specs.{Blob.Blob, Stored.HasFailed, declared.error.Error.Error}
+use Rattle.pagable_value_spec.specs.{Blob.Blob, Stored.HasFailed, declared.error.Error.Error}
 
 -- a name stands for this key now, or for none, and each other for what it stood for
 abbrev pub Sets : List ℕ → Option ℕ → (List ℕ → Option ℕ) → (List ℕ → Option ℕ) → Type 0

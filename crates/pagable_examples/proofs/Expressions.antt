@@ -1,8 +1,8 @@
 -- Expressions: a number, or two expressions one level further down.
-use Rattle.pagable_model.specs.{Basic.bool_form, Form.{err-form, ok-form}, Gives.{deep_or, memory}, Lifted.MeansPair, Meaning.{Meaning, failure, number, pair, success}, Reading.deepest}
-use Rattle.pagable_model.specs.{Shape.{both, nested, unsigned}, declared.{error.Error.Error, numbers.ArcRef.ArcRef}}
+use Rattle.pagable_value_spec.specs.{BasicValues.bool_form, Form.{err-form, ok-form}, Outcomes.{deep_or, memory}, Composite.MeansPair, Meaning.{Meaning, failure, number, pair, success}, Reading.deepest}
+use Rattle.pagable_value_spec.specs.{Shape.{both, nested, unsigned}, declared.{error.Error.Error, numbers.ArcRef.ArcRef}}
 use Rattle.pagable_traits.proofs.Parts.{no-failure, no-success, refused_second, refuses_first, refuses_whole, writes_pair, writes_whole}
-use Rattle.{pagable_codec.specs.declared.{env.Env.Ghosts as Environments, serializer.PagableSerializer.Ghosts as Serializers}, pagable_model.specs.{Standing.Is, Writing.nesting}}
+use Rattle.{pagable_codec.specs.declared.{env.Env.Ghosts as Environments, serializer.PagableSerializer.Ghosts as Serializers}, pagable_value_spec.specs.{Cursor.Is, Writing.nesting}}
 use Rattle.std.{proofs.Common.{Err, Ok, Result, false, inr, refl, true, ℕ, ◌+◌, ◌-◌, ◌<◌, ◌≡◌}, specs.{Int.w64, Result.IsErrAnd}}
 use Rattle.pagable_examples.{proofs.Levels.{refused-down, writes-down}, specs.{Expressions.{expression, node, nodes, of_expression, written}, declared.expression.Expression.{Expression, Number}}}
 use Rattle.pagable_traits.{proofs.JsonSteps.{wrote-below, wrote-nothing, wrote-then, wrote-then-err}, specs.Clauses.{Piece, Wrote, bytes}}

@@ -1,8 +1,8 @@
 -- A part one level further down, in any environment: what writing and reading it on the deeper level says of it.
 use Rattle.std.{proofs.Common.{Err, Result, arith, refl, suc, ℕ, ◌+◌, ◌-◌, ◌<◌, ◌≡◌, ◌≤◌}, specs.Prelude.IfErr}
-use Rattle.{pagable_codec.proofs.Reading.{moves_refl, moves_trans}, pagable_model.specs.{Form.nested-form, Meaning.Meaning, Reading.{Rest, below, deepest, read, read_with}}}
-use Rattle.pagable_model.specs.{Shape.{Shape, nested}, Standing.{Answer, handles_at}, Writing.{NoForm, Out, Refused, WritesSome, nesting}, declared.{error.Error.Error, numbers.ArcRef.ArcRef}}
-use Rattle.pagable_model.specs.declared.error.Error.TheVariants as errors
+use Rattle.{pagable_codec.proofs.Reading.{moves_refl, moves_trans}, pagable_value_spec.specs.{Form.nested-form, Meaning.Meaning, Reading.{Rest, below, deepest, read, read_with}}}
+use Rattle.pagable_value_spec.specs.{Shape.{Shape, nested}, Cursor.{Answer, handles_at}, Writing.{NoForm, Out, Refused, WritesSome, nesting}, declared.{error.Error.Error, numbers.ArcRef.ArcRef}}
+use Rattle.pagable_value_spec.specs.declared.error.Error.TheVariants as errors
 
 module _ (parts : ℕ → Shape) (part : ℕ) where
   pub writes-down : (M : Meaning ArcRef → Type 0) (levels : ℕ) (old new : Out) → levels < deepest → WritesSome M (nesting (levels + 1) parts) (parts part) old new → WritesSome M (nesting levels parts) (nested part) old new

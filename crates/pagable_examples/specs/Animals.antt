@@ -1,7 +1,7 @@
 -- The tags of animals, and what stands under each.
 use Rattle.std.specs.{Int.w8, Prelude.{List, [], cond, refl, ℕ, ◌∷◌}, Str.bytes_eq}
-use Rattle.{pagable_examples.specs.declared.animal.{Animal.Animal, AnimalReader.AnimalReader}, pagable_model.specs.{Carried.of_tagged, Meaning.{Meaning, none, number}}}
-use Rattle.{pagable_model.specs.{Shape.{Shape, nothing, unsigned}, Standing.Is, Tagged.MeansTagged, declared.numbers.ArcRef.ArcRef}, pagable_traits.specs.Meanings.Meanings}
+use Rattle.{pagable_examples.specs.declared.animal.{Animal.Animal, AnimalReader.AnimalReader}, pagable_value_spec.specs.{CarriedTypes.of_tagged, Meaning.{Meaning, none, number}}}
+use Rattle.{pagable_value_spec.specs.{Shape.{Shape, nothing, unsigned}, Cursor.Is, Tagged.MeansTagged, declared.numbers.ArcRef.ArcRef}, pagable_traits.specs.Meanings.Meanings}
 use Rattle.pagable_examples.specs.declared.animal.Animal.TheVariants as animals
 use Rattle.pagable_examples.specs.declared.animal.AnimalReader.TheVariants as readers
 

@@ -1,7 +1,7 @@
 -- What expressions mean, and how they are spelled.
 use Rattle.std.specs.{Int.w64, Prelude.{Err, Ok, Result, ℕ, ◌≡◌}}
-use Rattle.{pagable_examples.specs.declared.expression.Expression.{Expression, Number, Sum'}, pagable_model.specs.{Gives.memory, Meaning.{Meaning, failure, number, pair, success}}}
-use Rattle.pagable_model.specs.{Shape.{Shape, both, nested, outcome, unsigned}, Standing.Is, Writing.{Refused, WritesSome, nesting}, declared.{error.Error.Error, numbers.ArcRef.ArcRef}}
+use Rattle.{pagable_examples.specs.declared.expression.Expression.{Expression, Number, Sum'}, pagable_value_spec.specs.{Outcomes.memory, Meaning.{Meaning, failure, number, pair, success}}}
+use Rattle.pagable_value_spec.specs.{Shape.{Shape, both, nested, outcome, unsigned}, Cursor.Is, Writing.{Refused, WritesSome, nesting}, declared.{error.Error.Error, numbers.ArcRef.ArcRef}}
 use Rattle.pagable_traits.specs.Clauses.{Piece}
 
 -- a number, or two expressions, each one level further down

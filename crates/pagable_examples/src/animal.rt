@@ -1,7 +1,7 @@
 //! Animals, which are written as a tag and a body, and the readers of the bodies.
 
 ghost use Rattle.std.specs.Prelude.{◌≡◌};
-ghost use Rattle.{pagable_examples.specs.Animals.{animal_means, body_of, grammar_of, tag_of, tag_read, written}, pagable_model.specs.{Carried.tagged_by, Tagged.grammars}};
+ghost use Rattle.{pagable_examples.specs.Animals.{animal_means, body_of, grammar_of, tag_of, tag_read, written}, pagable_value_spec.specs.{CarriedTypes.tagged_by, Tagged.grammars}};
 ghost use Rattle.pagable_traits.specs.{Meanings.exactly, OwnCauses.{reads_memory_or, reads_never, writes_long_or, writes_memory_or}, StaticValues.writes_unregistered};
 
 use crate::zoo::Zoo;

@@ -1,7 +1,7 @@
 //! A struct of named fields: they are written one after the other, and nothing else.
 
 ghost use Rattle.std.specs.{Int.w16, Prelude.refl, String.string_bytes};
-ghost use Rattle.{pagable_examples.specs.Dishes.{dish_means, dish_single}, pagable_model.specs.{OneForm.{basic_has_one_form, two_has_one_form}, Shape.{both, text, unsigned}}};
+ghost use Rattle.{pagable_examples.specs.Dishes.{dish_means, dish_single}, pagable_value_spec.specs.{OneForm.{basic_has_one_form, two_has_one_form}, Shape.{both, text, unsigned}}};
 ghost use Rattle.pagable_traits.specs.{KeyLaws.{key_seen, number_key, pair_key, text_key}, OwnCauses.{reads_either, reads_memory, reads_never, writes_either, writes_long_or, writes_memory}};
 ghost use Rattle.pagable_traits.specs.ReadBack.{IsReadThroughout};
 

@@ -1,6 +1,6 @@
 //! A type that holds values of its own type, each one level further down: sums inside sums.
 
-ghost use Rattle.{pagable_examples.specs.Expressions.{IsSum, expression, node, nodes, of_expression}, pagable_model.specs.{Gives.{deep_or, memory}, Reading.read, Shape.nested, Standing.Is}};
+ghost use Rattle.{pagable_examples.specs.Expressions.{IsSum, expression, node, nodes, of_expression}, pagable_value_spec.specs.{Outcomes.{deep_or, memory}, Reading.read, Shape.nested, Cursor.Is}};
 ghost use Rattle.pagable_traits.specs.{Clauses.{Reads, Wrote}, Meanings.exactly, OwnCauses.{reads_memory, writes_deep_or, writes_memory}};
 
 use pagable_codec::parts::{read_flag, write_flag};
@@ -96,7 +96,7 @@ fn sum_of(alloc: Global, left: Expression, right: Expression) -> Result<Expressi
 
 // Reads which case it is, and its parts.
 #[cycle(reading)]
-#[tactic(auto, unfolding(pagable_model::specs::Reading::read, pagable_model::specs::Reading::read_with), using(pagable_traits::proofs::Parts::reads))]
+#[tactic(auto, unfolding(pagable_value_spec::specs::Reading::read, pagable_value_spec::specs::Reading::read_with), using(pagable_traits::proofs::Parts::reads))]
 fn read_node<D: PagableDeserializer<Sheet>>(
     alloc: Global,
     deserializer: &mut D,

@@ -4,12 +4,12 @@
 #![tactic(auto)]
 
 pub mod animal;
-pub mod any;
-pub mod carried;
+pub mod bytes;
 pub mod dish;
-pub mod drawn;
+pub mod dispatch;
 pub mod expression;
-pub mod own;
+pub mod random;
+pub mod round_trip;
 pub mod sessions;
 pub mod size;
 pub mod ticket;
@@ -17,4 +17,4 @@ pub mod types;
 pub mod values;
 pub mod zoo;
 
-pub use drawn::{Draws, input_of};
+pub use random::{Draws, input_of};

@@ -1,6 +1,6 @@
 //! What one session shares among its values: from one thread, from two, and through what values are written to and read from.
 
-use crate::any::AnyEnv;
+use crate::bytes::AnyEnv;
 use pagable_core::{
     NoReferences, PagableDeserializerImpl, PagableSerializerImpl, SerializerForPaging,
 };

@@ -4,7 +4,7 @@ ghost use Rattle.std.specs.Prelude.{◌≡◌};
 ghost use Rattle.pagable_examples.specs.Sizes.{tenths_of};
 
 use pagable_flavors::Error;
-use pagable_traits::alike::{CarriedAs, ReadAs};
+use pagable_traits::encoded_as::{DecodedAs, EncodedAs};
 use pagable_traits::{Env, PagableSerialize, PagableSerializer};
 
 /// The size of a glass.
@@ -27,14 +27,14 @@ impl Size {
     }
 }
 
-impl CarriedAs for Size {
+impl EncodedAs for Size {
     type Other = Option<u8>;
 
     ghost other = { tenths_of };
 }
 
-impl ReadAs for Size {
-    fn of_other(value: Option<u8>) -> Self {
+impl DecodedAs for Size {
+    fn from_encoded(value: Option<u8>) -> Self {
         match value {
             None => Size::Small,
             Some(tenths) => Size::Large(tenths),

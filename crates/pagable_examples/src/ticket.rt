@@ -1,7 +1,7 @@
 //! A type that is written and read eagerly: it holds no reference, and needs not be carried besides.
 
 ghost use Rattle.std.specs.Int.{w16};
-ghost use Rattle.{pagable_model.specs.{Meaning.number, Shape.unsigned}, pagable_traits.specs.{Meanings.exactly, OwnCauses.{reads_never, writes_memory}}};
+ghost use Rattle.{pagable_value_spec.specs.{Meaning.number, Shape.unsigned}, pagable_traits.specs.{Meanings.exactly, OwnCauses.{reads_never, writes_memory}}};
 
 use pagable_flavors::Error;
 use pagable_traits::{
@@ -37,7 +37,7 @@ impl<E: Env> PagableEagerSerialize<E> for Ticket {
 impl<'de, E: Env> PagableEagerDeserialize<'de, E> for Ticket {
     ghost eager_read_causes = { reads_never };
 
-    #[tactic(auto, unfolding(pagable_model::specs::Reading::read, pagable_model::specs::Reading::read_with), using(pagable_codec::proofs::Reading::parts))]
+    #[tactic(auto, unfolding(pagable_value_spec::specs::Reading::read, pagable_value_spec::specs::Reading::read_with), using(pagable_codec::proofs::Reading::parts))]
     fn eager_pagable_deserialize<D: PagableDeserializer<E>>(
         _alloc: Global,
         deserializer: &mut D,

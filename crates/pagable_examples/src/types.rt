@@ -1,8 +1,8 @@
 //! The carried types by their names. Each function knows a few, since the check of one grows faster than their number, and
 //! hands the other names on; for an unknown name the answer is None.
 
-use crate::any::{AnyEnv, finished, read, written};
-use crate::carried::{Outcome, Taken, replay, shown};
+use crate::bytes::{AnyEnv, finished, read, written};
+use crate::round_trip::{Outcome, Taken, replay, shown};
 use indexmap::{IndexMap, IndexSet};
 use pagable_core::{NoReferences, PagableDeserializerImpl, PagableSerializerImpl};
 use pagable_flavors::{PagableSlice, PagableVecFlavor};

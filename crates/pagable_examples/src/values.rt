@@ -1,8 +1,8 @@
 //! Lines about values that need no environment, but for those that are read.
 
-use crate::any::{AnyEnv, written};
-use crate::carried::written_bytes;
-use crate::drawn::input_of;
+use crate::bytes::{AnyEnv, written};
+use crate::random::input_of;
+use crate::round_trip::written_bytes;
 use crate::types;
 use pagable_flavors::{Error, Reason};
 use pagable_traits::SavedRegex;

@@ -1,7 +1,7 @@
 //! An environment with registries.
 
 ghost use Rattle.pagable_examples.specs.Words.{is_equal, meets_equal, numbers_apart, numbers_refer_to_nothing, of_numbers, of_text, text_refers_to_nothing, texts_apart};
-ghost use Rattle.pagable_model.specs.Shape.{nothing};
+ghost use Rattle.pagable_value_spec.specs.Shape.{nothing};
 
 use crate::animal::{Animal, AnimalReader};
 use pagable_core::WeighHash;

@@ -2,7 +2,7 @@
 use Rattle.std.proofs.Common.{◌≡◌, ◌∙◌, ◌<◌, ℕ, zero, suc, ◌⊎◌, inl, inr, Bool, true, false, IsSome, List, [], ◌∷◌, ◌++◌, ◌+◌, get_or, length, map, take, Option, Some, None, refl, sym, ap, subst, arith}
 use Rattle.std.specs.{HashMap.get, List.{AllByRecursion as Each, Contains}, Prelude.{◌==◌, if◌then◌else◌, nat_eq, slice_index_or}, Str.bytes_eq}
 use Rattle.std.proofs.lemmas.{Bool.Decides.nat_tests, List.{map_more, take_more}, Slice.Eq.bytes_eq-Decides}
-use Rattle.pagable_model.specs.{Blob.{Blob}, Stored.{Adds, Keeps}}
+use Rattle.pagable_value_spec.specs.{Blob.{Blob}, Stored.{Adds, Keeps}}
 use Rattle.pagable_core.specs.Roots.{Sets}
 use Rattle.pagable_file.specs.Copies.{AreCopied, Copied, end_of, HasCopied, IsCopied, IsCopiedRoot, IsInBoth, IsPath, Matches, Reaches}
 

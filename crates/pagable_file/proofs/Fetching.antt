@@ -3,11 +3,11 @@ use Rattle.std.proofs.Common.{◌≡◌, ◌≢◌, ◌∙◌, ℕ, ℤ, Bool, t
 use Rattle.std.proofs.lemmas.Bool.{eqb-true, Decides.{nat_tests, Decides-int_eq}}
 use Rattle.std.specs.{HashMap.get, Map.lookup, Ordering.int_eq, Prelude.{◌==◌, OnErr, OnOk, if◌then◌else◌}}
 use Rattle.sqlite_value.specs.Order.{Row}
-use Rattle.pagable_model.specs.{Blob.Blob, Stored.{Adds, Keeps, RefusesStore}, declared.error.Error.Error}
+use Rattle.pagable_value_spec.specs.{Blob.Blob, Stored.{Adds, Keeps, RefusesStore}, declared.error.Error.Error}
 use Rattle.pagable_file.specs.{Rows.{place_of, row_at, blob_in, blob_of_row, blobs_in, is_row_of}, Blobs.{AreKeyed, before, blob_pending, HasBlob, Holds, HasNone, IsFoundAs, IsReading, no_blobs, RefusesFound, RefusesHeld, stored_with, unless, Waiting}}
 use Rattle.pagable_file.specs.declared.{pending.Pending.Pending, rows.Reading.Reading}
 use Rattle.pagable_file.specs.declared.rows.Reading.TheVariants as reading
-use Rattle.pagable_model.specs.declared.error.Error.TheVariants as error
+use Rattle.pagable_value_spec.specs.declared.error.Error.TheVariants as error
 
 pub same_number : (a : ℕ) → (a == a) ≡ true
 same_number a = grind (arith, nat_tests)

@@ -7,7 +7,7 @@ use Rattle.std.proofs.lemmas.{Bool.Decides.nat_tests, Slice.Eq.bytes_eq-Decides,
 use Rattle.sqlite_value.specs.{declared.value.Value.TheVariants.Int, Order.{Row, bytes, column}}
 use Rattle.sqlite_trees.specs.{Tree.{Trees, has_rowid, rowid}, View.View}
 use Rattle.pagable_file.specs.Blobs.{StaysPut, is_sure}
-use Rattle.pagable_model.specs.Blob.{Blob}
+use Rattle.pagable_value_spec.specs.Blob.{Blob}
 use Rattle.pagable_file.specs.Rows.{blob_in, blob_tree, blobs_in, root_tree, is_key, key_in, place_of, place_of_name, root_in, roots_in, row_at}
 use Rattle.pagable_file.specs.Flaws.{IsChild, IsFlaw, IsNameAt, IsNamed, IsSoundBlob, IsSoundPlace, IsSoundRoot, IsThere, IsWhole, Tested, blob_at, keyed, keyed_at}
 use Rattle.pagable_file.specs.declared.fsck.Flaw.{Flaw}

@@ -4,14 +4,14 @@ use Rattle.std.proofs.lemmas.{Bool.Decides.{nat_tests, Decides-int_eq}, Slice.Eq
 use Rattle.std.specs.{HashMap.get, Map.lookup, Ordering.int_eq, Prelude.{◌==◌, if◌then◌else◌, is_some}, Str.bytes_eq, String.string_bytes}
 use Rattle.sqlite_value.specs.Order.{Row, bytes, column}
 use Rattle.sqlite_trees.specs.{Tree.Trees, View.View}
-use Rattle.pagable_model.specs.{Blob.Blob, Gives.memory, Stored.{HasFailed, RefusesFlush}, declared.error.Error.Error}
+use Rattle.pagable_value_spec.specs.{Blob.Blob, Outcomes.memory, Stored.{HasFailed, RefusesFlush}, declared.error.Error.Error}
 use Rattle.pagable_file.specs.Rows.{blob_in, blob_tree, blobs_in, place_of, place_of_name, root_in, root_of_row, root_tree, roots_in, row_at}
 use Rattle.pagable_core.specs.Roots.{RefusesRoot, Sets, Stands}
 use Rattle.pagable_file.specs.Blobs.{before, before_root, found_root, HasPlace, HoldsRoot, IsFoundAs, IsNamedAs, IsNotOther, reads_blob, roots_unless, roots_with, unless, StaysPut, stored_with, Waiting, WaitingRoots, is_sure}
 use Rattle.pagable_file.specs.declared.{pending.{Pending.Pending, PendingRoot.PendingRoot}, rows.{Naming.Naming, Reading.Reading}}
 use Rattle.pagable_file.specs.declared.rows.Naming.TheVariants as naming
 use Rattle.pagable_file.specs.declared.rows.Reading.TheVariants as reading
-use Rattle.pagable_model.specs.declared.error.Error.TheVariants as error
+use Rattle.pagable_value_spec.specs.declared.error.Error.TheVariants as error
 
 -- whether a blob stands under a key, by what waits
 pub has_held : (waiting : Waiting) (rows : List Row) (key : ℕ) (it : Pending) → Some it ≡ get int_eq waiting (place_of key) → (it.key == key) ≡ is_some (stored_with waiting rows key)

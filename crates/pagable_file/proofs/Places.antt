@@ -5,7 +5,7 @@ use Rattle.std.proofs.lemmas.Bool.Decides.{nat_tests}
 use Rattle.sqlite_value.specs.{declared.value.Value.TheVariants.Int, Order.{Row, value_cmp}}
 use Rattle.sqlite_value.proofs.OrderLemmas.{value_cmp_total, value_cmp-Int}
 use Rattle.sqlite_trees.specs.Tree.{rowid, has_rowid, put_row}
-use Rattle.pagable_model.specs.Blob.{Blob}
+use Rattle.pagable_value_spec.specs.Blob.{Blob}
 use Rattle.pagable_file.specs.{Rows.{place_of, row_at, blob_in, blob_of_row, blobs_in, blob_row, CanBeKey, key_bytes, key_in, place_of_name, root_in, root_of_row, root_row, roots_in}, Blobs.{before, before_root, blob_pending, CanBeKeyIf, Fits, pending_root_row, pending_row, put_all, roots_with, stored_with, Waiting, WaitingRoots}}
 use Rattle.pagable_file.specs.declared.pending.{Pending.Pending, PendingRoot.PendingRoot}
 use Rattle.pagable_file.proofs.Keys.{key_back, all_back}

@@ -8,7 +8,7 @@ use Rattle.sqlite_value.specs.Order.{Row, bytes, column}
 use Rattle.sqlite_trees.specs.contracts.store.Shape as shape_row
 use Rattle.sqlite_trees.specs.{Props.{Trees-set, marks_set}, declared.store.Shape.Shape, Tree.{Trees, put_row, with_tree}, View.{View, IsClean, OnlyWrites, KeepsCommitted}, declared.store.Shape.TheVariants.Table}
 use Rattle.pagable_core.specs.Data.{blob_of}
-use Rattle.pagable_model.specs.{Blob.Blob, Stored.HasFailed, declared.error.Error.Error}
+use Rattle.pagable_value_spec.specs.{Blob.Blob, Stored.HasFailed, declared.error.Error.Error}
 use Rattle.pagable_file.specs.Rows.{CanBeKey, place_of, place_of_name, blob_in, blobs_in, blob_row, root_row, roots_in, is_row_of, row_at, root_in, blob_tree, root_tree}
 use Rattle.pagable_file.specs.declared.{pending.{Pending.Pending, PendingRoot.PendingRoot}, rows.{Naming.Naming, Reading.Reading}}
 use Rattle.pagable_file.specs.declared.rows.Naming.TheVariants as naming

@@ -1,7 +1,7 @@
 -- What a copy of one storage's blobs into another has.
 use Rattle.std.specs.Prelude.{◌≡◌, ℕ, List, [], ◌∷◌, Option, Some, IsSome, nat_eq}
 use Rattle.std.specs.{HashMap.{HashMap, get}, List.{AllByRecursion, Contains}, declared.hash.{BuildHasherDefault.BuildHasherDefault, FoldHasher.FoldHasher}}
-use Rattle.pagable_model.specs.Blob.{Blob}
+use Rattle.pagable_value_spec.specs.Blob.{Blob}
 
 -- the keys that were copied
 abbrev pub Copied : Type 0

@@ -3,7 +3,7 @@ use Rattle.std.specs.Prelude.{◌≡◌, ◌≢◌, ℕ, ℤ, List, String, [], 
 use Rattle.std.specs.declared.alloc.Global.{Global}
 use Rattle.std.specs.{List.{AllByRecursion, Contains}, Ordering.int_eq, Str.IsUtf8, String.string_bytes}
 use Rattle.sqlite_value.specs.Order.{Row, bytes, column}
-use Rattle.pagable_model.specs.Blob.{Blob}
+use Rattle.pagable_value_spec.specs.Blob.{Blob}
 use Rattle.pagable_file.specs.Rows.{blob_in, blobs_in, key_in, place_of, place_of_name, roots_in, row_at}
 use Rattle.pagable_file.specs.declared.fsck.Flaw.{Flaw}
 use Rattle.pagable_file.specs.declared.fsck.Flaw.TheVariants as flaw

@@ -3,7 +3,7 @@ use Rattle.std.specs.Prelude.{◌≡◌, ℕ, ℤ, pos, suc, zero, ◌%◌, ◌/
 use Rattle.std.specs.{Int.{w64, w128, to_le_bytes, from_le_bytes}, List.flat_map, Str.bytes_eq}
 use Rattle.sqlite_value.specs.{declared.value.Value.TheVariants.{Null, Int, Text, Blob as Bytes}, Order.{Row, column, bytes}}
 use Rattle.sqlite_trees.specs.Tree.{Trees, has_rowid}
-use Rattle.pagable_model.specs.Blob.{Blob}
+use Rattle.pagable_value_spec.specs.Blob.{Blob}
 use Rattle.sha2.specs.Sha256.{sha256}
 
 abbrev pub blob_tree : ℕ

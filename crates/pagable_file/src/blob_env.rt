@@ -18,7 +18,7 @@ impl<H: KeyHash> Env for BlobEnv<H> {
 
     type CtxValue = ();
 
-    ghost use Rattle.pagable_model.specs.Shape.{nothing};
+    ghost use Rattle.pagable_value_spec.specs.Shape.{nothing};
 
     ghost parts = { λ e number. nothing };
 }

@@ -2,7 +2,7 @@
 
 ghost use Rattle.std.specs.{Arc.arc_value, Prelude.{◌≡◌, ◌≤◌, ◌⊎◌, [], false, is_some, IfErr, IfOk, IsTrue, OnOk, Some}};
 ghost use Rattle.{sqlite.specs.Held.state, sqlite_trees.specs.{Tree.Trees, View.IsClean}};
-ghost use Rattle.{pagable_core.specs.Data.blob_of, pagable_model.specs.{Blob.key_of, Stored.RefusesFlush}};
+ghost use Rattle.{pagable_core.specs.Data.blob_of, pagable_value_spec.specs.{Blob.key_of, Stored.RefusesFlush}};
 ghost use Rattle.pagable_file.specs.{Blobs.{AreKeyed, HasBlob, IsNotHeld, RefusesFound, RefusesHeld, RefusesRead, Settled, blob_pending, is_sure, roots_with, settled_prop, stored_with, unless}, Rows.{blob_tree, blobs_in, root_tree, roots_in}};
 
 use crate::fault::Fault;

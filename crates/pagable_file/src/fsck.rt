@@ -2,7 +2,7 @@
 
 ghost use Rattle.std.specs.{List.AllByRecursion, Prelude.{[], ℕ, IfErr, IfOk, IsTrue, List, OnOk, Some, is_some, option_map, ◌≡◌, ◌≤◌, ◌↔◌}, String.string_bytes};
 ghost use Rattle.sqlite_value.specs.Order.{Row as SqlRow};
-ghost use Rattle.{pagable_core.specs.Data.blob_of, pagable_model.specs.{Blob.{Blob, key_of}, Stored.RefusesFlush}};
+ghost use Rattle.{pagable_core.specs.Data.blob_of, pagable_value_spec.specs.{Blob.{Blob, key_of}, Stored.RefusesFlush}};
 ghost use Rattle.pagable_file.specs.{Blobs.{Settled, StaysPut, is_sure}, Flaws.{IsChild, IsFlaw, IsNameAt, IsSoundBlob, IsSoundPlace, IsSoundRoot, IsThere, IsWhole, Tested, blob_at, keyed}};
 ghost use Rattle.pagable_file.specs.Rows.{blob_tree, blobs_in, root_tree, roots_in};
 

@@ -1,7 +1,7 @@
 //! What the rows of blobs are, without their bytes.
 
 ghost use Rattle.std.specs.Prelude.{IfErr, IsTrue, ◌≡◌, ◌≤◌};
-ghost use Rattle.pagable_model.specs.Stored.{RefusesFlush};
+ghost use Rattle.pagable_value_spec.specs.Stored.{RefusesFlush};
 ghost use Rattle.pagable_file.specs.Blobs.{Settled, StaysPut, is_sure};
 
 use crate::file_blobs::FileBlobs;

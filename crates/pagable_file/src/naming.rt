@@ -1,7 +1,7 @@
 //! Looks at what waits and then at a table: whether a blob stands under a key, and whether a name may be set.
 
 ghost use Rattle.std.specs.{HashMap.get, Ordering.int_eq, Str.bytes_eq, String.string_bytes, Prelude.{◌≡◌, ◌≤◌, None, false, is_some, if◌then◌else◌, IfErr, IfOk, IsTrue, OnErr, OnOk, true}};
-ghost use Rattle.pagable_model.specs.{Gives.memory, Stored.RefusesFlush};
+ghost use Rattle.pagable_value_spec.specs.{Outcomes.memory, Stored.RefusesFlush};
 ghost use Rattle.pagable_core.specs.Roots.{RefusesRoot, Stands};
 ghost use Rattle.pagable_file.specs.Blobs.{HasPlace, HoldsRoot, IsNotOther, Settled, StaysPut, found_root, is_sure, reads_blob, stored_with};
 ghost use Rattle.pagable_file.specs.Rows.{blob_tree, root_tree, row_at};

@@ -1,7 +1,7 @@
 //! What was stored, and which names were set, and not yet flushed.
 
 ghost use Rattle.std.specs.{Arc.arc_value, HashMap.get, Ordering.int_eq, Prelude.{◌≡◌, ◌↔◌, IfErr, IsTrue, OnErr, OnOk, option_copied}};
-ghost use Rattle.{pagable_core.specs.Data.blob_of, pagable_file.specs.Blobs.Holds, pagable_model.specs.Gives.memory};
+ghost use Rattle.{pagable_core.specs.Data.blob_of, pagable_file.specs.Blobs.Holds, pagable_value_spec.specs.Outcomes.memory};
 ghost use Rattle.pagable_file.specs.Rows as spec;
 
 use crate::rows::{place_of, place_of_name};

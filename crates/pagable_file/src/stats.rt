@@ -1,8 +1,8 @@
 //! What a file of blobs has been asked.
 
 ghost use Rattle.std.specs.Prelude.{◌≡◌, ◌≤◌};
-ghost use Rattle.pagable_model.specs.Stored.{HasFailed, RefusesFlush};
-ghost use Rattle.pagable_model.specs.declared.error.Error.TheVariants as error;
+ghost use Rattle.pagable_value_spec.specs.Stored.{HasFailed, RefusesFlush};
+ghost use Rattle.pagable_value_spec.specs.declared.error.Error.TheVariants as error;
 
 use crate::fault::Fault;
 use pagable_flavors::Error;

@@ -1,8 +1,8 @@
 -- Numbers of seven bits a byte, byte by byte.
 use Rattle.std.proofs.Common.{length, get_or, add-one, ◌≡◌, ℕ, zero, suc, ◌+◌, ◌-◌, ◌*◌, ◌/◌, ◌%◌, ◌<◌, ◌≤◌, ◌≢◌, refl, arith, List, [], ◌∷◌, ◌++◌, drop, Ok, Err, sym, ap, ◌∙◌, append_assoc}
 use Rattle.std.proofs.{Math.Seq.drop-cons, lemmas.Bool.le-ltb, lemmas.Bool.lt-ltb, lemmas.Bool.le-leb, lemmas.Bool.lt-leb, lemmas.List.append-nil, lemmas.List.drop_all}
-use Rattle.pagable_model.specs.{Gives.Extends, Numbers.Read, Numbers.byte_at, Numbers.varint, Numbers.varint_at, Numbers.varint_limit, Steps.◌>>=◌, Numbers.AppendsVarint}
-use Rattle.pagable_model.specs.declared.error.Error.TheVariants as errors
+use Rattle.pagable_value_spec.specs.{Outcomes.Extends, Numbers.Read, Numbers.byte_at, Numbers.varint, Numbers.varint_at, Numbers.varint_limit, ReadSteps.◌>>=◌, Numbers.AppendsVarint}
+use Rattle.pagable_value_spec.specs.declared.error.Error.TheVariants as errors
 
 -- What was read so far are the low bits, and what the rest reads as is the high part of the number.
 abbrev pub raised : ℕ → ℕ → Read ℕ → Read ℕ

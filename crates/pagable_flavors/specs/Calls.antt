@@ -1,6 +1,6 @@
 -- What the calls of readers and writers of basic values owe.
 use Rattle.std.specs.Prelude.{◌≡◌, ◌<◌, ◌≤◌, ◌++◌, ℕ, List, Result, OnOk, IfErr}
-use Rattle.pagable_model.specs.{Basic.longest, Gives.{Gives, Extends, memory, never}, Lengths.long_or_memory, Numbers.Read, Track.{Track, left, GoesOn}, declared.error.Error.Error}
+use Rattle.pagable_value_spec.specs.{BasicValues.longest, Outcomes.{Gives, Extends, memory, never}, Lengths.long_or_memory, Numbers.Read, Progress.{Track, left, GoesOn}, declared.error.Error.Error}
 
 -- What was returned is what reading gives here, or the first fault, and the reader goes on, at most up to the end.
 pub record Reads {X : Type 0} (at : List ℕ → Read X) (result : Result X Error) (old new : Track) : Type 0 where

@@ -1,10 +1,10 @@
 //! What reads basic values: what a deserializer lends.
 
-ghost use Rattle.{pagable_flavors.specs.Calls.Reads, pagable_model.specs.{Basic.{bool_at, char_at, length_at, text_at}, Gives.{Gives, memory}, Numbers.{signed_at, unsigned_at}, Track.GoesOn}};
-ghost use Rattle.pagable_model.specs.Track.{Track, left};
+ghost use Rattle.{pagable_flavors.specs.Calls.Reads, pagable_value_spec.specs.{BasicValues.{bool_at, char_at, length_at, text_at}, Outcomes.{Gives, memory}, Numbers.{signed_at, unsigned_at}, Progress.GoesOn}};
+ghost use Rattle.pagable_value_spec.specs.Progress.{Track, left};
 ghost use Rattle.std.specs.{Int.{w128, w16, w32, w64, w8}, Prelude.{length, ◌≡◌, ◌≤◌}, String.string_bytes};
 
-use pagable_model::Error;
+use pagable_value_spec::Error;
 use std::alloc::Global;
 
 /// A reader of basic types, as `PagableSlice` is. A refusal is the first fault of the wire format, and leaves the

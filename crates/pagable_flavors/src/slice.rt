@@ -1,12 +1,12 @@
 //! Bytes that are read one after another.
 
 ghost use Rattle.std.specs.Prelude.{◌≡◌, ◌≤◌, length, OnErr};
-ghost use Rattle.{pagable_flavors.specs.Calls.Reads, pagable_model.specs.{Basic.bytes_at, Gives.{Gives, never}, Numbers.byte_at, Track.{Track, left, GoesOn}}};
+ghost use Rattle.{pagable_flavors.specs.Calls.Reads, pagable_value_spec.specs.{BasicValues.bytes_at, Outcomes.{Gives, never}, Numbers.byte_at, Progress.{Track, left, GoesOn}}};
 
 mod numbers;
 mod reading;
 
-use pagable_model::Error;
+use pagable_value_spec::Error;
 use std::marker::Model;
 
 /// A reader of bytes, which takes no memory. Contracts see all its bytes and how many of them were read.
@@ -20,7 +20,7 @@ pub struct PagableSlice<'de> {
 }
 
 impl<'de> Model for PagableSlice<'de> {
-    ghost use Rattle.pagable_model.specs.Track.{Track};
+    ghost use Rattle.pagable_value_spec.specs.Progress.{Track};
     ghost use Rattle.std.specs.Prelude.{length, ◌≤◌};
 
     ghost Value = { Track };

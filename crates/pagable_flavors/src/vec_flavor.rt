@@ -1,11 +1,11 @@
 //! Bytes that are written one after another.
 
-ghost use Rattle.pagable_model.specs.Gives.{memory};
+ghost use Rattle.pagable_value_spec.specs.Outcomes.{memory};
 ghost use Rattle.std.specs.Prelude.{IfErr, List, OnErr, OnOk, [], drop, length, take, ◌++◌, ◌+◌, ◌∷◌, ◌≡◌, ◌≤◌};
 
 mod writing;
 
-use pagable_model::Error;
+use pagable_value_spec::Error;
 use std::alloc::Global;
 use std::marker::Model;
 

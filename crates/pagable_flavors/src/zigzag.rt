@@ -1,6 +1,6 @@
 //! Numbers with a sign as numbers without one: n becomes 2n, and -n - 1 becomes 2n + 1.
 
-ghost use Rattle.pagable_model.specs.Numbers.{from_zigzag, zigzag};
+ghost use Rattle.pagable_value_spec.specs.Numbers.{from_zigzag, zigzag};
 ghost use Rattle.std.specs.Prelude.{◌≡◌};
 
 // The number without a sign that stands for this one.

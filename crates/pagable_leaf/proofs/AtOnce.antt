@@ -2,7 +2,7 @@
 use Rattle.pagable_tables.proofs.{CascadeStep.{aside, turned, unmixed}, Counting.{all-kept, kept-more, left-none, of_list, there-is}}
 use Rattle.pagable_tables.proofs.{HandleTable.found-append, OwnedByLoad.{changed-push, seen-before}, RowCounts.{found-among, sum-none}}
 use Rattle.pagable_tables.proofs.CascadeEnd.{ended}
-use Rattle.pagable_leaf.proofs.Words.{Alike, BeginCall, Blob, Bool, Core, Falls, HandleNumber, HandleRow, Holdings, Installs, List}
+use Rattle.pagable_leaf.proofs.Words.{Alike, BeginCall, Blob, Bool, Core, Falls, HandleNumber, HandleRow, RefCounts, Installs, List}
 use Rattle.pagable_leaf.proofs.Words.{LoadNumber, MayEnd, Mode, None, Ok, Option, OptionalDataKey, Owner, Owns, SoFar, Some, Tables, [], append-nil, ap, arith, cases_Bool, cases_eq, changed, core_of}
 use Rattle.pagable_leaf.proofs.Words.{MustList, false, filter-append, find_row, greatest, if◌then◌else◌, inl, inr, is_handle, is_here, is_loose, is_named_by, is_owned_by, is_owned_in, is_pin, is_plain_pin, is_share, left_rows}
 use Rattle.pagable_leaf.proofs.Words.{length, moved, nat_tests, nobody, not, of_cell, one, or_else, owner_value, owns_nothing, pins, refl, row_of, sharing, subst, sum_by-cons, sum_by-le-sum_by, sum_by_push, sym}
@@ -12,7 +12,7 @@ use Rattle.pagable_tables.proofs.Views.{none-named}
 use Rattle.pagable_leaf.proofs.Words.{Last, length-append, length-map}
 use Rattle.pagable_tables.specs.Core.{ArePlaced}
 use Rattle.{pagable_leaf.specs.Leaf.{PinsLeaf, with_numbers}, pagable_tables.specs.Core.IsWhole}
-use Rattle.pagable_world.specs.{declared.answers.Beginning.Beginning, World.key_at}
+use Rattle.pagable_pager_spec.specs.{declared.pinning.Beginning.Beginning, World.key_at}
 
 turned-more : (n q : ℕ) (rows : List HandleRow) → pins n rows ≤ pins n (changed (is_handle q) turned rows)
 turned-more n q [] = omega arith
@@ -36,7 +36,7 @@ module _ (t t1 : Tables) (stored : ℕ → Option Blob) (closed lists : Bool) (f
 
   -- the number of the load's own handle
   abbrev g : ℕ
-  g = t.holdings.last_handle + 1
+  g = t.ref_counts.last_handle + 1
 
   abbrev l : LoadNumber
   l = record { 0 = t.last_load + 1 }
@@ -59,12 +59,12 @@ module _ (t t1 : Tables) (stored : ℕ → Option Blob) (closed lists : Bool) (f
   abbrev given : ℕ → Bool
   given q = is_owned_in begun (Owner.Load l) q && not (is_named_by [] q)
 
-  abbrev after : Holdings
-  after = record t1.holdings { unlisted = None }
+  abbrev after : RefCounts
+  after = record t1.ref_counts { unlisted = None }
 
   module _ (owned : Owns w me row.number is_loose row) (a : Alike (with_handle (with_mode (with_numbers w) row.number Mode.LoosePinned) row.node Mode.Pinned me) w')
       (cache : (kind k : ℕ) → w'.cache kind k ≡ w.cache kind k) where
-    here : (0 < row.number.0) × (row.number.0 ≤ t.holdings.last_handle)
+    here : (0 < row.number.0) × (row.number.0 ≤ t.ref_counts.last_handle)
     here = was.core.handles.numbered row (found-among row.number.0 w.rows row owned.live).0
 
     placed : ArePlaced begun
@@ -122,7 +122,7 @@ module _ (t t1 : Tables) (stored : ℕ → Option Blob) (closed lists : Bool) (f
     }
 
     fell : Falls u u only (Ok tt) (with_tables u after)
-    fell = ended u u only lists after so-far (aside t1.holdings None [] owns_nothing whole.steady)
+    fell = ended u u only lists after so-far (aside t1.ref_counts None [] owns_nothing whole.steady)
 
     last-alike : Alike (with_tables u after) w'
     last-alike = record {
@@ -197,7 +197,7 @@ module _ (t t1 : Tables) (stored : ℕ → Option Blob) (closed lists : Bool) (f
     fell-begun = subst (λ s. Falls begun u s (Ok tt) w') (λ i q. given-is q i) (seen-before {b = u} {w = begun} {u = u} u.places (record { handles = omega arith; entries = omega arith }) before-is fell-so)
 
     module _ (away : is_here w row.node.0 ≡ false) (keyed : key_at w row.node.0 ≡ OptionalDataKey.Some key) (typed : type_at w row.node.0 ≡ Some type) (load_left : t.last_load < greatest)
-        (handles_left : t.holdings.last_handle + 1 < greatest) where
+        (handles_left : t.ref_counts.last_handle + 1 < greatest) where
       alike : Alike (with_load (with_handle w row.node Mode.LooseUnpinned (Owner.Load l)) key (of_cell row.node type row.number) me) begun
       alike = record {
         rows = refl;

@@ -1,7 +1,7 @@
 -- A load of a cell that begins and is given up: no more is left of it than that its number and that of its handle are taken.
 use Rattle.pagable_tables.proofs.{CascadeEnd.ended, CascadeStep.{aside, unmixed}, Counting.{all-kept, kept-more, left-none, of_list, there-is}}
 use Rattle.pagable_tables.proofs.{HandleTable.found-append, OwnedByLoad.seen-before, RowCounts.{found-among, sum-none}}
-use Rattle.pagable_leaf.proofs.Words.{Alike, BeginCall, Blob, Bool, Core, Falls, HandleNumber, HandleRow, Holdings, LoadNumber, Mode, MustList, None, Ok, Option, OptionalDataKey, Owner, Owns}
+use Rattle.pagable_leaf.proofs.Words.{Alike, BeginCall, Blob, Bool, Core, Falls, HandleNumber, HandleRow, RefCounts, LoadNumber, Mode, MustList, None, Ok, Option, OptionalDataKey, Owner, Owns}
 use Rattle.pagable_leaf.proofs.Words.{SoFar, Some, Tables, [], append-nil, ap, arith, cases_Bool, cases_eq, core_of, false, filter-append, find_row, greatest, inl, inr, is_handle, is_here, is_loose, is_owned_by}
 use Rattle.pagable_leaf.proofs.Words.{is_owned_in, is_pin, is_plain_pin, is_share, left_rows, nat_tests, nobody, of_cell, one, or_else, owns_nothing, refl, row_of, subst, sum_by_push, sym, times, type_at}
 use Rattle.pagable_tables.proofs.SameViews.{alike-on, owner-same, same-cache, still}
@@ -9,12 +9,12 @@ use Rattle.pagable_leaf.proofs.Words.{with_handle, with_load, with_tables, witho
 use Rattle.pagable_leaf.specs.Leaf.{DropsLeaf}
 use Rattle.pagable_tables.specs.{Core.{ArePlaced, IsWhole}, HandleTable.room}
 use Rattle.pagable_leaf.proofs.Words.{length-append}
-use Rattle.pagable_world.specs.{World.key_at, declared.answers.Beginning.Beginning}
+use Rattle.pagable_pager_spec.specs.{World.key_at, declared.pinning.Beginning.Beginning}
 
 module _ (t : Tables) (stored : ℕ → Option Blob) (closed lists : Bool) (failures : ℕ) (was : IsWhole t) (e : lists ≡ not closed) (me : Owner) (row : HandleRow) (key type : ℕ) where
   -- the tables afterwards
   abbrev t1 : Tables
-  t1 = record t { holdings = record t.holdings { last_handle = t.holdings.last_handle + 1 }; last_load = t.last_load + 1 }
+  t1 = record t { ref_counts = record t.ref_counts { last_handle = t.ref_counts.last_handle + 1 }; last_load = t.last_load + 1 }
 
   abbrev w : Core
   w = core_of t stored closed failures
@@ -24,7 +24,7 @@ module _ (t : Tables) (stored : ℕ → Option Blob) (closed lists : Bool) (fail
 
   -- the number of the load's own handle
   abbrev g : ℕ
-  g = t.holdings.last_handle + 1
+  g = t.ref_counts.last_handle + 1
 
   abbrev l : LoadNumber
   l = record { 0 = t.last_load + 1 }
@@ -44,8 +44,8 @@ module _ (t : Tables) (stored : ℕ → Option Blob) (closed lists : Bool) (fail
   abbrev given : ℕ → Bool
   given q = is_owned_in begun (Owner.Load l) q
 
-  abbrev after : Holdings
-  after = record t1.holdings { unlisted = None }
+  abbrev after : RefCounts
+  after = record t1.ref_counts { unlisted = None }
 
   module _ (whole : IsWhole t1) (owned : Owns w me row.number is_loose row) where
     none-yet : times (is_handle g) w.rows ≡ 0
@@ -87,7 +87,7 @@ module _ (t : Tables) (stored : ℕ → Option Blob) (closed lists : Bool) (fail
     }
 
     fell : Falls u u only (Ok tt) (with_tables u after)
-    fell = ended u u only lists after so-far (aside t1.holdings None [] owns_nothing whole.steady)
+    fell = ended u u only lists after so-far (aside t1.ref_counts None [] owns_nothing whole.steady)
 
     last-alike : Alike (with_tables u after) w'
     last-alike = record {
@@ -148,7 +148,7 @@ module _ (t : Tables) (stored : ℕ → Option Blob) (closed lists : Bool) (fail
     fell-begun = subst (λ s. Falls begun u s (Ok tt) w') (λ i q. given-is q i) (seen-before {b = u} {w = begun} {u = u} u.places (record { handles = omega arith; entries = omega arith }) (λ n none. (refl, refl)) fell-so)
 
     module _ (away : is_here w row.node.0 ≡ false) (keyed : key_at w row.node.0 ≡ OptionalDataKey.Some key) (typed : type_at w row.node.0 ≡ Some type) (load_left : t.last_load < greatest)
-        (handles_left : t.holdings.last_handle + 1 < greatest) (place : 1 ≤ room t.holdings.handles) where
+        (handles_left : t.ref_counts.last_handle + 1 < greatest) (place : 1 ≤ room t.ref_counts.handles) where
       placed : ArePlaced begun
       placed =
           let is = was.core.handles.places in

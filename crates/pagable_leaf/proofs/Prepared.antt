@@ -3,7 +3,7 @@ use Rattle.pagable_leaf.specs.{Leaf.IsLeaf, declared.leaf.Leaf.Leaf}
 use Rattle.pagable_tables.proofs.SameViews.{owner-self, room-alike}
 use Rattle.pagable_tables.specs.Core.{OnlyRoom}
 use Rattle.pagable_leaf.proofs.Words.{Core, HandleNumber, None, Owner, arith, inl, inr, nat_tests, refl, subst, ◌≡◌}
-use Rattle.{pagable_model.specs.declared.error.Error.Error, pagable_world.specs.{Calls.is_handle_here, LoadCalls.{BeginCall, begin_fault}}, std.specs.Prelude.{Err, false}}
+use Rattle.{pagable_value_spec.specs.declared.error.Error.Error, pagable_pager_spec.specs.{Calls.is_handle_here, LoadCalls.{BeginCall, begin_fault}}, std.specs.Prelude.{Err, false}}
 
 pub leaf-roomier : {w w' : Core} {me : Owner} {leaf : Leaf} → OnlyRoom w w' → IsLeaf w me leaf → IsLeaf w' me leaf
 leaf-roomier room is = grind (arith, nat_tests)

@@ -6,8 +6,8 @@ pub use Rattle.std.proofs.lemmas.List.{at_drop_more, drop_all, get_or-map, get_o
 pub use Rattle.std.proofs.lemmas.List.{Elements.{All-set, filter-append, filter_from_retain}, Kept.AllPairs-filter, Quantifiers.all_pairs_push, Sums.{get_or-le-sum_by, sum_by-append, sum_by-cons}}
 pub use Rattle.std.proofs.lemmas.{List.Sums.{sum_by-le-sum_by, sum_by-remove, sum_by-set, sum_by_push}, Option.{get_or_from_slice_get, slice_get-get_or, slice_get_read, slice_get_within}}
 pub use Rattle.std.specs.{List.AllPairs, Option.option_map, Prelude.{IfSome, IsSome, Result, is_some, nat_lt, ◌≢◌}}
-pub use Rattle.{indexmap.specs.IndexMap.{IndexMap, get}, pagable_model.specs.declared.{data_key.OptionalDataKey.OptionalDataKey, error.Error.Error, numbers.{ArcRef.ArcRef, HandleNumber.HandleNumber}}}
-pub use Rattle.pagable_model.specs.declared.numbers.{Kind.Kind, LoadNumber.LoadNumber, NodeNumber.NodeNumber}
+pub use Rattle.{indexmap.specs.IndexMap.{IndexMap, get}, pagable_value_spec.specs.declared.{data_key.OptionalDataKey.OptionalDataKey, error.Error.Error, numbers.{ArcRef.ArcRef, HandleNumber.HandleNumber}}}
+pub use Rattle.pagable_value_spec.specs.declared.numbers.{Kind.Kind, LoadNumber.LoadNumber, NodeNumber.NodeNumber}
 pub use Rattle.pagable_tables.specs.{Core.{Bears, OnlyRoom}, EndingLoads.early_fault, HandleTable.Becomes, NumberTable.row_by}
 pub use Rattle.pagable_tables.specs.Core.{ArePlaced, Makes, MayHold, Suits, core_of, load_in, plain_of, root_in}
 pub use Rattle.pagable_tables.specs.{Indexes.{is_same, known_at, load_at, reach_at, worker_at}, Nodes.{counts_at, refs_at}}
@@ -21,20 +21,20 @@ pub use Rattle.pagable_tables.specs.{Core.{InReach, IsNoLess, LoadsAre, gives_ro
 pub use Rattle.pagable_tables.specs.{CascadeProgress.{Begins, IsApart, SoFar, is_plain_pin}, Core.{AreLater, left_load, passes_in}}
 pub use Rattle.pagable_tables.specs.HandleTable.{AreSound, IsBefore, IsNext, alive, is_live_place, live}
 pub use Rattle.pagable_tables.specs.{CascadeProgress.{told_by, with_tables}, Core.named_at, EndingLoads.{IsReady, has_come}}
-pub use Rattle.pagable_tables.specs.declared.{cascade.Holdings.Holdings, handle_table.Handles.Handles, release.Giving.Giving}
+pub use Rattle.pagable_tables.specs.declared.{cascade.RefCounts.RefCounts, handle_table.Handles.Handles, release.ReleaseSet.ReleaseSet}
 pub use Rattle.pagable_tables.specs.declared.{load_end.Ending.Ending, load_table.LoadRow.LoadRow, place.Place.Place}
 pub use Rattle.pagable_tables.specs.declared.{nodes.{Counts.Counts, NodeRow.NodeRow}, number_table.NumberTable.NumberTable}
-pub use Rattle.pagable_tables.specs.declared.tables.{Reach.Reach, Tables.Tables}
-pub use Rattle.pagable_world.specs.Calls.{AwayBirthCall, ClearCall, CloneCall, CloseCall, LoosenCall, PinCall, RecallCall, ReserveCall, ScheduleCall, SetKeyCall, TakeCall, UnpinCall, birth_fault}
-pub use Rattle.pagable_world.specs.Calls.{is_handle_here, is_listed, is_usable, moved, next_node, offer_fault, pin_fault, recall_fault, row_of, shut, with_cached, with_handle, with_key, with_known}
-pub use Rattle.pagable_world.specs.{Calls.{with_mode, with_node}, Cascade.{AreNewEntries, Falls, FallsAnyhow, IsClosed, IsLeast, IsListRefusal, IsWithin, MustList, TellsListing, fallen, held_outside}}
-pub use Rattle.pagable_world.specs.{Cascade.{is_keyed, is_outside, left_rows, loses_value, nobody, only_handle, pins_outside}, Events.with_worker, Kinds.{any_mode, fits_mode, has_key, held, is_at}}
-pub use Rattle.pagable_world.specs.Kinds.{is_handle, is_in_memory, is_loose, is_owned_by, is_owner, is_pin, is_pinned, is_pinning, is_share, is_shared, is_unpinned, mode_of, owner_value, owner_worker}
-pub use Rattle.pagable_world.specs.{Kinds.{pins, sharing}, LoadCalls.{Adopts, BeginCall, BeginKeyCall, DropCall, EndCall, HandOverCall, Installs, LazyCall, LoadCloses, MayEnd, adopt_fault, adopted}}
-pub use Rattle.pagable_world.specs.LoadCalls.{cell_fault, end_fault, first_key, hand_over_fault, is_owned_in, lazy_fault, node_fault, numbers_of, root_fault, with_load, with_pin, without_load}
-pub use Rattle.pagable_world.specs.{Pager.{HandlesAreWhole, IsEntryWhole, IsHandleBefore, IsRootWhole, IsWhole, MayOwnLoad}, Plain.{Among, Blob, SameAt, changed, if_there, is_loose_kind}}
-pub use Rattle.pagable_world.specs.{Plain.{is_pinned_kind, is_shared_kind, one, or_else, times, type_of, updated}, Refusals.{AreHandlesFull, Owns, OwnsLoad, Refused, closed_fault, earlier}}
-pub use Rattle.pagable_world.specs.{Refusals.{handle_fault, load_fault, rank, reference_fault, refused_if, spent, where_so}, Workers.{is_workers, is_workers_load, without_worker}, World.{Alike, Cell}}
-pub use Rattle.pagable_world.specs.{World.{Core, HasRoom, Last, OpenLoad, Places, Root, SameCache, greatest, is_here, of_cell, of_key, row_at, type_at, usable}, declared.answers.Beginning.Beginning}
-pub use Rattle.pagable_world.specs.declared.{answers.Pinning.Pinning, handles.{HandleRow.HandleRow, Owner.Owner}, rows.Mode.Mode}
-unfoldable pub use Rattle.{pagable_tables.specs.Core.seen, pagable_world.specs.{Calls.is_named_by, Kinds.find_row, Plain.is_in, Refusals.{named_fault, references_fault}}}
+pub use Rattle.pagable_tables.specs.declared.tables.{HandleRange.HandleRange, Tables.Tables}
+pub use Rattle.pagable_pager_spec.specs.Calls.{AwayBirthCall, ClearCall, CloneCall, CloseCall, LoosenCall, PinCall, RecallCall, ReserveCall, ScheduleCall, SetKeyCall, TakeCall, UnpinCall, birth_fault}
+pub use Rattle.pagable_pager_spec.specs.Calls.{is_handle_here, is_listed, is_usable, moved, next_node, offer_fault, pin_fault, recall_fault, row_of, shut, with_cached, with_handle, with_key, with_known}
+pub use Rattle.pagable_pager_spec.specs.{Calls.{with_mode, with_node}, Cascade.{AreNewEntries, Falls, FallsAnyhow, IsClosed, IsLeast, IsListRefusal, IsWithin, MustList, TellsListing, fallen, held_outside}}
+pub use Rattle.pagable_pager_spec.specs.{Cascade.{is_keyed, is_outside, left_rows, loses_value, nobody, only_handle, pins_outside}, Events.with_worker, Kinds.{any_mode, fits_mode, has_key, held, is_at}}
+pub use Rattle.pagable_pager_spec.specs.Kinds.{is_handle, is_in_memory, is_loose, is_owned_by, is_owner, is_pin, is_pinned, is_pinning, is_share, is_shared, is_unpinned, mode_of, owner_value, owner_worker}
+pub use Rattle.pagable_pager_spec.specs.{Kinds.{pins, sharing}, LoadCalls.{Adopts, BeginCall, BeginKeyCall, DropCall, EndCall, HandOverCall, Installs, LazyCall, LoadCloses, MayEnd, adopt_fault, adopted}}
+pub use Rattle.pagable_pager_spec.specs.LoadCalls.{cell_fault, end_fault, first_key, hand_over_fault, is_owned_in, lazy_fault, node_fault, numbers_of, root_fault, with_load, with_pin, without_load}
+pub use Rattle.pagable_pager_spec.specs.{Pager.{HandlesAreWhole, IsEntryWhole, IsHandleBefore, IsRootWhole, IsWhole, MayOwnLoad}, Basics.{Among, Blob, SameAt, changed, if_there, is_loose_kind}}
+pub use Rattle.pagable_pager_spec.specs.{Basics.{is_pinned_kind, is_shared_kind, one, or_else, times, type_of, updated}, Refusals.{AreHandlesFull, Owns, OwnsLoad, Refused, closed_fault, earlier}}
+pub use Rattle.pagable_pager_spec.specs.{Refusals.{handle_fault, load_fault, rank, reference_fault, refused_if, spent, where_so}, Workers.{is_workers, is_workers_load, without_worker}, World.{Alike, Cell}}
+pub use Rattle.pagable_pager_spec.specs.{World.{Core, HasRoom, Last, OpenLoad, Places, Root, SameCache, greatest, is_here, of_cell, of_key, row_at, type_at, usable}, declared.pinning.Beginning.Beginning}
+pub use Rattle.pagable_pager_spec.specs.declared.{pinning.Pinning.Pinning, handle_row.{HandleRow.HandleRow, Owner.Owner}, mode.Mode.Mode}
+unfoldable pub use Rattle.{pagable_tables.specs.Core.seen, pagable_pager_spec.specs.{Calls.is_named_by, Kinds.find_row, Plain.is_in, Refusals.{named_fault, references_fault}}}

@@ -1,8 +1,8 @@
 -- Cells that are read at once: what a load leaves that begins, gets its blob and ends, or is given up.
 use Rattle.std.specs.Prelude.{Ok, Some, [], false, ℕ, ◌+◌, ◌<◌, ◌≡◌}
-use Rattle.{pagable_leaf.specs.declared.leaf.Leaf.Leaf, pagable_tables.specs.Core.ArePlaced, pagable_model.specs.declared.{data_key.OptionalDataKey.OptionalDataKey, numbers.{HandleNumber.HandleNumber}}}
-use Rattle.pagable_world.specs.{Kinds.is_loose, LoadCalls.{BeginCall, Installs, LoadCloses, MayEnd}, Refusals.Owns, World.{Core, greatest, is_here, key_at, of_cell, type_at}}
-use Rattle.pagable_world.specs.declared.{answers.Beginning.Beginning, handles.{HandleRow.HandleRow, Owner.Owner}}
+use Rattle.{pagable_leaf.specs.declared.leaf.Leaf.Leaf, pagable_tables.specs.Core.ArePlaced, pagable_value_spec.specs.declared.{data_key.OptionalDataKey.OptionalDataKey, numbers.{HandleNumber.HandleNumber}}}
+use Rattle.pagable_pager_spec.specs.{Kinds.is_loose, LoadCalls.{BeginCall, Installs, LoadCloses, MayEnd}, Refusals.Owns, World.{Core, greatest, is_here, key_at, of_cell, type_at}}
+use Rattle.pagable_pager_spec.specs.declared.{pinning.Beginning.Beginning, handle_row.{HandleRow.HandleRow, Owner.Owner}}
 
 -- the numbers of a load and of its handle are taken
 abbrev pub with_numbers : Core → Core

@@ -4,16 +4,16 @@
 ghost use Rattle.pagable_leaf.specs.Leaf.{DropsLeaf, IsLeaf, PinsLeaf, with_numbers};
 ghost use Rattle.pagable_tables.specs.{Core.{AreLater, Does, IsWhole, OnlyRoom, core_of, plain_of}, EndingLoads.has_come, HandleTable.room};
 ghost use Rattle.pagable_tables.specs.Nodes.{counts_at, has_value};
-ghost use Rattle.pagable_world.specs.{LoadCalls.BeginCall, Pager.{MayOwnLoad}, Plain.{Blob}, World.{greatest}};
+ghost use Rattle.pagable_pager_spec.specs.{LoadCalls.BeginCall, Pager.{MayOwnLoad}, Basics.{Blob}, World.{greatest}};
 ghost use Rattle.std.specs.Prelude.{Bool, Err, IfErr, IfNone, IfOk, IfSome, Option, ℕ, ◌+◌, ◌<◌, ◌≡◌, ◌≤◌};
 
-use pagable_model::{DataKey, Error, HandleNumber};
+use pagable_pager_spec::handle_row::{HandleRow, Owner};
 use pagable_tables::checks::own;
 use pagable_tables::create::pin_here;
 use pagable_tables::kinds::is_loose_mode;
 use pagable_tables::tables::{self, Tables};
 use pagable_tables::{handle_table, nodes};
-use pagable_world::handles::{HandleRow, Owner};
+use pagable_value_spec::{DataKey, Error, HandleNumber};
 
 /// A cell whose value is away, with the handle that is to be pinned.
 #[derive(Clone, Copy)]
@@ -30,11 +30,11 @@ pub fn find(t: &Tables, me: Owner, handle: HandleNumber) -> Option<Leaf>
     ensures number { IfSome result (λ leaf. leaf.row.number ≡ handle) }
 {
     let at = own(t, me, handle).ok()?;
-    let counts = nodes::counts_of(&t.holdings.nodes, at.row.node.0)?;
+    let counts = nodes::counts_of(&t.ref_counts.nodes, at.row.node.0)?;
     if !is_loose_mode(at.row.mode) || counts.pins > 0 {
         return None;
     }
-    if t.last_load == u64::MAX || t.holdings.last_handle >= u64::MAX - 1 {
+    if t.last_load == u64::MAX || t.ref_counts.last_handle >= u64::MAX - 1 {
         return None;
     }
     Some(Leaf {
@@ -52,16 +52,16 @@ pub fn prepare(t: &mut Tables, me: Owner, handle: HandleNumber) -> Result<Option
     requires { IsWhole t.old }
     ensures leaf { (stored : ℕ → Option Blob) (closed : Bool) (failures : ℕ) → IfOk result (λ found. IfSome found (IsLeaf (core_of t.new stored closed failures) me)) }
     ensures number { IfOk result (λ found. IfSome found (λ leaf. leaf.row.number ≡ handle)) }
-    ensures place { IfOk result (λ found. IfSome found (λ leaf. 1 ≤ room t.new.holdings.handles)) }
+    ensures place { IfOk result (λ found. IfSome found (λ leaf. 1 ≤ room t.new.ref_counts.handles)) }
     ensures none { IfOk result (λ found. IfNone found (t.new ≡ t.old)) }
     ensures does { Does t.old OnlyRoom t.new }
-    ensures nodes { t.new.holdings.nodes ≡ t.old.holdings.nodes }
+    ensures nodes { t.new.ref_counts.nodes ≡ t.old.ref_counts.nodes }
     ensures refused { (stored : ℕ → Option Blob) (closed : Bool) (failures : ℕ) → IfErr result (λ e. BeginCall (core_of t.old stored closed failures) me handle (Err e) (core_of t.new stored closed failures)) }
 {
     let Some(leaf) = find(t, me, handle) else {
         return Ok(None);
     };
-    match handle_table::reserve(&mut t.holdings.handles, 1) {
+    match handle_table::reserve(&mut t.ref_counts.handles, 1) {
         Ok(()) => Ok(Some(leaf)),
         Err(refused) => Err(Error::from(refused)),
     }
@@ -71,12 +71,12 @@ pub fn prepare(t: &mut Tables, me: Owner, handle: HandleNumber) -> Result<Option
 pub fn take_numbers(t: &mut Tables)
     requires whole { IsWhole t.old }
     requires load_left { t.old.last_load < greatest }
-    requires handle_left { t.old.holdings.last_handle < greatest }
+    requires handle_left { t.old.ref_counts.last_handle < greatest }
     ensures does { Does t.old (λ w w'. w' ≡ with_numbers w) t.new }
-    ensures same { t.new ≡ record t.old { holdings = record t.old.holdings { last_handle = t.old.holdings.last_handle + 1 }; last_load = t.old.last_load + 1 } }
+    ensures same { t.new ≡ record t.old { ref_counts = record t.old.ref_counts { last_handle = t.old.ref_counts.last_handle + 1 }; last_load = t.old.last_load + 1 } }
 {
     t.last_load += 1;
-    t.holdings.last_handle += 1;
+    t.ref_counts.last_handle += 1;
 }
 
 /// The cell is pinned, as by a load that begins and ends with a value that refers to nothing. The value itself stands among the values already.
@@ -84,9 +84,9 @@ pub fn install(t: &mut Tables, me: Owner, leaf: Leaf) -> HandleNumber
     requires whole { IsWhole t.old }
     requires leaf { IsLeaf (plain_of t.old) me leaf }
     requires may { MayOwnLoad (plain_of t.old) me }
-    requires place { 1 ≤ room t.old.holdings.handles }
+    requires place { 1 ≤ room t.old.ref_counts.handles }
     ensures pins { (stored : ℕ → Option Blob) (closed : Bool) (failures : ℕ) → PinsLeaf (core_of t.old stored closed failures) me leaf.row leaf.key leaf.node_type result (core_of t.new stored closed failures) }
-    ensures come { (n : ℕ) → has_value (counts_at t.new.holdings.nodes n) ≡ has_come (counts_at t.old.holdings.nodes) leaf.row.node n }
+    ensures come { (n : ℕ) → has_value (counts_at t.new.ref_counts.nodes n) ≡ has_come (counts_at t.old.ref_counts.nodes) leaf.row.node n }
     ensures whole { IsWhole t.new }
     ensures later { AreLater t.old → AreLater t.new }
 {
@@ -102,9 +102,9 @@ pub fn give_up(t: &mut Tables, me: Owner, leaf: Leaf)
     requires whole { IsWhole t.old }
     requires leaf { IsLeaf (plain_of t.old) me leaf }
     requires may { MayOwnLoad (plain_of t.old) me }
-    requires place { 1 ≤ room t.old.holdings.handles }
+    requires place { 1 ≤ room t.old.ref_counts.handles }
     ensures does { Does t.old (λ w w'. DropsLeaf w me leaf.row leaf.key leaf.node_type w') t.new }
-    ensures same { t.new ≡ record t.old { holdings = record t.old.holdings { last_handle = t.old.holdings.last_handle + 1 }; last_load = t.old.last_load + 1 } }
+    ensures same { t.new ≡ record t.old { ref_counts = record t.old.ref_counts { last_handle = t.old.ref_counts.last_handle + 1 }; last_load = t.old.last_load + 1 } }
 {
     take_numbers(t);
 }

@@ -1,6 +1,6 @@
 -- The answers of several workers, each of which has done the items that fall to it.
 use Rattle.std.specs.Prelude.{IfOk, List, Result, [], if◌then◌else◌, ℕ, ◌%◌, ◌+◌, ◌==◌, ◌∷◌}
-use Rattle.{pagable_core.specs.declared.context.writing.SerializedData.SerializedData, pagable_walk.specs.{Results.IsOver, Slots.written_of, declared.tasks.PageOutError.PageOutError}, pagable_world.specs.World.Values}
+use Rattle.{pagable_core.specs.declared.context.writing.SerializedData.SerializedData, pagable_pageout.specs.{Results.IsOver, Slots.written_of, declared.tasks.PageOutError.PageOutError}, pagable_pager_spec.specs.World.Values}
 use Rattle.std.specs.{Arc.arc_value, declared.{alloc.Global.Global, sync.Arc.Arc}}
 
 -- what falls to a worker, one of so many: of these items, the first of which has this number, each whose number leaves the worker's own

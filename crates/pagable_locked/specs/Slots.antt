@@ -1,7 +1,7 @@
 -- What a slot and a claim tell is of their identity.
 use Rattle.std.specs.Prelude.{IfSome, ◌≡◌, ◌≢◌}
-use Rattle.{pagable_locked.specs.declared.table.Probe.Probe, pagable_model.specs.declared.numbers.Identity.Identity}
-use Rattle.pagable_walk.specs.declared.{lent_slot.Outcome.Outcome, results.SlotResult.SlotResult}
+use Rattle.{pagable_locked.specs.declared.table.Probe.Probe, pagable_value_spec.specs.declared.numbers.Identity.Identity}
+use Rattle.pagable_pageout.specs.declared.{lent_slot.Outcome.Outcome, results.SlotResult.SlotResult}
 use Rattle.pagable_codec.specs.declared.{env.Env.Ghosts as Environments, hash.KeyHash.Ghosts as Hashes, nodes.NodeSet.Ghosts as Nodes}
 use Rattle.std.specs.declared.cmp.{Ord.Ghosts as Orders, PartialEq.Ghosts as Equalities, PartialOrd.Ghosts as PartialOrders}
 

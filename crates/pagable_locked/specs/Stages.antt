@@ -1,5 +1,5 @@
 -- Where a polled pin stands.
-use Rattle.{pagable_locked.specs.declared.handle_pin.PinState.PinState, pagable_traits.specs.declared.polled.PinStage.PinStage}
+use Rattle.{pagable_locked.specs.declared.handle_pin.PinState.PinState, pagable_traits.specs.declared.pin_future.PinStage.PinStage}
 
 abbrev pub stage_of : PinState → PinStage
 stage_of PinState.Begin = PinStage.Begin

@@ -3,8 +3,8 @@
 use crate::share::WalkShare;
 use crate::shared_claims::SharedClaims;
 use pagable_codec::{Env, NodeSet};
-use pagable_model::{ArcRef, Error, Identity, WorkerNumber};
-use pagable_walk::{Claims, Found, SlotResult};
+use pagable_pageout::{ClaimResult, Claims, SlotResult};
+use pagable_value_spec::{ArcRef, Error, Identity, WorkerNumber};
 use std::sync::Wait;
 use std::sync::ledger::Ledger;
 
@@ -65,9 +65,9 @@ impl<'a, R: Wait, E: Env<Node: NodeSet<E>>, L: Ledger, G: Gate> Claims<E>
         worker: WorkerNumber,
         identity: Identity,
         place: u64,
-    ) -> Result<Found<E>, Error> {
+    ) -> Result<ClaimResult<E>, Error> {
         let found = self.claims.claim_for(worker, identity, place)?;
-        if matches!(&found, Found::Claimed) {
+        if matches!(&found, ClaimResult::Claimed) {
             self.claim_count = self.claim_count.saturating_add(1);
             self.gate.at(self.worker, self.claim_count);
         }

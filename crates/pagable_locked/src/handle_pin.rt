@@ -3,15 +3,15 @@
 
 ghost use Rattle.std.specs.{Arc.arc_value, Prelude.{Err, IfOk, ◌≡◌}};
 ghost use Rattle.futures.specs.{Poll.{IfReady, OnPending}, Task.{IsArmed, Keeps}};
-ghost use Rattle.{pagable_core.specs.Data.blob_of, pagable_model.specs.Blob.key_of};
+ghost use Rattle.{pagable_core.specs.Data.blob_of, pagable_value_spec.specs.Blob.key_of};
 
 use crate::storage_handle::PagableStorageHandle;
 use futures::task::{Context, Poll};
 use pagable_codec::{Env, NodeSet};
 use pagable_core::{PagableData, PagableStorage};
-use pagable_loads::{Access, BegunPin, CellReading, begin_reading};
-use pagable_model::{DataKey, Error, HandleNumber};
+use pagable_load::{Access, BegunPin, CellReading, begin_reading};
 use pagable_traits::{NewPin, PinStage, Polls};
+use pagable_value_spec::{DataKey, Error, HandleNumber};
 use std::alloc::Global;
 use std::mem::replace;
 use std::sync::{Arc, Wait};

@@ -3,8 +3,8 @@
 use crate::storage_handle::PagableStorageHandle;
 use pagable_codec::{Env, NodeSet};
 use pagable_core::{InMemoryBlobs, SessionOf};
-use pagable_model::Error;
-use pagable_walk::PageOutError;
+use pagable_pageout::PageOutError;
+use pagable_value_spec::Error;
 use std::alloc::Global;
 use std::sync::Wait;
 

@@ -5,13 +5,13 @@ use crate::lock::lock_briefly;
 use either::Either;
 use pagable_codec::{Env, NodeSet};
 use pagable_core::{PagableData, PagableStorage, SessionOf, Setting};
-use pagable_loads::{Access, PinStart, Taken, TakenValue, WorkerAccess, WorkerNode};
-use pagable_model::{
+use pagable_load::{Access, PinStart, PinnedOrLoading, TakenValue, WorkerAccess, WorkerNode};
+use pagable_pager::{Lent, Pager};
+use pagable_pager_spec::handle_row::Owner;
+use pagable_value_spec::{
     ArcRef, DataKey, Error, HandleNumber, Kind, LoadNumber, NodeNumber, OptionalDataKey,
     WorkerNumber,
 };
-use pagable_pager::{Lent, Pager};
-use pagable_world::handles::Owner;
 use std::alloc::Global;
 use std::sync::{Arc, Mutex, Wait};
 
@@ -28,7 +28,7 @@ pub struct Locked<'a, R: Wait, E: Env<Node: NodeSet<E>>, S: PagableStorage<E>> {
 
 impl<'a, R: Wait, E: Env<Node: NodeSet<E>>, S: PagableStorage<E>> Locked<'a, R, E, S> {
     ghost use Rattle.std.specs.Prelude.{◌≡◌};
-    ghost use Rattle.pagable_world.specs.declared.handles.Owner.{Owner};
+    ghost use Rattle.pagable_pager_spec.specs.declared.handle_row.Owner.{Owner};
 
     /// Makes the caller's access to a pager whose setting is this one.
     pub fn new(
@@ -179,7 +179,7 @@ impl<'a, R: Wait, E: Env<Node: NodeSet<E>>, S: PagableStorage<E>> WorkerAccess<E
         Lent::for_owner(&mut *pager, self.me)?.check_reference(reference)
     }
 
-    fn take_reference(&mut self, reference: ArcRef) -> Result<Taken, Error> {
+    fn take_reference(&mut self, reference: ArcRef) -> Result<PinnedOrLoading, Error> {
         let mut pager = lock_briefly(self.pager, self.rt);
         Lent::for_owner(&mut *pager, self.me)?.take_reference(reference)
     }

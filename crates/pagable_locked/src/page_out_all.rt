@@ -1,7 +1,7 @@
 //! The page-out of many items by several workers, each on a thread of its own.
 
 ghost use Rattle.std.specs.Prelude.{IfOk, length, slice_index_or, vec_len, ℕ, ◌+◌, ◌<◌, ◌^◌, ◌≡◌};
-ghost use Rattle.{pagable_loads.specs.Telling.values_at, pagable_locked.specs.Answers.{AnswersEach, IsAnswerOf, items_of}};
+ghost use Rattle.{pagable_load.specs.AccessView.values_at, pagable_locked.specs.Answers.{AnswersEach, IsAnswerOf, items_of}};
 
 use crate::gate::{Gate, GatedClaims};
 use crate::share::{ClaimShare, WalkShare};
@@ -10,8 +10,8 @@ use crate::storage_handle::PagableStorageHandle;
 use crate::table::SlotTable;
 use pagable_codec::{Env, NodeSet};
 use pagable_core::{PagableStorage, SerializedData};
-use pagable_model::{DataKey, Error};
-use pagable_walk::{PageOutError, page_out_item_over};
+use pagable_pageout::{PageOutError, page_out_item_over};
+use pagable_value_spec::{DataKey, Error};
 use std::alloc::Global;
 use std::collections::VecDeque;
 use std::marker::Brand;

@@ -3,7 +3,7 @@
 use crate::storage_handle::PagableStorageHandle;
 use pagable_codec::{Env, NodeSet};
 use pagable_core::Roots;
-use pagable_model::{DataKey, Error};
+use pagable_value_spec::{DataKey, Error};
 use std::alloc::Global;
 use std::sync::Wait;
 

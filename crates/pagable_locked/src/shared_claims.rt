@@ -1,14 +1,14 @@
 //! The claims of a table that threads share, for the walks of one worker.
 
 ghost use Rattle.std.specs.Prelude.{IfOk, IfSome, ◌≡◌, ◌≤◌};
-ghost use Rattle.pagable_walk.specs.{Both.IsNear, Table.IsFoundOf};
+ghost use Rattle.pagable_pageout.specs.{Joint.IsNear, Table.IsFoundOf};
 
 use crate::share::{ClaimShare, WalkShare};
 use crate::slot::ArcSerSlot;
 use crate::table::{Probe, SlotTable};
 use pagable_codec::{Env, NodeSet};
-use pagable_model::{ArcRef, Error, Identity, WorkerNumber};
-use pagable_walk::{Claims, Found, SlotResult};
+use pagable_pageout::{ClaimResult, Claims, SlotResult};
+use pagable_value_spec::{ArcRef, Error, Identity, WorkerNumber};
 use std::alloc::Global;
 use std::mem::replace;
 use std::sync::Wait;
@@ -56,19 +56,19 @@ fn found<E: Env<Node: NodeSet<E>>>(
     outcome: Option<SlotResult<E>>,
     identity: Identity,
     place: u64,
-) -> Result<Found<E>, Error>
+) -> Result<ClaimResult<E>, Error>
     requires near { place ≤ 128 }
     requires own { IfSome outcome (λ r. r.identity ≡ identity) }
     ensures near { IfOk result (IsNear place) }
     ensures own { IfOk result (IsFoundOf identity) }
 {
     let Some(found) = outcome else {
-        return Ok(Found::AlreadyFailed);
+        return Ok(ClaimResult::AlreadyFailed);
     };
     if found.height > 128 - place {
         return Err(Error::TooDeep);
     }
-    Ok(Found::Known(found))
+    Ok(ClaimResult::Known(found))
 }
 
 impl<'a, R: Wait, E: Env<Node: NodeSet<E>>, L: Ledger> Claims<E> for SharedClaims<'a, R, E, L> {
@@ -81,7 +81,7 @@ impl<'a, R: Wait, E: Env<Node: NodeSet<E>>, L: Ledger> Claims<E> for SharedClaim
         worker: WorkerNumber,
         identity: Identity,
         place: u64,
-    ) -> Result<Found<E>, Error> {
+    ) -> Result<ClaimResult<E>, Error> {
         if place > 128 {
             return Err(Error::TooDeep);
         }
@@ -93,7 +93,7 @@ impl<'a, R: Wait, E: Env<Node: NodeSet<E>>, L: Ledger> Claims<E> for SharedClaim
         match probe {
             Probe::Claimed(slot) => {
                 self.open.push_reserved(slot);
-                Ok(Found::Claimed)
+                Ok(ClaimResult::Claimed)
             }
             Probe::Waits(slot) => found(slot.wait(self.rt), identity, place),
             Probe::Ended(outcome) => found(outcome, identity, place),

@@ -4,8 +4,8 @@ ghost use Rattle.std.specs.Prelude.{IfOk, IfSome, ◌≡◌};
 ghost use Rattle.pagable_locked.specs.Slots.{IsOutcomeOf, IsToldAs, first_outcome};
 
 use pagable_codec::{Env, NodeSet};
-use pagable_model::{Error, Identity};
-use pagable_walk::{Outcome, SlotResult};
+use pagable_pageout::{Outcome, SlotResult};
+use pagable_value_spec::{Error, Identity};
 use std::alloc::Global;
 use std::sync::{Arc, Condvar, Mutex, Wait};
 

@@ -1,8 +1,8 @@
 //! A handle of a storage that threads share: a pager behind a lock, with its environment and session outside it.
 
 ghost use Rattle.std.specs.{Arc.arc_value, Prelude.{IfOk, ◌<◌, ◌≡◌}};
-ghost use Rattle.{pagable_core.specs.Data.blob_of, pagable_loads.specs.Telling.values_at, pagable_model.specs.Blob.key_of};
-ghost use Rattle.{pagable_walk.specs.{Results.IsOver, Slots.written_of}, pagable_world.specs.declared.handles.Owner.Owner};
+ghost use Rattle.{pagable_core.specs.Data.blob_of, pagable_load.specs.AccessView.values_at, pagable_value_spec.specs.Blob.key_of};
+ghost use Rattle.{pagable_pageout.specs.{Results.IsOver, Slots.written_of}, pagable_pager_spec.specs.declared.handle_row.Owner.Owner};
 
 use crate::locked::Locked;
 use crate::share::{ClaimShare, WalkShare};
@@ -11,10 +11,10 @@ use crate::table::SlotTable;
 use either::Either;
 use pagable_codec::{Env, NodeSet, OfNode};
 use pagable_core::{PagableData, PagableStorage, SerializedData, SessionOf, Setting};
-use pagable_loads::read_over;
-use pagable_model::{ArcRef, DataKey, Error, HandleNumber, Kind};
+use pagable_load::read_over;
+use pagable_pageout::{PageOutError, page_out_item_over, page_out_pending_over};
 use pagable_pager::Pager;
-use pagable_walk::{PageOutError, page_out_item_over, page_out_pending_over};
+use pagable_value_spec::{ArcRef, DataKey, Error, HandleNumber, Kind};
 use std::alloc::Global;
 use std::sync::ledger::Ledger;
 use std::sync::{Arc, Mutex, Wait};

@@ -5,9 +5,9 @@ use crate::lock::lock_briefly;
 use crate::storage_handle::PagableStorageHandle;
 use pagable_codec::{Env, NodeSet};
 use pagable_core::PagableStorage;
-use pagable_loads::pin_with_state_over;
-use pagable_model::{DataKey, Error, HandleNumber, NodeNumber, OptionalDataKey};
+use pagable_load::pin_with_state_over;
 use pagable_traits::{FirstHandle, NewPin, Storage};
+use pagable_value_spec::{DataKey, Error, HandleNumber, NodeNumber, OptionalDataKey};
 use std::alloc::Global;
 use std::sync::Wait;
 

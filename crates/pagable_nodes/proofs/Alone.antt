@@ -1,7 +1,7 @@
 -- What was written without references, and what is read of bytes alone.
 use Rattle.std.proofs.{Common.{List, Option, Result, [], length, refl, sym, ℕ, ◌≡◌}, lemmas.List.nil_from_length}
 use Rattle.pagable_core.specs.{Context.{at_front, nothing, out_of}, declared.context.writing.SerializedData.SerializedData}
-use Rattle.pagable_model.specs.{Meaning.Meaning, Reading.{Rest, read}, Shape.Shape, Standing.{Answer, GivesSome, Standing, handles_at, rest_at}, Writing.{Out, WritesSome, nesting}, declared.{error.Error.Error, numbers.ArcRef.ArcRef}}
+use Rattle.pagable_value_spec.specs.{Meaning.Meaning, Reading.{Rest, read}, Shape.Shape, Cursor.{Answer, GivesSome, Standing, handles_at, rest_at}, Writing.{Out, WritesSome, nesting}, declared.{error.Error.Error, numbers.ArcRef.ArcRef}}
 use Rattle.pagable_nodes.specs.Bytes.{IsFormOf, ReadsWhole}
 
 module _ {E : Type 0} (parts : E → ℕ → Shape) (shape : E → Shape) (env other : E) (levels : ℕ) where

@@ -1,7 +1,7 @@
 -- Values written to bytes alone, and read from them.
 use Rattle.std.specs.Prelude.{List, Result, ℕ, [], ◌≡◌}
 use Rattle.pagable_core.specs.Context.{nothing}
-use Rattle.pagable_model.specs.{Meaning.Meaning, Reading.{Rest, read}, Shape.Shape, Standing.{Answer, GivesSome, handles_at}, Writing.{Out, WritesSome, nesting}, declared.{error.Error.Error, numbers.ArcRef.ArcRef}}
+use Rattle.pagable_value_spec.specs.{Meaning.Meaning, Reading.{Rest, read}, Shape.Shape, Cursor.{Answer, GivesSome, handles_at}, Writing.{Out, WritesSome, nesting}, declared.{error.Error.Error, numbers.ArcRef.ArcRef}}
 
 -- the bytes of a form of a meaning, which refers to nothing
 pub record IsFormOf (M : Meaning ArcRef → Type 0) (parts : ℕ → Shape) (s : Shape) (bytes : List ℕ) : Type 0 where

@@ -1,7 +1,7 @@
 -- What the nodes of one value type, and those of three, say.
 use Rattle.std.{proofs.Common.arith, specs.{Arc.arc_value, Prelude.{List, None, Option, Some, refl, suc, zero, ℕ, ◌<◌, ◌^◌, ◌≡◌}}}
 use Rattle.pagable_nodes.specs.declared.{either_node.EitherNode.EitherNode, one_node.OneNode.OneNode}
-use Rattle.pagable_model.specs.{Meaning.Meaning, References.{SameReferences, references_in}, Shape.Shape, Standing.SomeMeaning, declared.numbers.ArcRef.ArcRef}
+use Rattle.pagable_value_spec.specs.{Meaning.Meaning, References.{SameReferences, references_in}, Shape.Shape, Cursor.SomeMeaning, declared.numbers.ArcRef.ArcRef}
 use Rattle.pagable_traits.specs.{InNodes.{Holds, holds-none, holds-value}, Meanings.{AreSingle, Meanings, some}, OwnCauses.{ReadCauses, WriteCauses, reads_memory_or}}
 use Rattle.pagable_nodes.specs.declared.either_node.EitherNode.TheVariants as nodes
 

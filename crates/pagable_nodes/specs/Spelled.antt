@@ -1,15 +1,15 @@
 -- How the values of a type are spelled and what they mean, made of how those of its fields are.
 use Rattle.std.specs.{Global.Vec, Int.Width, Prelude.{Bool, Option, String, ℕ, ℤ, refl}, String.string_bytes, declared.alloc.Global.Global}
-use Rattle.pagable_model.specs.OneForm.{HasOneFormThroughout, basic_has_one_form, over_has_one_form, two_has_one_form}
-use Rattle.pagable_model.specs.{Shape.Shape, declared.numbers.ArcRef.ArcRef}
+use Rattle.pagable_value_spec.specs.OneForm.{HasOneFormThroughout, basic_has_one_form, over_has_one_form, two_has_one_form}
+use Rattle.pagable_value_spec.specs.{Shape.Shape, declared.numbers.ArcRef.ArcRef}
 use Rattle.pagable_traits.specs.Meanings.{AreSingle, Meanings, exactly, lists, lists_single, options, options_single, pairs, pairs_single, seen_by}
 use Rattle.pagable_traits.specs.OwnCauses.{ReadCauses, WriteCauses, reads_either, reads_memory, reads_memory_or, reads_never, writes_either, writes_long_or, writes_memory, writes_memory_or, writes_never}
 use Rattle.pagable_traits.specs.ReadBack.{IsReadThroughout, basic_is_read, over_is_read, two_is_read}
 use Rattle.pagable_traits.specs.References.{holding_kind, holding_means, loose_kind, loose_means, plain_means, reads_unlent, reference_has_one_form, reference_is_read}
 use Rattle.pagable_traits.specs.Refers.{ListsInOrder, both_in_order, flag_in_order, list_in_order, nothing_in_order, optional_in_order, reference_in_order, signed_in_order, text_in_order, unsigned_in_order}
-use Rattle.pagable_traits.specs.declared.{holding.HoldingArc.HoldingArc, loose.PagableArc.PagableArc, plain.OfKind.OfKind}
-use Rattle.pagable_model.specs.Meaning as meanings
-use Rattle.pagable_model.specs.Shape as shapes
+use Rattle.pagable_traits.specs.declared.{arc.HoldingArc.HoldingArc, pagable_arc.PagableArc.PagableArc, raw_ref.RawRef.RawRef}
+use Rattle.pagable_value_spec.specs.Meaning as meanings
+use Rattle.pagable_value_spec.specs.Shape as shapes
 
 -- All that the impls of a type say of it: how its values are spelled, what each means, which is one thing, and all refusals of their writing, and of their reading beside the faults
 -- of the input and of references; and in every environment, that each form lists the references in their order, that no meaning has two forms, and that forms are read again.
@@ -86,8 +86,8 @@ text = record {
   is_read = λ parts. basic_is_read tt;
 }
 
--- a reference of a kind by its number: `OfKind<KIND>`
-abbrev pub one : (kind : ℕ) → Spelled (OfKind kind)
+-- a reference of a kind by its number: `RawRef<KIND>`
+abbrev pub one : (kind : ℕ) → Spelled (RawRef kind)
 one kind = record {
   shape = shapes.reference kind;
   means = exactly (plain_means kind);

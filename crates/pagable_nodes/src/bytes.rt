@@ -1,6 +1,6 @@
 //! Values without references, written to bytes in one call, and read from them.
 
-ghost use Rattle.pagable_model.specs.{Writing.{Refused, nesting}, declared.error.Error.TheVariants.WrongKind};
+ghost use Rattle.pagable_value_spec.specs.{Writing.{Refused, nesting}, declared.error.Error.TheVariants.WrongKind};
 ghost use Rattle.std.specs.Prelude.{IfErr, IfOk, ◌≡◌, ◌⊎◌};
 ghost use Rattle.pagable_nodes.specs.Bytes.{IsFormOf, ReadsWhole};
 

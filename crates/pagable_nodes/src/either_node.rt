@@ -1,6 +1,6 @@
 //! A node that holds a value of one of three types.
 
-ghost use Rattle.pagable_model.specs.Gives.{memory};
+ghost use Rattle.pagable_value_spec.specs.Outcomes.{memory};
 ghost use Rattle.std.specs.{Arc.arc_value, Option.option_map, Prelude.{IfErr, IfOk, ◌≡◌}};
 ghost use Rattle.pagable_nodes.specs.Nodes.{either_has_meaning, either_has_shape, either_means, either_number, either_reads, either_refers, either_refs, either_shape, either_writes, first_held, second_held, shape_of_three, third_held};
 

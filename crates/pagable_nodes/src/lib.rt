@@ -10,5 +10,5 @@ pub mod records;
 
 pub use either_node::EitherNode;
 pub use node_value::NodeValue;
-pub use one_node::{OneNode, write_listed};
+pub use one_node::{OneNode, write_with_refs};
 pub use records::{Record, RecordNode, RecordRef, Records};

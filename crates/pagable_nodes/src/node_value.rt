@@ -1,10 +1,10 @@
 //! The types whose values nodes hold.
 
 ghost use Rattle.std.specs.Prelude.{IfErr, IfOk, OnOk, ◌++◌, ◌≡◌};
-ghost use Rattle.pagable_model.specs.{Gives.memory, Reading.read as read_shape, References.references_in};
+ghost use Rattle.pagable_value_spec.specs.{Outcomes.memory, Reading.read as read_shape, References.references_in};
 ghost use Rattle.{pagable_nodes.specs.Spelled.{Spelled, empty}, pagable_traits.specs.Clauses.{Reads, Wrote, value as form}};
 
-use crate::one_node::write_listed;
+use crate::one_node::write_with_refs;
 use pagable_flavors::Error;
 use pagable_traits::{
     ArcRef, Env, PagableDeserialize, PagableDeserializer, PagableSerializer, references_of,
@@ -12,7 +12,7 @@ use pagable_traits::{
 use std::alloc::Global;
 
 /// A type whose values a node holds, as `OneNode` and `EitherNode` ask of theirs. A type that has the impls of a carried
-/// one, made of one `Spelled`, passes the three calls on to these: `references_of`, `write_listed` and
+/// one, made of one `Spelled`, passes the three calls on to these: `references_of`, `write_with_refs` and
 /// `pagable_deserialize`.
 ///
 /// It stands beside those traits, since the environment's node is a part of the pager's type: there a bound may name no
@@ -54,7 +54,7 @@ impl<E: Env> NodeValue<E> for () {
     }
 
     fn write<S: PagableSerializer<E>>(&self, serializer: &mut S) -> Result<(), Error> {
-        write_listed(self, serializer)
+        write_with_refs(self, serializer)
     }
 
     fn read<D: PagableDeserializer<E>>(alloc: Global, deserializer: &mut D) -> Result<(), Error> {

@@ -2,7 +2,7 @@
 
 ghost use Rattle.std.specs.{Arc.arc_value, Prelude.{OnOk, refl, ◌++◌, ◌≡◌}};
 ghost use Rattle.pagable_nodes.specs.Nodes.{shape_of_one, value_refers};
-ghost use Rattle.{pagable_model.specs.References.references_in, pagable_traits.specs.{Clauses.{Wrote, value as form}, Meanings.some, OwnCauses.{reads_memory_or}}};
+ghost use Rattle.{pagable_value_spec.specs.References.references_in, pagable_traits.specs.{Clauses.{Wrote, value as form}, Meanings.some, OwnCauses.{reads_memory_or}}};
 
 use crate::node_value::NodeValue;
 use pagable_flavors::Error;
@@ -34,7 +34,7 @@ impl<T> OneNode<T> {
 ///
 /// # Errors
 /// - as the value's `pagable_serialize`.
-pub fn write_listed<E: Env, T: Refers<E> + PagableSerialize<E>, S: PagableSerializer<E>>(
+pub fn write_with_refs<E: Env, T: Refers<E> + PagableSerialize<E>, S: PagableSerializer<E>>(
     value: &T,
     serializer: &mut S,
 ) -> Result<(), Error>

@@ -6,13 +6,12 @@ ghost use Rattle.pagable_nodes.specs.{Nodes.{holds_one, one_held, zero_is_small}
 ghost use Rattle.pagable_traits.specs.{ReadBack.IsReadThroughout, References.{loose, plain}};
 
 use crate::node_value::NodeValue;
-use crate::one_node::{OneNode, write_listed};
+use crate::one_node::{OneNode, write_with_refs};
 use pagable_core::Sha256Key;
 use pagable_flavors::Error;
 use pagable_traits::{
-    ArcRef, Canonical, Carried, Env, InNode, OfKind, OfNode, OneMeaning, PagableArc,
-    PagableDeserialize, PagableDeserializer, PagableSerialize, PagableSerializer, Refers,
-    references_of,
+    ArcRef, Canonical, Carried, Env, InNode, OfNode, OneMeaning, PagableArc, PagableDeserialize,
+    PagableDeserializer, PagableSerialize, PagableSerializer, RawRef, Refers, references_of,
 };
 use std::alloc::Global;
 use std::sync::Arc;
@@ -36,7 +35,7 @@ impl Env for Records {
 
     type CtxValue = ();
 
-    ghost use Rattle.pagable_model.specs.Shape.{nothing};
+    ghost use Rattle.pagable_value_spec.specs.Shape.{nothing};
 
     ghost parts = { λ e number. nothing };
 }
@@ -45,7 +44,7 @@ impl Env for Records {
 pub type RecordNode = OneNode<Record>;
 
 /// A reference to a record, as a record holds it: it is read without the other's value.
-pub type RecordRef = OfKind<1>;
+pub type RecordRef = RawRef<1>;
 
 /// A record: what it is by a number of the program's own, a text, and references to other records in their order.
 #[derive(Drop)]
@@ -90,7 +89,7 @@ impl Record {
     pub fn reference(of: PagableArc<Record>) -> RecordRef
         ensures { plain 1 result ≡ loose 0 of }
     {
-        match OfKind::from_reference(of.reference::<Records>()) {
+        match RawRef::from_reference(of.reference::<Records>()) {
             Some(reference) => reference,
             None => unreachable!(),
         }
@@ -151,7 +150,7 @@ impl<E: Env> NodeValue<E> for Record {
     }
 
     fn write<S: PagableSerializer<E>>(&self, serializer: &mut S) -> Result<(), Error> {
-        write_listed(self, serializer)
+        write_with_refs(self, serializer)
     }
 
     fn read<D: PagableDeserializer<E>>(

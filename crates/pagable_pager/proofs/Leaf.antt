@@ -1,19 +1,19 @@
 -- Cells that are pinned at once: the loads that this stands for leave the pager well-formed at each step, and are a pin's run.
-use Rattle.pagable_pager.proofs.Keeping.{here-in, here-told, in-step}
+use Rattle.pagable_pager.proofs.Invariant.{here-in, here-told, in-step}
 use Rattle.pagable_pager.specs.{Leaf.{LeafBegun, LeafDropped, LeafFetched, LeafLoads, LeafPinned, LeafUnbegun, rooted_reading}, View.{AsksStorage, IsPager, OnlyStorage, OnlyTables, PagerView, Telling, ValuesByNode, core_in, state_in, value_in, with_value}}
-use Rattle.{pagable_leaf.specs.{Leaf.{DropsLeaf, IsLeaf, PinsLeaf}, declared.leaf.Leaf.Leaf}, pagable_loads.{proofs.Stepped.begun_is, specs.{Decoding.IsReadAs, Starting.is_unpinned_at, Telling.Brings}}, pagable_laws.proofs.ValuesOwned.{IsShut, begins, installed_away, load_closed, pinned-here, spared}}
-use Rattle.pagable_laws.proofs.{Taking.row-pins, Trees.same_some}
-use Rattle.pagable_model.specs.{Stored.RefusesFetch, declared.{error.Error.Error}}
-use Rattle.pagable_model.specs.declared.numbers.{ArcRef.ArcRef, HandleNumber.HandleNumber, LoadNumber.LoadNumber, NodeNumber.NodeNumber}
+use Rattle.{pagable_leaf.specs.{Leaf.{DropsLeaf, IsLeaf, PinsLeaf}, declared.leaf.Leaf.Leaf}, pagable_load.{proofs.LoadSteps.begun_is, specs.{Decoding.IsReadAs, PinStart.is_unpinned_at, AccessView.Brings}}, pagable_theorems.proofs.ValuesOwned.{IsShut, begins, installed_away, load_closed, pinned-here, spared}}
+use Rattle.pagable_theorems.proofs.{LoadProgress.row-pins, Trees.same_some}
+use Rattle.pagable_value_spec.specs.{Stored.RefusesFetch, declared.{error.Error.Error}}
+use Rattle.pagable_value_spec.specs.declared.numbers.{ArcRef.ArcRef, HandleNumber.HandleNumber, LoadNumber.LoadNumber, NodeNumber.NodeNumber}
 use Rattle.pagable_tables.proofs.{CallsKeepWhole.begin-whole, SameViews.{alike-on, still}, Views.opened}
 use Rattle.pagable_tables.specs.{Core.{AreLater, ArePlaced, Does, IsWhole, OnlyRoom, core_of, plain_of}, EndingLoads.has_come, HandleTable.room}
 use Rattle.pagable_tables.specs.{Nodes.{counts_at, has_value}, declared.tables.Tables.Tables}
-use Rattle.pagable_world.specs.{Access.{Called, LoadRun, LoadStarts, PinRun, ReadingStep, load-ends, load-fails, load-goes-on, load-is-refused, load-pins}, Calls.{FetchCall, row_of, with_handle}, Kinds.{is_pin, pins}, LoadCalls.{BeginCall, EndCall, with_load}}
-use Rattle.pagable_world.specs.{LoadCalls.{Installs, LoadCloses, MayEnd}, Loads.{ReadsRoot, gone_on, root_frame}, Pager.{HoldsItsNodes, IsCellOf, Moves, PagerState, WellFormed}, Plain.{Blob, one, updated}}
-use Rattle.pagable_world.specs.{Events.reading_of_load, Workers.fresh, World.{Alike, Core, Frame, OpenLoad, Reading, Root, Values, is_here, of_cell, type_at, usable}, declared.{answers.Beginning.Beginning, events.LoadAnswer.LoadAnswer, handles.{HandleRow.HandleRow, Owner.Owner}, rows.Mode.Mode}}
+use Rattle.pagable_pager_spec.specs.{Access.{Called, LoadRun, LoadStarts, PinRun, ReadingStep, load-ends, load-fails, load-goes-on, load-is-refused, load-pins}, Calls.{FetchCall, row_of, with_handle}, Kinds.{is_pin, pins}, LoadCalls.{BeginCall, EndCall, with_load}}
+use Rattle.pagable_pager_spec.specs.{LoadCalls.{Installs, LoadCloses, MayEnd}, Loads.{ReadsRoot, gone_on, root_frame}, Pager.{HoldsItsNodes, IsCellOf, Moves, PagerState, WellFormed}, Basics.{Blob, one, updated}}
+use Rattle.pagable_pager_spec.specs.{Events.reading_of_load, Workers.fresh, World.{Alike, Core, Frame, OpenLoad, Reading, Root, Values, is_here, of_cell, type_at, usable}, declared.{pinning.Beginning.Beginning, events.LoadAnswer.LoadAnswer, handle_row.{HandleRow.HandleRow, Owner.Owner}, mode.Mode.Mode}}
 use Rattle.std.proofs.Common.{Bool, Err, List, None, Ok, Option, Result, Some, [], ap, arith, false, if◌then◌else◌, inl, inr, refl, subst, sym, true, ℕ, ◌&&◌, ◌++◌, ◌+◌, ◌∙◌, ◌∷◌, ◌≡◌, ◌≤◌}
 use Rattle.std.{proofs.lemmas.{Bool.{Decides.nat_tests, cases_eq}, List.Sums.sum_by_push}, specs.Prelude.{IfErr, is_some, length, slice_get, ◌⊎◌}}
-use Rattle.pagable_world.specs.Pager as pager
+use Rattle.pagable_pager_spec.specs.Pager as pager
 
 -- whole while its storage is taken to be open, and nothing is listed or known once it is closed
 opened-whole : (w : Core) → IsShut w → pager.IsWhole (opened w) → pager.IsWhole w
@@ -59,7 +59,7 @@ module _ {N S E : Type 0} {tells : Telling S} {says : E → Values N} {p : Pager
 
   -- a load that is given up
   module _ (t : Tables) (values : ValuesByNode N) (sames : (n : ℕ) → value_in values n ≡ value_in p.values n) (leaf : Leaf) (does : Does p.tables (λ w w'. DropsLeaf w Owner.Caller leaf.row leaf.key leaf.node_type w') t)
-      (same : t ≡ record p.tables { holdings = record p.tables.holdings { last_handle = p.tables.holdings.last_handle + 1 }; last_load = p.tables.last_load + 1 }) where
+      (same : t ≡ record p.tables { ref_counts = record p.tables.ref_counts { last_handle = p.tables.ref_counts.last_handle + 1 }; last_load = p.tables.last_load + 1 }) where
     abbrev given : PagerView N S E
     given = record p { tables = t; values = values }
 
@@ -90,7 +90,7 @@ module _ {N S E : Type 0} {tells : Telling S} {says : E → Values N} {p : Pager
   module _ (t : Tables) (values : ValuesByNode N) (leaf : Leaf) (x : N) (k : HandleNumber) (found : IsLeaf w Owner.Caller leaf) (typed : (says p.environment).node_type x ≡ leaf.node_type)
       (bare : (says p.environment).references x ≡ []) (ends : (stored : ℕ → Option Blob) (closed : Bool) (failures : ℕ)
       → PinsLeaf (core_of p.tables stored closed failures) Owner.Caller leaf.row leaf.key leaf.node_type k (core_of t stored closed failures))
-      (come : (n : ℕ) → has_value (counts_at t.holdings.nodes n) ≡ has_come (counts_at p.tables.holdings.nodes) leaf.row.node n) (whole : IsWhole t) (later : AreLater t)
+      (come : (n : ℕ) → has_value (counts_at t.ref_counts.nodes n) ≡ has_come (counts_at p.tables.ref_counts.nodes) leaf.row.node n) (whole : IsWhole t) (later : AreLater t)
       (placed : (n : ℕ) → value_in values n ≡ with_value true leaf.row.node.0 x (value_in p.values) n) where
     abbrev after : PagerView N S E
     after = record p { tables = t; values = values }
@@ -122,7 +122,7 @@ module _ {N S E : Type 0} {tells : Telling S} {says : E → Values N} {p : Pager
 
     swept : (n : ℕ) → value_in values n ≡ (if is_some (w'.cells n) && is_here w' n then updated leaf.row.node.0 (Some x) (value_in p.values) n else None)
     swept n =
-        let here = here-told (counts_at t.holdings.nodes n) w' n refl (sym (whole.steady.fits.pinned n)) in
+        let here = here-told (counts_at t.ref_counts.nodes n) w' n refl (sym (whole.steady.fits.pinned n)) in
         let was = is.state.valued n ∙ here-in is n in
         let comes = come n in
         let is-placed = placed n in
@@ -550,7 +550,7 @@ module _ {N S E : Type 0} {tells : Telling S} {says : E → Values N} {p p1 : Pa
       let g = leaf-alike call.refused.stays found in
       record { owned = record { live = g.owned.live; own = g.owned.own; as_asked = g.owned.as_asked }; away = g.away; keyed = g.keyed; typed = g.typed; load_left = g.load_left; handles_left = g.handles_left }
 
-  pub unbegun-place : 1 ≤ room p.tables.holdings.handles → 1 ≤ room p1.tables.holdings.handles
+  pub unbegun-place : 1 ≤ room p.tables.ref_counts.handles → 1 ≤ room p1.tables.ref_counts.handles
   unbegun-place place =
       let a = call.refused.stays in
       let rows = ap (λ (rs : List HandleRow). length rs) a.rows in

@@ -1,3 +1,3 @@
-pub mod Keeping
+pub mod Invariant
 pub mod Leaf
-pub mod Pinned
+pub mod LentPins

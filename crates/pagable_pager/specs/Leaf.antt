@@ -1,7 +1,7 @@
 -- Cells that are pinned at once, and the loads of them that this stands for.
-use Rattle.{pagable_leaf.specs.declared.leaf.Leaf.Leaf, pagable_loads.specs.{Starting.{PinsFirst, is_unpinned_at}, Stepping.Runs, Telling.Brings, declared.reading.Reading.Reading as Own}, pagable_model.specs.{Blob.Blob, declared.numbers.{HandleNumber.HandleNumber, LoadNumber.LoadNumber}}}
-use Rattle.pagable_world.specs.{Access.{Called, LoadRun, PinRun, PinsOver}, Calls.FetchCall, LoadCalls.{BeginCall, EndCall, LoadCloses}, Loads.root_frame, Pager.{IsCellOf, PagerState}, World.{Alike, Reading, Values, of_cell}}
-use Rattle.{pagable_model.specs.declared.error.Error.Error, pagable_world.specs.declared.{answers.Beginning.Beginning, events.LoadAnswer.LoadAnswer, handles.Owner.Owner}}
+use Rattle.{pagable_leaf.specs.declared.leaf.Leaf.Leaf, pagable_load.specs.{PinStart.{PinsFirst, is_unpinned_at}, LoadSteps.Runs, AccessView.Brings, declared.reading.Reading.Reading as Own}, pagable_value_spec.specs.{Blob.Blob, declared.numbers.{HandleNumber.HandleNumber, LoadNumber.LoadNumber}}}
+use Rattle.pagable_pager_spec.specs.{Access.{Called, LoadRun, PinRun, PinsOver}, Calls.FetchCall, LoadCalls.{BeginCall, EndCall, LoadCloses}, Loads.root_frame, Pager.{IsCellOf, PagerState}, World.{Alike, Reading, Values, of_cell}}
+use Rattle.{pagable_value_spec.specs.declared.error.Error.Error, pagable_pager_spec.specs.declared.{pinning.Beginning.Beginning, events.LoadAnswer.LoadAnswer, handle_row.Owner.Owner}}
 use Rattle.std.specs.Prelude.{Err, IfErr, IfOk, None, Ok, Option, Result, Some, [], true, ℕ, ◌∷◌, ◌≡◌, ◌⊎◌}
 
 -- the blob of the cell has come, and no value with it

@@ -1,12 +1,12 @@
 -- What contracts see of a pager and its open loads, and the plain state that it tells.
 use Rattle.std.specs.declared.sync.Arc.{Arc}
 use Rattle.std.specs.{Arc.arc_value, Global.Global, Option.option_map, Prelude.{Bool, IsTrue, None, Option, Some, false, true, ℕ, ◌+◌, ◌≡◌}}
-use Rattle.{either.specs.declared.Either.Either, pagable_model.specs.declared.numbers.{ArcRef.ArcRef, HandleNumber.HandleNumber, LoadNumber.LoadNumber, WorkerNumber.WorkerNumber}}
+use Rattle.{either.specs.declared.Either.Either, pagable_value_spec.specs.declared.numbers.{ArcRef.ArcRef, HandleNumber.HandleNumber, LoadNumber.LoadNumber, WorkerNumber.WorkerNumber}}
 use Rattle.pagable_tables.specs.{Core.{AreLater, core_of}, Nodes.{counts_at, pins_in}, NumberTable.row_by}
 use Rattle.pagable_tables.specs.declared.{number_table.NumberTable.NumberTable, tables.Tables.Tables}
-use Rattle.pagable_world.specs.Kinds.{HasKinds, loose_kind}
-use Rattle.pagable_world.specs.{Events.{IsEntry, with_entry_taken, with_worker}, LoadCalls.{Given, from_cache, from_store}, Pager.{PagerState, WellFormed}, Plain.{Blob, updated}, Refusals.OwnsLoad}
-use Rattle.pagable_world.specs.{Access.Called, World.{Alike, Core, OpenLoad, Root, Values, of_cell, of_key}, declared.{calls.Want.Want, handles.{HandleRow.HandleRow, Owner.Owner}}}
+use Rattle.pagable_pager_spec.specs.Kinds.{HasKinds, loose_kind}
+use Rattle.pagable_pager_spec.specs.{Events.{IsEntry, with_entry_taken, with_worker}, LoadCalls.{Given, from_cache, from_store}, Pager.{PagerState, WellFormed}, Basics.{Blob, updated}, Refusals.OwnsLoad}
+use Rattle.pagable_pager_spec.specs.{Access.Called, World.{Alike, Core, OpenLoad, Root, Values, of_cell, of_key}, declared.{calls.Want.Want, handle_row.{HandleRow.HandleRow, Owner.Owner}}}
 use Rattle.pagable_tables.specs.Core as tables
 
 abbrev pub ValuesByNode : Type 0 → Type 0
@@ -39,7 +39,7 @@ abbrev pub core_in : {N S E : Type 0} → Telling S → PagerView N S E → Core
 core_in tells p = core_of p.tables (tells.stored p.storage) (tells.closed p.storage) (tells.failed p.storage)
 
 abbrev pub state_in : {N S E : Type 0} → Telling S → PagerView N S E → PagerState N E
-state_in tells p = record { core = core_in tells p; counts = λ n. pins_in (counts_at p.tables.holdings.nodes n); values = value_in p.values; environment = p.environment }
+state_in tells p = record { core = core_in tells p; counts = λ n. pins_in (counts_at p.tables.ref_counts.nodes n); values = value_in p.values; environment = p.environment }
 
 abbrev pub telling : {S : Type 0} → (S → ℕ → Option Blob) → (S → Bool) → (S → ℕ) → Telling S
 telling stored closed failed = record { stored = stored; closed = closed; failed = failed }

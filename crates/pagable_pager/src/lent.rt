@@ -1,11 +1,11 @@
 //! A pager that is lent, as an access, and as that of a page-out worker; and the cache of one.
-#![tactic(auto, using(crate::proofs::Keeping::lending))]
+#![tactic(auto, using(crate::proofs::Invariant::lending))]
 
 ghost use Rattle.std.specs.{Arc.arc_value, Prelude.{IfErr, IfOk, IsTrue, true, ◌≡◌, ◌≤◌}};
-ghost use Rattle.{pagable_core.specs.Data.blob_of, pagable_leaf.specs.Leaf.IsLeaf, pagable_loads.specs.Telling.values_at};
+ghost use Rattle.{pagable_core.specs.Data.blob_of, pagable_leaf.specs.Leaf.IsLeaf, pagable_load.specs.AccessView.values_at};
 ghost use Rattle.pagable_pager.specs.{Leaf.{LeafLoads, PinsAway}, View.{Calls, OnlyLess, OnlyTables, core_in, is_at_work, state_in, telling}};
 ghost use Rattle.pagable_tables.specs.{HandleTable.room, Soundness.is_sound};
-ghost use Rattle.pagable_world.specs.{Calls.{ClearCall, OfferCall, RecallCall}, Pager.WellFormed, World.seen_as};
+ghost use Rattle.pagable_pager_spec.specs.{Calls.{ClearCall, OfferCall, RecallCall}, Pager.WellFormed, World.seen_as};
 
 use crate::pager::Pager;
 use crate::pager::leaf::read_leaf;
@@ -14,14 +14,14 @@ use either::Either;
 use pagable_codec::{Env, NodeSet};
 use pagable_core::{PagableData, PagableStorage, SessionOf};
 use pagable_leaf::Leaf;
-use pagable_loads::{Access, PinStart, Taken, TakenValue, WorkerAccess, WorkerNode};
-use pagable_model::{
+use pagable_load::{Access, PinStart, PinnedOrLoading, TakenValue, WorkerAccess, WorkerNode};
+use pagable_pager_spec::handle_row::Owner;
+use pagable_pager_spec::{Beginning, Want};
+use pagable_tables::checks;
+use pagable_value_spec::{
     ArcRef, DataKey, Error, HandleNumber, Kind, LoadNumber, NodeNumber, OptionalDataKey,
     WorkerNumber,
 };
-use pagable_tables::checks;
-use pagable_world::handles::Owner;
-use pagable_world::{Beginning, Want};
 use std::alloc::Global;
 use std::sync::Arc;
 
@@ -132,7 +132,7 @@ impl<'a, E: Env<Node: NodeSet<E>>, S: PagableStorage<E>> Lent<'a, E, S> {
     ) -> Result<HandleNumber, Error>
         requires caller { self.old.me ≡ Owner.Caller }
         requires leaf { IsLeaf (core_in (telling S.stored S.is_closed S.failed) self.old.pager.now) Owner.Caller leaf }
-        requires place { 1 ≤ room self.old.pager.now.tables.holdings.handles }
+        requires place { 1 ≤ room self.old.pager.now.tables.ref_counts.handles }
         ensures loads { IsTrue (S.is_honest self.new.pager.now.storage) → LeafLoads (values_at E.Node.NodeSet E.Env E.Hash.KeyHash self.old.pager.now.environment)
             (state_in (telling S.stored S.is_closed S.failed) self.old.pager.now) leaf (blob_of (arc_value blob)) result (state_in (telling S.stored S.is_closed S.failed) self.new.pager.now) }
         ensures honest { IsTrue (S.is_honest self.new.pager.now.storage) → IsTrue (S.is_honest self.old.pager.now.storage) }
@@ -296,14 +296,18 @@ impl<'a, E: Env<Node: NodeSet<E>>, S: PagableStorage<E>> WorkerAccess<E> for Len
         }
     }
 
-    fn take_reference(&mut self, reference: ArcRef) -> Result<Taken, Error> {
+    fn take_reference(&mut self, reference: ArcRef) -> Result<PinnedOrLoading, Error> {
         settled(self.pager.take_reference(self.me, reference), self.pager)
     }
 
     fn take_value(&mut self, reference: ArcRef) -> Result<TakenValue<E::Node>, Error> {
         match self.take_reference(reference)? {
-            Taken::Held(through, pin) => Ok(TakenValue::Held(through, pin, self.share(pin))),
-            Taken::Begun(through, load, key) => Ok(TakenValue::Begun(through, load, key)),
+            PinnedOrLoading::Held(through, pin) => Ok(TakenValue::Held(
+                through,
+                pin,
+                self.share(pin),
+            )),
+            PinnedOrLoading::Begun(through, load, key) => Ok(TakenValue::Begun(through, load, key)),
         }
     }
 

@@ -3,16 +3,16 @@
 ghost use Rattle.std.specs.{Arc.arc_value, Option.option_map, Prelude.{IfErr, IfNone, IfOk, IsTrue, None, OnOk, Option, Some, false, nat_lt, true, ℕ, ◌≡◌}};
 ghost use Rattle.{futures.specs.{Poll.{IfReady, OnPending}, Task.{IsArmed, Keeps}}, pagable_pager.specs.Polling.PollCall};
 ghost use Rattle.pagable_core.specs.Data.{blob_of};
-ghost use Rattle.pagable_loads.specs.{Starting.Shares, Telling.values_at};
-ghost use Rattle.pagable_model.specs.{Blob.{Blob, key_of}, Stored.{RefusesFetch, RefusesFlush, RefusesStore}};
+ghost use Rattle.pagable_load.specs.{PinStart.Shares, AccessView.values_at};
+ghost use Rattle.pagable_value_spec.specs.{Blob.{Blob, key_of}, Stored.{RefusesFetch, RefusesFlush, RefusesStore}};
 ghost use Rattle.pagable_tables.specs.{Core.root_in, EndingLoads.AsksKnown, Soundness.is_sound};
 ghost use Rattle.pagable_pager.specs.View.{AsksStorage, Calls, FewerValues, FitsWant, KeepsWorkers, OnlyTables, ReadsAs, SameValues, core_in, given_as, is_at_work, state_in, telling, type_of_root};
-ghost use Rattle.pagable_world.specs.{Calls.{CloseCall, FetchCall, FlushCall, StoreCall}, LoadCalls.{AskCall, BeginCall, BeginKeyCall, LazyCall}, Pager.{IsNew, ValueCall, WellFormed}};
-ghost use Rattle.pagable_world.specs.{Refusals.load_fault, World.{greatest, seen_as}};
+ghost use Rattle.pagable_pager_spec.specs.{Calls.{CloseCall, FetchCall, FlushCall, StoreCall}, LoadCalls.{AskCall, BeginCall, BeginKeyCall, LazyCall}, Pager.{IsNew, ValueCall, WellFormed}};
+ghost use Rattle.pagable_pager_spec.specs.{Refusals.load_fault, World.{greatest, seen_as}};
 
 // What ends in `_by` is the call of that name for an owner, who is the caller or a worker at work.
-pub mod births;
-pub mod handles;
+pub mod calls;
+pub mod insert;
 pub mod leaf;
 pub mod roots;
 
@@ -21,13 +21,13 @@ use either::Either;
 use futures::task::{Context, Poll};
 use pagable_codec::{Env, NodeSet};
 use pagable_core::{PagableData, PagableStorage, SessionOf, Setting};
-use pagable_model::{DataKey, Error, HandleNumber, Kind, LoadNumber, WorkerNumber};
+use pagable_pager_spec::handle_row::Owner;
+use pagable_pager_spec::{Beginning, Want};
 use pagable_tables::load_table::LoadRoot;
 use pagable_tables::number_table::NumberTable;
 use pagable_tables::tables::Tables;
 use pagable_tables::{checks, load, queries, release, soundness, tables};
-use pagable_world::handles::Owner;
-use pagable_world::{Beginning, Want};
+use pagable_value_spec::{DataKey, Error, HandleNumber, Kind, LoadNumber, WorkerNumber};
 use std::alloc::Global;
 use std::marker::Model;
 use std::sync::Arc;
@@ -43,7 +43,7 @@ pub struct Pager<E: Env<Node: NodeSet<E>>, S: PagableStorage<E>> {
 
 impl<E: Env<Node: NodeSet<E>>, S: PagableStorage<E>> Model for Pager<E, S> {
     ghost use Rattle.std.specs.Coded.{codes};
-    ghost use Rattle.{pagable_loads.specs.Telling.values_at, pagable_pager.specs.{Setting.environment_of, View.{PagerView, IsPager, telling}}, indexmap.specs.Layout.hash_map_code};
+    ghost use Rattle.{pagable_load.specs.AccessView.values_at, pagable_pager.specs.{Setting.environment_of, View.{PagerView, IsPager, telling}}, indexmap.specs.Layout.hash_map_code};
 
     ghost Value = { PagerView E.Node S E };
 
@@ -324,7 +324,7 @@ impl<E: Env<Node: NodeSet<E>>, S: PagableStorage<E>> Pager<E, S> {
         self.load_fetch_by(Owner::Caller, alloc, load, want)
     }
 
-    #[tactic(auto, using(std::proofs::lemmas::Bool::Decides::nat_tests, crate::proofs::Keeping::known_found))]
+    #[tactic(auto, using(std::proofs::lemmas::Bool::Decides::nat_tests, crate::proofs::Invariant::known_found))]
     pub(crate) fn load_fetch_by(
         &mut self,
         me: Owner,

@@ -1,23 +1,23 @@
 //! Pins of a lent pager, whose cells are read where their values aren't in memory. What they do is told as long as the storage is honest afterwards.
 
 ghost use Rattle.std.specs.{Arc.arc_value, Prelude.{IsTrue, true, ◌≡◌}};
-ghost use Rattle.{pagable_core.specs.Data.blob_of, pagable_loads.specs.{Frames.reading_of, Telling.{Acts, values_at}}};
+ghost use Rattle.{pagable_core.specs.Data.blob_of, pagable_load.specs.{Frames.reading_of, AccessView.{Acts, values_at}}};
 ghost use Rattle.pagable_pager.specs.{Leaf.{EndsCell, SharesNew, rooted_reading}, View.{state_in, telling}};
-ghost use Rattle.pagable_world.specs.{Access.PinsOver, World.seen_as};
+ghost use Rattle.pagable_pager_spec.specs.{Access.PinsOver, World.seen_as};
 
 use crate::lent::Lent;
 use crate::pager::Pager;
 use pagable_codec::{Env, NodeSet};
 use pagable_core::{PagableData, PagableStorage};
-use pagable_loads::{Access, Frame, Reading, pin_over, share_pinned};
-use pagable_model::{DataKey, Error, HandleNumber, LoadNumber};
-use pagable_world::LoadAnswer;
-use pagable_world::handles::Owner;
+use pagable_load::{Access, Frame, Reading, pin_over, share_pinned};
+use pagable_pager_spec::LoadAnswer;
+use pagable_pager_spec::handle_row::Owner;
+use pagable_value_spec::{DataKey, Error, HandleNumber, LoadNumber};
 use std::alloc::Global;
 use std::sync::Arc;
 
 // The reading of a cell's load that has got its root's blob, by its first step.
-#[tactic(auto, using(pagable_loads::proofs::Stepped::stacking))]
+#[tactic(auto, using(pagable_load::proofs::LoadSteps::stacking))]
 pub(crate) fn rooted(
     alloc: Global,
     load: LoadNumber,
@@ -43,7 +43,7 @@ pub(crate) fn rooted(
 }
 
 // Makes the steps of a cell's load up to its end.
-#[tactic(auto, using(pagable_loads::proofs::Stepped::acts_map, crate::proofs::Pinned::ending))]
+#[tactic(auto, using(pagable_load::proofs::LoadSteps::acts_map, crate::proofs::LentPins::ending))]
 pub(crate) fn read_rest<E: Env<Node: NodeSet<E>>, A: Access<E>>(
     access: &mut A,
     alloc: Global,

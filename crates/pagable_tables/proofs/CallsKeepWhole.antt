@@ -16,7 +16,7 @@ use Rattle.pagable_tables.proofs.Words.{nat_tests, next_node, not, numbers_of, o
 use Rattle.pagable_tables.proofs.Words.{sum_by-remove, sum_by_push, sym, times, true, type_at, type_of, usable, with_cached, with_handle, with_key, with_load, with_mode, with_node, with_pin}
 use Rattle.pagable_tables.proofs.SameViews.{both-none, fault-by, found-map, one-fault, owner-self}
 use Rattle.pagable_tables.proofs.Words.{with_worker, without_load, without_worker, ℕ, ◌&&◌, ◌++◌, ◌+◌, ◌<◌, ◌==◌, ◌||◌, ◌∙◌, ◌∷◌, ◌≡◌}
-use Rattle.{pagable_world.specs.Workers.{WorkerEnds, is_load_of}, std.specs.List.remove}
+use Rattle.{pagable_pager_spec.specs.Workers.{WorkerEnds, is_load_of}, std.specs.List.remove}
 
 -- The handle h of this row alone moves: what the list's handles of a number are then.
 lists-moved : {w : Core} → IsWhole w → (h : HandleNumber) (row : HandleRow) (owner : Owner) → Among w.rows row → row.number.0 ≡ h.0 → (q : ℕ)

@@ -1,7 +1,7 @@
 -- Where no node falls any more, all has gone that had to go, and no more. Values that go as nodes fall.
 use Rattle.pagable_tables.proofs.Counting.{and_one, entries-more, entries-none, gives-sums, kept-more, left-more, left-none, none-entered, none-listed}
 use Rattle.pagable_tables.proofs.{Counting.{of_list, one-le, ones, sum-most}, HandleTable.found-append}
-use Rattle.pagable_tables.proofs.Words.{Falls, GivesUp, HandleNumber, HandleRow, HasFallen, HasPlaces, Holdings, NumberTable, IsApart, IsClosed, IsFalling, IsLeast, IsListRefusal, IsUnlisted, IsWithin}
+use Rattle.pagable_tables.proofs.Words.{Falls, GivesUp, HandleNumber, HandleRow, HasFallen, HasPlaces, RefCounts, NumberTable, IsApart, IsClosed, IsFalling, IsLeast, IsListRefusal, IsUnlisted, IsWithin}
 use Rattle.pagable_tables.proofs.Words.{List, LoadNumber, MustList, NodeNumber, NodeRow, None, Option, Owner, Result, Sheds, SoFar, Some, Steps, TellsListing, ValueStays, [], and_parts, ap}
 use Rattle.pagable_tables.proofs.Words.{append-nil, append_assoc, arith, cases_Bool, cases_eq, cell_in, counts_at, entries_of, entry, fallen, falls_in, false, filter, filter-append, find_row}
 use Rattle.pagable_tables.proofs.Words.{has_value, held, if◌then◌else◌, inl, inr, is_at, is_handle, is_keyed, is_listing, is_owned_by, is_owned_in, is_owner, is_pin, is_plain_pin, is_share}
@@ -10,15 +10,15 @@ use Rattle.pagable_tables.proofs.Words.{pins, pins_in, refl, subst, sum_by, sum_
 use Rattle.pagable_tables.proofs.{CascadeStep.{closed-is, counted, forced, listing-is, no-more, which}, Counting.with-entry}
 use Rattle.pagable_tables.proofs.Words.{Alike, AreNewEntries, Begins, Bool, Cell, Core, Counts, Error}
 use Rattle.pagable_tables.proofs.{SameViews.same-cache, Words.{◌<◌, ◌==◌, ◌||◌, ◌∙◌, ◌∷◌, ◌≡◌, ◌≢◌, ◌≤◌, ◌⊎◌}}
-use Rattle.pagable_world.proofs.Elements.{at-most-sum, sum-none}
+use Rattle.pagable_pager_spec.proofs.Elements.{at-most-sum, sum-none}
 
-pub none-falls-in : (t : Holdings) → IsFalling t [] owns_nothing → (n : ℕ) → falls_in (counts_at t.nodes n) ≡ false
+pub none-falls-in : (t : RefCounts) → IsFalling t [] owns_nothing → (n : ℕ) → falls_in (counts_at t.nodes n) ≡ false
 none-falls-in t w n = let m = w.fits.marked n in grind (arith, nat_tests)
 
 none-owned : (n : ℕ) (rows : List HandleRow) → ((q : ℕ) → sum_by (λ h. owns h n q) rows ≡ 0) → times (is_owned_by (owner_value n)) rows ≡ 0
 none-owned n rows none = sum-none (λ h. one (is_owned_by (owner_value n) h)) rows (λ h among. grind (arith, nat_tests, none h.number.0, at-most-sum (λ x. owns x n h.number.0) rows h among))
 
-module _ (before w : Core) (given : ℕ → Bool) (lists : Bool) (t : Holdings) (f : SoFar before w given lists t) (whole : IsFalling t [] owns_nothing) where
+module _ (before w : Core) (given : ℕ → Bool) (lists : Bool) (t : RefCounts) (f : SoFar before w given lists t) (whole : IsFalling t [] owns_nothing) where
   pub closed : IsClosed w.rows (is_keyed w) f.entries f.gone
   closed n lost =
       let fell : HasFallen (counts_at t.nodes) (live t.handles.places.items) n = grind (arith, nat_tests, entries-none, cases_Bool (is_keyed w n), counted f (is_pin n), counted f (is_at n)) in
@@ -35,7 +35,7 @@ module _ (before w : Core) (given : ℕ → Bool) (lists : Bool) (t : Holdings) 
 pub valued-le : (rows : List HandleRow) → valued rows ≤ length rows
 valued-le rows = omega (arith, ones rows, sum_by-le-sum_by (λ (h : HandleRow). one (is_valued h.owner)) (λ h. 1) rows (λ h. one-le (is_valued h.owner)))
 
-pub none-falls : (t : Holdings) (stack : List ℕ) → IsFalling t stack owns_nothing → t.top ≡ 0 → IsFalling t [] owns_nothing
+pub none-falls : (t : RefCounts) (stack : List ℕ) → IsFalling t stack owns_nothing → t.top ≡ 0 → IsFalling t [] owns_nothing
 none-falls t [] w z = w
 none-falls t (n ∷ ns) w z = absurd (let m = w.fits.marked n in let top = w.fits.chain.0 in let none = w.fits.from_one in grind (arith, nat_tests, sum_by-cons (λ m. one (m == n)) n ns))
 
@@ -48,7 +48,7 @@ pub lasts-on : {X : Type 0} (done : Bool) (o o' : Option Counts) (old now now' :
 lasts-on done o o' old now now' is stays gone l = grind (arith, nat_tests)
 
 module _ {X : Type 0} where
-  pub sheds-still : (t : Holdings) (values : ℕ → Option X) → IsFalling t [] owns_nothing → Sheds (counts_at t.nodes) values (counts_at t.nodes) values
+  pub sheds-still : (t : RefCounts) (values : ℕ → Option X) → IsFalling t [] owns_nothing → Sheds (counts_at t.nodes) values (counts_at t.nodes) values
   sheds-still t values w = record { left = λ kept n. (inl refl, kept n (none-falls-in t w n)) }
 
   pub sheds-then : {at at1 at2 : ℕ → Option Counts} {old mid new : ℕ → Option X} → Sheds at old at1 mid → Sheds at1 mid at2 new → Sheds at old at2 new
@@ -70,7 +70,7 @@ list-kept : (gone : ℕ → Bool) (q : ℕ) (rows : List HandleRow) (list : List
 list-kept gone q rows list listed none = grind (arith, nat_tests, sum_by-le-sum_by, kept-more)
 
 -- a handle that the list doesn't own may go apart from it
-unlisted-apart : {before w : Core} {given : ℕ → Bool} {lists : Bool} {t new : Holdings} {nodes : NumberTable NodeRow} {stack : List ℕ} {x : HandleRow} (f : SoFar before w given lists t)
+unlisted-apart : {before w : Core} {given : ℕ → Bool} {lists : Bool} {t new : RefCounts} {nodes : NumberTable NodeRow} {stack : List ℕ} {x : HandleRow} (f : SoFar before w given lists t)
     → GivesUp (record t { nodes = nodes }) stack x false lists new → is_owned_by Owner.List x ≡ false → IsApart before w given lists t f x.number.0
 unlisted-apart {w = w} {t = t} {x = x} f g owner =
     let none : times (of_list x.number.0) (live t.handles.places.items) ≡ 0 = none-listed g.leaves owner in
@@ -79,7 +79,7 @@ unlisted-apart {w = w} {t = t} {x = x} f g owner =
       kept = list-kept f.gone x.number.0 w.rows w.list (f.begins.listed x.number.0) (omega (arith, counted f (of_list x.number.0)));
     }
 
-pub gives-fewer : {old new : Holdings} {stack : List ℕ} {x : HandleRow} {lists : Bool} → GivesUp old stack x false lists new → length (live new.handles.places.items) ≤ length (live old.handles.places.items)
+pub gives-fewer : {old new : RefCounts} {stack : List ℕ} {x : HandleRow} {lists : Bool} → GivesUp old stack x false lists new → length (live new.handles.places.items) ≤ length (live old.handles.places.items)
 gives-fewer {old} {new} g = omega (arith, gives-sums g (λ h. 1), ones (live old.handles.places.items), ones (live new.handles.places.items), one-le g.listed)
 
 -- the same is asked and told where other rows are as many, and other cells are left
@@ -91,7 +91,7 @@ tells-as : {before w w' : Core} {entries : List HandleRow} (rows : List HandleRo
 tells-as rows cells long x4 tells = grind (arith, nat_tests, must-as)
 
 -- A handle has gone, or it stays without its pin; then an entry may have come.
-module _ {before w : Core} {given : ℕ → Bool} {lists stays : Bool} {t new : Holdings} {nodes : NumberTable NodeRow} {stack : List ℕ} {x : HandleRow} (f : SoFar before w given lists t)
+module _ {before w : Core} {given : ℕ → Bool} {lists stays : Bool} {t new : RefCounts} {nodes : NumberTable NodeRow} {stack : List ℕ} {x : HandleRow} (f : SoFar before w given lists t)
     (g : GivesUp (record t { nodes = nodes }) stack x stays lists new) (counts : (n : ℕ) → counts_at nodes n ≡ counts_at t.nodes n)
     (pinned : (n : ℕ) → pins_in (counts_at t.nodes n) ≡ pins n (live t.handles.places.items)) (few : length (live t.handles.places.items) ≤ length w.rows) where
   abbrev entries : List HandleRow
@@ -107,10 +107,10 @@ module _ {before w : Core} {given : ℕ → Bool} {lists stays : Bool} {t new : 
   here p = g.leaves.there (λ h. one (p h))
 
   last : new.last_handle ≡ t.last_handle + one g.listed
-  last = let a = ap (λ (h : Holdings). h.last_handle) g.same in let b = g.comes.comes.last in omega arith
+  last = let a = ap (λ (h : RefCounts). h.last_handle) g.same in let b = g.comes.comes.last in omega arith
 
   added : new.list.items ≡ t.list.items ++ (if g.listed then record { 0 = t.last_handle + 1 } ∷ [] else [])
-  added = ap (λ (h : Holdings). h.list.items) g.same ∙ g.comes.comes.list
+  added = ap (λ (h : RefCounts). h.list.items) g.same ∙ g.comes.comes.list
 
   abbrev wanted : Bool
   wanted = lists && is_listing g.counts x.mode
@@ -153,10 +153,10 @@ module _ {before w : Core} {given : ℕ → Bool} {lists stays : Bool} {t new : 
   told = by t.unlisted refl f.tells
     where
       kept : (u : Option Error) → t.unlisted ≡ u → (g.listed ≡ true) ⊎ (wanted ≡ false) → new.unlisted ≡ u
-      kept u is s = ap (λ (h : Holdings). h.unlisted) g.same ∙ g.comes.told s ∙ is
+      kept u is s = ap (λ (h : RefCounts). h.unlisted) g.same ∙ g.comes.told s ∙ is
 
       late : (u : Option Error) → t.unlisted ≡ u → g.listed ≡ false → wanted ≡ true → (e : Error) × IsUnlisted (record t { handles = g.left; nodes = nodes }) e × (new.unlisted ≡ or_else u (Some e))
-      late u is none want = let y = g.comes.why none want in (y.0, y.1, ap (λ (h : Holdings). h.unlisted) g.same ∙ y.2 ∙ ap (λ u. or_else u (Some y.0)) is)
+      late u is none want = let y = g.comes.why none want in (y.0, y.1, ap (λ (h : RefCounts). h.unlisted) g.same ∙ y.2 ∙ ap (λ u. or_else u (Some y.0)) is)
 
       by : (u : Option Error) → t.unlisted ≡ u → TellsListing before w f.entries (told_by u) (with_tables w t) → TellsListing before w entries (told_by new.unlisted) (with_tables w new)
       by (Some e) is tells =
@@ -195,7 +195,7 @@ module _ {before w : Core} {given : ℕ → Bool} {lists stays : Bool} {t new : 
     begins = begins;
     gone = gone;
     entries = entries;
-    rows = ap (λ (h : Holdings). live h.handles.places.items) g.same ∙ g.comes.comes.rows ∙ ap (λ r. r ++ entries_of g.listed (t.last_handle + 1) x.node) rest
+    rows = ap (λ (h : RefCounts). live h.handles.places.items) g.same ∙ g.comes.comes.rows ∙ ap (λ r. r ++ entries_of g.listed (t.last_handle + 1) x.node) rest
         ∙ append_assoc (left_rows gone rows) f.entries (entries_of g.listed (t.last_handle + 1) x.node);
     list = grind (arith, nat_tests, map-append, added, append_assoc);
     last = grind (arith, nat_tests, last, length-append);
@@ -210,7 +210,7 @@ module _ {before w : Core} {given : ℕ → Bool} {lists stays : Bool} {t new : 
     few = few';
   }
 
-module _ {before w : Core} {given : ℕ → Bool} {lists : Bool} {t new : Holdings} {nodes : NumberTable NodeRow} {stack : List ℕ} {x : HandleRow} (given' : ℕ → Bool) (f : SoFar before w given lists t)
+module _ {before w : Core} {given : ℕ → Bool} {lists : Bool} {t new : RefCounts} {nodes : NumberTable NodeRow} {stack : List ℕ} {x : HandleRow} (given' : ℕ → Bool) (f : SoFar before w given lists t)
     (g : GivesUp (record t { nodes = nodes }) stack x false lists new) (counts : (n : ℕ) → counts_at nodes n ≡ counts_at t.nodes n)
     (pinned : (n : ℕ) → pins_in (counts_at t.nodes n) ≡ pins n (live t.handles.places.items)) (few : length (live t.handles.places.items) ≤ length w.rows)
     (apart : IsApart before w given lists t f x.number.0) where
@@ -221,7 +221,7 @@ module _ {before w : Core} {given : ℕ → Bool} {lists : Bool} {t new : Holdin
       (grind (arith, nat_tests, filter-append, left-more f.gone x.number.0 w.rows, left-none x.number.0 f.entries, g.leaves.becomes.rows, f.rows, apart.unentered)) apart.kept holds least
       (λ falls. let a = gives-fewer g in omega arith)
 
-none-comes : {old new : Holdings} {stack : List ℕ} {x : HandleRow} {lists : Bool} → GivesUp old stack x false lists new → (m : ℕ) → held m (live old.handles.places.items) ≡ 0
+none-comes : {old new : RefCounts} {stack : List ℕ} {x : HandleRow} {lists : Bool} → GivesUp old stack x false lists new → (m : ℕ) → held m (live old.handles.places.items) ≡ 0
     → held m (live new.handles.places.items) ≡ 0
 none-comes g m none = let a = gives-sums g (λ h. one (is_at m h)) in grind (arith, nat_tests)
 
@@ -229,7 +229,7 @@ with-one : (gone s : ℕ → Bool) (q : ℕ) (rows : List HandleRow) → s q ≡
 with-one gone s q rows is within = grind (arith, nat_tests)
 
 -- the least set, over the whole step
-least-more : {before w : Core} {given : ℕ → Bool} {lists : Bool} {t new : Holdings} {nodes : NumberTable NodeRow} {stack : List ℕ} {x : HandleRow} {n : ℕ} (f : SoFar before w given lists t)
+least-more : {before w : Core} {given : ℕ → Bool} {lists : Bool} {t new : RefCounts} {nodes : NumberTable NodeRow} {stack : List ℕ} {x : HandleRow} {n : ℕ} (f : SoFar before w given lists t)
     → GivesUp (record t { nodes = nodes }) stack x false lists new → x.owner ≡ owner_value n → HasFallen (counts_at t.nodes) (live t.handles.places.items) n
     → (s : ℕ → Bool) (final : List HandleRow) → ((m : ℕ) → held m (live new.handles.places.items) ≡ 0 → held m final ≡ 0) → IsWithin w.rows given s
     → IsClosed w.rows (is_keyed w) final s → IsWithin w.rows (and_one f.gone x.number.0) s
@@ -243,7 +243,7 @@ least-more {w = w} {t = t} {x = x} {n} f g owner fell s final bare has closed =
 pub within-less : (a b c d : ℕ → Bool) (rows : List HandleRow) → ((r : ℕ) → one (a r && not (b r)) ≤ one (c r && not (d r))) → IsWithin rows c d → IsWithin rows a b
 within-less a b c d rows less is = grind (arith, nat_tests, sum_by-le-sum_by)
 
-pub steps-on : (before w : Core) (given : ℕ → Bool) (lists : Bool) (t new : Holdings) (stack : List ℕ) (r : Option NodeNumber) → SoFar before w given lists t
+pub steps-on : (before w : Core) (given : ℕ → Bool) (lists : Bool) (t new : RefCounts) (stack : List ℕ) (r : Option NodeNumber) → SoFar before w given lists t
     → IsFalling t stack owns_nothing → t.top ≢ 0 → Steps t stack lists r new → SoFar before w given lists new
 steps-on before w given lists t new stack r f falling some s = elim s.what [
   | inl done ↦ let stay = s.cells in subst (SoFar before w given lists) (sym done.1) (grind (arith, nat_tests, tells-as, must-as))
@@ -254,7 +254,7 @@ steps-on before w given lists t new stack r f falling some s = elim s.what [
 ]
 
 -- a handle is given that the list doesn't own, or one apart from the list
-pub gives-on : (before w : Core) (given : ℕ → Bool) (lists : Bool) (t new : Holdings) (stack : List ℕ) (x : HandleRow) → (f : SoFar before w given lists t)
+pub gives-on : (before w : Core) (given : ℕ → Bool) (lists : Bool) (t new : RefCounts) (stack : List ℕ) (x : HandleRow) → (f : SoFar before w given lists t)
     → ((n : ℕ) → pins_in (counts_at t.nodes n) ≡ pins n (live t.handles.places.items)) → (is_owned_by Owner.List x ≡ false) ⊎ IsApart before w given lists t f x.number.0
     → length (live t.handles.places.items) ≤ length w.rows → GivesUp t stack x false lists new → SoFar before w (and_one given x.number.0) lists new
 gives-on before w given lists t new stack x f pinned free few g =
@@ -264,13 +264,13 @@ gives-on before w given lists t new stack x f pinned free few g =
     let rest = f.least s final (λ n none. bare n (none-comes g n none)) (within-less given s (and_one given x.number.0) s w.rows (λ r. grind (arith, nat_tests)) has) closed in
     grind (arith, nat_tests, sum-most, has, rest))
 
-pub gives-unlisted : {t new : Holdings} {stack : List ℕ} {x : HandleRow} {lists : Bool} → lists ≡ false → GivesUp t stack x false lists new → new.list.items ≡ t.list.items
+pub gives-unlisted : {t new : RefCounts} {stack : List ℕ} {x : HandleRow} {lists : Bool} → lists ≡ false → GivesUp t stack x false lists new → new.list.items ≡ t.list.items
 gives-unlisted {t} {new} shut g = grind (arith, nat_tests, append-nil)
 
 -- ---- what was given is told by another set. Handles of a load that are left are those that it had and that haven't gone
 
 -- a set that has what was given, and no more but what has gone
-pub regiven : (before w : Core) (given given' : ℕ → Bool) (lists : Bool) (t : Holdings) (f : SoFar before w given lists t) → ((r : ℕ) → given' r ≡ true → (given r || f.gone r) ≡ true) → ((r : ℕ) → given r ≡ true → given' r ≡ true) → SoFar before w given' lists t
+pub regiven : (before w : Core) (given given' : ℕ → Bool) (lists : Bool) (t : RefCounts) (f : SoFar before w given lists t) → ((r : ℕ) → given' r ≡ true → (given r || f.gone r) ≡ true) → ((r : ℕ) → given r ≡ true → given' r ≡ true) → SoFar before w given' lists t
 regiven before w given given' lists t f less more =
     let least : (s : ℕ → Bool) (final : List HandleRow) → ((n : ℕ) → held n (live t.handles.places.items) ≡ 0 → held n final ≡ 0) → IsWithin w.rows given' s
     → IsClosed w.rows (is_keyed w) final s → IsWithin w.rows f.gone s =
@@ -308,7 +308,7 @@ module _ (test : HandleRow → Bool) (q : ℕ) where
   passes-left gone entries rows none = found-first (left_rows gone rows) entries none ∙ found-left gone rows
 
 -- of what passes and isn't an entry, what hasn't gone is there
-pub passes-so-far : (before w : Core) (given : ℕ → Bool) (lists : Bool) (t : Holdings) (f : SoFar before w given lists t) (test : HandleRow → Bool) → ((h : HandleRow) → h.owner ≡ Owner.List → test h ≡ false) → (q : ℕ)
+pub passes-so-far : (before w : Core) (given : ℕ → Bool) (lists : Bool) (t : RefCounts) (f : SoFar before w given lists t) (test : HandleRow → Bool) → ((h : HandleRow) → h.owner ≡ Owner.List → test h ≡ false) → (q : ℕ)
     → passes_in test (live t.handles.places.items) q ≡ (not (f.gone q) && passes_in test w.rows q)
 passes-so-far before w given lists t f test none q = ap (λ rows. passes_in test rows q) f.rows ∙ passes-left test q f.gone f.entries w.rows (no-entry test q none w.last.handle f.entries f.new)
 
@@ -316,12 +316,12 @@ passes-so-far before w given lists t f test none q = ap (λ rows. passes_in test
 abbrev pub and_owned : Core → LoadNumber → (ℕ → Bool) → ℕ → ℕ → Bool
 and_owned w l given n q = given q || (q == n && is_owned_in w (Owner.Load l) q)
 
-pub given-none : (before w : Core) (given : ℕ → Bool) (lists : Bool) (t : Holdings) (l : LoadNumber) (n : ℕ) → SoFar before w given lists t → owned (Owner.Load l) n (live t.handles.places.items) ≡ false → SoFar before w (and_owned w l given n) lists t
+pub given-none : (before w : Core) (given : ℕ → Bool) (lists : Bool) (t : RefCounts) (l : LoadNumber) (n : ℕ) → SoFar before w given lists t → owned (Owner.Load l) n (live t.handles.places.items) ≡ false → SoFar before w (and_owned w l given n) lists t
 given-none before w given lists t l n f none =
     let left = passes-so-far before w given lists t f (is_owned_by (Owner.Load l)) (unlisting (Owner.Load l) refl) n in
     regiven before w given (and_owned w l given n) lists t f (λ r e. grind (arith, nat_tests, cases_eq r n)) (λ r e. grind (arith, nat_tests))
 
-pub given-one : (before w : Core) (given : ℕ → Bool) (lists : Bool) (t new : Holdings) (l : LoadNumber) (n : ℕ) → SoFar before w given lists t → owned (Owner.Load l) n (live t.handles.places.items) ≡ true → SoFar before w (and_one given n) lists new → SoFar before w (and_owned w l given n) lists new
+pub given-one : (before w : Core) (given : ℕ → Bool) (lists : Bool) (t new : RefCounts) (l : LoadNumber) (n : ℕ) → SoFar before w given lists t → owned (Owner.Load l) n (live t.handles.places.items) ≡ true → SoFar before w (and_one given n) lists new → SoFar before w (and_owned w l given n) lists new
 given-one before w given lists t new l n f some g =
     let mine : is_owned_in w (Owner.Load l) n ≡ true =
     (and_parts (not (f.gone n)) _ (sym (passes-so-far before w given lists t f (is_owned_by (Owner.Load l)) (unlisting (Owner.Load l) refl) n) ∙ some)).1 in

@@ -1,15 +1,15 @@
 -- A handle is given up: handles and nodes fit again.
 use Rattle.pagable_tables.proofs.Counting.{all-kept, and_one, entries-none, of_list, one-le, ones, sum-most, times-left}
 use Rattle.pagable_tables.proofs.{HandleTable.{length-live-le, none-found, only-row, row-le-live}, RowCounts.{found-among, only-at}}
-use Rattle.pagable_tables.proofs.Words.{AllPairs, Among, ArcRef, Blob, Bool, Chain, Core, Counts, Error, Fits, HandleNumber, HandleRow, HasFallen, HasRoom, Holdings, IsApart, IsBefore, IsClosed}
+use Rattle.pagable_tables.proofs.Words.{AllPairs, Among, ArcRef, Blob, Bool, Chain, Core, Counts, Error, Fits, HandleNumber, HandleRow, HasFallen, HasRoom, RefCounts, IsApart, IsBefore, IsClosed}
 use Rattle.pagable_tables.proofs.Words.{IsFalling, IsSome, IsWithin, List, Mode, None, OpenLoad, Option, Owner, Place, Right, SoFar, Some, Tables, TellsListing, [], after, alive, ap, append-nil}
 use Rattle.pagable_tables.proofs.Words.{arith, cases_Bool, cases_eq, cell_in, core_of, counts_at, entry, falls_in, false, filter, find_row, get_or, get_or-le-sum_by, greatest, has_value, held}
 use Rattle.pagable_tables.proofs.Words.{holds_in, if◌then◌else◌, inl, inr, is_at, is_fallen_by, is_handle, is_keyed, is_listed, is_listing, is_outside, is_owned_by, is_owned_in, is_owner, is_pin}
 use Rattle.pagable_tables.proofs.Words.{is_pinning, is_plain_pin, is_share, is_shared, is_valued, keyed, landed, left_rows, length, live, map, named, nat_lt, nat_tests, next_in, nobody, not, often}
 use Rattle.pagable_tables.proofs.Words.{one, owner_value, owns, owns_nothing, pins, refl, sharing, slice_get, slice_get-get_or, subst, sum_by, sum_by-append, sum_by-cons, sum_by-le-sum_by}
 use Rattle.pagable_tables.proofs.Words.{sum_by_push, sym, times, told_by, true, unpinned, with_tables, ℕ, ◌&&◌, ◌++◌, ◌+◌, ◌-◌, ◌<◌, ◌==◌, ◌∙◌, GetsKey, NodeNumber, with_key}
-use Rattle.{pagable_tables.{proofs.Words.{◌∷◌, ◌≡◌, ◌≢◌, ◌≤◌, ◌⊎◌}, specs.Core.IsWhole}, pagable_world.proofs.Elements.sum-none}
-use Rattle.pagable_world.specs.Pager as pager
+use Rattle.{pagable_tables.{proofs.Words.{◌∷◌, ◌≡◌, ◌≢◌, ◌≤◌, ◌⊎◌}, specs.Core.IsWhole}, pagable_pager_spec.proofs.Elements.sum-none}
+use Rattle.pagable_pager_spec.specs.Pager as pager
 
 -- 1 for the handle q that the node's value owns
 abbrev pub is_owned : ℕ → ℕ → HandleRow → ℕ
@@ -63,11 +63,11 @@ module _ (at at' : ℕ → Option Counts) (refs refs' : ℕ → List ArcRef) (ro
 pub first-waits : (at : ℕ → Option Counts) (refs : ℕ → List ArcRef) (rows : List HandleRow) (n : ℕ) (ns : List ℕ) (extra : ℕ → ℕ → ℕ) → Fits at refs rows n (n ∷ ns) extra → falls_in (at n) ≡ true
 first-waits at refs rows n ns extra fits = let a = sum_by-cons (λ y. one (y == n)) n ns in let b = fits.marked n in grind (arith, nat_tests)
 
-pub top-stands : (t : Holdings) (stack : List ℕ) → t.top ≢ 0 → IsFalling t stack owns_nothing → (ns : List ℕ) × (stack ≡ t.top ∷ ns) × IsFalling t (t.top ∷ ns) owns_nothing
+pub top-stands : (t : RefCounts) (stack : List ℕ) → t.top ≢ 0 → IsFalling t stack owns_nothing → (ns : List ℕ) × (stack ≡ t.top ∷ ns) × IsFalling t (t.top ∷ ns) owns_nothing
 top-stands t [] some w = absurd (some w.fits.chain)
 top-stands t (n ∷ ns) some w = let top = sym w.fits.chain.0 in (ns, ap (λ m. m ∷ ns) top, subst (λ m. IsFalling t (m ∷ ns) owns_nothing) top w)
 
-pub top-there : (t : Holdings) (stack : List ℕ) → t.top ≢ 0 → IsFalling t stack owns_nothing → counts_at t.nodes t.top ≡ None → ⊥
+pub top-there : (t : RefCounts) (stack : List ℕ) → t.top ≢ 0 → IsFalling t stack owns_nothing → counts_at t.nodes t.top ≡ None → ⊥
 top-there t stack some w none = let waits = first-waits _ _ _ _ _ _ (top-stands t stack some w).2.fits in let a = ap falls_in none in absurd (cc)
 
 pub pins-le-held : (n : ℕ) (rows : List HandleRow) → pins n rows ≤ held n rows
@@ -160,8 +160,8 @@ module _ (at at' : ℕ → Option Counts) (refs refs' : ℕ → List ArcRef) (ro
     (sums : (f : HandleRow → ℕ) → sum_by f rows' + f x ≡ sum_by f rows + f (turned x))
     (here : at' x.node.0 ≡ Some (record c { pins = c.pins + one (not (is_pinning x.mode)) }))
     (others : (n : ℕ) → n ≢ x.node.0 → at' n ≡ at n) (same : (n : ℕ) → refs' n ≡ refs n) where
-  pub turn-fits : Fits at' refs' rows' top [] owns_nothing
-  turn-fits = grind (arith, nat_tests, cases_eq, pin-here, named, not-zero at x.node.0 c fits.from_one is)
+  pub set_loose_pinned-fits : Fits at' refs' rows' top [] owns_nothing
+  set_loose_pinned-fits = grind (arith, nat_tests, cases_eq, pin-here, named, not-zero at x.node.0 c fits.from_one is)
 
 abbrev pub owned-by : Owner → HandleRow → HandleRow
 owned-by owner x = record x { owner = owner }
@@ -184,25 +184,25 @@ pub ruleset counting = (nat_tests, row-le-live, held-here, pins-le-held, held-fe
 -- ---- where handles begin to be given up: nothing has gone so far
 
 -- why a cell isn't listed is told aside
-pub aside : (t : Holdings) (u : Option Error) (stack : List ℕ) (extra : ℕ → ℕ → ℕ) → IsFalling t stack extra → IsFalling (record t { unlisted = u }) stack extra
+pub aside : (t : RefCounts) (u : Option Error) (stack : List ℕ) (extra : ℕ → ℕ → ℕ) → IsFalling t stack extra → IsFalling (record t { unlisted = u }) stack extra
 aside t u stack extra w = record { sound = w.sound; next = w.next; fits = w.fits; worked = w.worked }
 
 -- a handle that no value owns weighs nothing there
-pub unowned : (t : Holdings) (x : HandleRow) (stack : List ℕ) → is_valued x.owner ≡ false → IsFalling t stack owns_nothing → IsFalling t stack (owns x)
+pub unowned : (t : RefCounts) (x : HandleRow) (stack : List ℕ) → is_valued x.owner ≡ false → IsFalling t stack owns_nothing → IsFalling t stack (owns x)
 unowned t x stack plain w = record { sound = w.sound; next = w.next; fits = grind (arith, nat_tests, owned-by-none, w.fits); worked = w.worked }
 
 share-plain : (n : ℕ) (rows : List HandleRow) → sharing n rows + times (is_plain_pin n) rows ≤ held n rows
 share-plain n [] = omega arith
 share-plain n (x ∷ xs) = grind (arith, nat_tests, sum_by-cons (λ h. one (is_share n h)) x xs, sum_by-cons (λ h. one (is_plain_pin n h)) x xs, sum_by-cons (λ h. one (is_at n h)) x xs, share-plain n xs)
 
-pub unmixed : (t : Tables) → IsWhole t → (n : ℕ) → (sharing n (live t.holdings.handles.places.items) ≡ 0) ⊎ (times (is_plain_pin n) (live t.holdings.handles.places.items) ≡ 0)
-unmixed t w n = let a = share-plain n (live t.holdings.handles.places.items) in let b = w.core.handles.uniform n in grind (arith, nat_tests)
+pub unmixed : (t : Tables) → IsWhole t → (n : ℕ) → (sharing n (live t.ref_counts.handles.places.items) ≡ 0) ⊎ (times (is_plain_pin n) (live t.ref_counts.handles.places.items) ≡ 0)
+unmixed t w n = let a = share-plain n (live t.ref_counts.handles.places.items) in let b = w.core.handles.uniform n in grind (arith, nat_tests)
 
 pub none-within : (s : ℕ → Bool) (rows : List HandleRow) → IsWithin rows nobody s
 none-within s rows = sum-none (λ h. one (nobody h.number.0 && not (s h.number.0))) rows (λ h among. refl)
 
 -- nothing has gone so far of a world that has as many handles of each kind as the world before, whoever owns them
-abbrev pub begun : (before w : Core) (lists : Bool) (t : Holdings) → lists ≡ not w.closed
+abbrev pub begun : (before w : Core) (lists : Bool) (t : RefCounts) → lists ≡ not w.closed
     → ((p : HandleRow → Bool) → ((x : HandleRow) (o : Owner) → p (record x { owner = o }) ≡ p x) → times p w.rows ≡ times p before.rows)
     → ((n : ℕ) → (sharing n before.rows ≡ 0) ⊎ (times (is_plain_pin n) before.rows ≡ 0)) → ((q : ℕ) → times (λ (h : HandleNumber). h.0 == q) w.list ≤ times (of_list q) w.rows)
     → live t.handles.places.items ≡ w.rows → t.list.items ≡ w.list → t.last_handle ≡ w.last.handle → t.last_handle ≤ greatest → HasRoom w.places (with_tables w t).places
@@ -236,14 +236,14 @@ begun before w lists t e many unmixed listed rows list last within places cells 
 
 -- nothing has gone of a whole world, nor of the one with other loads and workers
 abbrev pub begun-less : (t : Tables) (loads : ℕ → Option OpenLoad) (workers : ℕ → Bool) (stored : ℕ → Option Blob) (closed lists : Bool) (failures : ℕ) → IsWhole t → lists ≡ not closed
-    → SoFar (core_of t stored closed failures) (record (core_of t stored closed failures) { loads = loads; workers = workers }) nobody lists (record t.holdings { unlisted = None })
+    → SoFar (core_of t stored closed failures) (record (core_of t stored closed failures) { loads = loads; workers = workers }) nobody lists (record t.ref_counts { unlisted = None })
 begun-less t loads workers stored closed lists failures w e =
-    begun (core_of t stored closed failures) (record (core_of t stored closed failures) { loads = loads; workers = workers }) lists (record t.holdings { unlisted = None })
+    begun (core_of t stored closed failures) (record (core_of t stored closed failures) { loads = loads; workers = workers }) lists (record t.ref_counts { unlisted = None })
     e (λ p own. refl) (unmixed t w) (λ q. let a = w.core.owners_there.listed q in omega arith) refl refl refl w.core.handles.within.0
     (record { handles = omega arith; entries = omega arith }) (λ n. refl) refl
 
 abbrev pub begun-whole : (t : Tables) (stored : ℕ → Option Blob) (closed lists : Bool) (failures : ℕ) → IsWhole t → lists ≡ not closed
-    → SoFar (core_of t stored closed failures) (core_of t stored closed failures) nobody lists (record t.holdings { unlisted = None })
+    → SoFar (core_of t stored closed failures) (core_of t stored closed failures) nobody lists (record t.ref_counts { unlisted = None })
 begun-whole t stored closed lists failures w e = let c = core_of t stored closed failures in begun-less t c.loads c.workers stored closed lists failures w e
 
 -- cells are listed exactly while the storage is open
@@ -257,7 +257,7 @@ cut : (f : HandleRow → Bool) (gone s : ℕ → Bool) (rows : List HandleRow) �
     ≤ times (λ h. f h && not (gone h.number.0)) rows + times (λ h. gone h.number.0 && not (s h.number.0)) rows
 cut f gone s rows = grind (arith, nat_tests, sum-most)
 
-module _ {before w : Core} {given : ℕ → Bool} {lists : Bool} {t : Holdings} (f : SoFar before w given lists t) where
+module _ {before w : Core} {given : ℕ → Bool} {lists : Bool} {t : RefCounts} (f : SoFar before w given lists t) where
   pub counted : (p : HandleRow → Bool) → times p (live t.handles.places.items) ≡ times (λ h. p h && not (f.gone h.number.0)) w.rows + times p f.entries
   counted p = ap (times p) f.rows ∙ sum_by-append (λ h. one (p h)) (left_rows f.gone w.rows) f.entries ∙ ap (λ k. k + times p f.entries) (times-left p f.gone w.rows)
 
@@ -265,7 +265,7 @@ module _ {before w : Core} {given : ℕ → Bool} {lists : Bool} {t : Holdings} 
   pub no-more : (p : HandleRow → Bool) → ((h : HandleRow) → h.mode ≡ Mode.LooseUnpinned → h.owner ≡ Owner.List → p h ≡ false) → times p (live t.handles.places.items) ≤ times p w.rows
   no-more p none = grind (arith, nat_tests, sum_by-append, entries-none, times-left, sum_by-le-sum_by)
 
-module _ {before w : Core} {given : ℕ → Bool} {lists : Bool} {t : Holdings} (f : SoFar before w given lists t) (s : ℕ → Bool) (within : IsWithin w.rows f.gone s) where
+module _ {before w : Core} {given : ℕ → Bool} {lists : Bool} {t : RefCounts} (f : SoFar before w given lists t) (s : ℕ → Bool) (within : IsWithin w.rows f.gone s) where
   -- no handle outside the set is left that the value owned
   pub forced : (final : List HandleRow) (n : ℕ) → (held n (live t.handles.places.items) ≡ 0 → held n final ≡ 0) → HasFallen (counts_at t.nodes) (live t.handles.places.items) n
       → IsClosed w.rows (is_keyed w) final s
@@ -295,7 +295,7 @@ none-kept : (gone : ℕ → Bool) (q : ℕ) (list : List HandleNumber) → filte
 none-kept gone q [] none = refl
 none-kept gone q (x ∷ xs) none = grind (arith, nat_tests, none-kept gone q xs)
 
-module _ {before w : Core} {given : ℕ → Bool} {lists : Bool} {t : Holdings} (f : SoFar before w given lists t) (shut : lists ≡ false) where
+module _ {before w : Core} {given : ℕ → Bool} {lists : Bool} {t : RefCounts} (f : SoFar before w given lists t) (shut : lists ≡ false) where
   pub none-came : f.entries ≡ []
   none-came = no-entries f.entries (λ n some. let a : w.closed ≡ true = closed-is lists w.closed f.begins.open_storage ∙ ap not shut in let b = (f.only n some).0.stands_open in absurd (cc))
 
@@ -320,12 +320,12 @@ module _ (at at' : ℕ → Option Counts) (refs refs' : ℕ → List ArcRef) (ro
       let right : (m : ℕ) → Right (at' m) (refs' m) = λ m. grind (arith, nat_tests, cases_eq m n, fits.marked, fits.right) in
       grind (arith, nat_tests, cases_eq, named, right, not-zero at n c fits.from_one is)
 
-module _ (T : Tables) (stored : ℕ → Option Blob) (closed lists : Bool) (failures : ℕ) (whole : IsWhole T) (opened : lists ≡ not closed) (node : NodeNumber) (key : ℕ) (new : Holdings) where
+module _ (T : Tables) (stored : ℕ → Option Blob) (closed lists : Bool) (failures : ℕ) (whole : IsWhole T) (opened : lists ≡ not closed) (node : NodeNumber) (key : ℕ) (new : RefCounts) where
   abbrev old : Core
   old = core_of T stored closed failures
 
-  pub keyed-on : new ≡ record T.holdings { unlisted = None; nodes = new.nodes; top = new.top } → GetsKey (counts_at T.holdings.nodes) (counts_at new.nodes) node.0 key
+  pub keyed-on : new ≡ record T.ref_counts { unlisted = None; nodes = new.nodes; top = new.top } → GetsKey (counts_at T.ref_counts.nodes) (counts_at new.nodes) node.0 key
       → SoFar old (with_key old node key) nobody lists new
   keyed-on same cells = subst (SoFar old (with_key old node key) nobody lists) (sym same)
-      (begun old (with_key old node key) lists (record T.holdings { unlisted = None; nodes = new.nodes; top = new.top }) opened (λ p own. refl) (unmixed T whole)
+      (begun old (with_key old node key) lists (record T.ref_counts { unlisted = None; nodes = new.nodes; top = new.top }) opened (λ p own. refl) (unmixed T whole)
       (λ q. let a = whole.core.owners_there.listed q in omega arith) refl refl refl whole.core.handles.within.0 (record { handles = omega arith; entries = omega arith }) cells refl)

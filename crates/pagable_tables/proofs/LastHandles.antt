@@ -3,7 +3,7 @@ use Rattle.pagable_tables.proofs.{HandleTable.le_or_lt, OwnedByLoad.none-passes}
 use Rattle.pagable_tables.proofs.Words.{AreLater, Bool, Core, HandleRow, IndexMap, List, LoadNumber, LoadRow, None, Option, Owner, Place, Some, Tables}
 use Rattle.pagable_tables.proofs.Words.{Blob, ap, arith, cases_Bool, cases_eq, core_of, false, get_or, inl, inr, is_owned_by, is_owned_in, is_owner, length, live, load_at, load_in, nat_tests, option_map, owner_worker, passes_in, plain_of}
 use Rattle.pagable_tables.proofs.{SameViews.owner-same, Words.{refl, subst, sym, true, ℕ, ◌+◌, ◌<◌, ◌∙◌, ◌≡◌, ◌≤◌}}
-use Rattle.pagable_tables.proofs.Words.{Holdings, NumberTable, Sheds, counts_at, row_by}
+use Rattle.pagable_tables.proofs.Words.{RefCounts, NumberTable, Sheds, counts_at, row_by}
 use Rattle.pagable_tables.specs.Core.{AreRaised, AreTold, Does, DoesShed, IsOwnedAbove, IsWhole, Notes, Raised}
 
 pub raised-same : (o : Option LoadRow) → Raised o o
@@ -52,8 +52,8 @@ noted-last places l row q number told above own = elim (le_or_lt q row.last) [
       ]) in cc)
 ]
 
-pub noted-later : (t t' : Tables) → t' ≡ record t { loads = t'.loads; noted = t'.noted } → AreRaised t.loads t'.loads → t'.noted ≡ t.holdings.last_handle
-    → AreTold t'.loads t.holdings.handles.places.items t.noted (length t.holdings.handles.places.items) → AreLater t → AreLater t'
+pub noted-later : (t t' : Tables) → t' ≡ record t { loads = t'.loads; noted = t'.noted } → AreRaised t.loads t'.loads → t'.noted ≡ t.ref_counts.last_handle
+    → AreTold t'.loads t.ref_counts.handles.places.items t.noted (length t.ref_counts.handles.places.items) → AreLater t → AreLater t'
 noted-later t t' same raised noted told later =
     let from = λ (l : ℕ) (load : LoadRow) (at : load_at t'.loads l ≡ Some load). raised-from (load_at t.loads l) (load_at t'.loads l) load (raised l) at in
     let after : AreLater (record t { loads = t'.loads; noted = t'.noted }) = record {
@@ -70,7 +70,7 @@ noted-later t t' same raised noted told later =
           let (old, was, is, more) = from l load at in
           elim (le_or_lt q t.noted) [
             | inl low ↦ (let g = later.until l old q was own low in omega arith)
-            | inr high ↦ noted-last t.holdings.handles.places.items (record { 0 = l }) load q t.noted (λ k d within above owner. told (record { 0 = l }) load k d at within above owner) high own
+            | inr high ↦ noted-last t.ref_counts.handles.places.items (record { 0 = l }) load q t.noted (λ k d within above owner. told (record { 0 = l }) load k d at within above owner) high own
           ];
     } in
     subst AreLater (sym same) after
@@ -90,10 +90,10 @@ noted-does {t} {t1} {t2} {step} n d = record {
   later = λ later. d.later n.later;
 }
 
-pub noted-shed : {X : Type 0} {lists : Bool} {t t1 t2 : Tables} {values values' : NumberTable X} {step : Core → Core → Type 0} → Notes t t1 → DoesShed lists t1 values step t2 values' → DoesShed lists t values step t2 values'
-noted-shed {lists = lists} {t} {t1} {t2} {values} {values'} {step} n d = record {
+pub noted-release_at : {X : Type 0} {lists : Bool} {t t1 t2 : Tables} {values values' : NumberTable X} {step : Core → Core → Type 0} → Notes t t1 → DoesShed lists t1 values step t2 values' → DoesShed lists t values step t2 values'
+noted-release_at {lists = lists} {t} {t1} {t2} {values} {values'} {step} n d = record {
   does = λ stored closed failures open_still. subst (λ (w : Core). step w (core_of t2 stored closed failures)) (core-same t t1 n.same n.rows stored closed failures) (d.does stored closed failures open_still);
   whole = d.whole;
   later = λ later. d.later n.later;
-  sheds = subst (λ (h : Holdings). Sheds (counts_at h.nodes) (row_by values) (counts_at t2.holdings.nodes) (row_by values')) (ap (λ (u : Tables). u.holdings) n.same) d.sheds;
+  sheds = subst (λ (h : RefCounts). Sheds (counts_at h.nodes) (row_by values) (counts_at t2.ref_counts.nodes) (row_by values')) (ap (λ (u : Tables). u.ref_counts) n.same) d.sheds;
 }

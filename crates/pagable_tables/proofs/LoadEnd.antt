@@ -1,6 +1,6 @@
 -- A node comes, and the handles that its value refers to are the value's. And it comes with its handles to a node that is there, has no value and is pinned.
 use Rattle.std.specs.VecDeque.{deque_capacity}
-use Rattle.pagable_tables.proofs.Words.{Alike, AllPairs, Among, ArcRef, Blob, Bool, Core, Counts, Ending, Error, Falls, Fits, HandleNumber, HandleRow, Holdings, Installs, IsHandleBefore, IsReady}
+use Rattle.pagable_tables.proofs.Words.{Alike, AllPairs, Among, ArcRef, Blob, Bool, Core, Counts, Ending, Error, Falls, Fits, HandleNumber, HandleRow, RefCounts, Installs, IsHandleBefore, IsReady}
 use Rattle.pagable_tables.proofs.Words.{Last, List, LoadNumber, LoadRow, MayEnd, MayOwnLoad, Mode, NodeNumber, None, OnlyRoom, Option, Owner, Places, Result, Right, SoFar, Some, Tables, [], ap, arith}
 use Rattle.pagable_tables.proofs.Words.{cases_eq, cell_in, changed, core_of, counts_at, false, find_row, has_come, has_value, if◌then◌else◌, inl, inr, is_at, is_handle, is_in, is_named_by}
 use Rattle.pagable_tables.proofs.Words.{is_owned_by, is_owned_in, is_pin, is_pinning, is_plain_pin, is_share, is_valued, length, live, load_at, load_in, map, moved, named, nat_tests, nobody, not, one}
@@ -53,7 +53,7 @@ module _ (w : Core) (me : Owner) (n : ℕ) (rs : List ArcRef) (ordered : AllPair
 
 module _ (w : Core) (me : Owner) (rs : List ArcRef) (ordered : AllPairs IsHandleBefore w.rows) (fit : references_fault w me [] rs ≡ None) (unvalued : is_valued me ≡ false)
     (at at' : ℕ → Option Counts) (refs refs' : ℕ → List ArcRef) (top : ℕ) (x : HandleRow) (c : Counts) (fits : Fits at refs w.rows top [] owns_nothing) (owner : x.owner ≡ me)
-    (new : c ≡ record c { pins = one (is_pinning x.mode); holds = 1; is_falling = false; next = 0 }) (bare : (c.key ≡ 0) ⊎ (rs ≡ []) ⊎ (is_pinning x.mode ≡ true)) (real : 0 < x.node.0) (free : at x.node.0 ≡ None)
+    (new : c ≡ record c { pins = one (is_pinning x.mode); holds = 1; is_dying = false; next = 0 }) (bare : (c.key ≡ 0) ⊎ (rs ≡ []) ⊎ (is_pinning x.mode ≡ true)) (real : 0 < x.node.0) (free : at x.node.0 ≡ None)
     (here : at' x.node.0 ≡ Some c) (others : (q : ℕ) → q ≢ x.node.0 → at' q ≡ at q) (refers : refs' x.node.0 ≡ rs) (same : (q : ℕ) → q ≢ x.node.0 → refs' q ≡ refs q) where
   abbrev n : ℕ
   n = x.node.0
@@ -77,7 +77,7 @@ module _ (w : Core) (me : Owner) (rs : List ArcRef) (ordered : AllPairs IsHandle
     owned = λ m q. let free = owned-by-none m q x (ap is_valued owner ∙ unvalued) in
         grind (arith, nat_tests, cases_eq, owned-here q, sum_by_push (is_owned m q) given-rows x, free, same m, others-own w me n rs ordered fit unvalued m q);
     chain = fits.chain;
-    marked = λ m. let k : c.is_falling ≡ false = ap (λ (d : Counts). d.is_falling) new in grind (arith, nat_tests, cases_eq);
+    marked = λ m. let k : c.is_dying ≡ false = ap (λ (d : Counts). d.is_dying) new in grind (arith, nat_tests, cases_eq);
     right = λ m. grind (arith, nat_tests, cases_eq m n, new, bare, fits.right m);
     from_one = others 0 (λ z. absurd (omega arith)) ∙ fits.from_one;
   }
@@ -135,10 +135,10 @@ row-of rows ordered row found z among is = grind (arith, nat_tests, once rows or
 
 -- t1 is t with the pins; then the handles that the references name move to the node's value, and what the load still owns goes.
 module _ (t t1 : Tables) (stored : ℕ → Option Blob) (closed lists : Bool) (failures : ℕ) (was : IsWhole t) (whole : IsWhole t1) (e : lists ≡ not closed) (row : HandleRow)
-    (found : find_row row.number.0 (live t.holdings.handles.places.items) ≡ Some row) (me : Owner) (may : MayOwnLoad (plain_of t) me) (l : LoadNumber) (rs : List ArcRef)
+    (found : find_row row.number.0 (live t.ref_counts.handles.places.items) ≡ Some row) (me : Owner) (may : MayOwnLoad (plain_of t) me) (l : LoadNumber) (rs : List ArcRef)
     (good : references_fault (plain_of t) (Owner.Load l) [] rs ≡ None)
     (a : Alike (with_handle (with_mode (core_of t stored closed failures) row.number Mode.LoosePinned) row.node Mode.Pinned me) (core_of t1 stored closed failures))
-    (same : t1 ≡ record t { holdings = t1.holdings }) where
+    (same : t1 ≡ record t { ref_counts = t1.ref_counts }) where
   abbrev s : ℕ → Bool
   s = is_named_by rs
 
@@ -149,7 +149,7 @@ module _ (t t1 : Tables) (stored : ℕ → Option Blob) (closed lists : Bool) (f
   w = core_of t stored closed failures
 
   abbrev x : HandleRow
-  x = row_of (t.holdings.last_handle + 1) row.node Mode.Pinned me
+  x = row_of (t.ref_counts.last_handle + 1) row.node Mode.Pinned me
 
   abbrev rows0 : List HandleRow
   rows0 = moved s o w.rows
@@ -166,14 +166,14 @@ module _ (t t1 : Tables) (stored : ℕ → Option Blob) (closed lists : Bool) (f
   of : (y : HandleRow) → Among rows0 y → is_handle row.number.0 y ≡ true → y.node ≡ row.node
   of y among is = grind (arith, nat_tests, row-of, among-map (λ (z : HandleRow). if s z.number.0 then record z { owner = o } else z) w.rows y among)
 
-  come : moved s o (live t1.holdings.handles.places.items) ≡ u.rows
-  come = ap (moved s o) a.rows ∙ moved-turned s o row.number.0 x w.rows (not-named (plain_of t) l rs was.core.handles good (t.holdings.last_handle + 1) (omega arith))
+  come : moved s o (live t1.ref_counts.handles.places.items) ≡ u.rows
+  come = ap (moved s o) a.rows ∙ moved-turned s o row.number.0 x w.rows (not-named (plain_of t) l rs was.core.handles good (t.ref_counts.last_handle + 1) (omega arith))
 
-  as-moved : (f : HandleRow → Bool) → ((y : HandleRow) → f (record y { owner = o }) ≡ f y) → times f u.rows ≡ times f (live t1.holdings.handles.places.items)
-  as-moved f keeps = ap (times f) (sym come) ∙ moved-times f s o (live t1.holdings.handles.places.items) keeps
+  as-moved : (f : HandleRow → Bool) → ((y : HandleRow) → f (record y { owner = o }) ≡ f y) → times f u.rows ≡ times f (live t1.ref_counts.handles.places.items)
+  as-moved f keeps = ap (times f) (sym come) ∙ moved-times f s o (live t1.ref_counts.handles.places.items) keeps
 
-  module _ (k : Holdings) (rows : live k.handles.places.items ≡ moved s o (live t1.holdings.handles.places.items)) (list : k.list ≡ t1.holdings.list) (last : k.last_handle ≡ t1.holdings.last_handle)
-      (capacity : vec_capacity k.handles.places ≡ vec_capacity t1.holdings.handles.places) (cells : (n : ℕ) → cell_in (counts_at k.nodes n) ≡ cell_in (counts_at t1.holdings.nodes n)) where
+  module _ (k : RefCounts) (rows : live k.handles.places.items ≡ moved s o (live t1.ref_counts.handles.places.items)) (list : k.list ≡ t1.ref_counts.list) (last : k.last_handle ≡ t1.ref_counts.last_handle)
+      (capacity : vec_capacity k.handles.places ≡ vec_capacity t1.ref_counts.handles.places) (cells : (n : ℕ) → cell_in (counts_at k.nodes n) ≡ cell_in (counts_at t1.ref_counts.nodes n)) where
     begun-pinned : SoFar u u nobody lists (record k { unlisted = None })
     begun-pinned = begun u u lists (record k { unlisted = None }) e (λ p own. refl)
         (λ n. let b = unmixed t1 whole n in let p = as-moved (is_share n) (λ y. refl) in let q = as-moved (is_plain_pin n) (λ y. refl) in grind (arith, nat_tests))
@@ -192,7 +192,7 @@ module _ (t t1 : Tables) (stored : ℕ → Option Blob) (closed lists : Bool) (f
 
     as-before : {w' : Core} {r : Result (Unit {0}) Error} → Falls u u given r w' → Falls w u given r w'
     as-before {w'} {r} falls = seen-before {b = u} {w = w} {u = u} u.places (record { handles = omega arith; entries = omega arith }) (λ n none.
-        let kept = owned-given (plain_of t) (Owner.Load l) (t.holdings.last_handle + 1) was.core.handles in
+        let kept = owned-given (plain_of t) (Owner.Load l) (t.ref_counts.last_handle + 1) was.core.handles in
         let plain = not-a-value (plain_of t) me (may-hold (plain_of t) me may) in let stays = stays-pinned (record w { rows = mid }) u w' given r x refl ordered plain (grind (arith, nat_tests, and-left)) falls n none in
         let more = sum_by_push (λ y. one (is_pin n y)) mid x in
         let z : one (is_pin n x) ≡ 0 = (let b = stays.0 in omega arith) in
@@ -202,11 +202,11 @@ module _ (t t1 : Tables) (stored : ℕ → Option Blob) (closed lists : Bool) (f
         )) falls
 
     -- what gives up all that a load owns does it here
-    pub ended : (since until : ℕ) (new : Holdings) (loads : ℕ → Option LoadRow) (r : Result (Unit {0}) Error)
+    pub ended : (since until : ℕ) (new : RefCounts) (loads : ℕ → Option LoadRow) (r : Result (Unit {0}) Error)
         → ((before v : Core) → SoFar before v nobody lists (record k { unlisted = None }) → length (live k.handles.places.items) ≤ length v.rows
         → ((q : ℕ) → is_owned_in v (Owner.Load l) q ≡ true → (since < q) × (q ≤ until)) → Falls before v (is_owned_in v (Owner.Load l)) r (with_tables v new))
         → ((q : ℕ) → is_owned_in w (Owner.Load l) q ≡ true → (since < q) × (q ≤ until)) → loads l.0 ≡ None → ((q : ℕ) → q ≢ l.0 → loads q ≡ load_at t1.loads q)
-        → Falls w u given r (record (core_of (record t1 { holdings = new }) stored closed failures) { loads = λ q. option_map load_in (loads q) })
+        → Falls w u given r (record (core_of (record t1 { ref_counts = new }) stored closed failures) { loads = λ q. option_map load_in (loads q) })
     ended since until new loads r gives within gone others =
         let falls = gives u u begun-pinned (let b = ap length (rows ∙ come) in omega arith)
         (λ q own. within q (and-left (is_owned_in w (Owner.Load l) q) (not (s q)) (sym (owned-pinned q) ∙ own))) in
@@ -217,14 +217,14 @@ module _ (t t1 : Tables) (stored : ℕ → Option Blob) (closed lists : Bool) (f
 -- t1 is t with the pins
 module _ (t t1 : Tables) (stored : ℕ → Option Blob) (closed : Bool) (failures : ℕ) (row : HandleRow) (me : Owner)
     (a : Alike (with_handle (with_mode (core_of t stored closed failures) row.number Mode.LoosePinned) row.node Mode.Pinned me) (core_of t1 stored closed failures)) where
-  pub pins-here : 0 < pins row.node.0 (live t1.holdings.handles.places.items)
+  pub pins-here : 0 < pins row.node.0 (live t1.ref_counts.handles.places.items)
   pins-here = grind (arith, nat_tests, sum_by_push, live)
 
   -- whose value is in memory then, where the pinned cell has got one
-  pub has-come : IsWhole t → IsWhole t1 → find_row row.number.0 (live t.holdings.handles.places.items) ≡ Some row → (n : ℕ)
-      → has_value (counts_at t1.holdings.nodes n) ≡ has_come (counts_at t.holdings.nodes) row.node n
+  pub has-come : IsWhole t → IsWhole t1 → find_row row.number.0 (live t.ref_counts.handles.places.items) ≡ Some row → (n : ℕ)
+      → has_value (counts_at t1.ref_counts.nodes n) ≡ has_come (counts_at t.ref_counts.nodes) row.node n
   has-come was whole found n =
-      let rows = live t.holdings.handles.places.items in
+      let rows = live t.ref_counts.handles.places.items in
       let same = λ (other : (row.node.0 == n) ≡ false). (other-same row.number row.node rows (row-of rows was.core.handles.ordered row found) n other).0 in
       grind (arith, nat_tests, cases_eq n row.node.0, pins-here, sum_by_push, same, a.rows, a.cells n, was.steady.fits.pinned n, whole.steady.fits.pinned n)
 

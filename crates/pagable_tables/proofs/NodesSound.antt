@@ -5,18 +5,18 @@ use Rattle.pagable_tables.specs.declared.{number_table.NumberTable.NumberTable, 
 
 module _ {X : Type 0} (t : Tables) (values : NumberTable X) where
   next-node : (n : ℕ) → 0 < n
-      → are_nodes_sound t values n ≡ (is_node_sound t n (is_some (row_by values n)) (counts_at t.holdings.nodes n) && are_nodes_sound t values (n - 1))
+      → are_nodes_sound t values n ≡ (is_node_sound t n (is_some (row_by values n)) (counts_at t.ref_counts.nodes n) && are_nodes_sound t values (n - 1))
   unfolding are_nodes_sound
   next-node zero h = absurd (omega arith)
   next-node (suc n) h = let e : n ≡ suc n - 1 = omega arith in
-      ap (λ m. is_node_sound t (suc n) (is_some (row_by values (suc n))) (counts_at t.holdings.nodes (suc n)) && are_nodes_sound t values m) e
+      ap (λ m. is_node_sound t (suc n) (is_some (row_by values (suc n))) (counts_at t.ref_counts.nodes (suc n)) && are_nodes_sound t values m) e
 
   -- a node is sound, and the rest is left; it isn't, and so all aren't; and none is left
-  pub node-passed : (all : Bool) (n : ℕ) → 0 < n → is_node_sound t n (is_some (row_by values n)) (counts_at t.holdings.nodes n) ≡ true
+  pub node-passed : (all : Bool) (n : ℕ) → 0 < n → is_node_sound t n (is_some (row_by values n)) (counts_at t.ref_counts.nodes n) ≡ true
       → all ≡ are_nodes_sound t values n → all ≡ are_nodes_sound t values (n - 1)
   node-passed all n h is e = e ∙ (next-node n h ∙ ap (λ b. b && are_nodes_sound t values (n - 1)) is)
 
-  pub node-failed : (all : Bool) (n : ℕ) → 0 < n → is_node_sound t n (is_some (row_by values n)) (counts_at t.holdings.nodes n) ≡ false
+  pub node-failed : (all : Bool) (n : ℕ) → 0 < n → is_node_sound t n (is_some (row_by values n)) (counts_at t.ref_counts.nodes n) ≡ false
       → all ≡ are_nodes_sound t values n → false ≡ all
   node-failed all n h is e = sym (e ∙ (next-node n h ∙ ap (λ b. b && are_nodes_sound t values (n - 1)) is))
 

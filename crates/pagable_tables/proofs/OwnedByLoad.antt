@@ -1,5 +1,5 @@
 -- A load is closed or hands handles over, or a worker leaves, and what they still own is given up.
-use Rattle.pagable_model.specs.declared.numbers.WorkerNumber.{WorkerNumber}
+use Rattle.pagable_value_spec.specs.declared.numbers.WorkerNumber.{WorkerNumber}
 use Rattle.pagable_tables.proofs.{Counting.{and-left, of_list, there-is, times-left}, HandleTable.{at-place, found-append, le_or_lt}, Wholeness.whole-so}
 use Rattle.pagable_tables.proofs.CascadeStep.{begun, closed-is, is_owned, no-value, none-came, owned-by-none, rows-told, unmixed}
 use Rattle.pagable_tables.proofs.RowCounts.{among-last, at-most-sum, found-among, once, sum-map, sum-none}
@@ -7,9 +7,9 @@ use Rattle.pagable_tables.proofs.CascadeEnd.{and_owned, no-entry, owned, passes-
 use Rattle.pagable_tables.proofs.Views.{Goes, IsNewer, OnlyNewer, alike-goes, born-whole, named-mine}
 use Rattle.pagable_tables.proofs.Views.{newer-handle, newer-moved, newer-then, not-list, owned-moved, settled}
 use Rattle.pagable_tables.proofs.Words.{Alike, AllPairs, Among, ArcRef, AreLater, ArePlaced, AwayBirthCall, Bears, Blob}
-use Rattle.pagable_tables.proofs.Words.{Bool, Core, Error, Falls, Fits, Giving, HandleNumber, HandleRow, Handles, HandlesAreWhole, HasRoom, Holdings, InReach, IndexMap, IsBefore, IsClosed, IsFalling}
+use Rattle.pagable_tables.proofs.Words.{Bool, Core, Error, Falls, Fits, ReleaseSet, HandleNumber, HandleRow, Handles, HandlesAreWhole, HasRoom, RefCounts, InReach, IndexMap, IsBefore, IsClosed, IsFalling}
 use Rattle.pagable_tables.proofs.Words.{IsHandleBefore, IsLeast, IsNoLess, Last, List, LoadNumber, LoadRow, MayHold, MayOwnLoad, Mode, NodeNumber, NodeRow, NumberTable, None, Ok, OnlyRoom, OpenLoad, Option}
-use Rattle.pagable_tables.proofs.Words.{OptionalDataKey, Owner, Place, Places, Reach, Result, Sheds, SoFar, Some, Tables, TakeCall, [], alive, and_parts, ap, arith, cases_Bool, cases_eq, changed}
+use Rattle.pagable_tables.proofs.Words.{OptionalDataKey, Owner, Place, Places, HandleRange, Result, Sheds, SoFar, Some, Tables, TakeCall, [], alive, and_parts, ap, arith, cases_Bool, cases_eq, changed}
 use Rattle.pagable_tables.proofs.Words.{core_of, counts_at, false, find_row, get, row_by, get_or, get_or_default, gives_row, greatest, has_key, held, if_there, if◌then◌else◌, inl, inr, is_at, is_handle}
 use Rattle.pagable_tables.proofs.Words.{is_keyed, is_loose_kind, is_named_by, is_outside, is_owned_by, is_owned_in, is_owner, is_pin, is_pinning, is_plain_pin, is_shared, is_some, is_valued, key_in}
 use Rattle.pagable_tables.proofs.Words.{known_at, left_rows, length, live, load_at, load_in, loses_value, mode_of, moved, nat_eq, nat_lt, nat_tests, next_node, nobody, not, one, only_handle}
@@ -20,8 +20,8 @@ use Rattle.pagable_tables.proofs.Words.{with_tables, with_worker, ℕ, ◌&&◌,
 use Rattle.pagable_tables.proofs.SameViews.{named-take, next-past, owner-same, owner-self, room-alike, same-cache}
 use Rattle.pagable_tables.specs.{CascadeInvariant.AreAtWork, Core.{Does, DoesShed, IsWhole, TakesWorker, gives}, HandleTable.{Becomes, Widens}, Nodes.work_at}
 use Rattle.pagable_tables.proofs.WorkCounts.{work-more, work-told}
-use Rattle.pagable_world.specs.Workers.{is_load_of}
-use Rattle.pagable_world.specs.Pager as pager
+use Rattle.pagable_pager_spec.specs.Workers.{is_load_of}
+use Rattle.pagable_pager_spec.specs.Pager as pager
 
 pub moved-times : (f : HandleRow → Bool) (s : ℕ → Bool) (o : Owner) (rows : List HandleRow) → ((x : HandleRow) → f (record x { owner = o }) ≡ f x) → times f (moved s o rows) ≡ times f rows
 moved-times f s o rows same = sum-map (λ x. one (f x)) (λ x. one (f x)) (λ x. if s x.number.0 then record x { owner = o } else x) rows (λ x there. grind (arith, nat_tests, same x))
@@ -29,7 +29,7 @@ moved-times f s o rows same = sum-map (λ x. one (f x)) (λ x. one (f x)) (λ x.
 pub no-load : (w : Core) (o : Owner) (l : LoadNumber) → MayOwnLoad w o → is_owner (Owner.Load l) o ≡ false
 no-load w o l may = grind (arith, nat_tests)
 
-pub moved-stands : (t : Holdings) (h : Handles) (s : ℕ → Bool) (o : Owner) → IsFalling t [] owns_nothing → is_valued o ≡ false → ((x : HandleRow) → Among (live t.handles.places.items) x → s x.number.0 ≡ true → is_valued x.owner ≡ false)
+pub moved-stands : (t : RefCounts) (h : Handles) (s : ℕ → Bool) (o : Owner) → IsFalling t [] owns_nothing → is_valued o ≡ false → ((x : HandleRow) → Among (live t.handles.places.items) x → s x.number.0 ≡ true → is_valued x.owner ≡ false)
     → AreAtWork (moved s o (live t.handles.places.items)) t.nodes → Becomes t.handles (moved s o (live t.handles.places.items)) h → IsFalling (record t { handles = h }) [] owns_nothing
 moved-stands t h s o w plain free work is =
     let rows = live t.handles.places.items in
@@ -60,8 +60,8 @@ pub owned-given : (w : Core) (o : Owner) (q : ℕ) → pager.HandlesAreWhole w �
 owned-given w o q whole own = (passes-given (is_owned_by o) w q whole own).1
 
 -- all that a worker gives up when it ends is in its reach
-pub in-reach : (t : Tables) → IsWhole t → AreLater t → (v : WorkerNumber) (q : ℕ) → passes_in (gives_row (plain_of t) (Giving.Worker v)) (plain_of t).rows q ≡ true → InReach (reach_at t.workers v.0) q
-in-reach t whole later v q is = let (row, e, passes) = there-is (gives_row w (Giving.Worker v)) (find_row q w.rows) is in elim (cases_Bool (is_owner (Owner.Worker v) row.owner)) [
+pub in-reach : (t : Tables) → IsWhole t → AreLater t → (v : WorkerNumber) (q : ℕ) → passes_in (gives_row (plain_of t) (ReleaseSet.Worker v)) (plain_of t).rows q ≡ true → InReach (reach_at t.workers v.0) q
+in-reach t whole later v q is = let (row, e, passes) = there-is (gives_row w (ReleaseSet.Worker v)) (find_row q w.rows) is in elim (cases_Bool (is_owner (Owner.Worker v) row.owner)) [
   | inl own ↦ later.reach v.0 q (ap (if_there (is_owned_by (Owner.Worker v)) false) e ∙ own)
   | inr other ↦ of-load row.owner (ap (if_there (is_owned_by row.owner) false) e ∙ owner-self row.owner) (sym (ap (λ b. b || is_load_of w v.0 row.owner) other) ∙ passes)
 ]
@@ -77,7 +77,7 @@ in-reach t whole later v q is = let (row, e, passes) = there-is (gives_row w (Gi
 pub loads-anew : (before u w' : Core) (given : ℕ → Bool) (r : Result (Unit {0}) Error) (loads : ℕ → Option OpenLoad) → ((q : ℕ) → w'.loads q ≡ loads q) → Falls before u given r w' → Falls before u given r (record w' { loads = loads })
 loads-anew before u w' given r loads same falls = subst (λ l. Falls before u given r (record w' { loads = l })) (λ i q. same q i) falls
 
-pub one-more-works : (at at' : ℕ → Option Reach) (v : ℕ) (reach : Reach) → at' v ≡ Some reach → ((q : ℕ) → q ≢ v → at' q ≡ at q) → (q : ℕ) → is_some (at' q) ≡ updated v true (λ u. is_some (at u)) q
+pub one-more-works : (at at' : ℕ → Option HandleRange) (v : ℕ) (reach : HandleRange) → at' v ≡ Some reach → ((q : ℕ) → q ≢ v → at' q ≡ at q) → (q : ℕ) → is_some (at' q) ≡ updated v true (λ u. is_some (at u)) q
 one-more-works at at' v reach here others q = sym (updated-by is_some at at' v (Some reach) here others q)
 
 -- the entry moves to it
@@ -89,14 +89,14 @@ pub ruleset working = (nat_tests, one-more-works)
 -- ---- what loads own is what they owned, or has come since: while loads and workers come and go
 
 -- the open loads are ones that were open, and what a worker got besides is in its reach
-pub later-by : {t t' : Tables} → AreLater t → t.holdings.last_handle ≤ t'.holdings.last_handle → t'.noted ≡ t.noted → ((l : ℕ) (load : LoadRow) → load_at t'.loads l ≡ Some load → load_at t.loads l ≡ Some load) → IsNoLess t.workers t'.workers
-    → ((l q : ℕ) → owned (Owner.Load (record { 0 = l })) q (plain_of t').rows ≡ true → (owned (Owner.Load (record { 0 = l })) q (plain_of t).rows ≡ true) ⊎ (t.holdings.last_handle < q))
-    → ((v q : ℕ) → owned (owner_worker v) q (plain_of t').rows ≡ true → (owned (owner_worker v) q (plain_of t).rows ≡ true) ⊎ (t.holdings.last_handle < q) ⊎ InReach (reach_at t'.workers v) q) → AreLater t'
+pub later-by : {t t' : Tables} → AreLater t → t.ref_counts.last_handle ≤ t'.ref_counts.last_handle → t'.noted ≡ t.noted → ((l : ℕ) (load : LoadRow) → load_at t'.loads l ≡ Some load → load_at t.loads l ≡ Some load) → IsNoLess t.workers t'.workers
+    → ((l q : ℕ) → owned (Owner.Load (record { 0 = l })) q (plain_of t').rows ≡ true → (owned (Owner.Load (record { 0 = l })) q (plain_of t).rows ≡ true) ⊎ (t.ref_counts.last_handle < q))
+    → ((v q : ℕ) → owned (owner_worker v) q (plain_of t').rows ≡ true → (owned (owner_worker v) q (plain_of t).rows ≡ true) ⊎ (t.ref_counts.last_handle < q) ⊎ InReach (reach_at t'.workers v) q) → AreLater t'
 later-by {t} {t'} later last noted loads less own work =
     let wider : (v q : ℕ) → owned (owner_worker v) q (plain_of t).rows ≡ true → InReach (reach_at t'.workers v) q = λ v q had. less.wider v q (later.reach v q had) in
     grind (arith, nat_tests, later.given, later.since, later.begun, later.loads, later.noted, later.until, noted, less.before, wider, loads, own, work)
 
-pub still-reaches : {S : Type 0} {workers workers' : IndexMap ℕ Reach S} → workers' ≡ workers → IsNoLess workers workers'
+pub still-reaches : {S : Type 0} {workers workers' : IndexMap ℕ HandleRange S} → workers' ≡ workers → IsNoLess workers workers'
 still-reaches {S} {workers} {workers'} same = subst (λ u. IsNoLess workers u) (sym same) (record { wider = λ v q in-reach. in-reach; before = λ v. omega arith })
 
 pub later-less : {t t' : Tables} → AreLater t → OnlyNewer (plain_of t) (plain_of t') → t'.noted ≡ t.noted → ((l : ℕ) (load : LoadRow) → load_at t'.loads l ≡ Some load → load_at t.loads l ≡ Some load) → IsNoLess t.workers t'.workers → AreLater t'
@@ -111,7 +111,7 @@ closed-still at at' m gone others l load is = grind (arith, nat_tests)
 none-owned : (w : Core) (o : Owner) (q : ℕ) → ((h : HandleRow) → Among w.rows h → h.owner ≡ o → ⊥) → is_owned_in w o q ≡ true → ⊥
 none-owned w o q nobody own = let (row, e, is) = there-is (is_owned_by o) (find_row q w.rows) own in nobody row (found-among q w.rows row e).0 (owner-same o row.owner is)
 
-pub later-opened : {t t' : Tables} → pager.IsWhole (plain_of t) → AreLater t → OnlyNewer (plain_of t) (plain_of t') → (m : ℕ) (row : LoadRow) → load_at t.loads m ≡ None → load_at t'.loads m ≡ Some row → row.since ≡ t.holdings.last_handle
+pub later-opened : {t t' : Tables} → pager.IsWhole (plain_of t) → AreLater t → OnlyNewer (plain_of t) (plain_of t') → (m : ℕ) (row : LoadRow) → load_at t.loads m ≡ None → load_at t'.loads m ≡ Some row → row.since ≡ t.ref_counts.last_handle
     → ((q : ℕ) → q ≢ m → load_at t'.loads q ≡ load_at t.loads q) → t'.workers ≡ t.workers → t'.noted ≡ t.noted → AreLater t'
 later-opened {t} {t'} whole later newer m row none here since others same noted =
     let new-owns : (q : ℕ) → owned (Owner.Load (record { 0 = m })) q (plain_of t).rows ≡ true → ⊥ = λ q own.
@@ -120,7 +120,7 @@ later-opened {t} {t'} whole later newer m row none here since others same noted 
     grind (arith, nat_tests, cases_eq, here, since, others, later.given, later.since, later.begun, later.reach, later.loads, later.noted, later.until, noted, newer.last, newer.kept, new-owns)
 
 pub later-begun : {t t' : Tables} → pager.IsWhole (plain_of t) → AreLater t → t' ≡ record t { workers = t'.workers; last_worker = t'.last_worker } → (v : ℕ) → v ≡ t.last_worker + 1
-    → reach_at t'.workers v ≡ record { since = t.holdings.last_handle; beside = 0 } → ((u : ℕ) → u ≢ v → reach_at t'.workers u ≡ reach_at t.workers u) → AreLater t'
+    → reach_at t'.workers v ≡ record { since = t.ref_counts.last_handle; beside = 0 } → ((u : ℕ) → u ≢ v → reach_at t'.workers u ≡ reach_at t.workers u) → AreLater t'
 later-begun {t} {t'} whole later same v new here others =
     let at-rest : (m : ℕ) → m ≡ v → (plain_of t).workers m ≡ true → ⊥ = λ m e is. let a = whole.workers_numbered m is in absurd (omega arith) in
     let working : (m : ℕ) (o : Owner) → is_owner (owner_worker m) o ≡ true → pager.MayOwnLoad (plain_of t) o → (plain_of t).workers m ≡ true = λ m o owns may. grind (arith, nat_tests) in
@@ -139,7 +139,7 @@ module _ (t : Tables) (later : AreLater t) (s : ℕ → Bool) (me : Owner) (othe
 
   -- a load of the same owner hands handles of its own to it and is closed: they came after the worker began
   pub later-handed : {t' : Tables} (l : LoadNumber) (row : LoadRow) → load_at t.loads l.0 ≡ Some row → is_owner me row.owner ≡ true → ((q : ℕ) → s q ≡ true → is_owned_in (plain_of t) (Owner.Load l) q ≡ true)
-      → IsNewer rows (plain_of t').rows t.holdings.last_handle t'.holdings.last_handle → ((m : ℕ) (load : LoadRow) → load_at t'.loads m ≡ Some load → load_at t.loads m ≡ Some load) → t'.workers ≡ t.workers → t'.noted ≡ t.noted → AreLater t'
+      → IsNewer rows (plain_of t').rows t.ref_counts.last_handle t'.ref_counts.last_handle → ((m : ℕ) (load : LoadRow) → load_at t'.loads m ≡ Some load → load_at t.loads m ≡ Some load) → t'.workers ≡ t.workers → t'.noted ≡ t.noted → AreLater t'
   later-handed {t'} l row here mine its newer loads same noted =
       let after : (v q : ℕ) → is_owner (owner_worker v) me ≡ true → s q ≡ true → InReach (reach_at t'.workers v) q = λ v q is gone. subst (λ u. InReach (reach_at u v) q) (sym same)
       (grind (arith, nat_tests, later.since l.0 row q here (its q gone), later.loads v l.0 row here (ap (is_owner (owner_worker v)) (owner-same me row.owner mine) ∙ is), owner-same)) in
@@ -200,18 +200,18 @@ module _ (t t1 : Tables) (stored : ℕ → Option Blob) (closed : Bool) (failure
   abbrev made : Core
   made = with_handle before node mode me
 
-  pub begun-made : (lists : Bool) → lists ≡ not closed → SoFar made made nobody lists (record t1.holdings { unlisted = None })
-  begun-made lists e = begun made made lists (record t1.holdings { unlisted = None }) e (λ p own. refl)
+  pub begun-made : (lists : Bool) → lists ≡ not closed → SoFar made made nobody lists (record t1.ref_counts { unlisted = None })
+  begun-made lists e = begun made made lists (record t1.ref_counts { unlisted = None }) e (λ p own. refl)
       (λ n. subst (λ r. (sharing n r ≡ 0) ⊎ (times (is_plain_pin n) r ≡ 0)) a.rows (unmixed t1 after n))
       (λ q. let d = ap (times (λ (h : HandleNumber). h.0 == q)) a.list in let e = ap (times (of_list q)) a.rows in let f = after.core.owners_there.listed q in omega arith)
       a.rows a.list (ap (λ (l : Last). l.handle) a.last) after.core.handles.within.0 (record { handles = a.places.handles; entries = a.places.entries }) a.cells refl
 
   -- others fall then, as seen from before it came
-  pub falls-made : t1 ≡ record t { holdings = t1.holdings } → is_valued me ≡ false → (new : Holdings) {given : ℕ → Bool} {r : Result (Unit {0}) Error}
-      → Falls made made given r (with_tables made new) → given (t.holdings.last_handle + 1) ≡ false → Falls before made given r (core_of (record t1 { holdings = new }) stored closed failures)
+  pub falls-made : t1 ≡ record t { ref_counts = t1.ref_counts } → is_valued me ≡ false → (new : RefCounts) {given : ℕ → Bool} {r : Result (Unit {0}) Error}
+      → Falls made made given r (with_tables made new) → given (t.ref_counts.last_handle + 1) ≡ false → Falls before made given r (core_of (record t1 { ref_counts = new }) stored closed failures)
   falls-made same plain new {given} {r} f spared =
       let ordered = subst (AllPairs IsHandleBefore) a.rows after.core.handles.ordered in
-      let stays = stays-pinned before made (with_tables made new) given r (row_of (t.holdings.last_handle + 1) node mode me) refl ordered plain spared f in
+      let stays = stays-pinned before made (with_tables made new) given r (row_of (t.ref_counts.last_handle + 1) node mode me) refl ordered plain spared f in
       grind (arith, nat_tests, cases_eq, seen-before)
 
 pub changed-push : (q : ℕ) (f : HandleRow → HandleRow) (rows : List HandleRow) (x : HandleRow) → q < x.number.0 → changed (is_handle q) f (rows ++ x ∷ []) ≡ changed (is_handle q) f rows ++ x ∷ []
@@ -245,14 +245,14 @@ bears-goes {w} me node_type key rs mode k whole holder fit left unkeyed b =
 -- ---- handles are given up together, those that pass a test or that references name
 
 -- the list's handle isn't given up where others are
-pub given-plain : (w : Core) (giving : Giving) (o : Owner) (node : NodeNumber) → gives w giving o node ≡ true → (is_owner Owner.List o ≡ false) ⊎ (giving ≡ Giving.Listed)
+pub given-plain : (w : Core) (giving : ReleaseSet) (o : Owner) (node : NodeNumber) → gives w giving o node ≡ true → (is_owner Owner.List o ≡ false) ⊎ (giving ≡ ReleaseSet.Listed)
 given-plain w x2 o node is = grind (arith, nat_tests)
 
 -- what has been given, while those up to a number are left
-abbrev pub past_of : Core → Core → Giving → ℕ → ℕ → Bool
+abbrev pub past_of : Core → Core → ReleaseSet → ℕ → ℕ → Bool
 past_of u w giving left q = nat_lt left q && passes_in (gives_row w giving) u.rows q
 
-module _ (before u w : Core) (lists : Bool) (giving : Giving) (shut : giving ≡ Giving.Listed → lists ≡ false) (reach : Reach) (within : (q : ℕ) → passes_in (gives_row w giving) u.rows q ≡ true → InReach reach q) where
+module _ (before u w : Core) (lists : Bool) (giving : ReleaseSet) (shut : giving ≡ ReleaseSet.Listed → lists ≡ false) (reach : HandleRange) (within : (q : ℕ) → passes_in (gives_row w giving) u.rows q ≡ true → InReach reach q) where
   abbrev passes : ℕ → Bool
   passes q = passes_in (gives_row w giving) u.rows q
 
@@ -260,21 +260,21 @@ module _ (before u w : Core) (lists : Bool) (giving : Giving) (shut : giving ≡
   past = past_of u w giving
 
   -- of what passes, what hasn't gone is there
-  told : (t : Holdings) (given : ℕ → Bool) (f : SoFar before u given lists t) (q : ℕ) → passes_in (gives_row w giving) (live t.handles.places.items) q ≡ (not (f.gone q) && passes q)
+  told : (t : RefCounts) (given : ℕ → Bool) (f : SoFar before u given lists t) (q : ℕ) → passes_in (gives_row w giving) (live t.handles.places.items) q ≡ (not (f.gone q) && passes q)
   told t given f q =
-      let listed : (giving ≡ Giving.Listed) ⊎ (giving ≢ Giving.Listed) = grind (arith, nat_tests) in
+      let listed : (giving ≡ ReleaseSet.Listed) ⊎ (giving ≢ ReleaseSet.Listed) = grind (arith, nat_tests) in
       ap (λ rows. passes_in (gives_row w giving) rows q) f.rows ∙ passes-left (gives_row w giving) q f.gone f.entries u.rows (elim listed [
         | inl is ↦ ap (λ es. passes_in (gives_row w giving) es q) (none-came f (shut is)) ∙ passes-none (gives_row w giving) q
         | inr other ↦ no-entry (gives_row w giving) q (λ h is. grind (arith, nat_tests)) u.last.handle f.entries f.new
       ])
 
   -- what is given of the numbers that are left and isn't there has gone
-  pub onto : (t : Holdings) (left : ℕ) (s : ℕ → Bool) → ((r : ℕ) → s r ≡ true → passes r ≡ true) → ((r : ℕ) → past left r ≡ true → s r ≡ true)
+  pub onto : (t : RefCounts) (left : ℕ) (s : ℕ → Bool) → ((r : ℕ) → s r ≡ true → passes r ≡ true) → ((r : ℕ) → past left r ≡ true → s r ≡ true)
       → ((r : ℕ) → s r ≡ true → r ≤ left → passes_in (gives_row w giving) (live t.handles.places.items) r ≡ false) → SoFar before u (past left) lists t → SoFar before u s lists t
   onto t left s up over none f = regiven before u (past left) s lists t f (λ r e. let p = up r e in let n = none r e in let g = told t (past left) f r in grind (arith, nat_tests)) over
 
   -- one more is given, the last of those that are left
-  pub one-past : (t new : Holdings) (left : ℕ) (x : HandleRow) → 0 < x.number.0 → x.number.0 ≤ left → find_row x.number.0 (live t.handles.places.items) ≡ Some x → gives_row w giving x ≡ true
+  pub one-past : (t new : RefCounts) (left : ℕ) (x : HandleRow) → 0 < x.number.0 → x.number.0 ≤ left → find_row x.number.0 (live t.handles.places.items) ≡ Some x → gives_row w giving x ≡ true
       → ((q : ℕ) → InReach reach q → x.number.0 < q → q ≤ left → passes_in (gives_row w giving) (live t.handles.places.items) q ≡ false)
       → ((given : ℕ → Bool) → SoFar before u given lists t → SoFar before u (λ q. given q || q == x.number.0) lists new) → SoFar before u (past left) lists t → SoFar before u (past (x.number.0 - 1)) lists new
   one-past t new left x above below found is none gives f =
@@ -309,7 +309,7 @@ module _ (ss : List Place) (m : ℕ) (p : Place) (within : m < length ss) (is : 
 abbrev pub named_owned : Core → LoadNumber → List ArcRef → ℕ → ℕ → Bool
 named_owned w l rs i q = is_named_by (take i rs) q && is_owned_in w (Owner.Load l) q
 
-module _ (before w : Core) (lists : Bool) (t : Holdings) (l : LoadNumber) (rs : List ArcRef) where
+module _ (before w : Core) (lists : Bool) (t : RefCounts) (l : LoadNumber) (rs : List ArcRef) where
   pub none-given : SoFar before w nobody lists t → SoFar before w (named_owned w l rs 0) lists t
   none-given f = regiven before w nobody (named_owned w l rs 0) lists t f (λ r e. absurd (let a = and-left (is_named_by (take 0 rs) r) _ e in let b = named-none r in cc)) (λ r e. absurd (cc))
 
@@ -338,12 +338,12 @@ abbrev pub Each : Tables → (Core → Core → Type 0) → Tables → Type 0
 Each old step new = (stored : ℕ → Option Blob) (closed : Bool) (failures : ℕ) → step (core_of old stored closed failures) (core_of new stored closed failures)
 
 module _ {old new : Tables} {step : Core → Core → Type 0} where
-  pub does-by : Each old step new → IsFalling new.holdings [] owns_nothing → (step (plain_of old) (plain_of new) → ArePlaced (plain_of new) → pager.IsWhole (plain_of new))
+  pub does-by : Each old step new → IsFalling new.ref_counts [] owns_nothing → (step (plain_of old) (plain_of new) → ArePlaced (plain_of new) → pager.IsWhole (plain_of new))
       → (step (plain_of old) (plain_of new) → AreLater old → AreLater new) → Does old step new
   does-by does steady whole later = let plain = does (λ key. None) false 0 in record { does = does; whole = whole-so steady (whole plain); later = later plain }
 
   -- loads and workers are those that were
-  pub does-so : Each old step new → IsFalling new.holdings [] owns_nothing → (step (plain_of old) (plain_of new) → Goes (plain_of old) (plain_of new)) → new.loads ≡ old.loads
+  pub does-so : Each old step new → IsFalling new.ref_counts [] owns_nothing → (step (plain_of old) (plain_of new) → Goes (plain_of old) (plain_of new)) → new.loads ≡ old.loads
       → new.workers ≡ old.workers → new.noted ≡ old.noted → Does old step new
   does-so does steady goes loads workers noted = does-by does steady (λ plain. (goes plain).whole) (λ plain later. later-on later (goes plain).newer loads workers noted)
 
@@ -364,7 +364,7 @@ abbrev pub listing : Bool → Tables → Core
 listing lists t = core_of t (λ key. None) (not lists) 0
 
 -- the same, of a step that is made as cells are listed
-module _ {lists : Bool} {old new : Tables} {step : Core → Core → Type 0} (does : Each old (λ w w'. lists ≡ not w.closed → step w w') new) (steady : IsFalling new.holdings [] owns_nothing) where
+module _ {lists : Bool} {old new : Tables} {step : Core → Core → Type 0} (does : Each old (λ w w'. lists ≡ not w.closed → step w w') new) (steady : IsFalling new.ref_counts [] owns_nothing) where
   pub lazily-by : (step (listing lists old) (listing lists new) → ArePlaced (plain_of new) → pager.IsWhole (plain_of new))
       → (step (listing lists old) (listing lists new) → AreLater old → AreLater new) → Does old (λ w w'. lists ≡ not w.closed → step w w') new
   lazily-by whole later = let plain = does (λ key. None) (not lists) 0 (closed-is (not lists) lists refl) in record { does = does; whole = whole-so steady (whole plain); later = later plain }
@@ -375,24 +375,24 @@ module _ {lists : Bool} {old new : Tables} {step : Core → Core → Type 0} (do
 
 -- and values go
 pub sheds-with : {X : Type 0} {lists : Bool} {old new : Tables} {values values' : NumberTable X} {step : Core → Core → Type 0} → Does old (λ w w'. lists ≡ not w.closed → step w w') new
-    → Sheds (counts_at old.holdings.nodes) (row_by values) (counts_at new.holdings.nodes) (row_by values') → DoesShed lists old values step new values'
+    → Sheds (counts_at old.ref_counts.nodes) (row_by values) (counts_at new.ref_counts.nodes) (row_by values') → DoesShed lists old values step new values'
 sheds-with does sheds = record { does = does.does; whole = does.whole; later = does.later; sheds = sheds }
 
-pub nothing-shed : {X : Type 0} {lists : Bool} {t : Tables} {values : NumberTable X} {step : Core → Core → Type 0} → IsWhole t → Each t (λ w w'. lists ≡ not w.closed → step w w') t
+pub nothing-release_at : {X : Type 0} {lists : Bool} {t : Tables} {values : NumberTable X} {step : Core → Core → Type 0} → IsWhole t → Each t (λ w w'. lists ≡ not w.closed → step w w') t
     → DoesShed lists t values step t values
-nothing-shed {t = t} whole does = record { does = does; whole = whole; later = λ later. later; sheds = sheds-still t.holdings _ whole.steady }
+nothing-release_at {t = t} whole does = record { does = does; whole = whole; later = λ later. later; sheds = sheds-still t.ref_counts _ whole.steady }
 
 -- handles widen, and nodes and the cache are told as they were
-pub widens-does : (t : Tables) (h : Handles) (nodes : NumberTable NodeRow) (cache : IndexMap (ℕ × ℕ) NodeNumber _) → IsWhole t → Widens t.holdings.handles h
-    → ((n : ℕ) → counts_at nodes n ≡ counts_at t.holdings.nodes n) → ((n : ℕ) → refs_at nodes n ≡ refs_at t.holdings.nodes n)
-    → ((n : ℕ) → work_at nodes n ≡ work_at t.holdings.nodes n) → ((kind key : ℕ) → known_at cache kind key ≡ known_at t.cache kind key)
-    → Does t OnlyRoom (record t { holdings = record t.holdings { handles = h; nodes = nodes }; cache = cache })
+pub widens-does : (t : Tables) (h : Handles) (nodes : NumberTable NodeRow) (cache : IndexMap (ℕ × ℕ) NodeNumber _) → IsWhole t → Widens t.ref_counts.handles h
+    → ((n : ℕ) → counts_at nodes n ≡ counts_at t.ref_counts.nodes n) → ((n : ℕ) → refs_at nodes n ≡ refs_at t.ref_counts.nodes n)
+    → ((n : ℕ) → work_at nodes n ≡ work_at t.ref_counts.nodes n) → ((kind key : ℕ) → known_at cache kind key ≡ known_at t.cache kind key)
+    → Does t OnlyRoom (record t { ref_counts = record t.ref_counts { handles = h; nodes = nodes }; cache = cache })
 widens-does t h nodes cache whole e counts refs work known = does-so (λ stored closed failures. grind (arith, nat_tests, e.rows, e.capacity, counts, known))
     (record {
       sound = e.sound;
-      next = e.next (t.holdings.last_handle + 1) whole.steady.next;
+      next = e.next (t.ref_counts.last_handle + 1) whole.steady.next;
       fits = grind (arith, nat_tests, whole.steady.fits, e.rows, counts, refs);
-      worked = work-told nodes (live t.holdings.handles.places.items) (live h.places.items) e.rows
-          (work-more (live t.holdings.handles.places.items) t.holdings.nodes nodes (λ n. rw (work n) (omega arith)) whole.steady.worked);
+      worked = work-told nodes (live t.ref_counts.handles.places.items) (live h.places.items) e.rows
+          (work-more (live t.ref_counts.handles.places.items) t.ref_counts.nodes nodes (λ n. rw (work n) (omega arith)) whole.steady.worked);
     })
     (λ room. alike-goes whole.core (room-alike room)) refl refl refl

@@ -7,7 +7,7 @@ use Rattle.pagable_tables.proofs.HandleTable.{none-found}
 use Rattle.pagable_tables.proofs.Words.{AllPairs, Among, AreNewEntries, Bool, Cell, Core, HandleNumber, HandleRow, HandlesAreWhole, IsEntryWhole}
 use Rattle.pagable_tables.proofs.Words.{IsHandleBefore, IsRootWhole}
 use Rattle.{pagable_tables.proofs.Words.{◌∙◌, ◌∷◌, ◌≡◌, ◌≤◌, ◌⊎◌}, std.proofs.lemmas.List.map-id}
-pub use Rattle.pagable_world.proofs.Elements.{among-left, among-map, among-one, at-most-sum, counted, found-among, once, sum-none}
+pub use Rattle.pagable_pager_spec.proofs.Elements.{among-left, among-map, among-one, at-most-sum, counted, found-among, once, sum-none}
 
 -- ---- one by one
 

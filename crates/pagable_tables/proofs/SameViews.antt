@@ -6,7 +6,7 @@ use Rattle.pagable_tables.proofs.Words.{first_key, get_or, greatest, handle_faul
 use Rattle.pagable_tables.proofs.Words.{moved, named_at, named_fault, nat_lt, nat_tests, next_node, node_fault, not, numbers_of, only_handle, option_map, or_else, rank, reference_fault, references_fault}
 use Rattle.pagable_tables.proofs.Words.{refl, refused_if, seen, spent, subst, suc, sym, take, take-suc, take_all, true, type_of, usable, where_so, with_cached, with_handle, with_node, zero, ℕ, ◌&&◌}
 use Rattle.pagable_tables.proofs.Words.{◌++◌, ◌+◌, ◌<◌, ◌==◌, ◌||◌, ◌∙◌, ◌∷◌}
-use Rattle.{pagable_tables.proofs.Words.{◌≡◌, ◌≢◌, ◌≤◌, ◌⊎◌}, pagable_world.specs.Calls.IsNext, std.{proofs.lemmas.List.map-id, specs.Result.IsErrAnd}}
+use Rattle.{pagable_tables.proofs.Words.{◌≡◌, ◌≢◌, ◌≤◌, ◌⊎◌}, pagable_pager_spec.specs.Calls.IsNext, std.{proofs.lemmas.List.map-id, specs.Result.IsErrAnd}}
 
 pub same-cache : (w w' : Core) → w'.rows ≡ w.rows → SameAt w.cells w'.cells → ((kind key : ℕ) → w'.cache kind key ≡ w.cache kind key) → SameCache w w'
 same-cache w w' e same is = grind (arith, nat_tests)

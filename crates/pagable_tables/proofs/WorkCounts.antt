@@ -1,8 +1,8 @@
 -- Handles that workers own, counted at their nodes, as handles come, go and change.
-use Rattle.pagable_model.specs.declared.numbers.WorkerNumber.{WorkerNumber}
+use Rattle.pagable_value_spec.specs.declared.numbers.WorkerNumber.{WorkerNumber}
 use Rattle.pagable_tables.specs.{CascadeInvariant.{AreAtWork, is_work, is_worker}, Nodes.work_at}
 use Rattle.pagable_tables.proofs.{Counting.{one-le, ones}, RowCounts.{at-most-sum, counted, found-among, found-so, sum-map}}
-use Rattle.pagable_tables.proofs.Words.{AllPairs, Bool, Core, Giving, HandleNumber, HandleRow}
+use Rattle.pagable_tables.proofs.Words.{AllPairs, Bool, Core, ReleaseSet, HandleNumber, HandleRow}
 use Rattle.pagable_tables.proofs.Words.{IsHandleBefore, List, NodeNumber, NodeRow, None, NumberTable, Option, Owner, Some, [], ap, arith, cases_eq, false, find_row, gives_row, held}
 use Rattle.pagable_tables.proofs.Words.{if◌then◌else◌, inl, inr, is_at, is_in, length, moved, nat_tests, numbers_of, one, passes_in, refl, subst, suc, sum_by-cons, sum_by-le-sum_by}
 use Rattle.pagable_tables.proofs.Words.{sum_by_push, sym, take, times, true, zero, ℕ, ◌&&◌, ◌++◌, ◌+◌, ◌∷◌, ◌≡◌, ◌≤◌}
@@ -68,10 +68,10 @@ work-few n rows = omega (arith, ones rows, sum_by-le-sum_by (λ h. one (is_work 
 
 -- where no worker has a handle of the node none is given up there
 pub none-at-work : (v : WorkerNumber) (m : NodeNumber) (w : Core) (rows : List HandleRow) (nodes : NumberTable NodeRow) → AreAtWork rows nodes → work_at nodes m.0 ≡ 0 → (q : ℕ)
-    → passes_in (gives_row w (Giving.AtNode v m)) rows q ≡ false
+    → passes_in (gives_row w (ReleaseSet.AtNode v m)) rows q ≡ false
 none-at-work v m w rows nodes worked none q = at (find_row q rows) refl
   where
-    at : (found : Option HandleRow) → find_row q rows ≡ found → passes_in (gives_row w (Giving.AtNode v m)) rows q ≡ false
+    at : (found : Option HandleRow) → find_row q rows ≡ found → passes_in (gives_row w (ReleaseSet.AtNode v m)) rows q ≡ false
     at (Some x) e =
         let a = found-among q rows x e in
         let less = at-most-sum (λ h. one (is_work m.0 h)) rows x a.0 in

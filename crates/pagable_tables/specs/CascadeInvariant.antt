@@ -1,9 +1,9 @@
 -- When handles, nodes and list fit each other, in the midst of giving handles up too.
-use Rattle.pagable_model.specs.declared.numbers.{ArcRef.ArcRef, NodeNumber.NodeNumber}
+use Rattle.pagable_value_spec.specs.declared.numbers.{ArcRef.ArcRef, NodeNumber.NodeNumber}
 use Rattle.pagable_tables.specs.{HandleTable.{AreSound, IsNext, live}, Nodes.{counts_at, falls_in, holds_in, next_in, pins_in, refs_at, work_at}}
-use Rattle.pagable_tables.specs.declared.{cascade.Holdings.Holdings, nodes.{Counts.Counts, NodeRow.NodeRow}, number_table.NumberTable.NumberTable}
-use Rattle.pagable_world.specs.{Calls.row_of, Kinds.{held, is_at, is_handle, is_owned_by, owner_value, pins}, Plain.{one, times}}
-use Rattle.pagable_world.specs.declared.{handles.{HandleRow.HandleRow, Owner.Owner}, rows.Mode.Mode}
+use Rattle.pagable_tables.specs.declared.{cascade.RefCounts.RefCounts, nodes.{Counts.Counts, NodeRow.NodeRow}, number_table.NumberTable.NumberTable}
+use Rattle.pagable_pager_spec.specs.{Calls.row_of, Kinds.{held, is_at, is_handle, is_owned_by, owner_value, pins}, Basics.{one, times}}
+use Rattle.pagable_pager_spec.specs.declared.{handle_row.{HandleRow.HandleRow, Owner.Owner}, mode.Mode.Mode}
 use Rattle.std.specs.Prelude.{Bool, List, None, Option, Some, [], false, if◌then◌else◌, nat_lt, not, sum_by, true, ℕ, ◌&&◌, ◌+◌, ◌==◌, ◌||◌, ◌∷◌, ◌≡◌, ◌≤◌}
 
 -- a new entry of the list
@@ -24,7 +24,7 @@ is_bare (r ∷ rs) = false
 
 -- A node that falls has lost its value. Another has a handle, and refers to something only where its value is in memory.
 abbrev pub is_right : Counts → Bool → Bool
-is_right c bare = if c.is_falling then c.holds == 0 || (c.pins == 0 && nat_lt 0 c.key) else nat_lt 0 c.holds && (nat_lt 0 c.pins || not (nat_lt 0 c.key) || bare)
+is_right c bare = if c.is_dying then c.holds == 0 || (c.pins == 0 && nat_lt 0 c.key) else nat_lt 0 c.holds && (nat_lt 0 c.pins || not (nat_lt 0 c.key) || bare)
 
 abbrev pub Right : Option Counts → List ArcRef → Type 0
 Right None refs = refs ≡ []
@@ -66,7 +66,7 @@ is_work n h = is_at n h && is_worker h.owner
 abbrev pub AreAtWork : List HandleRow → NumberTable NodeRow → Type 0
 AreAtWork rows nodes = (n : ℕ) → times (is_work n) rows ≤ work_at nodes n
 
-pub record IsFalling (t : Holdings) (stack : List ℕ) (extra : ℕ → ℕ → ℕ) : Type 0 where
+pub record IsFalling (t : RefCounts) (stack : List ℕ) (extra : ℕ → ℕ → ℕ) : Type 0 where
   pub sound : AreSound t.handles
   pub next : IsNext (t.last_handle + 1) t.handles.places.items
   pub fits : Fits (counts_at t.nodes) (refs_at t.nodes) (live t.handles.places.items) t.top stack extra

@@ -1,16 +1,16 @@
 -- What has gone and what has come since handles began to be given up: before a call, in the world that it has made directly, and in the tables.
-use Rattle.pagable_model.specs.declared.{error.Error.Error, numbers.HandleNumber.HandleNumber}
-use Rattle.pagable_tables.specs.{HandleTable.live, Nodes.{cell_in, counts_at}, declared.cascade.Holdings.Holdings}
-use Rattle.pagable_world.specs.Cascade.{AreNewEntries, IsClosed, IsWithin, MustList, TellsListing, is_keyed, left_rows}
-use Rattle.pagable_world.specs.{Kinds.{held, is_handle, is_owned_by, is_pin, is_shared, pins, sharing}, Plain.times, World.{Core, HasRoom, greatest}}
-use Rattle.pagable_world.specs.declared.handles.{HandleRow.HandleRow, Owner.Owner}
+use Rattle.pagable_value_spec.specs.declared.{error.Error.Error, numbers.HandleNumber.HandleNumber}
+use Rattle.pagable_tables.specs.{HandleTable.live, Nodes.{cell_in, counts_at}, declared.cascade.RefCounts.RefCounts}
+use Rattle.pagable_pager_spec.specs.Cascade.{AreNewEntries, IsClosed, IsWithin, MustList, TellsListing, is_keyed, left_rows}
+use Rattle.pagable_pager_spec.specs.{Kinds.{held, is_handle, is_owned_by, is_pin, is_shared, pins, sharing}, Basics.times, World.{Core, HasRoom, greatest}}
+use Rattle.pagable_pager_spec.specs.declared.handle_row.{HandleRow.HandleRow, Owner.Owner}
 use Rattle.std.specs.Prelude.{Bool, Err, List, None, Ok, Option, Result, Some, filter, is_some, length, map, not, true, vec_capacity, ℕ, ◌&&◌, ◌++◌, ◌+◌}
 use Rattle.std.specs.{Prelude.{◌<◌, ◌==◌, ◌||◌, ◌≡◌, ◌≢◌, ◌≤◌, ◌⊎◌}, VecDeque.deque_capacity}
 
 -- ---- what has gone and what has come since handles began to be given up: before a call, in the world that it has made directly, and in the tables
 
 -- the world with the handles, nodes and list of the tables
-abbrev pub with_tables : Core → Holdings → Core
+abbrev pub with_tables : Core → RefCounts → Core
 with_tables w t = record w {
   rows = live t.handles.places.items;
   cells = λ n. cell_in (counts_at t.nodes n);
@@ -40,7 +40,7 @@ pub record Begins (before w : Core) (lists : Bool) : Type 0 where
   pub listed : (q : ℕ) → times (λ (h : HandleNumber). h.0 == q) w.list ≤ times (λ h. is_handle q h && is_owned_by Owner.List h) w.rows
 
 -- The given handles have gone from the world w, with more that had to; the tables hold what is left and what came.
-pub record SoFar (before w : Core) (given : ℕ → Bool) (lists : Bool) (t : Holdings) : Type 0 where
+pub record SoFar (before w : Core) (given : ℕ → Bool) (lists : Bool) (t : RefCounts) : Type 0 where
   pub begins : Begins before w lists
   pub gone : ℕ → Bool
   pub entries : List HandleRow
@@ -61,6 +61,6 @@ pub record SoFar (before w : Core) (given : ℕ → Bool) (lists : Bool) (t : Ho
   pub few : t.top ≢ 0 → length (live t.handles.places.items) ≤ length w.rows
 
 -- A handle may go apart from the list: no entry that came has its number, and what is left of the list is the same without it.
-pub record IsApart (before w : Core) (given : ℕ → Bool) (lists : Bool) (t : Holdings) (f : SoFar before w given lists t) (q : ℕ) : Type 0 where
+pub record IsApart (before w : Core) (given : ℕ → Bool) (lists : Bool) (t : RefCounts) (f : SoFar before w given lists t) (q : ℕ) : Type 0 where
   pub unentered : times (is_handle q) f.entries ≡ 0
   pub kept : filter (λ (h : HandleNumber). not (f.gone h.0 || h.0 == q)) w.list ≡ filter (λ (h : HandleNumber). not (f.gone h.0)) w.list

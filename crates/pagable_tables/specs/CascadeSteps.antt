@@ -1,11 +1,11 @@
 -- One step of giving handles up: a handle leaves, an entry may come, a node falls or is done.
-use Rattle.pagable_model.specs.declared.{data_key.OptionalDataKey.OptionalDataKey, error.Error.Error, numbers.NodeNumber.NodeNumber}
+use Rattle.pagable_value_spec.specs.declared.{data_key.OptionalDataKey.OptionalDataKey, error.Error.Error, numbers.NodeNumber.NodeNumber}
 use Rattle.pagable_tables.specs.{CascadeInvariant.{IsFalling, entries_of, owns_nothing}, HandleTable.{AreSound, Becomes, IsNext, live}}
 use Rattle.pagable_tables.specs.Nodes.{cell_in, counts_at, falls_in, has_value}
-use Rattle.pagable_tables.specs.{CascadeInvariant.valued, declared.{cascade.Holdings.Holdings, handle_table.Handles.Handles, nodes.Counts.Counts}}
-use Rattle.pagable_world.specs.{Cascade.{left_rows, only_handle}, Kinds.{held, is_handle, owner_value, pins}}
-use Rattle.pagable_world.specs.{Plain.{SameAt, changed, if_there, one, or_else, updated}, World.{Cell, greatest}}
-use Rattle.pagable_world.specs.declared.{handles.HandleRow.HandleRow, rows.Mode.Mode}
+use Rattle.pagable_tables.specs.{CascadeInvariant.valued, declared.{cascade.RefCounts.RefCounts, handle_table.Handles.Handles, nodes.Counts.Counts}}
+use Rattle.pagable_pager_spec.specs.{Cascade.{left_rows, only_handle}, Kinds.{held, is_handle, owner_value, pins}}
+use Rattle.pagable_pager_spec.specs.{Basics.{SameAt, changed, if_there, one, or_else, updated}, World.{Cell, greatest}}
+use Rattle.pagable_pager_spec.specs.declared.{handle_row.HandleRow.HandleRow, mode.Mode.Mode}
 use Rattle.std.specs.Prelude.{Bool, IfSome, List, None, Option, Some, [], false, if◌then◌else◌, is_some, length, nat_lt, not, sum_by, true, vec_capacity, ℕ}
 use Rattle.std.specs.{Prelude.{◌&&◌, ◌*◌, ◌++◌, ◌+◌, ◌-◌, ◌<◌, ◌==◌, ◌||◌, ◌∷◌, ◌≡◌, ◌≢◌, ◌≤◌, ◌⊎◌}, VecDeque.deque_capacity}
 
@@ -19,28 +19,28 @@ is_listing c Mode.Shared = false
 -- The counts after a handle has left, or stayed without its pin, and perhaps an entry came. A node falls from now on where its last handle went, or its last pin and
 -- it has a key.
 abbrev pub is_fallen_by : Counts → Bool → ℕ → ℕ → Bool
-is_fallen_by c pinning pins holds = not c.is_falling && (holds == 0 || (pinning && pins == 0 && nat_lt 0 c.key))
+is_fallen_by c pinning pins holds = not c.is_dying && (holds == 0 || (pinning && pins == 0 && nat_lt 0 c.key))
 
 abbrev pub after : Counts → Bool → Bool → Bool → ℕ → Counts
 after c pinning stays listed top =
     let pins = c.pins - one pinning in
     let holds = (if stays then c.holds else c.holds - 1) + one listed in
     let falls = is_fallen_by c pinning pins holds in
-    record c { pins = pins; holds = holds; is_falling = c.is_falling || falls; next = if falls then top else c.next }
+    record c { pins = pins; holds = holds; is_dying = c.is_dying || falls; next = if falls then top else c.next }
 
 -- why no entry can come: no number is left, or no place
-abbrev pub IsUnlisted : Holdings → Error → Type 0
+abbrev pub IsUnlisted : RefCounts → Error → Type 0
 IsUnlisted t Error.NumbersSpent = greatest ≤ t.last_handle
 IsUnlisted t Error.OutOfMemory = (t.last_handle < greatest) × ((vec_capacity t.handles.places ≤ length (live t.handles.places.items)) ⊎ (deque_capacity t.list ≤ length t.list.items))
 IsUnlisted t e = ⊥
 
 -- places are never fewer
-pub record HasPlaces (old new : Holdings) : Type 0 where
+pub record HasPlaces (old new : RefCounts) : Type 0 where
   pub handles : vec_capacity old.handles.places ≤ vec_capacity new.handles.places
   pub entries : deque_capacity old.list ≤ deque_capacity new.list
 
 -- an entry for the node came to the end of handles and list, or it couldn't
-pub record Comes (old : Holdings) (node : NodeNumber) (listed : Bool) (new : Holdings) : Type 0 where
+pub record Comes (old : RefCounts) (node : NodeNumber) (listed : Bool) (new : RefCounts) : Type 0 where
   pub sound : AreSound new.handles
   pub next : IsNext (new.last_handle + 1) new.handles.places.items
   pub rows : live new.handles.places.items ≡ live old.handles.places.items ++ entries_of listed (old.last_handle + 1) node
@@ -52,7 +52,7 @@ pub record Comes (old : Holdings) (node : NodeNumber) (listed : Bool) (new : Hol
   pub top : new.top ≡ old.top
 
 -- where an entry is wanted it came, or there is a cause, of which the first is kept; where none is wanted nothing changes
-pub record MayList (old : Holdings) (node : NodeNumber) (wanted listed : Bool) (new : Holdings) : Type 0 where
+pub record MayList (old : RefCounts) (node : NodeNumber) (wanted listed : Bool) (new : RefCounts) : Type 0 where
   pub comes : Comes old node listed new
   pub only : listed ≡ true → wanted ≡ true
   pub told : (listed ≡ true) ⊎ (wanted ≡ false) → new.unlisted ≡ old.unlisted
@@ -77,13 +77,13 @@ abbrev pub ValueStays : Option Counts → Option Counts → Type 0
 ValueStays old new = falls_in new ≡ false → (falls_in old ≡ false) × (has_value new ≡ has_value old)
 
 -- The handle of the row x is given up, or it stays without its pin. Then an entry for its node may come.
-pub record GivesUp (old : Holdings) (stack : List ℕ) (x : HandleRow) (stays lists : Bool) (new : Holdings) : Type 0 where
+pub record GivesUp (old : RefCounts) (stack : List ℕ) (x : HandleRow) (stays lists : Bool) (new : RefCounts) : Type 0 where
   pub left : Handles
   pub leaves : Leaves old.handles x stays left
   pub counts : Counts
   pub is : counts_at old.nodes x.node.0 ≡ Some counts
   pub listed : Bool
-  pub between : Holdings
+  pub between : RefCounts
   pub comes : MayList (record old { handles = left }) x.node (lists && is_listing counts x.mode) listed between
   pub same : new ≡ record between { nodes = new.nodes; top = new.top }
   pub cells : CellsStay (counts_at old.nodes) (counts_at new.nodes)
@@ -96,24 +96,24 @@ pub record GivesUp (old : Holdings) (stack : List ℕ) (x : HandleRow) (stays li
 
 -- the counts of a node that falls no more, if it is left
 abbrev pub landed : Counts → Option Counts
-landed c = if c.holds == 0 then None else Some (record c { is_falling = false; next = 0 })
+landed c = if c.holds == 0 then None else Some (record c { is_dying = false; next = 0 })
 
 -- the value of the node has gone
 abbrev pub HasFallen : (ℕ → Option Counts) → List HandleRow → ℕ → Type 0
 HasFallen at rows n = (held n rows ≡ 0) ⊎ ((if_there (λ (c : Counts). nat_lt 0 c.key) false (at n) ≡ true) × (pins n rows ≡ 0))
 
 -- a handle of the row x is given up, which the value of the node n owned, that has gone
-pub record FallsBy (old : Holdings) (x : HandleRow) (n : ℕ) (lists : Bool) (new : Holdings) : Type 0 where
+pub record FallsBy (old : RefCounts) (x : HandleRow) (n : ℕ) (lists : Bool) (new : RefCounts) : Type 0 where
   pub owner : x.owner ≡ owner_value n
   pub fallen : HasFallen (counts_at old.nodes) (live old.handles.places.items) n
-  pub popped : Holdings
+  pub popped : RefCounts
   pub same : popped ≡ record old { nodes = popped.nodes }
   pub counts : (m : ℕ) → counts_at popped.nodes m ≡ counts_at old.nodes m
   pub stack : List ℕ
   pub gives : GivesUp popped stack x false lists new
 
 -- One step: a handle is given up, or the first node that falls is done, and its value goes.
-pub record Steps (old : Holdings) (stack : List ℕ) (lists : Bool) (r : Option NodeNumber) (new : Holdings) : Type 0 where
+pub record Steps (old : RefCounts) (stack : List ℕ) (lists : Bool) (r : Option NodeNumber) (new : RefCounts) : Type 0 where
   pub rest : List ℕ
   pub falling : IsFalling new rest owns_nothing
   pub less : 2 * valued (live new.handles.places.items) + length rest < 2 * valued (live old.handles.places.items) + length stack
@@ -131,7 +131,7 @@ is_node (Some m) n = n == m.0
 
 -- The counts of a node that gets a key: it falls if nothing pins it.
 abbrev pub keyed : Counts → ℕ → ℕ → Counts
-keyed c key top = record c { key = key; is_falling = c.pins == 0; next = if c.pins == 0 then top else c.next }
+keyed c key top = record c { key = key; is_dying = c.pins == 0; next = if c.pins == 0 then top else c.next }
 
 -- the cells, with this key at one
 abbrev pub GetsKey : (ℕ → Option Counts) → (ℕ → Option Counts) → ℕ → ℕ → Type 0

@@ -2,16 +2,16 @@
 use Rattle.std.specs.VecDeque.{deque_capacity}
 use Rattle.std.specs.{Option.option_map, Prelude.{Bool, IfErr, IfOk, IsSome, List, None, Option, Result, Some, [], false, get_or, if◌then◌else◌, is_some, length, not, slice_get, suc, true}}
 use Rattle.std.specs.Prelude.{vec_capacity, zero, ℕ, ◌&&◌, ◌+◌, ◌<◌, ◌==◌, ◌||◌, ◌∷◌, ◌≡◌, ◌≤◌, ◌⊎◌}
-use Rattle.{indexmap.specs.IndexMap.IndexMap, pagable_model.specs.declared.{error.Error.Error, numbers.{ArcRef.ArcRef, HandleNumber.HandleNumber, LoadNumber.LoadNumber, NodeNumber.NodeNumber}}}
-use Rattle.{pagable_model.specs.declared.numbers.WorkerNumber.WorkerNumber, pagable_world.specs.{Calls.{IsNext, next_node, with_handle, with_mode, with_node}, Events.{with_entry_taken, with_worker}}}
-use Rattle.pagable_world.specs.{Kinds.{find_row, is_owner, is_shared, owner_worker}, LoadCalls.is_owned_in, Plain.{Among, Blob, if_there}, Refusals.{AreHandlesFull, Refused, WorkerFault, spent}}
-use Rattle.pagable_world.specs.{Workers.is_load_of, World.{Alike, Core, HasRoom, OpenLoad, Root, greatest, of_cell, of_key}, declared.{handles.{HandleRow.HandleRow, Owner.Owner}, rows.Mode.Mode}}
+use Rattle.{indexmap.specs.IndexMap.IndexMap, pagable_value_spec.specs.declared.{error.Error.Error, numbers.{ArcRef.ArcRef, HandleNumber.HandleNumber, LoadNumber.LoadNumber, NodeNumber.NodeNumber}}}
+use Rattle.{pagable_value_spec.specs.declared.numbers.WorkerNumber.WorkerNumber, pagable_pager_spec.specs.{Calls.{IsNext, next_node, with_handle, with_mode, with_node}, Events.{with_entry_taken, with_worker}}}
+use Rattle.pagable_pager_spec.specs.{Kinds.{find_row, is_owner, is_shared, owner_worker}, LoadCalls.is_owned_in, Basics.{Among, Blob, if_there}, Refusals.{AreHandlesFull, Refused, WorkerFault, spent}}
+use Rattle.pagable_pager_spec.specs.{Workers.is_load_of, World.{Alike, Core, HasRoom, OpenLoad, Root, greatest, of_cell, of_key}, declared.{handle_row.{HandleRow.HandleRow, Owner.Owner}, mode.Mode.Mode}}
 use Rattle.pagable_tables.specs.{CascadeInvariant.{IsFalling, is_valued, owns_nothing}, HandleTable.{alive, live, room}}
 use Rattle.pagable_tables.specs.{Indexes.{known_at, load_at, reach_at, worker_at}, Nodes.{cell_in, counts_at, key_in}, ValuesKept.Sheds}
 use Rattle.pagable_tables.specs.NumberTable.{place_at, row_by}
 use Rattle.pagable_tables.specs.declared.{handle_table.HandleAt.HandleAt, load_table.{LoadRoot.LoadRoot, LoadRow.LoadRow}, place.Place.Place}
-use Rattle.pagable_tables.specs.declared.{number_table.NumberTable.NumberTable, release.Giving.Giving, tables.{Reach.Reach, Tables.Tables}}
-use Rattle.pagable_world.specs.Pager as pager
+use Rattle.pagable_tables.specs.declared.{number_table.NumberTable.NumberTable, release.ReleaseSet.ReleaseSet, tables.{HandleRange.HandleRange, Tables.Tables}}
+use Rattle.pagable_pager_spec.specs.Pager as pager
 
 abbrev pub root_in : LoadRoot → Root
 root_in (LoadRoot.Cell node t h) = of_cell node t h
@@ -23,17 +23,17 @@ load_in row = record { owner = row.owner; key = row.key; root = root_in row.root
 -- with what is stored, whether the storage was closed, and how often it failed
 abbrev pub core_of : Tables → (ℕ → Option Blob) → Bool → ℕ → Core
 core_of t stored closed failures = record {
-  rows = live t.holdings.handles.places.items;
-  cells = λ n. cell_in (counts_at t.holdings.nodes n);
-  list = t.holdings.list.items;
+  rows = live t.ref_counts.handles.places.items;
+  cells = λ n. cell_in (counts_at t.ref_counts.nodes n);
+  list = t.ref_counts.list.items;
   cache = λ kind key. option_map (λ (n : NodeNumber). n.0) (known_at t.cache kind key);
   stored = stored;
   closed = closed;
   failures = failures;
   loads = λ l. option_map load_in (load_at t.loads l);
   workers = λ v. is_some (worker_at t.workers v);
-  last = record { node = t.last_node; handle = t.holdings.last_handle; load = t.last_load; worker = t.last_worker };
-  places = record { handles = vec_capacity t.holdings.handles.places; entries = deque_capacity t.holdings.list };
+  last = record { node = t.last_node; handle = t.ref_counts.last_handle; load = t.last_load; worker = t.last_worker };
+  places = record { handles = vec_capacity t.ref_counts.handles.places; entries = deque_capacity t.ref_counts.list };
 }
 
 -- the same, while nothing is stored
@@ -42,7 +42,7 @@ plain_of t = core_of t (λ key. None) false 0
 
 -- Rows are in their places: handles and nodes fit, and nothing falls. And the plain world that they tell is whole, whatever is stored.
 pub record IsWhole (t : Tables) : Type 0 where
-  pub steady : IsFalling t.holdings [] owns_nothing
+  pub steady : IsFalling t.ref_counts [] owns_nothing
   pub core : pager.IsWhole (plain_of t)
 
 -- rows and entries of the list are in their places
@@ -73,13 +73,13 @@ pub record Makes (w : Core) (node : NodeNumber) (mode : Mode) (owner : Owner) (r
 -- ---- handles that are given up together, and workers that begin
 
 -- whether a handle of this owner at this node is given up
-abbrev pub gives : Core → Giving → Owner → NodeNumber → Bool
-gives w (Giving.Load l) owner node = is_owner (Owner.Load l) owner
-gives w (Giving.AtNode v n) owner node = is_owner (Owner.Worker v) owner && node.0 == n.0
-gives w (Giving.Worker v) owner node = is_owner (Owner.Worker v) owner || is_load_of w v.0 owner
-gives w Giving.Listed owner node = is_owner Owner.List owner
+abbrev pub gives : Core → ReleaseSet → Owner → NodeNumber → Bool
+gives w (ReleaseSet.Load l) owner node = is_owner (Owner.Load l) owner
+gives w (ReleaseSet.AtNode v n) owner node = is_owner (Owner.Worker v) owner && node.0 == n.0
+gives w (ReleaseSet.Worker v) owner node = is_owner (Owner.Worker v) owner || is_load_of w v.0 owner
+gives w ReleaseSet.Listed owner node = is_owner Owner.List owner
 
-abbrev pub gives_row : Core → Giving → HandleRow → Bool
+abbrev pub gives_row : Core → ReleaseSet → HandleRow → Bool
 gives_row w giving row = gives w giving row.owner row.node
 
 -- whether the row of this number, if it is among these, passes the test
@@ -87,7 +87,7 @@ abbrev pub passes_in : (HandleRow → Bool) → List HandleRow → ℕ → Bool
 passes_in test rows q = if_there test false (find_row q rows)
 
 -- whether a handle of this number may be one of those
-abbrev pub InReach : Reach → ℕ → Type 0
+abbrev pub InReach : HandleRange → ℕ → Type 0
 InReach reach q = (0 < q) × ((reach.since < q) ⊎ (q ≡ reach.beside))
 
 -- the open loads of a world are these
@@ -95,7 +95,7 @@ abbrev pub LoadsAre : {S : Type 0} → IndexMap ℕ LoadRow S → Core → Type 
 LoadsAre loads w = (l : ℕ) → w.loads l ≡ option_map load_in (load_at loads l)
 
 -- the last live row that is given up, of a number that is asked for and not above this one, with its place
-pub record IsLast {S : Type 0} (places : List Place) (loads : IndexMap ℕ LoadRow S) (giving : Giving) (IsAsked : ℕ → Type 0) (left : ℕ) (at : HandleAt) : Type 0 where
+pub record IsLast {S : Type 0} (places : List Place) (loads : IndexMap ℕ LoadRow S) (giving : ReleaseSet) (IsAsked : ℕ → Type 0) (left : ℕ) (at : HandleAt) : Type 0 where
   pub place : slice_get places at.place ≡ Some (alive at.row)
   pub found : find_row at.row.number.0 (live places) ≡ Some at.row
   pub between : IsAsked at.row.number.0 × (at.row.number.0 ≤ left)
@@ -109,7 +109,7 @@ left_load v None = None
 left_load v (Some row) = if is_owner (owner_worker v) row.owner then None else Some row
 
 -- what was in a worker's reach still is, and so is what comes
-pub record IsNoLess {S : Type 0} (workers workers' : IndexMap ℕ Reach S) : Type 0 where
+pub record IsNoLess {S : Type 0} (workers workers' : IndexMap ℕ HandleRange S) : Type 0 where
   pub wider : (v q : ℕ) → InReach (reach_at workers v) q → InReach (reach_at workers' v) q
   pub before : (v : ℕ) → (reach_at workers' v).since ≤ (reach_at workers v).since
 
@@ -127,14 +127,14 @@ pub record TakesWorker (w : Core) (place : ℕ) (r : Result WorkerNumber Error) 
 
 pub record AreLater (t : Tables) : Type 0 where
   -- all handles of an open load have numbers above the last one that was given before it began
-  pub given : (l : ℕ) (load : LoadRow) → load_at t.loads l ≡ Some load → load.since ≤ t.holdings.last_handle
+  pub given : (l : ℕ) (load : LoadRow) → load_at t.loads l ≡ Some load → load.since ≤ t.ref_counts.last_handle
   pub since : (l : ℕ) (load : LoadRow) (q : ℕ) → load_at t.loads l ≡ Some load → is_owned_in (plain_of t) (Owner.Load (record { 0 = l })) q ≡ true → load.since < q
   -- all handles of a worker are in its reach, and its loads began after it
-  pub begun : (v : ℕ) → (reach_at t.workers v).since ≤ t.holdings.last_handle
+  pub begun : (v : ℕ) → (reach_at t.workers v).since ≤ t.ref_counts.last_handle
   pub reach : (v q : ℕ) → is_owned_in (plain_of t) (owner_worker v) q ≡ true → InReach (reach_at t.workers v) q
   pub loads : (v l : ℕ) (load : LoadRow) → load_at t.loads l ≡ Some load → is_owner (owner_worker v) load.owner ≡ true → (reach_at t.workers v).since ≤ load.since
   -- of the handles up to a number each open load's row tells the last one that it owns
-  pub noted : t.noted ≤ t.holdings.last_handle
+  pub noted : t.noted ≤ t.ref_counts.last_handle
   pub until : (l : ℕ) (load : LoadRow) (q : ℕ) → load_at t.loads l ≡ Some load → is_owned_in (plain_of t) (Owner.Load (record { 0 = l })) q ≡ true → q ≤ t.noted → q ≤ load.last
 
 -- all handles that a load owns have numbers up to this one; and above one
@@ -179,7 +179,7 @@ pub record DoesShed {X : Type 0} (lists : Bool) (old : Tables) (values : NumberT
   pub does : (stored : ℕ → Option Blob) (closed : Bool) (failures : ℕ) → lists ≡ not closed → step (core_of old stored closed failures) (core_of new stored closed failures)
   pub whole : IsWhole new
   pub later : AreLater old → AreLater new
-  pub sheds : Sheds (counts_at old.holdings.nodes) (row_by values) (counts_at new.holdings.nodes) (row_by values')
+  pub sheds : Sheds (counts_at old.ref_counts.nodes) (row_by values) (counts_at new.ref_counts.nodes) (row_by values')
 
 -- ---- handles that come to another owner, one after the other where they are named, or are pinned
 
@@ -202,9 +202,9 @@ seen hs (suc place) = named_at hs place ∷ seen hs place
 -- numbers are left for a node and a handle, and there is room for both
 pub record IsReady (t : Tables) : Type 0 where
   pub node_left : t.last_node < greatest
-  pub handle_left : t.holdings.last_handle < greatest
-  pub handle_room : 0 < room t.holdings.handles
-  pub node_room : IsSome (place_at t.holdings.nodes (t.last_node + 1))
+  pub handle_left : t.ref_counts.last_handle < greatest
+  pub handle_room : 0 < room t.ref_counts.handles
+  pub node_room : IsSome (place_at t.ref_counts.nodes (t.last_node + 1))
 
 -- the second is the first, with more room
 pub record OnlyRoom (w w' : Core) : Type 0 where

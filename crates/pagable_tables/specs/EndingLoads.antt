@@ -1,11 +1,11 @@
 -- What a load asks of the tables, and loads of cells that can end.
 use Rattle.std.specs.Prelude.{Bool, IfErr, IfOk, List, Option, Result, Some, [], if◌then◌else◌, is_some, not, true, ℕ, ◌<◌, ◌==◌, ◌≡◌, ◌≤◌}
-use Rattle.pagable_model.specs.declared.{error.Error.Error, numbers.{ArcRef.ArcRef, HandleNumber.HandleNumber, Kind.Kind, LoadNumber.LoadNumber, NodeNumber.NodeNumber}}
+use Rattle.pagable_value_spec.specs.declared.{error.Error.Error, numbers.{ArcRef.ArcRef, HandleNumber.HandleNumber, Kind.Kind, LoadNumber.LoadNumber, NodeNumber.NodeNumber}}
 use Rattle.pagable_tables.specs.{HandleTable.room, Indexes.load_at, Nodes.has_value, ValuesKept.AreLeft}
 use Rattle.pagable_tables.specs.declared.{load_end.{Ending.Ending, Unended.Unended}, nodes.Counts.Counts, tables.Tables.Tables}
-use Rattle.pagable_world.specs.{Calls.Recalls, Kinds.{any_mode, is_loose}, LoadCalls.{MayEnd, ask_fault, end_fault, is_known}, Plain.{is_loose_kind, type_of}, Refusals.{AreHandlesFull, Owns}}
-use Rattle.pagable_world.specs.{Refusals.{OwnsLoad, Refused, earlier, handle_fault, load_fault, references_fault, refused_if}, World.{Core, OpenLoad, greatest, is_here}, declared.calls.Want.Want}
-use Rattle.pagable_world.specs.declared.handles.Owner.{Owner}
+use Rattle.pagable_pager_spec.specs.{Calls.Recalls, Kinds.{any_mode, is_loose}, LoadCalls.{MayEnd, ask_fault, end_fault, is_known}, Basics.{is_loose_kind, type_of}, Refusals.{AreHandlesFull, Owns}}
+use Rattle.pagable_pager_spec.specs.{Refusals.{OwnsLoad, Refused, earlier, handle_fault, load_fault, references_fault, refused_if}, World.{Core, OpenLoad, greatest, is_here}, declared.calls.Want.Want}
+use Rattle.pagable_pager_spec.specs.declared.handle_row.Owner.{Owner}
 
 -- The load of a reference gets a handle of the node that the cache gives; or None where it gives none, and the storage has to be asked.
 pub record AsksKnown (w : Core) (me : Owner) (l : LoadNumber) (kind : Kind) (key : ℕ) (r : Result (Option HandleNumber) Error) (w' : Core) : Type 0 where
@@ -30,7 +30,7 @@ pub record IsReady (w : Core) (me : Owner) (l : LoadNumber) (node_type : ℕ) (r
 -- The tables have the load, and room for the handle that is made.
 pub record HasPlace (t : Tables) (l : LoadNumber) (e : Ending) : Type 0 where
   pub load : load_at t.loads l.0 ≡ Some e.load
-  pub place : 1 ≤ room t.holdings.handles
+  pub place : 1 ≤ room t.ref_counts.handles
 
 -- The load may end, but the handle by which it was begun is gone or another's.
 pub record IsVain (w : Core) (me : Owner) (l : LoadNumber) (node_type : ℕ) (references : List ArcRef) (e : Error) : Type 0 where

@@ -1,6 +1,6 @@
 -- A place of the vector of handles as contracts see it, and an owner as a kind and a number.
 use Rattle.pagable_tables.specs.declared.place.OwnerKind.{OwnerKind}
-use Rattle.pagable_world.specs.declared.handles.{HandleRow.HandleRow, Owner.Owner}
+use Rattle.pagable_pager_spec.specs.declared.handle_row.{HandleRow.HandleRow, Owner.Owner}
 use Rattle.std.specs.Prelude.{Bool, ℕ, refl, ◌≡◌}
 
 pub record HandlePlace : Type 0 where

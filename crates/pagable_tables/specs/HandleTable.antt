@@ -1,6 +1,6 @@
 -- Live handles in the order of their numbers, and what they become as a call changes them.
 use Rattle.pagable_tables.specs.declared.{handle_table.Handles.Handles, place.Place.Place}
-use Rattle.pagable_world.specs.declared.handles.HandleRow.{HandleRow}
+use Rattle.pagable_pager_spec.specs.declared.handle_row.HandleRow.{HandleRow}
 use Rattle.std.specs.{List.AllPairs, Prelude.{All, Bool, List, [], if◌then◌else◌, length, true, vec_capacity, vec_len, ℕ, ◌+◌, ◌-◌, ◌<◌, ◌∷◌, ◌≡◌, ◌≤◌}}
 
 -- the rows that are live, in their order

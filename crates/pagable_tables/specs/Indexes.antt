@@ -1,7 +1,7 @@
 -- Loads and workers by their numbers, and what the cache knows under a kind and a key.
 use Rattle.indexmap.specs.IndexMap.{IndexMap, get}
-use Rattle.pagable_model.specs.declared.numbers.NodeNumber.{NodeNumber}
-use Rattle.pagable_tables.specs.declared.{load_table.LoadRow.LoadRow, tables.Reach.Reach}
+use Rattle.pagable_value_spec.specs.declared.numbers.NodeNumber.{NodeNumber}
+use Rattle.pagable_tables.specs.declared.{load_table.LoadRow.LoadRow, tables.HandleRange.HandleRange}
 use Rattle.std.specs.{Option.option_map_or, Prelude.{Bool, Option, nat_eq, ℕ, ◌&&◌}}
 
 -- ---- nodes, loads and what the cache knows, as functions of numbers and keys
@@ -17,9 +17,9 @@ module _ {S : Type 0} where
   abbrev pub known_at : IndexMap (ℕ × ℕ) NodeNumber S → ℕ → ℕ → Option NodeNumber
   known_at cache kind key = get is_same cache (kind, key)
 
-  abbrev pub worker_at : IndexMap ℕ Reach S → ℕ → Option Reach
+  abbrev pub worker_at : IndexMap ℕ HandleRange S → ℕ → Option HandleRange
   worker_at workers v = get nat_eq workers v
 
   -- any handle may be the worker's where nothing else is known
-  abbrev pub reach_at : IndexMap ℕ Reach S → ℕ → Reach
+  abbrev pub reach_at : IndexMap ℕ HandleRange S → ℕ → HandleRange
   reach_at workers v = option_map_or (λ reach. reach) (worker_at workers v) (record { since = 0; beside = 0 })

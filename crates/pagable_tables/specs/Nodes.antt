@@ -1,7 +1,7 @@
 -- Nodes by their numbers: what is counted of each, what its value refers to, and whether it has one.
-use Rattle.pagable_model.specs.declared.{data_key.OptionalDataKey.OptionalDataKey, numbers.{ArcRef.ArcRef, NodeNumber.NodeNumber}}
+use Rattle.pagable_value_spec.specs.declared.{data_key.OptionalDataKey.OptionalDataKey, numbers.{ArcRef.ArcRef, NodeNumber.NodeNumber}}
 use Rattle.pagable_tables.specs.{NumberTable.row_by, declared.{nodes.{Counts.Counts, NodeRow.NodeRow}, number_table.NumberTable.NumberTable}}
-use Rattle.pagable_world.specs.World.{Cell}
+use Rattle.pagable_pager_spec.specs.World.{Cell}
 use Rattle.std.specs.Option.{option_map, option_map_or}
 use Rattle.std.specs.Prelude.{Bool, List, None, Option, Some, [], false, if◌then◌else◌, is_some, nat_lt, not, suc, zero, ℕ, ◌||◌}
 
@@ -36,7 +36,7 @@ holds_in (Some c) = c.holds
 
 abbrev pub falls_in : Option Counts → Bool
 falls_in None = false
-falls_in (Some c) = c.is_falling
+falls_in (Some c) = c.is_dying
 
 abbrev pub next_in : Option Counts → ℕ
 next_in None = 0

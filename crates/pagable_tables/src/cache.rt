@@ -1,14 +1,14 @@
 //! Which node is known under a kind and a key.
 
 ghost use Rattle.indexmap.specs.IndexMap.{get, spare};
-ghost use Rattle.pagable_model.specs.declared.numbers.NodeNumber.{NodeNumber};
+ghost use Rattle.pagable_value_spec.specs.declared.numbers.NodeNumber.{NodeNumber};
 ghost use Rattle.pagable_tables.specs.CascadeInvariant.{owns};
 ghost use Rattle.pagable_tables.specs.{Core.{AreLater, Does, IsWhole, MayHold, core_of, plain_of}, Indexes.known_at};
 ghost use Rattle.pagable_tables.specs.{Nodes.{counts_at, has_value, living}, NumberTable.row_by, ValuesKept.Sheds};
-ghost use Rattle.pagable_world.specs.Calls.{OfferCall, RecallCall, offer_fault};
-ghost use Rattle.pagable_world.specs.{Kinds.{fits_mode, is_pinning, mode_of}, Plain.{Blob, is_pinned_kind, type_of}};
-ghost use Rattle.pagable_world.specs.{Refusals.Owns, World.{Alike, type_at, usable}};
-ghost use Rattle.pagable_world.specs.declared.handles.{HandleRow.HandleRow, Owner.Owner};
+ghost use Rattle.pagable_pager_spec.specs.Calls.{OfferCall, RecallCall, offer_fault};
+ghost use Rattle.pagable_pager_spec.specs.{Kinds.{fits_mode, is_pinning, mode_of}, Basics.{Blob, is_pinned_kind, type_of}};
+ghost use Rattle.pagable_pager_spec.specs.{Refusals.Owns, World.{Alike, type_at, usable}};
+ghost use Rattle.pagable_pager_spec.specs.declared.handle_row.{HandleRow.HandleRow, Owner.Owner};
 ghost use Rattle.std.specs.Option.{option_map};
 ghost use Rattle.std.specs.Prelude.{Bool, IfErr, IfNone, IfOk, IfSome, IsOk, None, Ok, OnErr, OnOk, Option, Some};
 ghost use Rattle.std.specs.Prelude.{false, if◌then◌else◌, is_some, length, not, true, ℕ, ◌&&◌, ◌*◌, ◌+◌, ◌<◌, ◌||◌};
@@ -19,10 +19,10 @@ use crate::create::make;
 use crate::kinds::{fits_mode, is_pinned_kind, mode_of};
 use crate::nodes;
 use crate::nodes::{Arcs, Nodes, is_here, is_of};
-use crate::release::give_back;
+use crate::release::try_release_at;
 use crate::tables::{Cache, Tables};
-use pagable_model::{DataKey, Error, HandleNumber, Kind, NodeNumber};
-use pagable_world::handles::{HandleRow, Owner};
+use pagable_pager_spec::handle_row::{HandleRow, Owner};
+use pagable_value_spec::{DataKey, Error, HandleNumber, Kind, NodeNumber};
 use std::alloc::AllocError;
 
 /// A node is known under a kind and a key from now on. With room to spare it succeeds.
@@ -69,14 +69,14 @@ fn keep_living(cache: &mut Cache, nodes: &Nodes)
 pub fn forget_gone(t: &mut Tables)
     requires { IsWhole t.old }
     ensures does { Does t.old Alike t.new }
-    ensures gone { t.old.cache_limit < length t.old.cache.entries → (kind key : ℕ) → IfSome (known_at t.new.cache kind key) (λ n. is_some (counts_at t.old.holdings.nodes n.0) ≡ true) }
+    ensures gone { t.old.cache_limit < length t.old.cache.entries → (kind key : ℕ) → IfSome (known_at t.new.cache kind key) (λ n. is_some (counts_at t.old.ref_counts.nodes n.0) ≡ true) }
     ensures few { t.old.cache_limit < length t.old.cache.entries → t.new.cache_limit ≤ 2 * length t.new.cache.entries + 64 }
     ensures same { t.new ≡ record t.old { cache = t.new.cache; cache_limit = t.new.cache_limit } }
 {
     if t.cache.len() <= t.cache_limit {
         return;
     }
-    keep_living(&mut t.cache, &t.holdings.nodes);
+    keep_living(&mut t.cache, &t.ref_counts.nodes);
     t.cache_limit = t.cache.len().saturating_mul(2).saturating_add(FEW_ENTRIES);
 }
 
@@ -86,7 +86,7 @@ pub fn usable_of(t: &Tables, kind: Kind, key: DataKey) -> Option<NodeNumber>
     ensures { (stored : ℕ → Option Blob) (closed : Bool) (failures : ℕ) → option_map (λ (n : NodeNumber). n.0) result ≡ usable (core_of t.now stored closed failures) kind.0 key }
 {
     let node = t.cache.get(&(kind.0, key)).copied()?;
-    let counts = nodes::counts_of(&t.holdings.nodes, node.0);
+    let counts = nodes::counts_of(&t.ref_counts.nodes, node.0);
     let is_gone = counts.is_none() || is_pinned_kind(kind) && !is_here(counts);
     (!is_gone).then_some(node)
 }
@@ -120,7 +120,7 @@ pub fn offered(t: &Tables, me: Owner, kind: Kind, handle: HandleNumber) -> Resul
     if !fits_mode(kind, at.row.mode) {
         return Err(Error::WrongMode);
     }
-    if !is_of(nodes::counts_of(&t.holdings.nodes, at.row.node.0), kind) {
+    if !is_of(nodes::counts_of(&t.ref_counts.nodes, at.row.node.0), kind) {
         return Err(Error::WrongKind);
     }
     Ok(at.row)
@@ -143,8 +143,8 @@ pub fn offer<N: Drop>(
     ensures offered { (stored : ℕ → Option Blob) (closed : Bool) (failures : ℕ) → lists ≡ not closed
         → OfferCall (core_of t.old stored closed failures) me kind key handle result (core_of t.new stored closed failures) }
     ensures whole { IsWhole t.new }
-    ensures sheds { ((n : ℕ) → usable (plain_of t.old) kind.0 key ≡ Some n → is_pinning (mode_of kind.0) ≡ true → has_value (counts_at t.old.holdings.nodes n) ≡ true)
-        → Sheds (counts_at t.old.holdings.nodes) (row_by values.old) (counts_at t.new.holdings.nodes) (row_by values.new) }
+    ensures sheds { ((n : ℕ) → usable (plain_of t.old) kind.0 key ≡ Some n → is_pinning (mode_of kind.0) ≡ true → has_value (counts_at t.old.ref_counts.nodes n) ≡ true)
+        → Sheds (counts_at t.old.ref_counts.nodes) (row_by values.old) (counts_at t.new.ref_counts.nodes) (row_by values.new) }
     ensures later { AreLater t.old → AreLater t.new }
 {
     let row = offered(t, me, kind, handle)?;
@@ -160,6 +160,6 @@ pub fn offer<N: Drop>(
     let Ok(at) = own(t, me, handle) else {
         unreachable!();
     };
-    let _ = give_back(&mut t.holdings, values, at, true);
+    let _ = try_release_at(&mut t.ref_counts, values, at, true);
     Ok(Some(known))
 }

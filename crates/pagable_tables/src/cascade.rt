@@ -1,16 +1,16 @@
 //! Releases a handle with all that goes with it: values that nobody pins, and what they refer to. Cells whose last pin
 //! goes are pushed to the pending list.
 
-ghost use Rattle.pagable_model.specs.declared.numbers.NodeNumber.{NodeNumber};
+ghost use Rattle.pagable_value_spec.specs.declared.numbers.NodeNumber.{NodeNumber};
 ghost use Rattle.pagable_tables.specs.CascadeInvariant.{IsFalling, is_valued, is_worker, owns, owns_nothing};
 ghost use Rattle.pagable_tables.specs.CascadeProgress.{IsApart, SoFar, told_by, with_tables};
 ghost use Rattle.pagable_tables.specs.CascadeSteps.{Comes, GivesUp, IsUnlisted, Leaves, MayList, Steps, after};
 ghost use Rattle.pagable_tables.specs.CascadeSteps.{is_listing, is_node, landed};
 ghost use Rattle.pagable_tables.specs.HandleTable.{AreSound, IsNext, alive, live};
 ghost use Rattle.pagable_tables.specs.{Nodes.{counts_at, refs_at, work_at}, NumberTable.row_by, ValuesKept.Sheds};
-ghost use Rattle.pagable_tables.specs.declared.cascade.Holdings.{Holdings};
-ghost use Rattle.pagable_world.specs.{Cascade.Falls, Kinds.is_owner, Plain.one, World.Core};
-ghost use Rattle.pagable_world.specs.declared.{handles.{HandleRow.HandleRow, Owner.Owner}, rows.Mode.Mode};
+ghost use Rattle.pagable_tables.specs.declared.cascade.RefCounts.{RefCounts};
+ghost use Rattle.pagable_pager_spec.specs.{Cascade.Falls, Kinds.is_owner, Basics.one, World.Core};
+ghost use Rattle.pagable_pager_spec.specs.declared.{handle_row.{HandleRow.HandleRow, Owner.Owner}, mode.Mode.Mode};
 ghost use Rattle.std.specs.Prelude.{Bool, IfErr, IsSome, List, None, Ok, Option, Some, [], false, if◌then◌else◌};
 ghost use Rattle.std.specs.Prelude.{length, not, slice_get, true, ℕ, ◌&&◌, ◌*◌, ◌+◌, ◌<◌, ◌==◌, ◌^◌, ◌||◌, ◌≡◌, ◌≢◌};
 ghost use Rattle.std.specs.{Prelude.{◌≤◌, ◌⊎◌}, Result.is_ok};
@@ -19,14 +19,14 @@ use crate::handle_table::{HandleAt, Handles};
 use crate::kinds::{is_worker, pins};
 use crate::nodes::{Arcs, Counts, Nodes};
 use crate::{handle_table, nodes};
-use pagable_model::{Error, HandleNumber, NodeNumber};
-use pagable_world::Mode;
-use pagable_world::handles::{HandleRow, Owner};
+use pagable_pager_spec::Mode;
+use pagable_pager_spec::handle_row::{HandleRow, Owner};
+use pagable_value_spec::{Error, HandleNumber, NodeNumber};
 use std::collections::VecDeque;
 
 /// Handles, nodes and list, with no fact that is true of them all.
 #[derive(Drop)]
-pub struct Holdings {
+pub struct RefCounts {
     pub handles: Handles,
     pub nodes: Nodes,
     /// The cells that wait for page-out, by the handles that the list owns.
@@ -39,7 +39,7 @@ pub struct Holdings {
 }
 
 /// A new entry of the list for this node's cell. NumbersSpent or OutOfMemory where it can't come.
-fn enlist(t: &mut Holdings, node: NodeNumber) -> Result<(), Error>
+fn push_pending(t: &mut RefCounts, node: NodeNumber) -> Result<(), Error>
     requires sound { AreSound t.old.handles }
     requires next { IsNext (t.old.last_handle + 1) t.old.handles.places.items }
     ensures comes { Comes t.old node (is_ok result) t.new }
@@ -64,7 +64,7 @@ fn enlist(t: &mut Holdings, node: NodeNumber) -> Result<(), Error>
 }
 
 /// The same where one is wanted; and whether it came. A cause is kept where it is the first.
-fn enlist_if(t: &mut Holdings, node: NodeNumber, wanted: bool) -> bool
+fn push_pending_if(t: &mut RefCounts, node: NodeNumber, wanted: bool) -> bool
     requires sound { AreSound t.old.handles }
     requires next { IsNext (t.old.last_handle + 1) t.old.handles.places.items }
     ensures { MayList t.old node wanted result t.new }
@@ -72,7 +72,7 @@ fn enlist_if(t: &mut Holdings, node: NodeNumber, wanted: bool) -> bool
     if !wanted {
         return false;
     }
-    let Err(e) = enlist(t, node) else {
+    let Err(e) = push_pending(t, node) else {
         return true;
     };
     t.unlisted = t.unlisted.take().or(Some(e));
@@ -88,7 +88,7 @@ fn wants_entry(counts: Counts, mode: Mode, lists: bool) -> bool
 
 /// The handle at this place leaves, or it stays without its pin.
 #[tactic(auto, using(crate::proofs::CascadeStep::counting))]
-fn leave(handles: &mut Handles, at: HandleAt, stays: bool)
+fn remove_or_unpin(handles: &mut Handles, at: HandleAt, stays: bool)
     requires sound { AreSound handles.old }
     requires place { slice_get handles.old.places.items at.place ≡ Some (alive at.row) }
     ensures { Leaves handles.old at.row stays handles.new }
@@ -112,8 +112,8 @@ fn counts_after(counts: Counts, pinning: bool, stays: bool, listed: bool, top: u
     let mut left = counts;
     left.pins = counts.pins - pinning as u64;
     left.holds = counts.holds - !stays as u64 + listed as u64;
-    if !left.is_falling && (left.holds == 0 || (pinning && left.pins == 0 && left.key != 0)) {
-        left.is_falling = true;
+    if !left.is_dying && (left.holds == 0 || (pinning && left.pins == 0 && left.key != 0)) {
+        left.is_dying = true;
         left.next = top;
     }
     left
@@ -143,7 +143,7 @@ pub fn top_after(before: bool, falls: bool, node: u64, top: u64) -> u64
 
 /// Gives up the handle at this place, or only its pin where it stays. Where cells are listed, one without a key is, if that was its last pin.
 #[tactic(auto, using(crate::proofs::CascadeStep::counting))]
-pub fn give_up(t: &mut Holdings, at: HandleAt, stays: bool, lists: bool)
+pub fn give_up(t: &mut RefCounts, at: HandleAt, stays: bool, lists: bool)
     requires falling { (stack : List ℕ) × IsFalling t.old stack (owns at.row) }
     requires place { slice_get t.old.handles.places.items at.place ≡ Some (alive at.row) }
     requires plain { stays ≡ true → is_valued at.row.owner ≡ false }
@@ -152,18 +152,18 @@ pub fn give_up(t: &mut Holdings, at: HandleAt, stays: bool, lists: bool)
     let node = at.row.node.0;
     let counts = nodes::counts_of(&t.nodes, node).unwrap();
     let _taken = t.handles.places.len();
-    leave(&mut t.handles, at, stays);
+    remove_or_unpin(&mut t.handles, at, stays);
     let wanted = wants_entry(counts, at.row.mode, lists);
-    let listed = enlist_if(t, at.row.node, wanted);
+    let listed = push_pending_if(t, at.row.node, wanted);
     let left = counts_after(counts, pins(at.row.mode), stays, listed, t.top);
     nodes::set_counts(&mut t.nodes, node, left);
     leave_work(&mut t.nodes, at.row, stays);
-    t.top = top_after(counts.is_falling, left.is_falling, node, t.top);
+    t.top = top_after(counts.is_dying, left.is_dying, node, t.top);
 }
 
 /// A node that fell has nothing any more. It is gone if it has no handle.
 #[tactic(auto, using(crate::proofs::CascadeStep::landing))]
-fn land(nodes: &mut Nodes, node: u64, counts: Counts)
+fn finish_node(nodes: &mut Nodes, node: u64, counts: Counts)
     requires is { counts_at nodes.old node ≡ Some counts }
     requires bare { refs_at nodes.old node ≡ [] }
     ensures here { counts_at nodes.new node ≡ landed counts }
@@ -176,14 +176,14 @@ fn land(nodes: &mut Nodes, node: u64, counts: Counts)
         nodes.remove(node);
     } else {
         let mut left = counts;
-        left.is_falling = false;
+        left.is_dying = false;
         left.next = 0;
         nodes::set_counts(nodes, node, left);
     }
 }
 
 /// One step of what follows when handles are given up: the first node that falls gives up a handle, or it is done, its value has gone, and it is answered.
-pub fn step(t: &mut Holdings, lists: bool) -> Option<NodeNumber>
+pub fn step(t: &mut RefCounts, lists: bool) -> Option<NodeNumber>
     requires falling { (stack : List ℕ) × IsFalling t.old stack owns_nothing }
     requires some { t.old.top ≢ 0 }
     ensures { (stack : List ℕ) → IsFalling t.old stack owns_nothing → Steps t.old stack lists result t.new }
@@ -200,14 +200,14 @@ pub fn step(t: &mut Holdings, lists: bool) -> Option<NodeNumber>
         None => {
             let counts = nodes::counts_of(&t.nodes, node).unwrap();
             t.top = counts.next;
-            land(&mut t.nodes, node, counts);
+            finish_node(&mut t.nodes, node, counts);
             Some(NodeNumber(node))
         }
     }
 }
 
 /// The value of a node that fell goes.
-fn let_go<N: Drop>(values: &mut Arcs<N>, done: Option<NodeNumber>)
+fn drop_value<N: Drop>(values: &mut Arcs<N>, done: Option<NodeNumber>)
     ensures { (n : ℕ) → row_by values.new n ≡ (if is_node done n then None else row_by values.old n) }
 {
     if let Some(node) = done {
@@ -217,7 +217,7 @@ fn let_go<N: Drop>(values: &mut Arcs<N>, done: Option<NodeNumber>)
 
 /// Gives up all that fallen values referred to, and so on, to the end, and lets the values go. It takes no memory but for entries of the list.
 #[tactic(auto, using(crate::proofs::CascadeEnd::falls))]
-pub fn cascade<N: Drop>(t: &mut Holdings, values: &mut Arcs<N>, lists: bool)
+pub fn cascade<N: Drop>(t: &mut RefCounts, values: &mut Arcs<N>, lists: bool)
     requires falling { (stack : List ℕ) × IsFalling t.old stack owns_nothing × (length stack ≤ 1) }
     ensures whole { IsFalling t.new [] owns_nothing }
     ensures fewer { length (live t.new.handles.places.items) ≤ length (live t.old.handles.places.items) }
@@ -231,12 +231,12 @@ pub fn cascade<N: Drop>(t: &mut Holdings, values: &mut Arcs<N>, lists: bool)
     'fall: while t.top != 0 {
         left -= 1;
         let done = step(t, lists);
-        let_go(values, done);
+        drop_value(values, done);
     }
 }
 
 /// The handle at this place is given up, with all that goes with it.
-pub fn shed<N: Drop>(t: &mut Holdings, values: &mut Arcs<N>, at: HandleAt, lists: bool)
+pub fn release_at<N: Drop>(t: &mut RefCounts, values: &mut Arcs<N>, at: HandleAt, lists: bool)
     requires steady { IsFalling t.old [] owns_nothing }
     requires place { slice_get t.old.handles.places.items at.place ≡ Some (alive at.row) }
     requires plain { is_valued at.row.owner ≡ false }
@@ -252,7 +252,7 @@ pub fn shed<N: Drop>(t: &mut Holdings, values: &mut Arcs<N>, at: HandleAt, lists
 }
 
 /// The same, and then what came of the listing: NumbersSpent or OutOfMemory where a cell that had to be listed isn't.
-pub fn fall<N: Drop>(t: &mut Holdings, values: &mut Arcs<N>, lists: bool) -> Result<(), Error>
+pub fn fall<N: Drop>(t: &mut RefCounts, values: &mut Arcs<N>, lists: bool) -> Result<(), Error>
     requires falling { (stack : List ℕ) × IsFalling t.old stack owns_nothing × (length stack ≤ 1) }
     ensures steady { IsFalling t.new [] owns_nothing }
     ensures falls { (before w : Core) (given : ℕ → Bool) → SoFar before w given lists t.old → Falls before w given result (with_tables w t.new) }

@@ -1,19 +1,19 @@
 //! Why a call is refused for its handles, references or load. Nothing changes by that.
 
-ghost use Rattle.pagable_model.specs.declared.numbers.LoadNumber.{LoadNumber};
+ghost use Rattle.pagable_value_spec.specs.declared.numbers.LoadNumber.{LoadNumber};
 ghost use Rattle.pagable_tables.specs.Core.{IsWhole, core_of, load_in, plain_of, seen};
 ghost use Rattle.pagable_tables.specs.{HandleTable.{AreSound, alive, live}, Indexes.load_at};
 ghost use Rattle.pagable_tables.specs.declared.load_table.LoadRow.{LoadRow};
-ghost use Rattle.pagable_world.specs.{Calls.is_named_by, Kinds.{find_row, fits_mode, is_owner}};
-ghost use Rattle.pagable_world.specs.{LoadCalls.{cell_fault, hand_over_fault}, Plain.{Blob, if_there, is_in}};
-ghost use Rattle.pagable_world.specs.Refusals.{OwnsLoad, earlier, handle_fault, load_fault, named_fault};
-ghost use Rattle.pagable_world.specs.Refusals.{reference_fault, references_fault, refused_if, row_fault};
-ghost use Rattle.pagable_world.specs.{Workers.claim_fault, World.{Cell, Core, OpenLoad}};
-ghost use Rattle.pagable_world.specs.declared.{handles.{HandleRow.HandleRow, Owner.Owner}, rows.Mode.Mode};
+ghost use Rattle.pagable_pager_spec.specs.{Calls.is_named_by, Kinds.{find_row, fits_mode, is_owner}};
+ghost use Rattle.pagable_pager_spec.specs.{LoadCalls.{cell_fault, hand_over_fault}, Basics.{Blob, if_there, is_in}};
+ghost use Rattle.pagable_pager_spec.specs.Refusals.{OwnsLoad, earlier, handle_fault, load_fault, named_fault};
+ghost use Rattle.pagable_pager_spec.specs.Refusals.{reference_fault, references_fault, refused_if, row_fault};
+ghost use Rattle.pagable_pager_spec.specs.{Workers.claim_fault, World.{Cell, Core, OpenLoad}};
+ghost use Rattle.pagable_pager_spec.specs.declared.{handle_row.{HandleRow.HandleRow, Owner.Owner}, mode.Mode.Mode};
 ghost use Rattle.std.specs.Option.{option_map};
 ghost use Rattle.std.specs.Prelude.{Bool, IfErr, IfOk, List, None, Ok, Option, Some, [], false, if◌then◌else◌};
 ghost use Rattle.std.specs.Prelude.{length, not, slice_get, true, ℕ, ◌<◌, ◌==◌, ◌||◌, ◌≡◌, ◌≤◌};
-ghost use Rattle.pagable_model.specs.declared.error.Error.TheVariants as errors;
+ghost use Rattle.pagable_value_spec.specs.declared.error.Error.TheVariants as errors;
 
 use crate::handle_table::{HandleAt, Handles};
 use crate::kinds::{earlier, fits_mode, is_owner};
@@ -21,19 +21,19 @@ use crate::load_table::{LoadRoot, LoadRow};
 use crate::nodes::is_of;
 use crate::tables::Tables;
 use crate::{handle_table, load_table, nodes};
-use pagable_model::{ArcRef, Error, HandleNumber, LoadNumber};
-use pagable_world::handles::{HandleRow, Owner};
+use pagable_pager_spec::handle_row::{HandleRow, Owner};
+use pagable_value_spec::{ArcRef, Error, HandleNumber, LoadNumber};
 
 /// The own handle of this number, with its place.
 pub fn own(t: &Tables, me: Owner, handle: HandleNumber) -> Result<HandleAt, Error>
     requires { IsWhole t.now }
-    ensures place { IfOk result (λ at. slice_get t.now.holdings.handles.places.items at.place ≡ Some (alive at.row)) }
-    ensures found { IfOk result (λ at. find_row handle.0 (live t.now.holdings.handles.places.items) ≡ Some at.row) }
+    ensures place { IfOk result (λ at. slice_get t.now.ref_counts.handles.places.items at.place ≡ Some (alive at.row)) }
+    ensures found { IfOk result (λ at. find_row handle.0 (live t.now.ref_counts.handles.places.items) ≡ Some at.row) }
     ensures number { IfOk result (λ at. at.row.number ≡ handle) }
     ensures owner { IfOk result (λ at. is_owner me at.row.owner ≡ true) }
     ensures fault { IfErr result (λ e. (stored : ℕ → Option Blob) (closed : Bool) (failures : ℕ) (fits : Mode → Bool) → handle_fault (core_of t.now stored closed failures) me handle fits ≡ Some e) }
 {
-    let at = handle_table::look(&t.holdings.handles, handle).ok_or(Error::NoSuchHandle)?;
+    let at = handle_table::look(&t.ref_counts.handles, handle).ok_or(Error::NoSuchHandle)?;
     if !is_owner(me, at.row.owner) {
         return Err(Error::NotYours);
     }
@@ -72,7 +72,7 @@ fn row_fault(t: &Tables, row: HandleRow, reference: ArcRef, is_anothers: bool) -
     if !fits_mode(reference.kind, row.mode) {
         return Some(Error::WrongMode);
     }
-    let counts = nodes::counts_of(&t.holdings.nodes, reference.node.0);
+    let counts = nodes::counts_of(&t.ref_counts.nodes, reference.node.0);
     (!is_of(counts, reference.kind)).then_some(Error::WrongKind)
 }
 
@@ -81,7 +81,7 @@ fn fault_of(t: &Tables, me: Owner, reference: ArcRef, is_seen: bool) -> Option<E
     requires { IsWhole t.now }
     ensures { (stored : ℕ → Option Blob) (closed : Bool) (failures : ℕ) (seen : List ℕ) → is_in seen reference.handle.0 ≡ is_seen → result ≡ reference_fault (core_of t.now stored closed failures) me seen reference }
 {
-    let Some(at) = handle_table::look(&t.holdings.handles, reference.handle) else {
+    let Some(at) = handle_table::look(&t.ref_counts.handles, reference.handle) else {
         return Some(Error::NoSuchHandle);
     };
     row_fault(t, at.row, reference, !is_owner(me, at.row.owner) | is_seen)
@@ -92,7 +92,7 @@ pub fn claim_fault(t: &Tables, reference: ArcRef) -> Option<Error>
     requires { IsWhole t.now }
     ensures { (stored : ℕ → Option Blob) (closed : Bool) (failures : ℕ) → result ≡ claim_fault (core_of t.now stored closed failures) reference }
 {
-    match handle_table::look(&t.holdings.handles, reference.handle) {
+    match handle_table::look(&t.ref_counts.handles, reference.handle) {
         Some(at) => row_fault(t, at.row, reference, false),
         None => Some(Error::NoSuchHandle),
     }
@@ -196,7 +196,7 @@ pub(crate) fn hand_over_fault(
 {
     let first = load_fault(load_table::load_of(&t.loads, load.0), me);
     let cell = cell_fault(load_table::load_of(&t.loads, load.0));
-    let owned = named_fault(&t.holdings.handles, Owner::Load(load), named);
+    let owned = named_fault(&t.ref_counts.handles, Owner::Load(load), named);
     earlier(first, earlier(cell, owned))
 }
 

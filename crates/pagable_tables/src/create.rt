@@ -1,29 +1,29 @@
 //! Makes nodes, handles of live ones, and pins.
 
 ghost use Rattle.indexmap.specs.IndexMap.{get, spare};
-ghost use Rattle.pagable_model.specs.declared.numbers.NodeNumber.{NodeNumber};
+ghost use Rattle.pagable_value_spec.specs.declared.numbers.NodeNumber.{NodeNumber};
 ghost use Rattle.pagable_tables.specs.CascadeInvariant.{IsFalling, is_valued, is_worker, owns, owns_nothing};
 ghost use Rattle.pagable_tables.specs.{CascadeProgress.with_tables, CascadeSteps.ValueStays};
 ghost use Rattle.pagable_tables.specs.Core.{Bears, Does, IsReady, IsWhole, Makes, MayHold, OnlyRoom, PinsHere};
 ghost use Rattle.pagable_tables.specs.{Core.{Suits, core_of, plain_of}, HandleTable.{alive, live}};
-ghost use Rattle.pagable_tables.specs.{Nodes.{counts_at, has_value, key_in}, declared.cascade.Holdings.Holdings};
-ghost use Rattle.pagable_world.specs.Calls.{AwayBirthCall, CloneCall, LoosenCall, PinCall, birth_fault, with_mode};
-ghost use Rattle.pagable_world.specs.{Kinds.{is_loose, is_owned_by, is_pinning, is_shared}, Plain.Blob};
-ghost use Rattle.pagable_world.specs.{Refusals.{Owns, Refused, earlier, references_fault}, World.{Alike, Core}};
-ghost use Rattle.pagable_world.specs.declared.{handles.{HandleRow.HandleRow, Owner.Owner}, rows.Mode.Mode};
+ghost use Rattle.pagable_tables.specs.{Nodes.{counts_at, has_value, key_in}, declared.cascade.RefCounts.RefCounts};
+ghost use Rattle.pagable_pager_spec.specs.Calls.{AwayBirthCall, CloneCall, LoosenCall, PinCall, birth_fault, with_mode};
+ghost use Rattle.pagable_pager_spec.specs.{Kinds.{is_loose, is_owned_by, is_pinning, is_shared}, Basics.Blob};
+ghost use Rattle.pagable_pager_spec.specs.{Refusals.{Owns, Refused, earlier, references_fault}, World.{Alike, Core}};
+ghost use Rattle.pagable_pager_spec.specs.declared.{handle_row.{HandleRow.HandleRow, Owner.Owner}, mode.Mode.Mode};
 ghost use Rattle.std.specs.Prelude.{Bool, IfErr, IsSome, List, None, Ok, OnOk, Option, Some, [], false, slice_get};
 ghost use Rattle.std.specs.Prelude.{true, ℕ, ◌+◌, ◌<◌, ◌==◌, ◌||◌, ◌≡◌, ◌⊎◌};
 
-use crate::cascade::Holdings;
+use crate::cascade::RefCounts;
 use crate::checks::{own, references_fault};
 use crate::handle_table::HandleAt;
 use crate::kinds::{is_loose_mode, is_worker, pins};
 use crate::nodes::{Counts, NodeRow, PackedCounts, add_work, counts_more, is_here, key_in};
 use crate::tables::Tables;
 use crate::{handle_table, nodes};
-use pagable_model::{ArcRef, DataKey, Error, HandleNumber, NodeNumber};
-use pagable_world::handles::{HandleRow, Owner};
-use pagable_world::{Mode, Pinning};
+use pagable_pager_spec::handle_row::{HandleRow, Owner};
+use pagable_pager_spec::{Mode, Pinning};
+use pagable_value_spec::{ArcRef, DataKey, Error, HandleNumber, NodeNumber};
 use std::alloc::Global;
 
 /// Makes room for a handle, a node and what the cache may learn of it, and changes nothing else. NumbersSpent where no number is left for one of them, OutOfMemory where there is no room.
@@ -36,11 +36,11 @@ pub fn make_ready_to_learn(t: &mut Tables) -> Result<(), Error>
     ensures loads { t.new.loads ≡ t.old.loads }
     ensures workers { t.new.workers ≡ t.old.workers }
 {
-    if t.last_node == u64::MAX || t.holdings.last_handle == u64::MAX {
+    if t.last_node == u64::MAX || t.ref_counts.last_handle == u64::MAX {
         return Err(Error::NumbersSpent);
     }
-    let handles = handle_table::reserve(&mut t.holdings.handles, 1);
-    let nodes = t.holdings.nodes.reserve(t.last_node + 1);
+    let handles = handle_table::reserve(&mut t.ref_counts.handles, 1);
+    let nodes = t.ref_counts.nodes.reserve(t.last_node + 1);
     let cache = t.cache.reserve(1);
     handles.and(nodes).and(cache)?;
     Ok(())
@@ -48,7 +48,12 @@ pub fn make_ready_to_learn(t: &mut Tables) -> Result<(), Error>
 
 /// A handle of a live node comes under the next number. NumbersSpent where none is left, OutOfMemory where there is no place.
 #[tactic(auto, using(crate::proofs::CascadeStep::counting))]
-pub fn add(t: &mut Holdings, node: NodeNumber, mode: Mode, me: Owner) -> Result<HandleNumber, Error>
+pub fn add(
+    t: &mut RefCounts,
+    node: NodeNumber,
+    mode: Mode,
+    me: Owner,
+) -> Result<HandleNumber, Error>
     requires steady { IsFalling t.old [] owns_nothing }
     requires live { IsSome (counts_at t.old.nodes node.0) }
     requires owner { is_valued me ≡ false }
@@ -82,10 +87,10 @@ pub fn make(t: &mut Tables, node: NodeNumber, mode: Mode, me: Owner) -> Result<H
     requires suits { Suits (plain_of t.old) node mode }
     requires holder { MayHold (plain_of t.old) me }
     ensures does { Does t.old (λ w w'. Makes w node mode me result w') t.new }
-    ensures values { (n : ℕ) → (n ≡ node.0 → is_pinning mode ≡ true → has_value (counts_at t.old.holdings.nodes n) ≡ true) → ValueStays (counts_at t.old.holdings.nodes n) (counts_at t.new.holdings.nodes n) }
-    ensures same { t.new ≡ record t.old { holdings = t.new.holdings } }
+    ensures values { (n : ℕ) → (n ≡ node.0 → is_pinning mode ≡ true → has_value (counts_at t.old.ref_counts.nodes n) ≡ true) → ValueStays (counts_at t.old.ref_counts.nodes n) (counts_at t.new.ref_counts.nodes n) }
+    ensures same { t.new ≡ record t.old { ref_counts = t.new.ref_counts } }
 {
-    add(&mut t.holdings, node, mode, me)
+    add(&mut t.ref_counts, node, mode, me)
 }
 
 /// A second handle of the same mode, of any live handle.
@@ -94,7 +99,7 @@ pub fn clone(t: &mut Tables, me: Owner, handle: HandleNumber) -> Result<HandleNu
     requires holder { MayHold (plain_of t.old) me }
     ensures { Does t.old (λ w w'. CloneCall w me handle result w') t.new }
 {
-    let Some(at) = handle_table::look(&t.holdings.handles, handle) else {
+    let Some(at) = handle_table::look(&t.ref_counts.handles, handle) else {
         return Err(Error::NoSuchHandle);
     };
     make(t, at.row.node, at.row.mode, me)
@@ -117,7 +122,7 @@ pub fn prepare(t: &mut Tables, me: Owner, references: &[ArcRef]) -> Result<(), E
 }
 
 /// A new node with this key, 0 for none, whose value has these references, whose handles move to it, and one handle of it. All was made ready for it, so it isn't refused.
-pub fn bear(
+pub fn insert_node(
     t: &mut Tables,
     me: Owner,
     node_type: u32,
@@ -131,26 +136,26 @@ pub fn bear(
     requires fit { references_fault (plain_of t.old) me [] references.items ≡ None }
     requires bare { (key ≡ 0) ⊎ ((is_shared mode ≡ false) × ((references.items ≡ []) ⊎ (is_pinning mode ≡ true))) }
     ensures does { Does t.old (λ w w'. Bears w me node_type key references.items mode result w') t.new }
-    ensures same { t.new ≡ record t.old { holdings = t.new.holdings; last_node = t.new.last_node } }
+    ensures same { t.new ≡ record t.old { ref_counts = t.new.ref_counts; last_node = t.new.last_node } }
 {
     let counts = Counts {
         node_type,
         key,
         pins: pins(mode) as u64,
         holds: 1,
-        is_falling: false,
+        is_dying: false,
         next: 0,
     };
     let node = NodeNumber(t.last_node + 1);
-    let number = HandleNumber(t.holdings.last_handle + 1);
-    handle_table::hand_over_all(&mut t.holdings.handles, &references, Owner::Value(node));
+    let number = HandleNumber(t.ref_counts.last_handle + 1);
+    handle_table::hand_over_all(&mut t.ref_counts.handles, &references, Owner::Value(node));
     let row = HandleRow {
         number,
         node,
         mode,
         owner: me,
     };
-    let Ok(()) = handle_table::push(&mut t.holdings.handles, row) else {
+    let Ok(()) = handle_table::push(&mut t.ref_counts.handles, row) else {
         unreachable!();
     };
     let value = NodeRow {
@@ -158,14 +163,14 @@ pub fn bear(
         references,
         at_work: is_worker(me) as u64,
     };
-    t.holdings.nodes.put(node.0, value);
-    t.holdings.last_handle = number.0;
+    t.ref_counts.nodes.put(node.0, value);
+    t.ref_counts.last_handle = number.0;
     t.last_node = node.0;
     number
 }
 
 /// A new cell that has a key and no value, with one unpinned handle. It is refused where a number is spent, or by memory.
-pub fn new_away(
+pub fn insert_paged_out(
     t: &mut Tables,
     alloc: Global,
     me: Owner,
@@ -178,27 +183,27 @@ pub fn new_away(
 {
     make_ready_to_learn(t)?;
     let mode = Mode::LooseUnpinned;
-    Ok(bear(t, me, node_type, key.get(), Vec::new(alloc), mode))
+    Ok(insert_node(t, me, node_type, key.get(), Vec::new(alloc), mode))
 }
 
 /// The handle at this place is loose and pins its node from now on.
 #[tactic(auto, using(crate::proofs::CascadeStep::counting))]
-pub fn turn(t: &mut Tables, at: HandleAt)
+pub fn set_loose_pinned(t: &mut Tables, at: HandleAt)
     requires whole { IsWhole t.old }
-    requires place { slice_get t.old.holdings.handles.places.items at.place ≡ Some (alive at.row) }
+    requires place { slice_get t.old.ref_counts.handles.places.items at.place ≡ Some (alive at.row) }
     requires unshared { is_shared at.row.mode ≡ false }
     requires unlisted { is_owned_by Owner.List at.row ≡ false }
     ensures does { Does t.old (λ w w'. Alike (with_mode w at.row.number Mode.LoosePinned) w') t.new }
-    ensures same { t.new ≡ record t.old { holdings = t.new.holdings } }
+    ensures same { t.new ≡ record t.old { ref_counts = t.new.ref_counts } }
 {
-    let counts = nodes::counts_of(&t.holdings.nodes, at.row.node.0).unwrap();
-    let _taken = t.holdings.handles.places.len();
+    let counts = nodes::counts_of(&t.ref_counts.nodes, at.row.node.0).unwrap();
+    let _taken = t.ref_counts.handles.places.len();
     let mut row = at.row;
     row.mode = Mode::LoosePinned;
-    handle_table::set(&mut t.holdings.handles, at, row);
+    handle_table::set(&mut t.ref_counts.handles, at, row);
     let mut pinned = counts_more(counts, !pins(at.row.mode));
     pinned.holds = counts.holds;
-    nodes::set_counts(&mut t.holdings.nodes, at.row.node.0, pinned);
+    nodes::set_counts(&mut t.ref_counts.nodes, at.row.node.0, pinned);
 }
 
 /// A Pinned handle becomes a loose pinned one, under its own number.
@@ -210,7 +215,7 @@ pub fn into_pagable(t: &mut Tables, me: Owner, handle: HandleNumber) -> Result<H
     let Mode::Pinned = at.row.mode else {
         return Err(Error::WrongMode);
     };
-    turn(t, at);
+    set_loose_pinned(t, at);
     Ok(at.row.number)
 }
 
@@ -220,13 +225,13 @@ pub fn pin_here(t: &mut Tables, me: Owner, row: HandleRow) -> Result<HandleNumbe
     requires holder { MayHold (plain_of t.old) me }
     requires owns { Owns (plain_of t.old) me row.number is_loose row }
     ensures does { Does t.old (λ w w'. PinsHere w me row result w') t.new }
-    ensures same { t.new ≡ record t.old { holdings = t.new.holdings } }
+    ensures same { t.new ≡ record t.old { ref_counts = t.new.ref_counts } }
 {
     let handle = make(t, row.node, Mode::Pinned, me)?;
-    let Some(loose) = handle_table::look(&t.holdings.handles, row.number) else {
+    let Some(loose) = handle_table::look(&t.ref_counts.handles, row.number) else {
         unreachable!();
     };
-    turn(t, loose);
+    set_loose_pinned(t, loose);
     Ok(handle)
 }
 
@@ -240,7 +245,7 @@ pub fn pin(t: &mut Tables, me: Owner, handle: HandleNumber) -> Result<Pinning, E
     if !is_loose_mode(at.row.mode) {
         return Err(Error::WrongMode);
     }
-    let counts = nodes::counts_of(&t.holdings.nodes, at.row.node.0);
+    let counts = nodes::counts_of(&t.ref_counts.nodes, at.row.node.0);
     if !is_here(counts) {
         return Ok(Pinning::NeedsLoad(key_in(counts).unwrap()));
     }

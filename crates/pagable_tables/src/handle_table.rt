@@ -5,18 +5,18 @@ ghost use Rattle.indexmap.specs.IndexMap.{get};
 ghost use Rattle.pagable_tables.specs.CascadeInvariant.{AreAtWork, IsFalling, is_valued, owns_nothing};
 ghost use Rattle.pagable_tables.specs.HandleTable.{AreCounted, AreSound, Becomes, IsBefore, IsNext, Widens, alive};
 ghost use Rattle.pagable_tables.specs.HandleTable.{live, room};
-ghost use Rattle.pagable_tables.specs.declared.{cascade.Holdings.Holdings, place.Place.Place};
-ghost use Rattle.pagable_world.specs.{Calls.{is_named_by, moved, room_of}, Cascade.{left_rows, only_handle}};
-ghost use Rattle.pagable_world.specs.{Kinds.{find_row, is_handle}, LoadCalls.numbers_of, Plain.{changed, is_in}};
-ghost use Rattle.pagable_world.specs.declared.handles.{HandleRow.HandleRow, Owner.Owner};
+ghost use Rattle.pagable_tables.specs.declared.{cascade.RefCounts.RefCounts, place.Place.Place};
+ghost use Rattle.pagable_pager_spec.specs.{Calls.{is_named_by, moved, room_of}, Cascade.{left_rows, only_handle}};
+ghost use Rattle.pagable_pager_spec.specs.{Kinds.{find_row, is_handle}, LoadCalls.numbers_of, Basics.{changed, is_in}};
+ghost use Rattle.pagable_pager_spec.specs.declared.handle_row.{HandleRow.HandleRow, Owner.Owner};
 ghost use Rattle.std.specs.List.{AllPairs, Sorted.IsPartitionPoint};
 ghost use Rattle.std.specs.Prelude.{IfNone, IfSome, None, Ok, OnErr, OnOk, Option, Some, [], false, get_or};
 ghost use Rattle.std.specs.Prelude.{if◌then◌else◌, length, slice_get, sum_by, true, vec_capacity, vec_len, ℕ, ◌&&◌};
 ghost use Rattle.std.specs.Prelude.{◌*◌, ◌++◌, ◌+◌, ◌<◌, ◌==◌, ◌∷◌, ◌≡◌, ◌≤◌};
 
 use crate::place::Place;
-use pagable_model::{ArcRef, HandleNumber};
-use pagable_world::handles::{HandleRow, Owner};
+use pagable_pager_spec::handle_row::{HandleRow, Owner};
+use pagable_value_spec::{ArcRef, HandleNumber};
 use std::alloc::AllocError;
 
 /// A live row, and where it stands.
@@ -221,7 +221,7 @@ pub fn hand_over(handles: &mut Handles, at: HandleAt, owner: Owner)
     requires sound { AreSound handles.old }
     requires place { slice_get handles.old.places.items at.place ≡ Some (alive at.row) }
     ensures becomes { Becomes handles.old (moved (only_handle at.row.number) owner (live handles.old.places.items)) handles.new }
-    ensures stands { (t : Holdings) → is_valued at.row.owner ≡ false → is_valued owner ≡ false
+    ensures stands { (t : RefCounts) → is_valued at.row.owner ≡ false → is_valued owner ≡ false
         → AreAtWork (moved (only_handle at.row.number) owner (live handles.old.places.items)) t.nodes → IsFalling (record t { handles = handles.old }) [] owns_nothing
         → IsFalling (record t { handles = handles.new }) [] owns_nothing }
     ensures sums { (f : HandleRow → ℕ) → sum_by f (live handles.new.places.items) + f at.row

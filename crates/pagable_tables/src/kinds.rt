@@ -1,14 +1,14 @@
 //! Modes, owners and kinds, and which of two refusals comes first.
 
 ghost use Rattle.pagable_tables.specs.CascadeInvariant.{is_worker};
-ghost use Rattle.pagable_world.specs.Kinds.{fits_mode, is_loose, is_owner, is_pinning, is_unpinned, mode_of};
-ghost use Rattle.pagable_world.specs.{Plain.{is_loose_kind, is_pinned_kind}, Refusals.{earlier, rank}};
-ghost use Rattle.pagable_world.specs.declared.{handles.Owner.Owner, rows.Mode.Mode};
+ghost use Rattle.pagable_pager_spec.specs.Kinds.{fits_mode, is_loose, is_owner, is_pinning, is_unpinned, mode_of};
+ghost use Rattle.pagable_pager_spec.specs.{Basics.{is_loose_kind, is_pinned_kind}, Refusals.{earlier, rank}};
+ghost use Rattle.pagable_pager_spec.specs.declared.{handle_row.Owner.Owner, mode.Mode.Mode};
 ghost use Rattle.std.specs.Prelude.{List, None, Option, Some, false, true, ◌%◌, ◌<◌, ◌==◌, ◌≡◌};
 
-use pagable_model::{Error, Kind};
-use pagable_world::Mode;
-use pagable_world::handles::Owner;
+use pagable_pager_spec::Mode;
+use pagable_pager_spec::handle_row::Owner;
+use pagable_value_spec::{Error, Kind};
 
 /// Whether a handle of this mode pins its node.
 pub fn pins(mode: Mode) -> bool

@@ -1,38 +1,38 @@
 //! Loads: they begin, and get handles of what they read.
 
 ghost use Rattle.indexmap.specs.IndexMap.{get, spare};
-ghost use Rattle.pagable_model.specs.declared.numbers.{LoadNumber.LoadNumber, NodeNumber.NodeNumber};
+ghost use Rattle.pagable_value_spec.specs.declared.numbers.{LoadNumber.LoadNumber, NodeNumber.NodeNumber};
 ghost use Rattle.pagable_tables.specs.CascadeInvariant.{IsFalling, owns_nothing};
 ghost use Rattle.pagable_tables.specs.CascadeProgress.{SoFar, with_tables};
 ghost use Rattle.pagable_tables.specs.Core.{AreLater, Does, IsReady, IsWhole, MayHold, core_of, plain_of};
 ghost use Rattle.pagable_tables.specs.{EndingLoads.{AsksKnown, early_fault}, HandleTable.live};
 ghost use Rattle.pagable_tables.specs.{Nodes.{counts_at, has_value, key_in}, NumberTable.row_by, ValuesKept.Sheds};
-ghost use Rattle.pagable_tables.specs.declared.{cascade.Holdings.Holdings, load_table.LoadRow.LoadRow};
-ghost use Rattle.pagable_world.specs.{Calls.{IsNext, is_named_by}, Cascade.{FallsAnyhow, nobody}};
-ghost use Rattle.pagable_world.specs.Kinds.{is_pinning, is_shared, mode_of};
-ghost use Rattle.pagable_world.specs.LoadCalls.{Adopts, BeginCall, BeginKeyCall, LazyCall, adopt_fault, adopted};
-ghost use Rattle.pagable_world.specs.{LoadCalls.{first_key, is_owned_in}, Pager.MayOwnLoad};
-ghost use Rattle.pagable_world.specs.Plain.{Blob, is_loose_kind, is_pinned_kind};
-ghost use Rattle.pagable_world.specs.Refusals.{Refused, earlier, load_fault, references_fault};
-ghost use Rattle.pagable_world.specs.World.{Alike, Cell, Core, usable};
-ghost use Rattle.pagable_world.specs.declared.{handles.Owner.Owner, rows.Mode.Mode};
+ghost use Rattle.pagable_tables.specs.declared.{cascade.RefCounts.RefCounts, load_table.LoadRow.LoadRow};
+ghost use Rattle.pagable_pager_spec.specs.{Calls.{IsNext, is_named_by}, Cascade.{FallsAnyhow, nobody}};
+ghost use Rattle.pagable_pager_spec.specs.Kinds.{is_pinning, is_shared, mode_of};
+ghost use Rattle.pagable_pager_spec.specs.LoadCalls.{Adopts, BeginCall, BeginKeyCall, LazyCall, adopt_fault, adopted};
+ghost use Rattle.pagable_pager_spec.specs.{LoadCalls.{first_key, is_owned_in}, Pager.MayOwnLoad};
+ghost use Rattle.pagable_pager_spec.specs.Basics.{Blob, is_loose_kind, is_pinned_kind};
+ghost use Rattle.pagable_pager_spec.specs.Refusals.{Refused, earlier, load_fault, references_fault};
+ghost use Rattle.pagable_pager_spec.specs.World.{Alike, Cell, Core, usable};
+ghost use Rattle.pagable_pager_spec.specs.declared.{handle_row.Owner.Owner, mode.Mode.Mode};
 ghost use Rattle.std.specs.Prelude.{Bool, IfErr, IfNone, IfOk, IfSome, None, Ok, Option, Some, [], false};
 ghost use Rattle.std.specs.Prelude.{if◌then◌else◌, length, not, true, ℕ, ◌+◌, ◌/◌, ◌<◌, ◌==◌, ◌||◌, ◌≡◌, ◌≤◌, ◌⊎◌};
-ghost use Rattle.pagable_world.specs.declared.handles.Owner.TheVariants as owners;
+ghost use Rattle.pagable_pager_spec.specs.declared.handle_row.Owner.TheVariants as owners;
 
 use crate::cache::cache_get;
-use crate::cascade::{Holdings, fall};
+use crate::cascade::{RefCounts, fall};
 use crate::checks::{load_fault, load_row, own, references_fault};
-use crate::create::{add, bear, make, make_ready_to_learn};
+use crate::create::{add, insert_node, make, make_ready_to_learn};
 use crate::kinds::{earlier, is_loose_kind, is_loose_mode, is_pinned_kind, mode_of};
 use crate::load_table::{LoadRoot, LoadRow};
 use crate::nodes::{Arcs, is_here};
-use crate::release::give_next;
+use crate::release::release_if_owned;
 use crate::tables::Tables;
 use crate::{cache, load_table, nodes};
-use pagable_model::{ArcRef, DataKey, Error, HandleNumber, Kind, LoadNumber, NodeNumber};
-use pagable_world::handles::Owner;
-use pagable_world::{Beginning, Mode};
+use pagable_pager_spec::handle_row::Owner;
+use pagable_pager_spec::{Beginning, Mode};
+use pagable_value_spec::{ArcRef, DataKey, Error, HandleNumber, Kind, LoadNumber, NodeNumber};
 use std::alloc::Global;
 
 /// A load of a loose handle's cell, whose value has to be read first; or nothing, where it is in memory. It is refused where the handle isn't an own loose one,
@@ -48,12 +48,12 @@ pub fn load_begin(t: &mut Tables, me: Owner, handle: HandleNumber) -> Result<Beg
     if !is_loose_mode(at.row.mode) {
         return Err(Error::WrongMode);
     }
-    let counts = nodes::counts_of(&t.holdings.nodes, at.row.node.0);
+    let counts = nodes::counts_of(&t.ref_counts.nodes, at.row.node.0);
     if is_here(counts) {
         return Ok(Beginning::InMemory);
     }
     let key = nodes::key_in(counts).unwrap();
-    if t.last_load == u64::MAX || t.holdings.last_handle == u64::MAX {
+    if t.last_load == u64::MAX || t.ref_counts.last_handle == u64::MAX {
         return Err(Error::NumbersSpent);
     }
     let load = LoadNumber(t.last_load + 1);
@@ -61,12 +61,12 @@ pub fn load_begin(t: &mut Tables, me: Owner, handle: HandleNumber) -> Result<Beg
         owner: me,
         key,
         root: LoadRoot::Cell(at.row.node, counts.unwrap().node_type, at.row.number),
-        since: t.holdings.last_handle,
-        last: t.holdings.last_handle,
+        since: t.ref_counts.last_handle,
+        last: t.ref_counts.last_handle,
     };
     load_table::open(&mut t.loads, load.0, row)?;
     let mode = Mode::LooseUnpinned;
-    if let Err(e) = add(&mut t.holdings, at.row.node, mode, Owner::Load(load)) {
+    if let Err(e) = add(&mut t.ref_counts, at.row.node, mode, Owner::Load(load)) {
         load_table::close(&mut t.loads, load.0);
         return Err(e);
     }
@@ -107,8 +107,8 @@ pub fn load_key(t: &mut Tables, me: Owner, key: DataKey) -> Result<Beginning, Er
         owner: me,
         key,
         root: LoadRoot::Key,
-        since: t.holdings.last_handle,
-        last: t.holdings.last_handle,
+        since: t.ref_counts.last_handle,
+        last: t.ref_counts.last_handle,
     };
     load_table::open(&mut t.loads, load, row)?;
     t.last_load = load;
@@ -116,7 +116,7 @@ pub fn load_key(t: &mut Tables, me: Owner, key: DataKey) -> Result<Beginning, Er
 }
 
 /// A new node with a handle of the load's, which the cache knows from now on, where it is to learn. All was made ready for it, so it isn't refused.
-fn bear_known(
+fn insert_known(
     t: &mut Tables,
     load: LoadNumber,
     kind: Kind,
@@ -134,7 +134,7 @@ fn bear_known(
     ensures { Does t.old (λ w w'. IsNext result w × (lists ≡ not w.closed → Alike (adopted w load kind key (key_in own_key) references.items) w')) t.new }
 {
     let me = Owner::Load(load);
-    let handle = bear(t, me, kind.0 / 3, own_key, references, mode_of(kind));
+    let handle = insert_node(t, me, kind.0 / 3, own_key, references, mode_of(kind));
     cache::learn_if(&mut t.cache, lists, kind, key, NodeNumber(t.last_node));
     handle
 }
@@ -158,7 +158,7 @@ fn learn_new(
     requires bare { (own_key ≡ 0) ⊎ ((is_shared (mode_of kind.0) ≡ false) × ((references.items ≡ []) ⊎ (is_pinning (mode_of kind.0) ≡ true))) }
     ensures { Does t.old (λ w w'. IsNext result w × (lists ≡ not w.closed → Alike (adopted w load kind key (key_in own_key) references.items) w')) t.new }
 {
-    let handle = bear_known(t, load, kind, key, own_key, references, lists);
+    let handle = insert_known(t, load, kind, key, own_key, references, lists);
     cache::forget_gone(t);
     handle
 }
@@ -210,8 +210,8 @@ fn adopt_fault(
 
 /// The handles that the references name are given up, with all that goes with them. The load owns them.
 #[tactic(auto, using(crate::proofs::CascadeEnd::shedding))]
-fn give_named<N: Drop>(
-    t: &mut Holdings,
+fn hand_over_named<N: Drop>(
+    t: &mut RefCounts,
     values: &mut Arcs<N>,
     load: LoadNumber,
     references: &[ArcRef],
@@ -224,7 +224,7 @@ fn give_named<N: Drop>(
 {
     t.unlisted = None;
     for reference in references {
-        give_next(t, values, load, reference.handle, lists);
+        release_if_owned(t, values, load, reference.handle, lists);
     }
     let _ = fall(t, values, lists);
 }
@@ -244,7 +244,7 @@ pub fn adopt_if_known<N: Drop>(
 ) -> Result<Option<HandleNumber>, Error>
     requires whole { IsWhole t.old }
     requires later { AreLater t.old }
-    requires valued { (n : ℕ) → usable (plain_of t.old) kind.0 key ≡ Some n → is_loose_kind kind.0 ≡ false → has_value (counts_at t.old.holdings.nodes n) ≡ true }
+    requires valued { (n : ℕ) → usable (plain_of t.old) kind.0 key ≡ Some n → is_loose_kind kind.0 ≡ false → has_value (counts_at t.old.ref_counts.nodes n) ≡ true }
     ensures known { (stored : ℕ → Option Blob) (closed : Bool) (failures : ℕ) → lists ≡ not closed → IfOk result (λ found. IfSome found (λ k. Adopts (core_of t.old stored closed failures) me load kind key node_type references.now k (core_of t.new stored closed failures))) }
     ensures fresh { (stored : ℕ → Option Blob) (closed : Bool) (failures : ℕ) → IfOk result (λ found. IfNone found (early_fault (core_of t.old stored closed failures) me load kind node_type references.now ≡ None)) }
     ensures given { IfOk result (λ found. IfSome found (λ k. (n : ℕ) × (usable (plain_of t.old) kind.0 key ≡ Some n))) }
@@ -254,7 +254,7 @@ pub fn adopt_if_known<N: Drop>(
     ensures refused { (stored : ℕ → Option Blob) (closed : Bool) (failures : ℕ) → IfErr result (λ e. Refused (adopt_fault (core_of t.old stored closed failures) me load kind key node_type references.now) (load_fault (core_of t.old stored closed failures) me load) (Unit {0}) (core_of t.old stored closed failures) e (core_of t.new stored closed failures)) }
     ensures whole { IsWhole t.new }
     ensures later { AreLater t.new }
-    ensures sheds { Sheds (counts_at t.old.holdings.nodes) (row_by values.old) (counts_at t.new.holdings.nodes) (row_by values.new) }
+    ensures sheds { Sheds (counts_at t.old.ref_counts.nodes) (row_by values.old) (counts_at t.new.ref_counts.nodes) (row_by values.new) }
 {
     if let Some(e) = adopt_fault(t, me, load, kind, node_type, references) {
         return Err(e);
@@ -263,7 +263,7 @@ pub fn adopt_if_known<N: Drop>(
         return Ok(None);
     };
     let handle = make(t, node, mode_of(kind), Owner::Load(load))?;
-    give_named(&mut t.holdings, values, load, references, lists);
+    hand_over_named(&mut t.ref_counts, values, load, references, lists);
     Ok(Some(handle))
 }
 

@@ -1,25 +1,25 @@
 //! How a load ends: with a pin, by handing its handles over, or dropped with all that it owns.
 
-ghost use Rattle.pagable_model.specs.declared.numbers.{LoadNumber.LoadNumber, NodeNumber.NodeNumber};
+ghost use Rattle.pagable_value_spec.specs.declared.numbers.{LoadNumber.LoadNumber, NodeNumber.NodeNumber};
 ghost use Rattle.pagable_tables.specs.CascadeInvariant.{AreAtWork, is_worker};
 ghost use Rattle.pagable_tables.specs.Core.{AreLater, Does, DoesShed, IsOwnedAbove, IsOwnedUpTo, IsWhole, OnlyRoom};
 ghost use Rattle.pagable_tables.specs.Core.{core_of, load_in};
 ghost use Rattle.pagable_tables.specs.EndingLoads.{HasPlace, IsReady as IsEndReady, ShedsBeside, Unends};
 ghost use Rattle.pagable_tables.specs.HandleTable.{AreSound, Becomes, live, room};
 ghost use Rattle.pagable_tables.specs.{Nodes.{coming, counts_at, holds_in, refs_at, work_at}, NumberTable.row_by};
-ghost use Rattle.pagable_tables.specs.declared.{cascade.Holdings.Holdings, load_table.LoadRow.LoadRow};
-ghost use Rattle.pagable_tables.specs.declared.release.Giving.{Giving};
-ghost use Rattle.pagable_world.specs.{Calls.{is_named_by, moved}, Kinds.{find_row, held, is_owner, owner_value}};
-ghost use Rattle.pagable_world.specs.LoadCalls.{DropCall, HandOverCall, Installs, end_fault, hand_over_fault};
-ghost use Rattle.pagable_world.specs.{LoadCalls.{numbers_of, root_fault}, Pager.IsHandleBefore};
-ghost use Rattle.pagable_world.specs.Plain.{Blob, if_there, is_in};
-ghost use Rattle.pagable_world.specs.Refusals.{OwnsLoad, Refused, earlier, load_fault, references_fault};
-ghost use Rattle.pagable_world.specs.{World.{Cell, OpenLoad}, declared.handles.{HandleRow.HandleRow, Owner.Owner}};
+ghost use Rattle.pagable_tables.specs.declared.{cascade.RefCounts.RefCounts, load_table.LoadRow.LoadRow};
+ghost use Rattle.pagable_tables.specs.declared.release.ReleaseSet.{ReleaseSet};
+ghost use Rattle.pagable_pager_spec.specs.{Calls.{is_named_by, moved}, Kinds.{find_row, held, is_owner, owner_value}};
+ghost use Rattle.pagable_pager_spec.specs.LoadCalls.{DropCall, HandOverCall, Installs, end_fault, hand_over_fault};
+ghost use Rattle.pagable_pager_spec.specs.{LoadCalls.{numbers_of, root_fault}, Pager.IsHandleBefore};
+ghost use Rattle.pagable_pager_spec.specs.Basics.{Blob, if_there, is_in};
+ghost use Rattle.pagable_pager_spec.specs.Refusals.{OwnsLoad, Refused, earlier, load_fault, references_fault};
+ghost use Rattle.pagable_pager_spec.specs.{World.{Cell, OpenLoad}, declared.handle_row.{HandleRow.HandleRow, Owner.Owner}};
 ghost use Rattle.std.specs.List.{AllPairs};
 ghost use Rattle.std.specs.Prelude.{Bool, IfErr, IfOk, IfSome, IsSome, None, Ok, Option, Some, false, if◌then◌else◌};
 ghost use Rattle.std.specs.Prelude.{not, true, ℕ, ◌&&◌, ◌*◌, ◌<◌, ◌==◌, ◌≡◌, ◌≢◌, ◌≤◌};
 
-use crate::cascade::Holdings;
+use crate::cascade::RefCounts;
 use crate::checks::{hand_over_fault, load_fault, load_row, own, references_fault};
 use crate::create::pin_here;
 use crate::handle_table::Handles;
@@ -27,11 +27,11 @@ use crate::kinds::{earlier, is_owner, is_worker};
 use crate::load_handles::last_of;
 use crate::load_table::{LoadRoot, LoadRow};
 use crate::nodes::{Arcs, Nodes, is_here};
-use crate::release::{Giving, give_all};
-use crate::tables::{Reach, Tables};
+use crate::release::{ReleaseSet, release_owned};
+use crate::tables::{HandleRange, Tables};
 use crate::{handle_table, load_table, nodes};
-use pagable_model::{ArcRef, Error, HandleNumber, LoadNumber, NodeNumber};
-use pagable_world::handles::{HandleRow, Owner};
+use pagable_pager_spec::handle_row::{HandleRow, Owner};
+use pagable_value_spec::{ArcRef, Error, HandleNumber, LoadNumber, NodeNumber};
 
 /// A load of a cell that can end: its row, the row of the handle by which it was begun, and whether the cell has no value.
 #[derive(Clone, Copy)]
@@ -61,10 +61,10 @@ fn root_fault(t: &Tables, me: Owner, load: LoadNumber, node_type: u32) -> Option
         return Some(Error::WrongMode);
     };
     let typed = (node_type != cell_type).then_some(Error::WrongKind);
-    let Some(at) = handle_table::look(&t.holdings.handles, handle) else {
+    let Some(at) = handle_table::look(&t.ref_counts.handles, handle) else {
         return typed;
     };
-    let is_spent = is_owner(me, at.row.owner) && t.holdings.last_handle == u64::MAX;
+    let is_spent = is_owner(me, at.row.owner) && t.ref_counts.last_handle == u64::MAX;
     earlier(typed, is_spent.then_some(Error::NumbersSpent))
 }
 
@@ -101,7 +101,7 @@ pub fn prepare_end(
     ensures unended { IfErr result (λ u. (stored : ℕ → Option Blob) (closed : Bool) (failures : ℕ)
         → Unends (core_of t.old stored closed failures) me load node_type references.now u (core_of t.new stored closed failures)) }
     ensures does { Does t.old OnlyRoom t.new }
-    ensures nodes { t.new.holdings.nodes ≡ t.old.holdings.nodes }
+    ensures nodes { t.new.ref_counts.nodes ≡ t.old.ref_counts.nodes }
 {
     if let Some(e) = end_fault(t, me, load, node_type, references) {
         return Err(Unended::Refused(e));
@@ -112,8 +112,8 @@ pub fn prepare_end(
     };
     match own(t, me, handle) {
         Ok(at) => {
-            let is_away = !is_here(nodes::counts_of(&t.holdings.nodes, at.row.node.0));
-            match handle_table::reserve(&mut t.holdings.handles, 1) {
+            let is_away = !is_here(nodes::counts_of(&t.ref_counts.nodes, at.row.node.0));
+            match handle_table::reserve(&mut t.ref_counts.handles, 1) {
                 Ok(()) => Ok(Ending {
                     load: row,
                     row: at.row,
@@ -127,7 +127,7 @@ pub fn prepare_end(
 }
 
 /// What a value refers to comes to its node with its handles, if it is to. Else nothing changes.
-fn join(t: &mut Holdings, node: NodeNumber, references: Vec<ArcRef>, comes: bool)
+fn join(t: &mut RefCounts, node: NodeNumber, references: Vec<ArcRef>, comes: bool)
     requires sound { AreSound t.old.handles }
     requires live { IsSome (counts_at t.old.nodes node.0) }
     ensures handles { Becomes t.old.handles (moved (is_named_by (coming comes references.items)) (owner_value node.0) (live t.old.handles.places.items)) t.new.handles }
@@ -158,23 +158,23 @@ fn install_up_to<N: Drop>(
 ) -> HandleNumber
     requires whole { IsWhole t.old }
     requires ready { (stored : ℕ → Option Blob) (closed : Bool) (failures : ℕ) → IsEndReady (core_of t.old stored closed failures) me load node_type references.items ending }
-    requires place { 1 ≤ room t.old.holdings.handles }
+    requires place { 1 ≤ room t.old.ref_counts.handles }
     requires above { IsOwnedAbove t.old load ending.load.since }
     requires up_to { IsOwnedUpTo t.old load until }
     ensures does { Does t.old (λ w w'. lists ≡ not w.closed → Installs w me load ending.row.node ending.row.number result references.items w') t.new }
-    ensures sheds { ShedsBeside ending.row.node (counts_at t.old.holdings.nodes) (row_by values.old) (counts_at t.new.holdings.nodes) (row_by values.new) }
+    ensures sheds { ShedsBeside ending.row.node (counts_at t.old.ref_counts.nodes) (row_by values.old) (counts_at t.new.ref_counts.nodes) (row_by values.new) }
 {
     let Ok(handle) = pin_here(t, me, ending.row) else {
         unreachable!();
     };
     let node = ending.row.node;
-    join(&mut t.holdings, node, references, ending.is_away);
+    join(&mut t.ref_counts, node, references, ending.is_away);
     load_table::close(&mut t.loads, load.0);
     let since = ending.load.since;
-    let giving = Giving::Load(load);
-    let reach = Reach { since, beside: 0 };
-    let _ = give_all(
-        &mut t.holdings,
+    let giving = ReleaseSet::Load(load);
+    let reach = HandleRange { since, beside: 0 };
+    let _ = release_owned(
+        &mut t.ref_counts,
         values,
         &t.loads,
         giving,
@@ -202,7 +202,7 @@ pub fn install<N: Drop>(
     requires ready { (stored : ℕ → Option Blob) (closed : Bool) (failures : ℕ) → IsEndReady (core_of t.old stored closed failures) me load node_type references.items ending }
     requires place { HasPlace t.old load ending }
     ensures does { Does t.old (λ w w'. lists ≡ not w.closed → Installs w me load ending.row.node ending.row.number result references.items w') t.new }
-    ensures sheds { ShedsBeside ending.row.node (counts_at t.old.holdings.nodes) (row_by values.old) (counts_at t.new.holdings.nodes) (row_by values.new) }
+    ensures sheds { ShedsBeside ending.row.node (counts_at t.old.ref_counts.nodes) (row_by values.old) (counts_at t.new.ref_counts.nodes) (row_by values.new) }
 {
     let until = last_of(t, load, ending.load.since);
     install_up_to(
@@ -229,10 +229,10 @@ fn drop_up_to<N: Drop>(
 {
     load_table::close(&mut t.loads, load.0);
     let since = row.since;
-    let giving = Giving::Load(load);
-    let reach = Reach { since, beside: 0 };
-    give_all(
-        &mut t.holdings,
+    let giving = ReleaseSet::Load(load);
+    let reach = HandleRange { since, beside: 0 };
+    release_owned(
+        &mut t.ref_counts,
         values,
         &t.loads,
         giving,
@@ -317,13 +317,13 @@ fn take_up_to<N: Drop>(
 {
     let row = load_table::load_of(&t.loads, load.0).unwrap();
     load_table::close(&mut t.loads, load.0);
-    all_may_work(&t.holdings.handles, &mut t.holdings.nodes, named, me);
-    handle_table::hand_each(&mut t.holdings.handles, named, me);
+    all_may_work(&t.ref_counts.handles, &mut t.ref_counts.nodes, named, me);
+    handle_table::hand_each(&mut t.ref_counts.handles, named, me);
     let since = row.since;
-    let giving = Giving::Load(load);
-    let reach = Reach { since, beside: 0 };
-    let _ = give_all(
-        &mut t.holdings,
+    let giving = ReleaseSet::Load(load);
+    let reach = HandleRange { since, beside: 0 };
+    let _ = release_owned(
+        &mut t.ref_counts,
         values,
         &t.loads,
         giving,

@@ -1,18 +1,18 @@
 //! Which handles a load owns, as its row notes it.
 
-ghost use Rattle.pagable_model.specs.declared.numbers.LoadNumber.{LoadNumber};
+ghost use Rattle.pagable_value_spec.specs.declared.numbers.LoadNumber.{LoadNumber};
 ghost use Rattle.pagable_tables.specs.Core.{AreLater, AreRaised, AreTold, IsOwnedUpTo, IsWhole, Notes};
 ghost use Rattle.pagable_tables.specs.{HandleTable.AreSound, Indexes.load_at};
 ghost use Rattle.pagable_tables.specs.declared.{load_table.LoadRow.LoadRow, place.Place.Place};
-ghost use Rattle.pagable_world.specs.declared.handles.{HandleRow.HandleRow, Owner.Owner};
+ghost use Rattle.pagable_pager_spec.specs.declared.handle_row.{HandleRow.HandleRow, Owner.Owner};
 ghost use Rattle.std.specs.Prelude.{None, Some, get_or, length, ℕ, ◌<◌, ◌≡◌, ◌≤◌};
 
 use crate::handle_table::Handles;
 use crate::load_table::Loads;
 use crate::tables::Tables;
 use crate::{handle_table, load_table};
-use pagable_model::LoadNumber;
-use pagable_world::handles::{HandleRow, Owner};
+use pagable_pager_spec::handle_row::{HandleRow, Owner};
+use pagable_value_spec::LoadNumber;
 
 /// The row of the load that owns this handle, if one does, tells of it.
 fn note(loads: &mut Loads, handle: HandleRow)
@@ -54,10 +54,10 @@ fn note_all(t: &mut Tables)
     requires whole { IsWhole t.old }
     requires later { AreLater t.old }
     ensures notes { Notes t.old t.new }
-    ensures all { t.new.noted ≡ t.old.holdings.last_handle }
+    ensures all { t.new.noted ≡ t.old.ref_counts.last_handle }
 {
-    note_above(&mut t.loads, &t.holdings.handles, t.noted);
-    t.noted = t.holdings.last_handle;
+    note_above(&mut t.loads, &t.ref_counts.handles, t.noted);
+    t.noted = t.ref_counts.last_handle;
 }
 
 /// Up to which number the handles are that this load owns, which began after the handle `since`. Where many were given
@@ -68,7 +68,7 @@ pub fn last_of(t: &mut Tables, load: LoadNumber, since: u64) -> u64
     ensures notes { Notes t.old t.new }
     ensures last { IsOwnedUpTo t.new load result }
 {
-    let last = t.holdings.last_handle;
+    let last = t.ref_counts.last_handle;
     if last.saturating_sub(since) < 16 {
         return last;
     }

@@ -1,14 +1,14 @@
 //! Open loads by their numbers.
 
 ghost use Rattle.indexmap.specs.IndexMap.{get};
-ghost use Rattle.pagable_model.specs.declared.numbers.NodeNumber.{NodeNumber};
+ghost use Rattle.pagable_value_spec.specs.declared.numbers.NodeNumber.{NodeNumber};
 ghost use Rattle.pagable_tables.specs.{Indexes.load_at, declared.load_table.LoadRow.LoadRow};
-ghost use Rattle.pagable_world.specs.{World.Cell, declared.handles.Owner.Owner};
+ghost use Rattle.pagable_pager_spec.specs.{World.Cell, declared.handle_row.Owner.Owner};
 ghost use Rattle.std.specs.Prelude.{None, Ok, OnErr, OnOk, Option, Some, nat_eq, ℕ, ◌<◌, ◌≡◌, ◌≢◌};
 
 use indexmap::IndexMap;
-use pagable_model::{DataKey, HandleNumber, NodeNumber};
-use pagable_world::handles::Owner;
+use pagable_pager_spec::handle_row::Owner;
+use pagable_value_spec::{DataKey, HandleNumber, NodeNumber};
 use std::alloc::AllocError;
 
 /// Open loads by their numbers.

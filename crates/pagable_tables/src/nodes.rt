@@ -1,20 +1,20 @@
 //! Nodes by their numbers: what is counted of each, and what its value refers to.
 
 ghost use Rattle.indexmap.specs.IndexMap.{get};
-ghost use Rattle.pagable_model.specs.declared.data_key.OptionalDataKey.{OptionalDataKey};
+ghost use Rattle.pagable_value_spec.specs.declared.data_key.OptionalDataKey.{OptionalDataKey};
 ghost use Rattle.pagable_tables.specs.CascadeInvariant.{is_worker};
 ghost use Rattle.pagable_tables.specs.Nodes.{cell_in, counts_at, key_in, pins_in, refs_at, work_at};
 ghost use Rattle.pagable_tables.specs.NumberTable.{place_at, row_by};
-ghost use Rattle.pagable_world.specs.{Kinds.is_in_memory, Plain.{if_there, one, type_of}, Refusals.is_type};
-ghost use Rattle.pagable_world.specs.{World.Cell, declared.handles.Owner.Owner};
+ghost use Rattle.pagable_pager_spec.specs.{Kinds.is_in_memory, Basics.{if_there, one, type_of}, Refusals.is_type};
+ghost use Rattle.pagable_pager_spec.specs.{World.Cell, declared.handle_row.Owner.Owner};
 ghost use Rattle.std.specs.Option.{option_to_list};
 ghost use Rattle.std.specs.Prelude.{IfNone, IsSome, None, Option, Some, [], false, true, ℕ, ◌++◌, ◌+◌, ◌/◌, ◌<◌};
 ghost use Rattle.std.specs.Prelude.{◌==◌, ◌^◌, ◌||◌, ◌≡◌, ◌≢◌, ◌≤◌};
 
 use crate::kinds::is_worker;
 use crate::number_table::{NumberTable, chunk_of, place_of};
-use pagable_model::{ArcRef, DataKey, Kind, OptionalDataKey};
-use pagable_world::handles::Owner;
+use pagable_pager_spec::handle_row::Owner;
+use pagable_value_spec::{ArcRef, DataKey, Kind, OptionalDataKey};
 use std::marker::Model;
 use std::sync::Arc;
 
@@ -36,7 +36,7 @@ pub struct Counts {
     /// The node whose value's references are given up after those of this one, 0 where it is none.
     pub next: u64,
     /// Whether its value has gone and what that refers to is still to be given up.
-    pub is_falling: bool,
+    pub is_dying: bool,
     pub node_type: u32,
 }
 
@@ -49,7 +49,7 @@ pub struct PackedCounts {
     holds: u64,
     next: u64,
     node_type: u32,
-    is_falling: bool,
+    is_dying: bool,
 }
 
 impl Model for PackedCounts {
@@ -63,7 +63,7 @@ impl Model for PackedCounts {
       pins = a.pins;
       holds = a.holds;
       next = a.next;
-      is_falling = a.is_falling;
+      is_dying = a.is_dying;
       node_type = a.node_type;
     } };
 }
@@ -82,7 +82,7 @@ impl PackedCounts {
             holds: counts.holds,
             next: counts.next,
             node_type: counts.node_type,
-            is_falling: counts.is_falling,
+            is_dying: counts.is_dying,
         }
     }
 
@@ -95,7 +95,7 @@ impl PackedCounts {
             pins: self.pins,
             holds: self.holds,
             next: self.next,
-            is_falling: self.is_falling,
+            is_dying: self.is_dying,
             node_type: self.node_type,
         }
     }

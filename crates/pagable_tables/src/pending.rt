@@ -1,20 +1,20 @@
 //! The list of cells that wait for page-out: entries are put there, and taken.
 
-ghost use Rattle.pagable_model.specs.declared.numbers.LoadNumber.{LoadNumber};
+ghost use Rattle.pagable_value_spec.specs.declared.numbers.LoadNumber.{LoadNumber};
 ghost use Rattle.pagable_tables.specs.Core.{AreLater, DoesShed, InReach, IsNoLess, IsWhole, MayHold, core_of};
 ghost use Rattle.pagable_tables.specs.{Core.plain_of, Indexes.{reach_at, worker_at}};
-ghost use Rattle.pagable_world.specs.{Calls.{ScheduleCall, TakeCall}, Kinds.{is_owner, is_unpinned, owner_worker}};
-ghost use Rattle.pagable_world.specs.{Plain.Blob, declared.handles.Owner.Owner};
+ghost use Rattle.pagable_pager_spec.specs.{Calls.{ScheduleCall, TakeCall}, Kinds.{is_owner, is_unpinned, owner_worker}};
+ghost use Rattle.pagable_pager_spec.specs.{Basics.Blob, declared.handle_row.Owner.Owner};
 ghost use Rattle.std.specs.Prelude.{Bool, List, None, Ok, Option, Some, false, is_some, true, ℕ, ◌<◌, ◌≡◌};
 
 use crate::checks::own;
 use crate::handle_table;
 use crate::kinds::is_unpinned;
 use crate::nodes::{Arcs, add_work};
-use crate::release::give_back;
+use crate::release::try_release_at;
 use crate::tables::{Tables, Workers};
-use pagable_model::{Error, HandleNumber};
-use pagable_world::handles::Owner;
+use pagable_pager_spec::handle_row::Owner;
+use pagable_value_spec::{Error, HandleNumber};
 
 /// A loose unpinned handle moves to the list's end, while cells are listed; otherwise it is given up, with all that goes with it. It is refused where it isn't an
 /// own handle of that mode, or the list has no place.
@@ -34,12 +34,12 @@ pub fn schedule_for_paging<N: Drop>(
         return Err(Error::WrongMode);
     }
     if !lists {
-        let _ = give_back(&mut t.holdings, values, at, lists);
+        let _ = try_release_at(&mut t.ref_counts, values, at, lists);
         return Ok(());
     }
-    t.holdings.list.reserve(1)?;
-    t.holdings.list.push_back(handle).unwrap();
-    handle_table::hand_over(&mut t.holdings.handles, at, Owner::List);
+    t.ref_counts.list.reserve(1)?;
+    t.ref_counts.list.push_back(handle).unwrap();
+    handle_table::hand_over(&mut t.ref_counts.handles, at, Owner::List);
     Ok(())
 }
 
@@ -69,18 +69,18 @@ pub fn take_pending(t: &mut Tables, me: Owner, place: usize) -> Option<HandleNum
     ensures whole { IsWhole t.new }
     ensures later { ((m : LoadNumber) → is_owner (Owner.Load m) me ≡ false) → AreLater t.old → AreLater t.new }
 {
-    if place >= t.holdings.list.len() {
+    if place >= t.ref_counts.list.len() {
         return None;
     }
-    let Some(handle) = t.holdings.list.remove(place) else {
+    let Some(handle) = t.ref_counts.list.remove(place) else {
         unreachable!();
     };
-    let Some(at) = handle_table::look(&t.holdings.handles, handle) else {
+    let Some(at) = handle_table::look(&t.ref_counts.handles, handle) else {
         unreachable!();
     };
-    let _taken = t.holdings.handles.places.len();
-    handle_table::hand_over(&mut t.holdings.handles, at, me);
-    add_work(&mut t.holdings.nodes, at.row.node.0, me);
+    let _taken = t.ref_counts.handles.places.len();
+    handle_table::hand_over(&mut t.ref_counts.handles, at, me);
+    add_work(&mut t.ref_counts.nodes, at.row.node.0, me);
     reach_to(&mut t.workers, me, handle);
     Some(handle)
 }

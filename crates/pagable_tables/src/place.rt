@@ -3,9 +3,9 @@
 ghost use Rattle.pagable_tables.specs.HandlePlace.{kind_in, number_in, owner_in};
 ghost use Rattle.std.specs.Prelude.{◌≡◌};
 
-use pagable_model::{HandleNumber, LoadNumber, NodeNumber, WorkerNumber};
-use pagable_world::Mode;
-use pagable_world::handles::{HandleRow, Owner};
+use pagable_pager_spec::Mode;
+use pagable_pager_spec::handle_row::{HandleRow, Owner};
+use pagable_value_spec::{HandleNumber, LoadNumber, NodeNumber, WorkerNumber};
 use std::marker::Model;
 
 /// Which kind of owner releases a handle.

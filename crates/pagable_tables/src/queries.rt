@@ -1,12 +1,12 @@
 //! What is asked of a handle or a node. Nothing changes by that.
 
 ghost use Rattle.indexmap.specs.IndexMap.{get};
-ghost use Rattle.pagable_model.specs.declared.{data_key.OptionalDataKey.OptionalDataKey};
-ghost use Rattle.pagable_model.specs.declared.numbers.NodeNumber.{NodeNumber};
+ghost use Rattle.pagable_value_spec.specs.declared.{data_key.OptionalDataKey.OptionalDataKey};
+ghost use Rattle.pagable_value_spec.specs.declared.numbers.NodeNumber.{NodeNumber};
 ghost use Rattle.pagable_tables.specs.{Core.{IsWhole, core_of, plain_of}, Nodes.key_in};
-ghost use Rattle.pagable_world.specs.{Calls.{AwayCall, CountCall, KeyCall, Looks, NodeCall, TypeCall}, Events.IsEntry};
-ghost use Rattle.pagable_world.specs.{Kinds.{is_loose, is_pinning}, Plain.Blob, World.key_at};
-ghost use Rattle.pagable_world.specs.declared.handles.HandleRow.{HandleRow};
+ghost use Rattle.pagable_pager_spec.specs.{Calls.{AwayCall, CountCall, KeyCall, Looks, NodeCall, TypeCall}, Events.IsEntry};
+ghost use Rattle.pagable_pager_spec.specs.{Kinds.{is_loose, is_pinning}, Basics.Blob, World.key_at};
+ghost use Rattle.pagable_pager_spec.specs.declared.handle_row.HandleRow.{HandleRow};
 ghost use Rattle.std.specs.Prelude.{Bool, IfNone, IfSome, None, Ok, Option, Some, if◌then◌else◌, length, ℕ, ◌*◌};
 ghost use Rattle.std.specs.Prelude.{◌<◌, ◌≡◌, ◌≤◌};
 
@@ -14,15 +14,15 @@ use crate::kinds::{is_loose_mode, pins};
 use crate::nodes::{is_here, key_in};
 use crate::tables::Tables;
 use crate::{handle_table, nodes};
-use pagable_model::{Error, HandleNumber, NodeNumber, OptionalDataKey};
-use pagable_world::handles::HandleRow;
+use pagable_pager_spec::handle_row::HandleRow;
+use pagable_value_spec::{Error, HandleNumber, NodeNumber, OptionalDataKey};
 
 /// The node of a handle.
 pub fn node_of(t: &Tables, handle: HandleNumber) -> Result<NodeNumber, Error>
     requires { IsWhole t.now }
     ensures { (stored : ℕ → Option Blob) (closed : Bool) (failures : ℕ) → NodeCall (core_of t.now stored closed failures) handle result }
 {
-    let at = handle_table::look(&t.holdings.handles, handle).ok_or(Error::NoSuchHandle)?;
+    let at = handle_table::look(&t.ref_counts.handles, handle).ok_or(Error::NoSuchHandle)?;
     Ok(at.row.node)
 }
 
@@ -31,7 +31,7 @@ pub fn pinned_node(t: &Tables, handle: HandleNumber) -> Result<Option<NodeNumber
     requires { IsWhole t.now }
     ensures { (stored : ℕ → Option Blob) (closed : Bool) (failures : ℕ) → Looks (core_of t.now stored closed failures) handle (λ node row. node ≡ (if is_pinning row.mode then Some row.node else None)) result }
 {
-    let at = handle_table::look(&t.holdings.handles, handle).ok_or(Error::NoSuchHandle)?;
+    let at = handle_table::look(&t.ref_counts.handles, handle).ok_or(Error::NoSuchHandle)?;
     Ok(pins(at.row.mode).then_some(at.row.node))
 }
 
@@ -40,8 +40,8 @@ pub fn count(t: &Tables, handle: HandleNumber) -> Result<u64, Error>
     requires { IsWhole t.now }
     ensures { (stored : ℕ → Option Blob) (closed : Bool) (failures : ℕ) → CountCall (core_of t.now stored closed failures) handle result }
 {
-    let at = handle_table::look(&t.holdings.handles, handle).ok_or(Error::NoSuchHandle)?;
-    let counts = nodes::counts_of(&t.holdings.nodes, at.row.node.0);
+    let at = handle_table::look(&t.ref_counts.handles, handle).ok_or(Error::NoSuchHandle)?;
+    let counts = nodes::counts_of(&t.ref_counts.nodes, at.row.node.0);
     Ok(counts.map_or(0, |c| c.pins))
 }
 
@@ -50,8 +50,8 @@ pub fn key(t: &Tables, handle: HandleNumber) -> Result<OptionalDataKey, Error>
     requires { IsWhole t.now }
     ensures { (stored : ℕ → Option Blob) (closed : Bool) (failures : ℕ) → KeyCall (core_of t.now stored closed failures) handle result }
 {
-    let at = handle_table::look(&t.holdings.handles, handle).ok_or(Error::NoSuchHandle)?;
-    Ok(key_in(nodes::counts_of(&t.holdings.nodes, at.row.node.0)))
+    let at = handle_table::look(&t.ref_counts.handles, handle).ok_or(Error::NoSuchHandle)?;
+    Ok(key_in(nodes::counts_of(&t.ref_counts.nodes, at.row.node.0)))
 }
 
 /// Whether the value of the node of a handle has to be read first.
@@ -59,8 +59,8 @@ pub fn is_paged_out(t: &Tables, handle: HandleNumber) -> Result<bool, Error>
     requires { IsWhole t.now }
     ensures { (stored : ℕ → Option Blob) (closed : Bool) (failures : ℕ) → AwayCall (core_of t.now stored closed failures) handle result }
 {
-    let at = handle_table::look(&t.holdings.handles, handle).ok_or(Error::NoSuchHandle)?;
-    Ok(!is_here(nodes::counts_of(&t.holdings.nodes, at.row.node.0)))
+    let at = handle_table::look(&t.ref_counts.handles, handle).ok_or(Error::NoSuchHandle)?;
+    Ok(!is_here(nodes::counts_of(&t.ref_counts.nodes, at.row.node.0)))
 }
 
 /// Whether a handle is loose.
@@ -68,7 +68,7 @@ pub fn is_loose(t: &Tables, handle: HandleNumber) -> Result<bool, Error>
     requires { IsWhole t.now }
     ensures { (stored : ℕ → Option Blob) (closed : Bool) (failures : ℕ) → Looks (core_of t.now stored closed failures) handle (λ loose row. loose ≡ is_loose row.mode) result }
 {
-    let at = handle_table::look(&t.holdings.handles, handle).ok_or(Error::NoSuchHandle)?;
+    let at = handle_table::look(&t.ref_counts.handles, handle).ok_or(Error::NoSuchHandle)?;
     Ok(is_loose_mode(at.row.mode))
 }
 
@@ -76,7 +76,7 @@ pub fn is_loose(t: &Tables, handle: HandleNumber) -> Result<bool, Error>
 pub fn node_live(t: &Tables, node: NodeNumber) -> Option<u32>
     ensures { TypeCall (plain_of t.now) node result }
 {
-    Some(nodes::counts_of(&t.holdings.nodes, node.0)?.node_type)
+    Some(nodes::counts_of(&t.ref_counts.nodes, node.0)?.node_type)
 }
 
 /// The handle at this place of the list, with type and key of its cell. None past the end.
@@ -85,19 +85,19 @@ pub fn entry(t: &Tables, place: usize) -> Option<(HandleRow, u32, OptionalDataKe
     requires { IsWhole t.now }
     ensures found { IfSome result (λ e. (stored : ℕ → Option Blob) (closed : Bool) (failures : ℕ) → IsEntry (core_of t.now stored closed failures) place e.0.number e.0 e.1) }
     ensures keyed { IfSome result (λ e. (stored : ℕ → Option Blob) (closed : Bool) (failures : ℕ) → key_at (core_of t.now stored closed failures) e.0.node.0 ≡ e.2) }
-    ensures past { IfNone result (length t.now.holdings.list.items ≤ place) }
+    ensures past { IfNone result (length t.now.ref_counts.list.items ≤ place) }
 {
-    let handle = *t.holdings.list.get(place)?;
-    let Some(at) = handle_table::look(&t.holdings.handles, handle) else {
+    let handle = *t.ref_counts.list.get(place)?;
+    let Some(at) = handle_table::look(&t.ref_counts.handles, handle) else {
         unreachable!();
     };
-    let counts = nodes::counts_of(&t.holdings.nodes, at.row.node.0);
+    let counts = nodes::counts_of(&t.ref_counts.nodes, at.row.node.0);
     Some((at.row, counts.unwrap().node_type, key_in(counts)))
 }
 
 /// How many cells wait for page-out.
 pub fn pending(t: &Tables) -> usize
-    ensures { result ≡ length t.now.holdings.list.items }
+    ensures { result ≡ length t.now.ref_counts.list.items }
 {
-    t.holdings.list.len()
+    t.ref_counts.list.len()
 }

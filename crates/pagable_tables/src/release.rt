@@ -1,36 +1,36 @@
 //! Releases handles, one or all that a load, a worker or the list owns; unpins loose ones; sets keys.
 
 ghost use Rattle.indexmap.specs.IndexMap.{get};
-ghost use Rattle.pagable_model.specs.declared.numbers.{LoadNumber.LoadNumber, NodeNumber.NodeNumber};
-ghost use Rattle.pagable_model.specs.declared.numbers.WorkerNumber.{WorkerNumber};
+ghost use Rattle.pagable_value_spec.specs.declared.numbers.{LoadNumber.LoadNumber, NodeNumber.NodeNumber};
+ghost use Rattle.pagable_value_spec.specs.declared.numbers.WorkerNumber.{WorkerNumber};
 ghost use Rattle.pagable_tables.specs.CascadeInvariant.{AreAtWork, IsFalling, is_valued, owns_nothing};
 ghost use Rattle.pagable_tables.specs.CascadeProgress.{SoFar, with_tables};
 ghost use Rattle.pagable_tables.specs.Core.{AreLater, DoesShed, InReach, IsLast, IsWhole, LoadsAre, core_of};
 ghost use Rattle.pagable_tables.specs.{Core.{gives_row, passes_in}, HandleTable.{AreSound, alive, live}};
 ghost use Rattle.pagable_tables.specs.{Nodes.{counts_at, work_at}, NumberTable.row_by, ValuesKept.Sheds};
-ghost use Rattle.pagable_tables.specs.declared.{cascade.Holdings.Holdings, release.Giving.Giving};
-ghost use Rattle.pagable_world.specs.Calls.{CloseCall, ReleaseCall, SetKeyCall, UnpinCall};
-ghost use Rattle.pagable_world.specs.{Cascade.{Falls, nobody, only_handle}, Kinds.is_owner, LoadCalls.is_owned_in};
-ghost use Rattle.pagable_world.specs.{Plain.Blob, World.Core};
-ghost use Rattle.pagable_world.specs.declared.{handles.{HandleRow.HandleRow, Owner.Owner}, rows.Mode.Mode};
+ghost use Rattle.pagable_tables.specs.declared.{cascade.RefCounts.RefCounts, release.ReleaseSet.ReleaseSet};
+ghost use Rattle.pagable_pager_spec.specs.Calls.{CloseCall, ReleaseCall, SetKeyCall, UnpinCall};
+ghost use Rattle.pagable_pager_spec.specs.{Cascade.{Falls, nobody, only_handle}, Kinds.is_owner, LoadCalls.is_owned_in};
+ghost use Rattle.pagable_pager_spec.specs.{Basics.Blob, World.Core};
+ghost use Rattle.pagable_pager_spec.specs.declared.{handle_row.{HandleRow.HandleRow, Owner.Owner}, mode.Mode.Mode};
 ghost use Rattle.std.specs.Prelude.{Bool, IfNone, IfSome, List, None, Ok, Option, Some, [], false, length};
 ghost use Rattle.std.specs.Prelude.{slice_get, true, ℕ, ◌&&◌, ◌<◌, ◌==◌, ◌||◌, ◌≡◌, ◌≤◌};
 
-use crate::cascade::{Holdings, fall, give_up, shed, top_after};
+use crate::cascade::{RefCounts, fall, give_up, release_at, top_after};
 use crate::checks::own;
 use crate::handle_table::{HandleAt, Handles};
 use crate::kinds::{is_loose_mode, is_owner};
 use crate::load_table::Loads;
 use crate::nodes::{Arcs, Nodes};
-use crate::tables::{Reach, Tables};
+use crate::tables::{HandleRange, Tables};
 use crate::{handle_table, load_table, nodes};
-use pagable_model::{DataKey, Error, HandleNumber, LoadNumber, NodeNumber, WorkerNumber};
-use pagable_world::Mode;
-use pagable_world::handles::{HandleRow, Owner};
+use pagable_pager_spec::Mode;
+use pagable_pager_spec::handle_row::{HandleRow, Owner};
+use pagable_value_spec::{DataKey, Error, HandleNumber, LoadNumber, NodeNumber, WorkerNumber};
 
 /// Whose handles are given up together.
 #[derive(Clone, Copy)]
-pub enum Giving {
+pub enum ReleaseSet {
     /// All that this load owns.
     Load(LoadNumber),
     /// All that this worker owns at this node.
@@ -42,23 +42,23 @@ pub enum Giving {
 }
 
 /// Whether the handle of this row is given up.
-fn gives(loads: &Loads, giving: Giving, row: HandleRow) -> bool
+fn gives(loads: &Loads, giving: ReleaseSet, row: HandleRow) -> bool
     ensures gives { (w : Core) → LoadsAre loads.now w → result ≡ gives_row w giving row }
     ensures plain { result ≡ true → is_valued row.owner ≡ false }
 {
     match giving {
-        Giving::Load(load) => is_owner(Owner::Load(load), row.owner),
-        Giving::AtNode(worker, node) => {
+        ReleaseSet::Load(load) => is_owner(Owner::Load(load), row.owner),
+        ReleaseSet::AtNode(worker, node) => {
             is_owner(Owner::Worker(worker), row.owner) && row.node.0 == node.0
         }
-        Giving::Worker(worker) => match row.owner {
+        ReleaseSet::Worker(worker) => match row.owner {
             Owner::Load(load) => match load_table::load_of(loads, load.0) {
                 Some(row) => is_owner(Owner::Worker(worker), row.owner),
                 None => false,
             },
             owner => is_owner(Owner::Worker(worker), owner),
         },
-        Giving::Listed => is_owner(Owner::List, row.owner),
+        ReleaseSet::Listed => is_owner(Owner::List, row.owner),
     }
 }
 
@@ -68,7 +68,7 @@ fn gives(loads: &Loads, giving: Giving, row: HandleRow) -> bool
 fn last(
     handles: &Handles,
     loads: &Loads,
-    giving: Giving,
+    giving: ReleaseSet,
     since: u64,
     left: u64,
     guess: usize,
@@ -93,12 +93,12 @@ fn last(
 }
 
 /// Whether handles at a node are given up of which workers have none.
-fn is_done(nodes: &Nodes, giving: Giving) -> bool
-    ensures { result ≡ true → (v : WorkerNumber) × (n : NodeNumber) × (giving ≡ Giving.AtNode v n) × (work_at nodes.now n.0 ≡ 0) }
+fn is_done(nodes: &Nodes, giving: ReleaseSet) -> bool
+    ensures { result ≡ true → (v : WorkerNumber) × (n : NodeNumber) × (giving ≡ ReleaseSet.AtNode v n) × (work_at nodes.now n.0 ≡ 0) }
 {
     match giving {
-        Giving::AtNode(_, node) => nodes::work_of(nodes, node.0) == 0,
-        Giving::Load(_) | Giving::Worker(_) | Giving::Listed => false,
+        ReleaseSet::AtNode(_, node) => nodes::work_of(nodes, node.0) == 0,
+        ReleaseSet::Load(_) | ReleaseSet::Worker(_) | ReleaseSet::Listed => false,
     }
 }
 
@@ -107,8 +107,8 @@ fn last_given(
     handles: &Handles,
     nodes: &Nodes,
     loads: &Loads,
-    giving: Giving,
-    reach: Reach,
+    giving: ReleaseSet,
+    reach: HandleRange,
     left: u64,
     guess: usize,
 ) -> Option<HandleAt>
@@ -141,17 +141,17 @@ fn first_guess(handles: &Handles, last: u64, until: u64) -> usize {
 /// All these handles, which are in this reach and of numbers up to `until`, are given up, from the last to the first, with
 /// all that goes with them. It is refused as `fall` is.
 #[tactic(auto, using(crate::proofs::CascadeEnd::shedding))]
-pub fn give_all<N: Drop>(
-    t: &mut Holdings,
+pub fn release_owned<N: Drop>(
+    t: &mut RefCounts,
     values: &mut Arcs<N>,
     loads: &Loads,
-    giving: Giving,
-    reach: Reach,
+    giving: ReleaseSet,
+    reach: HandleRange,
     until: u64,
     lists: bool,
 ) -> Result<(), Error>
     requires steady { IsFalling t.old [] owns_nothing }
-    requires listed { giving ≡ Giving.Listed → (lists ≡ false) × (t.old.list.items ≡ []) }
+    requires listed { giving ≡ ReleaseSet.Listed → (lists ≡ false) × (t.old.list.items ≡ []) }
     ensures steady { IsFalling t.new [] owns_nothing }
     ensures falls { (before u w : Core) → LoadsAre loads.now w → SoFar before u nobody lists (record t.old { unlisted = None }) → length (live t.old.handles.places.items) ≤ length u.rows
         → ((q : ℕ) → passes_in (gives_row w giving) u.rows q ≡ true → InReach reach q × (q ≤ until)) → Falls before u (passes_in (gives_row w giving) u.rows) result (with_tables u t.new) }
@@ -163,7 +163,7 @@ pub fn give_all<N: Drop>(
     while let Some(at) = last_given(&t.handles, &t.nodes, loads, giving, reach, left, guess) {
         left = at.row.number.0 - 1;
         guess = at.place;
-        shed(t, values, at, lists);
+        release_at(t, values, at, lists);
     }
     fall(t, values, lists)
 }
@@ -174,16 +174,16 @@ pub fn close<N: Drop>(t: &mut Tables, values: &mut Arcs<N>)
     ensures closed { (stored : ℕ → Option Blob) (closed : Bool) (failures failures' : ℕ) → failures ≤ failures' → CloseCall (core_of t.old stored closed failures) (Ok tt) (core_of t.new (λ key. None) true failures') }
     ensures whole { IsWhole t.new }
     ensures later { AreLater t.old → AreLater t.new }
-    ensures sheds { Sheds (counts_at t.old.holdings.nodes) (row_by values.old) (counts_at t.new.holdings.nodes) (row_by values.new) }
+    ensures sheds { Sheds (counts_at t.old.ref_counts.nodes) (row_by values.old) (counts_at t.new.ref_counts.nodes) (row_by values.new) }
 {
     t.cache.clear();
-    t.holdings.list.clear();
-    let giving = Giving::Listed;
+    t.ref_counts.list.clear();
+    let giving = ReleaseSet::Listed;
     let since = 0;
-    let reach = Reach { since, beside: 0 };
-    let until = t.holdings.last_handle;
-    let _ = give_all(
-        &mut t.holdings,
+    let reach = HandleRange { since, beside: 0 };
+    let until = t.ref_counts.last_handle;
+    let _ = release_owned(
+        &mut t.ref_counts,
         values,
         &t.loads,
         giving,
@@ -194,8 +194,8 @@ pub fn close<N: Drop>(t: &mut Tables, values: &mut Arcs<N>)
 }
 
 /// The handle of this number is given up, if the load owns it, with all that goes with it.
-pub fn give_next<N: Drop>(
-    t: &mut Holdings,
+pub fn release_if_owned<N: Drop>(
+    t: &mut RefCounts,
     values: &mut Arcs<N>,
     load: LoadNumber,
     handle: HandleNumber,
@@ -209,15 +209,15 @@ pub fn give_next<N: Drop>(
 {
     if let Some(at) = handle_table::look(&t.handles, handle) {
         if is_owner(Owner::Load(load), at.row.owner) {
-            shed(t, values, at, lists);
+            release_at(t, values, at, lists);
         }
     }
 }
 
 /// The handle at this place is given up, with all that goes with it. NumbersSpent or OutOfMemory where a cell that had to be listed isn't.
 #[tactic(auto, using(crate::proofs::CascadeEnd::shedding))]
-pub fn give_back<N: Drop>(
-    t: &mut Holdings,
+pub fn try_release_at<N: Drop>(
+    t: &mut RefCounts,
     values: &mut Arcs<N>,
     at: HandleAt,
     lists: bool,
@@ -232,7 +232,7 @@ pub fn give_back<N: Drop>(
     ensures sheds { Sheds (counts_at t.old.nodes) (row_by values.old) (counts_at t.new.nodes) (row_by values.new) }
 {
     t.unlisted = None;
-    shed(t, values, at, lists);
+    release_at(t, values, at, lists);
     fall(t, values, lists)
 }
 
@@ -250,7 +250,7 @@ pub fn release<N: Drop>(
     ensures { DoesShed lists t.old values.old (λ w w'. ReleaseCall w me handle result w') t.new values.new }
 {
     let at = own(t, me, handle)?;
-    give_back(&mut t.holdings, values, at, lists)
+    try_release_at(&mut t.ref_counts, values, at, lists)
 }
 
 /// An own loose handle lets its pin go, or has none. NumbersSpent or OutOfMemory where a cell that had to be listed isn't.
@@ -269,9 +269,9 @@ pub fn unpin<N: Drop>(
     match at.row.mode {
         Mode::LooseUnpinned => Ok(()),
         Mode::LoosePinned => {
-            t.holdings.unlisted = None;
-            give_up(&mut t.holdings, at, true, lists);
-            fall(&mut t.holdings, values, lists)
+            t.ref_counts.unlisted = None;
+            give_up(&mut t.ref_counts, at, true, lists);
+            fall(&mut t.ref_counts, values, lists)
         }
         Mode::Pinned | Mode::Shared => Err(Error::WrongMode),
     }
@@ -296,14 +296,14 @@ pub fn set_data_key<N: Drop>(
         return Ok(());
     }
     let node = at.row.node.0;
-    let mut counts = nodes::counts_of(&t.holdings.nodes, node).unwrap();
-    let is_falling = counts.pins == 0;
+    let mut counts = nodes::counts_of(&t.ref_counts.nodes, node).unwrap();
+    let is_dying = counts.pins == 0;
     counts.key = key.get();
-    counts.is_falling = is_falling;
+    counts.is_dying = is_dying;
     // where the node falls, what fell first up to now is done after it
-    counts.next = top_after(false, is_falling, t.holdings.top, counts.next);
-    nodes::set_counts(&mut t.holdings.nodes, node, counts);
-    t.holdings.top = top_after(false, is_falling, node, t.holdings.top);
-    t.holdings.unlisted = None;
-    fall(&mut t.holdings, values, lists)
+    counts.next = top_after(false, is_dying, t.ref_counts.top, counts.next);
+    nodes::set_counts(&mut t.ref_counts.nodes, node, counts);
+    t.ref_counts.top = top_after(false, is_dying, node, t.ref_counts.top);
+    t.ref_counts.unlisted = None;
+    fall(&mut t.ref_counts, values, lists)
 }

@@ -1,16 +1,16 @@
 //! Whether all tables agree, as tests ask it.
 
 ghost use Rattle.indexmap.specs.IndexMap.{get};
-ghost use Rattle.pagable_model.specs.declared.numbers.{ArcRef.ArcRef as Reference};
-ghost use Rattle.pagable_model.specs.declared.numbers.{HandleNumber.HandleNumber as Number, NodeNumber.NodeNumber};
+ghost use Rattle.pagable_value_spec.specs.declared.numbers.{ArcRef.ArcRef as Reference};
+ghost use Rattle.pagable_value_spec.specs.declared.numbers.{HandleNumber.HandleNumber as Number, NodeNumber.NodeNumber};
 ghost use Rattle.pagable_tables.specs.{Nodes.{counts_at, has_value, refs_at}, NumberTable.row_by};
 ghost use Rattle.pagable_tables.specs.Soundness.{agree, are_counts_sound, are_handles_sound, are_nodes_sound};
 ghost use Rattle.pagable_tables.specs.Soundness.{are_places_sound, are_references_owned, at_node, is_cache_sound};
 ghost use Rattle.pagable_tables.specs.Soundness.{is_had, is_known_soundly, is_list_sound, is_node_sound};
 ghost use Rattle.pagable_tables.specs.Soundness.{is_owned_once, is_row_sound, is_sound, pins_node, shares_node};
 ghost use Rattle.pagable_tables.specs.declared.place.Place.{Place, Place as Row};
-ghost use Rattle.pagable_world.specs.Kinds.{is_owner, is_shared, is_unpinned};
-ghost use Rattle.pagable_world.specs.declared.{handles.{HandleRow.HandleRow, Owner.Owner}, rows.Mode.Mode};
+ghost use Rattle.pagable_pager_spec.specs.Kinds.{is_owner, is_shared, is_unpinned};
+ghost use Rattle.pagable_pager_spec.specs.declared.{handle_row.{HandleRow.HandleRow, Owner.Owner}, mode.Mode.Mode};
 ghost use Rattle.std.specs.Prelude.{List, None, Some, [], count_by, false, is_some, not, true, ◌%◌, ◌&&◌, ◌*◌, ◌/◌};
 ghost use Rattle.std.specs.Prelude.{◌<◌, ◌==◌, ◌||◌, ◌≡◌};
 
@@ -19,9 +19,9 @@ use crate::nodes::{Arcs, Counts, Nodes};
 use crate::place::Place;
 use crate::tables::Tables;
 use crate::{load_table, nodes};
-use pagable_model::{ArcRef, Kind, NodeNumber};
-use pagable_world::Mode;
-use pagable_world::handles::{HandleRow, Owner};
+use pagable_pager_spec::Mode;
+use pagable_pager_spec::handle_row::{HandleRow, Owner};
+use pagable_value_spec::{ArcRef, Kind, NodeNumber};
 
 fn is_shared(mode: Mode) -> bool
     ensures { result ≡ is_shared mode }
@@ -87,9 +87,9 @@ fn is_named_once(references: &[ArcRef], handle: u64) -> bool
 }
 
 fn is_listed_once(t: &Tables, handle: u64) -> bool
-    ensures { result ≡ (count_by (λ (q : Number). q.0 == handle) t.now.holdings.list.items == 1) }
+    ensures { result ≡ (count_by (λ (q : Number). q.0 == handle) t.now.ref_counts.list.items == 1) }
 {
-    let listed = t.holdings.list.iter().filter(|q| q.0 == handle);
+    let listed = t.ref_counts.list.iter().filter(|q| q.0 == handle);
     listed.count() == 1
 }
 
@@ -100,7 +100,7 @@ fn is_had(t: &Tables, row: HandleRow) -> bool
     match row.owner {
         Owner::Caller => true,
         Owner::Value(node) => {
-            is_named_once(references_of(&t.holdings.nodes, node.0), row.number.0)
+            is_named_once(references_of(&t.ref_counts.nodes, node.0), row.number.0)
         }
         Owner::List => is_unpinned(row.mode) && is_listed_once(t, row.number.0),
         Owner::Load(load) => load_table::load_of(&t.loads, load.0).is_some(),
@@ -112,8 +112,8 @@ fn is_had(t: &Tables, row: HandleRow) -> bool
 fn is_row_sound(t: &Tables, row: HandleRow) -> bool
     ensures { result ≡ is_row_sound t.now row }
 {
-    let is_given = 1 <= row.number.0 && row.number.0 <= t.holdings.last_handle;
-    is_given && nodes::counts_of(&t.holdings.nodes, row.node.0).is_some() && is_had(t, row)
+    let is_given = 1 <= row.number.0 && row.number.0 <= t.ref_counts.last_handle;
+    is_given && nodes::counts_of(&t.ref_counts.nodes, row.node.0).is_some() && is_had(t, row)
 }
 
 // Whether both are true, or neither.
@@ -131,7 +131,7 @@ fn are_counts_sound(places: &[Place], node: u64, is_here: bool, counts: Counts) 
     let shares = count_shares(places, node) as u64;
     let are_counted = counts.pins == count_pins(places, node) as u64
         && counts.holds == count_handles(places, node) as u64;
-    let is_held = 1 <= counts.holds && !counts.is_falling;
+    let is_held = 1 <= counts.holds && !counts.is_dying;
     let has_value = 1 <= counts.pins || counts.key == 0;
     let is_uniform = shares == 0 || (shares == counts.holds && counts.key == 0);
     are_counted && is_held && (agree(is_here, has_value) && is_uniform)
@@ -142,19 +142,19 @@ fn are_counts_sound(places: &[Place], node: u64, is_here: bool, counts: Counts) 
 fn are_references_owned(t: &Tables, node: u64) -> bool
     ensures { result ≡ are_references_owned t.now node }
 {
-    let places = t.holdings.handles.places.as_slice();
+    let places = t.ref_counts.handles.places.as_slice();
     let owner = Owner::Value(NodeNumber(node));
-    references_of(&t.holdings.nodes, node)
+    references_of(&t.ref_counts.nodes, node)
         .iter()
         .all(|r| is_owned_once(places, owner, r.handle.0))
 }
 
 // Whether a node, if it is there, is in step with its handles, its value and the handles by which that refers.
 fn is_node_sound(t: &Tables, node: u64, is_here: bool) -> bool
-    ensures { result ≡ is_node_sound t.now node is_here (counts_at t.now.holdings.nodes node) }
+    ensures { result ≡ is_node_sound t.now node is_here (counts_at t.now.ref_counts.nodes node) }
 {
-    let places = t.holdings.handles.places.as_slice();
-    match nodes::counts_of(&t.holdings.nodes, node) {
+    let places = t.ref_counts.handles.places.as_slice();
+    match nodes::counts_of(&t.ref_counts.nodes, node) {
         Some(counts) => {
             are_counts_sound(places, node, is_here, counts) && are_references_owned(t, node)
         }
@@ -170,7 +170,7 @@ fn has_value<N: Drop>(values: &Arcs<N>, node: u64) -> bool
 }
 
 fn is_number_sound<N: Drop>(t: &Tables, values: &Arcs<N>, node: u64) -> bool
-    ensures { result ≡ is_node_sound t.now node (is_some (row_by values.now node)) (counts_at t.now.holdings.nodes node) }
+    ensures { result ≡ is_node_sound t.now node (is_some (row_by values.now node)) (counts_at t.now.ref_counts.nodes node) }
 {
     is_node_sound(t, node, has_value(values, node))
 }
@@ -201,7 +201,7 @@ fn count_dead(places: &[Place]) -> usize
 fn are_places_sound(t: &Tables) -> bool
     ensures { result ≡ are_places_sound t.now }
 {
-    let places = t.holdings.handles.places.as_slice();
+    let places = t.ref_counts.handles.places.as_slice();
     places
         .iter()
         .all(|place| !place.is_live() || is_row_sound(t, place.row()))
@@ -211,8 +211,8 @@ fn are_places_sound(t: &Tables) -> bool
 fn are_handles_sound(t: &Tables) -> bool
     ensures { result ≡ are_handles_sound t.now }
 {
-    let dead = count_dead(t.holdings.handles.places.as_slice());
-    are_places_sound(t) && dead == t.holdings.handles.dead
+    let dead = count_dead(t.ref_counts.handles.places.as_slice());
+    are_places_sound(t) && dead == t.ref_counts.handles.dead
 }
 
 // Whether each entry of the list is a handle that the list owns.
@@ -220,8 +220,8 @@ fn are_handles_sound(t: &Tables) -> bool
 fn is_list_sound(t: &Tables) -> bool
     ensures { result ≡ is_list_sound t.now }
 {
-    let places = t.holdings.handles.places.as_slice();
-    t.holdings
+    let places = t.ref_counts.handles.places.as_slice();
+    t.ref_counts
         .list
         .iter()
         .all(|entry| is_owned_once(places, Owner::List, entry.0))
@@ -229,12 +229,12 @@ fn is_list_sound(t: &Tables) -> bool
 
 // Whether what the cache knows under a kind was given, and fits the kind while it lives.
 fn is_known_soundly(t: &Tables, kind: Kind, node: NodeNumber) -> bool
-    ensures { result ≡ is_known_soundly t.now kind.0 node.0 (counts_at t.now.holdings.nodes node.0) }
+    ensures { result ≡ is_known_soundly t.now kind.0 node.0 (counts_at t.now.ref_counts.nodes node.0) }
 {
     let is_given = node.0 <= t.last_node;
-    match nodes::counts_of(&t.holdings.nodes, node.0) {
+    match nodes::counts_of(&t.ref_counts.nodes, node.0) {
         Some(counts) => {
-            let is_shared = 1 <= count_shares(t.holdings.handles.places.as_slice(), node.0);
+            let is_shared = 1 <= count_shares(t.ref_counts.handles.places.as_slice(), node.0);
             is_given && (counts.node_type == kind.0 / 3 && agree(is_shared, kind.0 % 3 == 0))
         }
         None => is_given,
@@ -260,5 +260,5 @@ pub fn is_sound<N: Drop>(t: &Tables, values: &Arcs<N>) -> bool
 {
     are_handles_sound(t)
         && (is_list_sound(t) && is_cache_sound(t))
-        && (t.holdings.top == 0 && are_nodes_sound(t, values))
+        && (t.ref_counts.top == 0 && are_nodes_sound(t, values))
 }

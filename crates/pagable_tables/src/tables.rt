@@ -1,32 +1,32 @@
 //! All tables of a pager together, with room for handles and for entries of the list.
 
-ghost use Rattle.pagable_model.specs.declared.numbers.NodeNumber.{NodeNumber};
+ghost use Rattle.pagable_value_spec.specs.declared.numbers.NodeNumber.{NodeNumber};
 ghost use Rattle.pagable_tables.specs.{Core.{AreLater, Does, IsWhole, plain_of}, HandleTable.room};
 ghost use Rattle.pagable_tables.specs.{Indexes.{known_at, load_at, worker_at}, Nodes.counts_at};
-ghost use Rattle.pagable_tables.specs.declared.cascade.Holdings.{Holdings};
-ghost use Rattle.pagable_world.specs.Calls.{ClearCall, ReserveCall, room_of};
+ghost use Rattle.pagable_tables.specs.declared.cascade.RefCounts.{RefCounts};
+ghost use Rattle.pagable_pager_spec.specs.Calls.{ClearCall, ReserveCall, room_of};
 ghost use Rattle.std.specs.Prelude.{None, Ok, OnErr, OnOk, [], length, ℕ, ◌+◌, ◌<◌, ◌≡◌, ◌≤◌};
 ghost use Rattle.std.specs.VecDeque.{deque_capacity};
 
-use crate::cascade::Holdings;
+use crate::cascade::RefCounts;
 use crate::handle_table;
 use crate::handle_table::Handles;
 use crate::load_table::Loads;
 use crate::number_table::NumberTable;
 use indexmap::IndexMap;
-use pagable_model::{DataKey, Error, HandleNumber, NodeNumber};
+use pagable_value_spec::{DataKey, Error, HandleNumber, NodeNumber};
 use std::alloc::{AllocError, Global};
 use std::collections::VecDeque;
 
 /// The workers at work by their numbers, and which handles each may have.
-pub type Workers = IndexMap<u64, Reach>;
+pub type Workers = IndexMap<u64, HandleRange>;
 
 /// The nodes that the cache knows, by kinds and keys.
 pub type Cache = IndexMap<(u32, DataKey), NodeNumber>;
 
 /// Which handles a worker may have: those of numbers above `since`, and that of number `beside`, 0 where it is none.
 #[derive(Clone, Copy)]
-pub struct Reach {
+pub struct HandleRange {
     pub since: u64,
     pub beside: u64,
 }
@@ -34,7 +34,7 @@ pub struct Reach {
 /// All tables of a pager, with no fact that is true of them all (`IsWhole`).
 #[derive(Drop)]
 pub struct Tables {
-    pub holdings: Holdings,
+    pub ref_counts: RefCounts,
     /// Which node is known under a kind and a key.
     pub cache: Cache,
     /// The cache is looked through for entries that can't be used when it has more than so many.
@@ -51,18 +51,18 @@ pub struct Tables {
 
 /// Tables without a node. They take no memory.
 pub fn new(alloc: Global) -> Tables
-    ensures rows { result.holdings.handles.places.items ≡ [] }
-    ensures nodes { (n : ℕ) → counts_at result.holdings.nodes n ≡ None }
-    ensures list { result.holdings.list.items ≡ [] }
+    ensures rows { result.ref_counts.handles.places.items ≡ [] }
+    ensures nodes { (n : ℕ) → counts_at result.ref_counts.nodes n ≡ None }
+    ensures list { result.ref_counts.list.items ≡ [] }
     ensures cache { (kind key : ℕ) → known_at result.cache kind key ≡ None }
     ensures loads { (l : ℕ) → load_at result.loads l ≡ None }
     ensures workers { (v : ℕ) → worker_at result.workers v ≡ None }
-    ensures last { (result.last_node ≡ 0) × (result.holdings.last_handle ≡ 0) × (result.last_load ≡ 0) × (result.last_worker ≡ 0) }
+    ensures last { (result.last_node ≡ 0) × (result.ref_counts.last_handle ≡ 0) × (result.last_load ≡ 0) × (result.last_worker ≡ 0) }
     ensures whole { IsWhole result }
     ensures later { AreLater result }
 {
     Tables {
-        holdings: Holdings {
+        ref_counts: RefCounts {
             handles: Handles {
                 places: Vec::new(alloc),
                 dead: 0,
@@ -89,8 +89,8 @@ pub fn room(t: &Tables) -> usize
     requires { IsWhole t.now }
     ensures { result ≡ room_of (plain_of t.now) }
 {
-    let entries = t.holdings.list.capacity() - t.holdings.list.len();
-    handle_table::room_of(&t.holdings.handles).min(entries)
+    let entries = t.ref_counts.list.capacity() - t.ref_counts.list.len();
+    handle_table::room_of(&t.ref_counts.handles).min(entries)
 }
 
 // Makes places ready for so many more entries. A refused growth is passed on where they are still too few.
@@ -112,8 +112,8 @@ pub fn reserve(t: &mut Tables, more: usize) -> Result<(), Error>
     requires { IsWhole t.old }
     ensures { Does t.old (λ w w'. ReserveCall w more result w') t.new }
 {
-    handle_table::reserve(&mut t.holdings.handles, more)?;
-    reserve_entries(&mut t.holdings.list, more)?;
+    handle_table::reserve(&mut t.ref_counts.handles, more)?;
+    reserve_entries(&mut t.ref_counts.list, more)?;
     Ok(())
 }
 

@@ -1,12 +1,12 @@
 //! Page-out workers: they begin, release what they have at a node, and end.
 
 ghost use Rattle.indexmap.specs.IndexMap.{get};
-ghost use Rattle.pagable_model.specs.declared.numbers.{NodeNumber.NodeNumber, WorkerNumber.WorkerNumber};
+ghost use Rattle.pagable_value_spec.specs.declared.numbers.{NodeNumber.NodeNumber, WorkerNumber.WorkerNumber};
 ghost use Rattle.pagable_tables.specs.Core.{AreLater, BeginsWorker, Does, DoesShed, IsWhole, TakesWorker, left_load};
 ghost use Rattle.pagable_tables.specs.Indexes.{load_at, reach_at, worker_at};
-ghost use Rattle.pagable_tables.specs.declared.{load_table.LoadRow.LoadRow, release.Giving.Giving};
-ghost use Rattle.pagable_world.specs.{Cascade.FallsAnyhow, Kinds.{is_owner, owner_worker}, Plain.updated};
-ghost use Rattle.pagable_world.specs.{Workers.{WorkerEnds, is_workers_at}, declared.handles.Owner.Owner};
+ghost use Rattle.pagable_tables.specs.declared.{load_table.LoadRow.LoadRow, release.ReleaseSet.ReleaseSet};
+ghost use Rattle.pagable_pager_spec.specs.{Cascade.FallsAnyhow, Kinds.{is_owner, owner_worker}, Basics.updated};
+ghost use Rattle.pagable_pager_spec.specs.{Workers.{WorkerEnds, is_workers_at}, declared.handle_row.Owner.Owner};
 ghost use Rattle.std.specs.Prelude.{IfOk, Ok, is_some, length, not, true, ℕ, ◌+◌, ◌<◌, ◌==◌, ◌≡◌};
 
 use crate::kinds::is_owner;
@@ -14,10 +14,10 @@ use crate::load_table;
 use crate::load_table::{LoadRow, Loads};
 use crate::nodes::Arcs;
 use crate::pending::take_pending;
-use crate::release::{Giving, give_all};
-use crate::tables::{Reach, Tables, Workers};
-use pagable_model::{Error, NodeNumber, WorkerNumber};
-use pagable_world::handles::Owner;
+use crate::release::{ReleaseSet, release_owned};
+use crate::tables::{HandleRange, Tables, Workers};
+use pagable_pager_spec::handle_row::Owner;
+use pagable_value_spec::{Error, NodeNumber, WorkerNumber};
 
 /// One worker more is at work. NumbersSpent where no number is left for it, OutOfMemory where it has no place.
 #[tactic(auto, using(crate::proofs::OwnedByLoad::working))]
@@ -32,8 +32,8 @@ pub fn worker_begin(t: &mut Tables) -> Result<WorkerNumber, Error>
         return Err(Error::NumbersSpent);
     }
     let worker = t.last_worker + 1;
-    let since = t.holdings.last_handle;
-    let reach = Reach { since, beside: 0 };
+    let since = t.ref_counts.last_handle;
+    let reach = HandleRange { since, beside: 0 };
     load_table::open(&mut t.workers, worker, reach)?;
     t.last_worker = worker;
     Ok(WorkerNumber(worker))
@@ -42,7 +42,7 @@ pub fn worker_begin(t: &mut Tables) -> Result<WorkerNumber, Error>
 /// The same, for the entry at this place of the list, which moves to the worker.
 pub fn worker_take(t: &mut Tables, place: usize) -> Result<WorkerNumber, Error>
     requires whole { IsWhole t.old }
-    requires within { place < length t.old.holdings.list.items }
+    requires within { place < length t.old.ref_counts.list.items }
     ensures { Does t.old (λ w w'. TakesWorker w place result w') t.new }
 {
     let worker = worker_begin(t)?;
@@ -51,11 +51,11 @@ pub fn worker_take(t: &mut Tables, place: usize) -> Result<WorkerNumber, Error>
 }
 
 /// Which handles this worker may have.
-fn reach_of(workers: &Workers, worker: WorkerNumber) -> Reach
+fn reach_of(workers: &Workers, worker: WorkerNumber) -> HandleRange
     ensures { result ≡ reach_at workers.now worker.0 }
 {
     let beside = 0;
-    let nothing = Reach { since: 0, beside };
+    let nothing = HandleRange { since: 0, beside };
     workers.get(&worker.0).copied().unwrap_or(nothing)
 }
 
@@ -71,11 +71,11 @@ pub fn release_node<N: Drop>(
     requires later { AreLater t.old }
     ensures { DoesShed lists t.old values.old (λ w w'. FallsAnyhow w w (is_workers_at w worker.0 node.0) w') t.new values.new }
 {
-    let giving = Giving::AtNode(worker, node);
+    let giving = ReleaseSet::AtNode(worker, node);
     let reach = reach_of(&t.workers, worker);
-    let until = t.holdings.last_handle;
-    let _ = give_all(
-        &mut t.holdings,
+    let until = t.ref_counts.last_handle;
+    let _ = release_owned(
+        &mut t.ref_counts,
         values,
         &t.loads,
         giving,
@@ -103,11 +103,11 @@ pub fn worker_end<N: Drop>(t: &mut Tables, values: &mut Arcs<N>, worker: WorkerN
     requires later { AreLater t.old }
     ensures { DoesShed lists t.old values.old (λ w w'. WorkerEnds w worker.0 w') t.new values.new }
 {
-    let giving = Giving::Worker(worker);
+    let giving = ReleaseSet::Worker(worker);
     let reach = reach_of(&t.workers, worker);
-    let until = t.holdings.last_handle;
-    let _ = give_all(
-        &mut t.holdings,
+    let until = t.ref_counts.last_handle;
+    let _ = release_owned(
+        &mut t.ref_counts,
         values,
         &t.loads,
         giving,

@@ -1,8 +1,8 @@
 -- Lists that hold the same items in another order.
 -- Entries that are put in order of their keys: those with different keys may come in any order.
 -- Maps in no order: what putting in, writing and reading their entries gives, in whatever order they stand.
-use Rattle.pagable_model.specs.{Carried.of_hash_map, Form.hash-map-form, Hashed.{MeansHashMap, PutsAnywhere}}
-use Rattle.{pagable_model.specs.{Keys.{code, code_order}, Meaning.plain, Shape.hash_map}, pagable_traits.proofs.{Items.{Wraps, sequence-same}, Maps.{Alike, EntriesMean, EntryMeans}}}
+use Rattle.pagable_value_spec.specs.{CarriedTypes.of_hash_map, Form.hash-map-form, Hashed.{MeansHashMap, PutsAnywhere}}
+use Rattle.{pagable_value_spec.specs.{Keys.{code, code_order}, Meaning.plain, Shape.hash_map}, pagable_traits.proofs.{Items.{Wraps, sequence-same}, Maps.{Alike, EntriesMean, EntryMeans}}}
 use Rattle.pagable_traits.proofs.Maps.{IsSameOf, alike-more, alike-none, differ, entries-mean, entries-of-pairs, entries-written, entry-more, forms-of-entries, pairs-of-entries, reads-entries}
 use Rattle.pagable_traits.proofs.{Maps.same-entries, Words.{AllAfter, Apart, ArcRef, Bool, Collected, Context, Differ, Entries, Entry, Error, FormAt, FormsAt, GivesSome, IsDistinct, IsPermutation}}
 use Rattle.pagable_traits.proofs.Words.{IsTotalOrder, List, Meaning, MeansPair, Nesting, None, Option, Ordering, PutInTurn, Rest, Result, Shape, Some, [], ap, arith, both, counted, entry, false}

@@ -1,7 +1,7 @@
 -- Items one after another, as the loops write and read them, and without their count.
 -- Items that are put in one after another as they are read.
 -- Items that a walk yields: what writing each, after their count, makes of the whole that holds them.
-use Rattle.{pagable_codec.proofs.Writing.out_is, pagable_model.specs.{Form.{Form, array-form, run-form}, Shape.{array, run}}, pagable_traits.proofs.Parts.{err_along, ok_along, only-count, only-part}}
+use Rattle.{pagable_codec.proofs.Writing.out_is, pagable_value_spec.specs.{Form.{Form, array-form, run-form}, Shape.{array, run}}, pagable_traits.proofs.Parts.{err_along, ok_along, only-count, only-part}}
 use Rattle.pagable_traits.proofs.Words.{ArcRef, Bor, Collected, Context, Err, Error, FormAt, Forms, FormsAt, Gave, Gets, GivesSome, IfErr, List, MeanAll, Meaning, Meanings, MeansList, MeansPair}
 use Rattle.pagable_traits.proofs.Words.{Nesting, NoForm, NoFormOfSome, NoForms, NoFormsOfSome, Ok, Option, Out, PutInTurn, Refused, RefusedAll, RefusedAmong, RefusedCounted, Rest, Result, Shape, Some}
 use Rattle.pagable_traits.proofs.Words.{SomeMeaning, WritesEach, WritesSome, WritesSomeAll, [], added, ap, append-nil, append_assoc, arith, counted, get_or, grows_trans, inl, items}

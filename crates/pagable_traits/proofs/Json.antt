@@ -1,8 +1,8 @@
 -- What writing a JSON value adds: its case, and a form of its part; and which values have no form.
 -- What reading a JSON value gives: its case, and then its part.
-use Rattle.{pagable_codec.specs.declared.{env.Env.Ghosts as Environments, serializer.PagableSerializer.Ghosts as Serializers}, pagable_model.specs.Form.{json-array-form, json-flag-form}}
-use Rattle.pagable_model.specs.{Form.{json-null-form, json-number-form, json-object-form, json-text-form}, Keyed.text_is_ordered, Lifted.{list_single, pair_single}, Numbers.{IsSigned, unsigned_form}}
-use Rattle.{pagable_model.specs.{Numbers.varint, Reading.{JsonCase, below, json_case}}, pagable_traits.proofs.Items.{Wraps, gives-seen, refuses-items, refuses-long, wraps_list, writes-counted}}
+use Rattle.{pagable_codec.specs.declared.{env.Env.Ghosts as Environments, serializer.PagableSerializer.Ghosts as Serializers}, pagable_value_spec.specs.Form.{json-array-form, json-flag-form}}
+use Rattle.pagable_value_spec.specs.{Form.{json-null-form, json-number-form, json-object-form, json-text-form}, Keyed.text_is_ordered, Composite.{list_single, pair_single}, Numbers.{IsSigned, unsigned_form}}
+use Rattle.{pagable_value_spec.specs.{Numbers.varint, Reading.{JsonCase, below, json_case}}, pagable_traits.proofs.Items.{Wraps, gives-seen, refuses-items, refuses-long, wraps_list, writes-counted}}
 use Rattle.pagable_traits.proofs.{JsonSteps.{below as one_down, deeper, wrote-err}, Maps.{IsOrderOf, Written, key_like, reads-entries, sorted-map-put, viewed, wraps_sorted_map}, Parts.refuses_whole}
 use Rattle.pagable_traits.proofs.{Parts.writes_whole, Words.{Answer, ArcRef, Bool, Entry, Err, Error, FormAt, Gave, GivesSome, Global, Grows, IfErr, Is}}
 use Rattle.pagable_traits.proofs.Words.{IsStrictlySortedBy, List, MeanAll, Meaning, MeansList, MeansPair, Nesting, NoForm, None, Ok, OnOk, Option, Out, Piece, Refused, Rest, Result, Shape, Some}
@@ -12,14 +12,14 @@ use Rattle.pagable_traits.proofs.Words.{list, list-form, long_or, long_or_memory
 use Rattle.pagable_traits.proofs.Words.{of_value, ordered, ordering_reverse, pair, pair_has_meaning, pos, put_all, put_sorted, read, read_with, refl, rules, seen, sequence, signed}
 use Rattle.pagable_traits.proofs.Words.{signed-form, sorted-map-form, sorted_map, string_bytes, string_cmp, subst, suc, sym, text, text-form, text_order, then, to_z-of_z, true, unsigned_at, variant}
 use Rattle.pagable_traits.{proofs.Words.{view, w64, ℕ, ℤ, ◌+◌, ◌-◌, ◌<◌, ◌^◌, ◌∙◌, ◌∷◌, ◌≡◌, ◌≤◌}, specs.{JsonData.long_or_no_memory, Clauses.{ObjectOf, front, part_of}}}
-use Rattle.{pagable_model.specs.{Refusals.is_writing_fault, Writing.{NoFormOfSome, WritesSomeAll}}, pagable_traits.{proofs.Words.{get_or, take, ◌++◌}, specs.JsonFaults.{EntryFault, Fault, ItemFault, MemberFault, item-fault, json_of_value, member-fault}}}
+use Rattle.{pagable_value_spec.specs.{Refusals.is_writing_fault, Writing.{NoFormOfSome, WritesSomeAll}}, pagable_traits.{proofs.Words.{get_or, take, ◌++◌}, specs.JsonFaults.{EntryFault, Fault, ItemFault, MemberFault, item-fault, json_of_value, member-fault}}}
 use Rattle.std.{proofs.{Common.drop, Math.Seq.split_at}, specs.Prelude.IsTrue}
 use Rattle.serde_json.{proofs.Views.{view-Array, view-Object}, specs.{Data.{Data, Num, array, boolean, null, number, object, string}, Find.of_integer, View.{items_view, members_view}}}
 use Rattle.{serde_json.specs.declared.{number.Number.Number, value.Value.the_lemmas}, std.{proofs.{Common.BTreeMap, lemmas.Bool.{lt-ltb, ne_eqb}}, specs.Prelude.{nat_lt, negsuc}}}
 use Rattle.{pagable_traits.proofs.Words.{IsErrAnd, Read, bool_at, text_at}, std.specs.String.{string_cmp_total}}
 use Rattle.serde_json.specs.Data as kit
 use Rattle.serde_json.specs.declared.value.Value as values
-use Rattle.pagable_model.specs.Meaning as meanings
+use Rattle.pagable_value_spec.specs.Meaning as meanings
 
 -- a case below 128 is its byte
 pub case-byte : (case : ℕ) → nat_lt case 128 ≡ true → unsigned_form w64 case ≡ case ∷ []

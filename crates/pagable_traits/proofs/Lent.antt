@@ -1,7 +1,7 @@
 -- What was read holds what was lent: a value by itself, one that is made of others, and items that are put in one after another.
-use Rattle.pagable_model.specs.{Standing.{HoldsLent, IsLent, MovesOn, Standing}, declared.{error.Error.Error, numbers.ArcRef.ArcRef}}
-use Rattle.pagable_traits.{proofs.{Items.puts-last, Words.{Bool, Err, IsPermutation, List, None, Ok, Option, Ordering, PutInTurn, Result, Some, [], ap, false, insert_entry, lookup, match_ordering, refl, set_value, subst, sym, true, ℕ, ◌++◌, ◌∙◌, ◌∷◌, ◌≡◌}}, specs.{Beside.{Beside, CollectsHeld, holding_beside, lists_beside, options_beside, pairs_beside, results_beside}, References.holding, declared.holding.HoldingArc.HoldingArc}}
-use Rattle.pagable_model.specs.Hashed.{PutsAnywhere}
+use Rattle.pagable_value_spec.specs.{Cursor.{HoldsLent, IsLent, MovesOn, Standing}, declared.{error.Error.Error, numbers.ArcRef.ArcRef}}
+use Rattle.pagable_traits.{proofs.{Items.puts-last, Words.{Bool, Err, IsPermutation, List, None, Ok, Option, Ordering, PutInTurn, Result, Some, [], ap, false, insert_entry, lookup, match_ordering, refl, set_value, subst, sym, true, ℕ, ◌++◌, ◌∙◌, ◌∷◌, ◌≡◌}}, specs.{HeldValues.{Beside, CollectsHeld, holding_beside, lists_beside, options_beside, pairs_beside, results_beside}, References.holding, declared.arc.HoldingArc.HoldingArc}}
+use Rattle.pagable_value_spec.specs.Hashed.{PutsAnywhere}
 use Rattle.indexmap.specs.IndexMap as placed_maps
 use Rattle.std.{proofs.lemmas.List.{Elements.{All-cons, All-head, All-nil, All-push, All-tail, All-weaker}, Sorted.All-permutation}, specs.{Arc.arc_value, List.All, Prelude.{IfOk, MatchOption, cond, if◌then◌else◌, option_and_then}}}
 

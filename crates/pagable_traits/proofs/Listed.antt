@@ -1,8 +1,8 @@
 -- The references of values that hold others, one after the other; and that a value that was made of a reference means what the reference means.
-use Rattle.pagable_model.specs.{Meaning.{Meaning, lifted, pair, reference, sequence}, References.references_in, Shape.Shape, Standing.{Gave, Is}, Writing.{Nesting, Out}}
-use Rattle.{pagable_model.specs.{Writing.WritesSome, declared.{error.Error.Error, numbers.ArcRef.ArcRef}}, pagable_traits.specs.Refers.{ListsInOrder, lifted_refers_to_nothing}, std.proofs.Common.{Err, List, Ok, Result}}
+use Rattle.pagable_value_spec.specs.{Meaning.{Meaning, lifted, pair, reference, sequence}, References.references_in, Shape.Shape, Cursor.{Gave, Is}, Writing.{Nesting, Out}}
+use Rattle.{pagable_value_spec.specs.{Writing.WritesSome, declared.{error.Error.Error, numbers.ArcRef.ArcRef}}, pagable_traits.specs.Refers.{ListsInOrder, lifted_refers_to_nothing}, std.proofs.Common.{Err, List, Ok, Result}}
 use Rattle.std.{proofs.{Common.{ap, append_assoc, length, slice_index_or, sym, ℕ, ◌++◌, ◌+◌, ◌<◌, ◌∙◌, ◌∷◌, ◌≡◌, ◌≤◌}, lemmas.List.{append-nil, drop_all, drop_more}}, specs.Prelude.{Bool, OnOk, drop, false, map, true}}
-use Rattle.pagable_model.specs.Meaning as meanings
+use Rattle.pagable_value_spec.specs.Meaning as meanings
 
 pub pair_listed : (m n : Meaning ArcRef) (old mid new : List ArcRef) → mid ≡ old ++ references_in m → new ≡ mid ++ references_in n → new ≡ old ++ references_in (pair m n)
 unfolding references_in

@@ -1,10 +1,10 @@
 -- What values, and their parts one after another, are written and read as: basic values, texts and patterns, what may be absent, successes and failures, tuples and
 -- cells. All that a reader and a writer owe, from what those of the bytes or of the parts tell.
 use Rattle.pagable_codec.{proofs.Writing.{writes_flag, writes_letter, writes_signed, writes_unsigned}, specs.declared.{deserializer.PagableDeserializer.Ghosts as Deserializers, env.Env.Ghosts as Environments}}
-use Rattle.{pagable_codec.specs.declared.serializer.PagableSerializer.Ghosts as Serializers, pagable_flavors.specs.Calls.Appends, pagable_model.specs.Basic.{char_form, duration_at, duration_form}}
-use Rattle.pagable_model.specs.{Basic.{length_at, nanos_of_second, text_at}, Carried.{nanos_of, of_duration, of_span, seconds_of}, Form.{duration-form, none-form, pattern-form}, Lifted.{MayHold, MeansOnce}}
-use Rattle.pagable_model.specs.{Meaning.pattern, Numbers.{IsSigned, bound, signed_form, unsigned_form, varint_at}, Refusals.is_reading_fault, Shape.{duration, flag as flag_shape, letter, unsigned}}
-use Rattle.{pagable_model.specs.Track.{GoesOn, Track, left}, pagable_traits.proofs.Words.{Answer, ArcRef, Bool, Context, Err, Error, FormAt, Gives, GivesSome, IfErr, Is, List, Meaning, MeansOption}}
+use Rattle.{pagable_codec.specs.declared.serializer.PagableSerializer.Ghosts as Serializers, pagable_flavors.specs.Calls.Appends, pagable_value_spec.specs.BasicValues.{char_form, duration_at, duration_form}}
+use Rattle.pagable_value_spec.specs.{BasicValues.{length_at, nanos_of_second, text_at}, CarriedTypes.{nanos_of, of_duration, of_span, seconds_of}, Form.{duration-form, none-form, pattern-form}, Composite.{MayHold, MeansOnce}}
+use Rattle.pagable_value_spec.specs.{Meaning.pattern, Numbers.{IsSigned, bound, signed_form, unsigned_form, varint_at}, Refusals.is_reading_fault, Shape.{duration, flag as flag_shape, letter, unsigned}}
+use Rattle.{pagable_value_spec.specs.Progress.{GoesOn, Track, left}, pagable_traits.proofs.Words.{Answer, ArcRef, Bool, Context, Err, Error, FormAt, Gives, GivesSome, IfErr, Is, List, Meaning, MeansOption}}
 use Rattle.pagable_traits.proofs.Words.{MeansPair, Nesting, NoForm, None, Ok, OnOk, Option, Out, Read, Refused, Rest, Result, Shape, SomeMeaning, String, WritesSome, Wrote, [], absent, added}
 use Rattle.pagable_traits.proofs.Words.{ap, arith, bool_at, bool_form, both, both-form, bytes_of, char_at, err-form, failure, false, grows_bytes, inr, integer, length, long_or}
 use Rattle.pagable_traits.proofs.Words.{long_or_memory, longest, means-none, means-some, memory, memory_or, memory_refuses, moves_trans, nested_in, never, number, ok-form}
@@ -13,8 +13,8 @@ use Rattle.pagable_traits.{proofs.Words.{to_z-of_z, true, unsigned_at, w32, w64,
 use Rattle.std.{proofs.{Common.{FitsSigned, of_z, rules, suc, to_z, zero, ◌/◌, ◌<◌}, lemmas.{Bool.{Decides.nat_tests, le-ltb}, Nat.mod_below}}, specs.{Borrow.Bor, Char.IsScalar, Duration.as_nanos, Prelude.option_copied}}
 use Rattle.pagable_traits.proofs.Words.{Gets, MovesOn, Reads, context_in}
 use Rattle.std.specs.{Int.{Width, w8}, Prelude.◌≢◌, Str.IsUtf8, declared.time.Duration.Duration}
-use Rattle.pagable_model.specs.Meaning as meanings
-use Rattle.pagable_model.specs.Shape as shapes
+use Rattle.pagable_value_spec.specs.Meaning as meanings
+use Rattle.pagable_value_spec.specs.Shape as shapes
 
 -- ---- results
 

@@ -1,9 +1,9 @@
 -- Values in a registry, by their index.
 -- Tagged values: what writing a tag and a body adds, and what reading by the registered reader gives.
-use Rattle.{pagable_codec.specs.declared.{deserializer.PagableDeserializer.Ghosts as Deserializers, env.Env.Ghosts as Environments}, pagable_model.specs.Canonical.{HasNoCase, IsReadable, LiesIn}}
-use Rattle.pagable_model.specs.{Canonical.{Throughout, Within}, Carried.{body_of, is_registered, of_tagged, tagged_by}, Form.{static-form, tagged-form}, Meaning.lifted, Numbers.{bound, unsigned_form}}
-use Rattle.pagable_model.specs.{Reading.registered, Shape.{cases, static_value, tagged}, Statics.{HasEqual, NoEqualBelow}, Tagged.{HasDistinctTags, IsLastFor, MeansTagged, NoneFor}}
-use Rattle.{pagable_model.specs.Tagged.{ReadsWhatIsWritten, grammars}, pagable_traits.proofs.{Parts.{err_along, ok_along}, Words.{Answer, ArcRef, Bool, Context, Err, Error, Gets, Gives, GivesSome}}}
+use Rattle.{pagable_codec.specs.declared.{deserializer.PagableDeserializer.Ghosts as Deserializers, env.Env.Ghosts as Environments}, pagable_value_spec.specs.Canonical.{HasNoCase, IsReadable, LiesIn}}
+use Rattle.pagable_value_spec.specs.{Canonical.{Throughout, Within}, CarriedTypes.{body_of, is_registered, of_tagged, tagged_by}, Form.{static-form, tagged-form}, Meaning.lifted, Numbers.{bound, unsigned_form}}
+use Rattle.pagable_value_spec.specs.{Reading.registered, Shape.{cases, static_value, tagged}, Statics.{HasEqual, NoEqualBelow}, Tagged.{HasDistinctTags, IsLastFor, MeansTagged, NoneFor}}
+use Rattle.{pagable_value_spec.specs.Tagged.{ReadsWhatIsWritten, grammars}, pagable_traits.proofs.{Parts.{err_along, ok_along}, Words.{Answer, ArcRef, Bool, Context, Err, Error, Gets, Gives, GivesSome}}}
 use Rattle.pagable_traits.proofs.Words.{IfErr, Is, List, Meaning, Meanings, MovesOn, Nesting, NoForm, Ok, Out, Reads, Refused, Rest, Result, Shape, Some, SomeMeaning, WritesSome, [], added, ap, arith}
 use Rattle.pagable_traits.proofs.Words.{bytes_of, context_in, false, get_or, inl, inr, length, length-map, long_or_memory, longest, map, memory, memory_or, memory_refuses, moves_trans, read}
 use Rattle.pagable_traits.proofs.Words.{read_with, refl, subst, suc, sym, text_at, text_form, then, true, w32, writes_bytes, zero, ℕ, ◌++◌, ◌+◌, ◌<◌, ◌>>=◌, ◌∙◌, ◌∷◌, ◌≡◌, ◌≤◌}

@@ -1,10 +1,10 @@
 -- What `regex` builds of a text, and why it builds nothing.
 use Rattle.std.{proofs.Common.{inl, inr}, specs.Prelude.{List, Ok, Result, refl, true, ℕ, ◌≡◌, ◌≢◌, ◌⊎◌}}
-use Rattle.pagable_model.specs.Meaning.{Meaning, pattern}
-use Rattle.{pagable_model.specs.{Refusals.is_own_reading, declared.{error.Error.Error, numbers.ArcRef.ArcRef}}, pagable_traits.specs.OwnCauses.ReadCauses, regex.specs.Failures.IsRightKind}
+use Rattle.pagable_value_spec.specs.Meaning.{Meaning, pattern}
+use Rattle.{pagable_value_spec.specs.{Refusals.is_own_reading, declared.{error.Error.Error, numbers.ArcRef.ArcRef}}, pagable_traits.specs.OwnCauses.ReadCauses, regex.specs.Failures.IsRightKind}
 use Rattle.regex.specs.{Patterns.default_config, Sources.IsRefusal, Strings.{IsReadFromSource, regex_config, regex_source}, declared.{error.Error.Error as Cause, string.regex.Regex.Regex}}
 use Rattle.regex.specs.declared.error.Error.TheVariants as causes
-use Rattle.pagable_model.specs.declared.error.Error.TheVariants as errors
+use Rattle.pagable_value_spec.specs.declared.error.Error.TheVariants as errors
 
 -- The regular expression is what the grammar of `regex` reads in this text, with the default options.
 pub record IsBuiltFrom (text : List ℕ) (built : Regex) : Type 0 where

@@ -1,9 +1,9 @@
 -- What functions that write and read values owe: the clauses that the traits of values have, in one record.
 use Rattle.std.specs.{BTreeMap.{BTreeMap, insert_entry}, Int.w64, Prelude.{IfErr, List, OnOk, Result, String, [], ℕ, ◌-◌, ◌≡◌, ◌≤◌}, String.string_cmp, declared.alloc.Global.Global}
 use Rattle.pagable_codec.specs.declared.{deserializer.PagableDeserializer.Ghosts as Deserializers, env.Env.Ghosts as Environments, serializer.PagableSerializer.Ghosts as Serializers}
-use Rattle.pagable_model.specs.{Basic.{length_form, longest}, Collected.Collected, Lifted.MeansPair, Meaning.Meaning, Numbers.unsigned_form, Reading.{Context, Gets, JsonCase}, Shape.Shape}
-use Rattle.pagable_model.specs.{Reading.{below, deepest, json_part}, Standing.{Answer, GivesSome, Is, MovesOn, answer_at, handles_at}}
-use Rattle.pagable_model.specs.{Writing.{Grows, Nesting, Out, Refused, RefusedAll, WritesSome, WritesSomeAll, added, nesting}, declared.{error.Error.Error, numbers.ArcRef.ArcRef}}
+use Rattle.pagable_value_spec.specs.{BasicValues.{length_form, longest}, Collected.Collected, Composite.MeansPair, Meaning.Meaning, Numbers.unsigned_form, Reading.{Context, Gets, JsonCase}, Shape.Shape}
+use Rattle.pagable_value_spec.specs.{Reading.{below, deepest, json_part}, Cursor.{Answer, GivesSome, Is, MovesOn, answer_at, handles_at}}
+use Rattle.pagable_value_spec.specs.{Writing.{Grows, Nesting, Out, Refused, RefusedAll, WritesSome, WritesSomeAll, added, nesting}, declared.{error.Error.Error, numbers.ArcRef.ArcRef}}
 use Rattle.{pagable_traits.specs.JsonData.{of_key, of_value}, serde_json.specs.declared.value.Value.Value}
 use Rattle.serde_json.specs.declared.value.Value as values
 

@@ -1,6 +1,6 @@
 -- What references of all sorts answer of the values that they refer to, and of the keys of their cells.
 use Rattle.std.specs.Prelude.{Bool, Err, IfSome, Ok, Option, Result, Some, false, option_and_then, true, ℕ, ◌≡◌}
-use Rattle.pagable_model.specs.{Meaning.Meaning, Shape.Shape, Writing.{Refused, WritesSome}, declared.{data_key.OptionalDataKey.OptionalDataKey, error.Error.Error, numbers.ArcRef.ArcRef}}
+use Rattle.pagable_value_spec.specs.{Meaning.Meaning, Shape.Shape, Writing.{Refused, WritesSome}, declared.{data_key.OptionalDataKey.OptionalDataKey, error.Error.Error, numbers.ArcRef.ArcRef}}
 use Rattle.pagable_traits.specs.Clauses.{Piece}
 
 -- the value is that of the handle's node, where the storage tells what its handles name

@@ -1,6 +1,6 @@
 -- What a node that may hold a value of a type is, by whether it holds one.
 use Rattle.std.specs.Prelude.{◌≡◌, ◌≢◌, ℕ, Option, Some, None}
-use Rattle.pagable_model.specs.{Meaning.Meaning, declared.numbers.ArcRef.ArcRef}
+use Rattle.pagable_value_spec.specs.{Meaning.Meaning, declared.numbers.ArcRef.ArcRef}
 
 -- a node that holds a value is of the value's type and means what the value means, and one that holds none is of another type
 pub data Holds {T : Type 0} (own : T → Meaning ArcRef → Type 0) (type_number node_type : ℕ) (means : Meaning ArcRef → Type 0) : Option T → Type 0 where

@@ -1,11 +1,11 @@
 -- What the JSON values of `serde_json` are in the words of the definitions.
 use Rattle.std.specs.{Prelude.{String, pos, ℕ, ◌<◌, ◌≡◌, ◌⊎◌}, String.string_bytes, declared.alloc.Global.Global}
-use Rattle.pagable_model.specs.{Basic.longest, Gives.memory, Json.{Json, of_json}, Meaning.Meaning, declared.{error.Error.Error, numbers.ArcRef.ArcRef}}
+use Rattle.pagable_value_spec.specs.{BasicValues.longest, Outcomes.memory, Json.{Json, of_json}, Meaning.Meaning, declared.{error.Error.Error, numbers.ArcRef.ArcRef}}
 use Rattle.serde_json.specs.{Data.{Data, Num}, View.view, declared.value.Value.Value}
 use Rattle.serde_json.specs.Data as kit
-use Rattle.pagable_model.specs.declared.error.Error.TheVariants as errors
-use Rattle.pagable_model.specs.Json as own
-use Rattle.pagable_model.specs.Meaning as meanings
+use Rattle.pagable_value_spec.specs.declared.error.Error.TheVariants as errors
+use Rattle.pagable_value_spec.specs.Json as own
+use Rattle.pagable_value_spec.specs.Meaning as meanings
 
 -- a number that is whole is so whether it is kept with a sign or without
 abbrev pub json_of_number : Num → Json

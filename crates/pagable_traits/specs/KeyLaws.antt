@@ -1,8 +1,8 @@
 -- What is asked of the keys of maps and of the items of sets, made of what is asked of their parts.
 use Rattle.std.{proofs.Common.◌∙◌, specs.Prelude.{◌≡◌, ◌&&◌, Bool, refl, ℕ, nat_eq}, specs.Cmp.Lexicographic.pointwise, specs.Int.Width, specs.Option.option_eq, specs.Result.result_eq, specs.Str.bytes_eq}
-use Rattle.pagable_model.specs.{Keyed.{RefersToNothing, number_is_same, text_is_same, list_is_same, option_is_same, pair_is_same, result_is_same}, Keys.same_key, Meaning.{number, text}}
-use Rattle.pagable_model.specs.{OneForm.{IsOfTwo, IsOver, basic_refers_to_nothing, over_refers_to_nothing, two_refers_to_nothing}, Shape.{Shape, both, optional, outcome, unsigned}}
-use Rattle.pagable_model.specs.Shape as shapes
+use Rattle.pagable_value_spec.specs.{Keyed.{RefersToNothing, number_is_same, text_is_same, list_is_same, option_is_same, pair_is_same, result_is_same}, Keys.same_key, Meaning.{number, text}}
+use Rattle.pagable_value_spec.specs.{OneForm.{IsOfTwo, IsOver, basic_refers_to_nothing, over_refers_to_nothing, two_refers_to_nothing}, Shape.{Shape, both, optional, outcome, unsigned}}
+use Rattle.pagable_value_spec.specs.Shape as shapes
 use Rattle.pagable_traits.specs.Meanings.{Meanings, exactly, lists, options, pairs, results, seen_by}
 
 -- two values are equal exactly if they mean the same, and in no environment does a value refer to anything

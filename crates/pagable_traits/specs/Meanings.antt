@@ -1,8 +1,8 @@
 -- What the values of a type may mean, made of what their parts may mean.
 use Rattle.std.specs.Prelude.{◌≡◌, refl, List, Option, Result, map}
-use Rattle.pagable_model.specs.{declared.numbers.ArcRef.ArcRef, Meaning.{Meaning, pair, sequence}, Carried.{of_hash_map, of_option, of_result}, Standing.{Is, SomeMeaning}}
-use Rattle.pagable_model.specs.Lifted.{MeansList, MeansOption, MeansPair, MeansResult, list_is_meaning, list_single, option_is_meaning, option_single, pair_is_meaning, pair_single}
-use Rattle.pagable_model.specs.{Lifted.result_is_meaning, Hashed.{MeansHashMap, hash_map_is_meaning}}
+use Rattle.pagable_value_spec.specs.{declared.numbers.ArcRef.ArcRef, Meaning.{Meaning, pair, sequence}, CarriedTypes.{of_hash_map, of_option, of_result}, Cursor.{Is, SomeMeaning}}
+use Rattle.pagable_value_spec.specs.Composite.{MeansList, MeansOption, MeansPair, MeansResult, list_is_meaning, list_single, option_is_meaning, option_single, pair_is_meaning, pair_single}
+use Rattle.pagable_value_spec.specs.{Composite.result_is_meaning, Hashed.{MeansHashMap, hash_map_is_meaning}}
 
 -- what each value may mean, and one thing that it means: the only one, or any where its content isn't known
 pub record Meanings (X : Type 0) : Type 1 where

@@ -1,8 +1,8 @@
 -- The causes that a type's readers and writers have of their own, each with what is asked of it.
 use Rattle.std.specs.Prelude.{true, ◌≡◌}
-use Rattle.pagable_model.specs.Causes.{deep_or_may_refuse_writing, either_is_own_reading, either_may_refuse_writing, json_may_refuse_writing, long_or_may_refuse_writing}
-use Rattle.pagable_model.specs.Causes.{memory_is_own_reading, memory_may_refuse_writing, memory_or_is_own_reading, memory_or_may_refuse_writing, never_is_own_reading, never_may_refuse_writing}
-use Rattle.pagable_model.specs.{Gives.{deep_or, either, json_causes, long_or, memory, memory_or, never}, Refusals.{is_own_reading, may_refuse_writing}, declared.error.Error.Error}
+use Rattle.pagable_value_spec.specs.Causes.{deep_or_may_refuse_writing, either_is_own_reading, either_may_refuse_writing, json_may_refuse_writing, long_or_may_refuse_writing}
+use Rattle.pagable_value_spec.specs.Causes.{memory_is_own_reading, memory_may_refuse_writing, memory_or_is_own_reading, memory_or_may_refuse_writing, never_is_own_reading, never_may_refuse_writing}
+use Rattle.pagable_value_spec.specs.{Outcomes.{deep_or, either, json_causes, long_or, memory, memory_or, never}, Refusals.{is_own_reading, may_refuse_writing}, declared.error.Error.Error}
 
 -- none is a fault of the input
 pub record ReadCauses : Type 1 where

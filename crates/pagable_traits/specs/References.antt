@@ -1,10 +1,10 @@
 -- References as values hold them: what they mean, and why they are read again and have one form.
 use Rattle.std.{proofs.Common.{inl, inr, subst, sym}, specs.Prelude.{Bool, List, codes, false, refl, true, ℕ, ◌*◌, ◌+◌, ◌≡◌, ◌⊎◌}}
-use Rattle.pagable_model.specs.{Canonical.{IsCanonical, IsReadable, LiesIn}, Causes.memory_is_own_reading, Keyed.throughout-alone, Meaning.Meaning}
-use Rattle.pagable_model.specs.{OneForm.HasOneFormThroughout, Refusals.is_own_reading, Shape.{Shape, reference}, declared.{error.Error.Error, numbers.ArcRef.ArcRef, reason.Reason.Reason}}
-use Rattle.pagable_traits.specs.{OwnCauses.ReadCauses, ReadBack.IsReadThroughout, declared.{holding.HoldingArc.HoldingArc, loose.PagableArc.PagableArc, plain.OfKind.OfKind}}
-use Rattle.pagable_model.specs.Meaning as meanings
-use Rattle.pagable_model.specs.declared.error.Error.TheVariants as errors
+use Rattle.pagable_value_spec.specs.{Canonical.{IsCanonical, IsReadable, LiesIn}, Causes.memory_is_own_reading, Keyed.throughout-alone, Meaning.Meaning}
+use Rattle.pagable_value_spec.specs.{OneForm.HasOneFormThroughout, Refusals.is_own_reading, Shape.{Shape, reference}, declared.{error.Error.Error, numbers.ArcRef.ArcRef, reason.Reason.Reason}}
+use Rattle.pagable_traits.specs.{OwnCauses.ReadCauses, ReadBack.IsReadThroughout, declared.{arc.HoldingArc.HoldingArc, pagable_arc.PagableArc.PagableArc, raw_ref.RawRef.RawRef}}
+use Rattle.pagable_value_spec.specs.Meaning as meanings
+use Rattle.pagable_value_spec.specs.declared.error.Error.TheVariants as errors
 
 -- the kind of loose references to values of the type number t
 abbrev pub loose_kind : ℕ → ℕ
@@ -18,10 +18,10 @@ abbrev pub loose_means : {T : Type 0} → ℕ → PagableArc T → Meaning ArcRe
 loose_means t a = meanings.reference (loose t a)
 
 -- a plain reference of a kind
-abbrev pub plain : (kind : ℕ) → OfKind kind → ArcRef
+abbrev pub plain : (kind : ℕ) → RawRef kind → ArcRef
 plain kind a = record { kind = record { 0 = kind }; node = a.node; handle = a.handle }
 
-abbrev pub plain_means : (kind : ℕ) → OfKind kind → Meaning ArcRef
+abbrev pub plain_means : (kind : ℕ) → RawRef kind → Meaning ArcRef
 plain_means kind a = meanings.reference (plain kind a)
 
 -- and those that hold the value, of pins or of shared ones

@@ -1,9 +1,9 @@
 -- Why static values may be keys, and why their forms are read again: each index of a registered value as that value, in which
 -- nothing is referred to.
 use Rattle.std.specs.{List.AllByRecursion, Prelude.{Bool, IsTrue, List, [], refl, ℕ, ◌∷◌, ◌≡◌}}
-use Rattle.pagable_model.specs.{Canonical.{HasNoReference, IsReadable, LiesIn}, Codes.one-meaning, Keyed.{RefersToNothing, same-by, throughout-alone}, Keys.same_key}
-use Rattle.pagable_model.specs.{Meaning.{Meaning, followed, lifted, pair, plain, reference, rename, variant}, Shape.{Shape, static_value}, Statics.meanings_of}
-use Rattle.{pagable_model.specs.{Statics.{unregistered, unregistered_may_refuse_writing}, declared.numbers.ArcRef.ArcRef}, pagable_traits.specs.{OwnCauses.WriteCauses, ReadBack.IsReadThroughout}}
+use Rattle.pagable_value_spec.specs.{Canonical.{HasNoReference, IsReadable, LiesIn}, Codes.one-meaning, Keyed.{RefersToNothing, same-by, throughout-alone}, Keys.same_key}
+use Rattle.pagable_value_spec.specs.{Meaning.{Meaning, followed, lifted, pair, plain, reference, rename, variant}, Shape.{Shape, static_value}, Statics.meanings_of}
+use Rattle.{pagable_value_spec.specs.{Statics.{unregistered, unregistered_may_refuse_writing}, declared.numbers.ArcRef.ArcRef}, pagable_traits.specs.{OwnCauses.WriteCauses, ReadBack.IsReadThroughout}}
 
 -- a value that isn't registered is refused
 abbrev pub writes_unregistered : WriteCauses

@@ -1,7 +1,7 @@
 -- What writing each item that a walk yields owes, where next says what the walk gives from one state to the other.
 use Rattle.std.specs.{Iterator.{Drains, YieldsThen}, Prelude.{List, Option, Some, [], ℕ, ◌≤◌, ◌⊎◌}}
-use Rattle.pagable_model.specs.{Basic.{length_form, longest}, Lengths.long_or_memory, Lifted.MeanAll, Meaning.Meaning, Shape.Shape, Writing.{Nesting, Out, Refused, WritesSomeAll, added}}
-use Rattle.{pagable_model.specs.declared.{error.Error.Error, numbers.ArcRef.ArcRef}, pagable_traits.specs.Clauses.Piece}
+use Rattle.pagable_value_spec.specs.{BasicValues.{length_form, longest}, Lengths.long_or_memory, Composite.MeanAll, Meaning.Meaning, Shape.Shape, Writing.{Nesting, Out, Refused, WritesSomeAll, added}}
+use Rattle.{pagable_value_spec.specs.declared.{error.Error.Error, numbers.ArcRef.ArcRef}, pagable_traits.specs.Clauses.Piece}
 
 -- these items were yielded, and then no more, and each was written
 pub record WritesEach {W T : Type 0} (next : W → Option T → W → Type 0) (M : T → Meaning ArcRef → Type 0) (walk : W) (n : Nesting) (s : Shape) (old new : Out) : Type 0 where

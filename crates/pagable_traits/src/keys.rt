@@ -5,10 +5,10 @@
 
 ghost use Rattle.std.{proofs.Common.◌∙◌, proofs.Math.Bool.and_assoc, specs.Prelude.{◌≡◌, ◌&&◌, map, refl}};
 ghost use Rattle.std.specs.{Cmp.Lexicographic.slice_cmp, Ordering.ordering_then, Box.{boxed_slice_items, boxed_str_bytes}, String.string_bytes};
-ghost use Rattle.pagable_model.specs.{Keys.{KeyOrder, ordered, number_order, integer_order, flag_order, nothing_order, text_order, optional_order, outcome_order, pair_order, list_order}, Meaning.{pair, sequence}};
-ghost use Rattle.pagable_model.specs.Keyed.{number_is_same, integer_is_same, flag_is_same, nothing_is_same, number_is_ordered, integer_is_ordered, flag_is_ordered, text_is_ordered};
-ghost use Rattle.pagable_model.specs.Keyed.{option_is_ordered, result_is_ordered, pair_is_ordered, triple_is_ordered, quadruple_is_ordered, quintuple_is_ordered, list_is_ordered};
-ghost use Rattle.pagable_model.specs.OneForm.{basic_refers_to_nothing};
+ghost use Rattle.pagable_value_spec.specs.{Keys.{KeyOrder, ordered, number_order, integer_order, flag_order, nothing_order, text_order, optional_order, outcome_order, pair_order, list_order}, Meaning.{pair, sequence}};
+ghost use Rattle.pagable_value_spec.specs.Keyed.{number_is_same, integer_is_same, flag_is_same, nothing_is_same, number_is_ordered, integer_is_ordered, flag_is_ordered, text_is_ordered};
+ghost use Rattle.pagable_value_spec.specs.Keyed.{option_is_ordered, result_is_ordered, pair_is_ordered, triple_is_ordered, quadruple_is_ordered, quintuple_is_ordered, list_is_ordered};
+ghost use Rattle.pagable_value_spec.specs.OneForm.{basic_refers_to_nothing};
 ghost use Rattle.pagable_traits.specs.KeyLaws.{IsKey, number_key, text_key, key_alike, key_seen, option_key, pair_key, result_key, list_key, entries_key};
 
 use crate::impls::holders::Thin;

@@ -4,10 +4,10 @@
 //! `order`).
 
 ghost use Rattle.std.specs.{HashMap.IsUnique, List.slice_get, Prelude.{IsPermutation, Ok, Some, [], ℕ, ◌↔◌, ◌∷◌, ◌≡◌}};
-ghost use Rattle.pagable_model.specs.{Hashed.MeansHashMap, Meaning.Meaning, Reading.registered, Standing.SomeMeaning, Statics.meanings_of, Tagged.MeansTagged};
-ghost use Rattle.{pagable_model.specs.declared.numbers.ArcRef.ArcRef as Reference, pagable_traits.specs.ReadBack.{AreRead, IsReadThroughout}};
+ghost use Rattle.pagable_value_spec.specs.{Hashed.MeansHashMap, Meaning.Meaning, Reading.registered, Cursor.SomeMeaning, Statics.meanings_of, Tagged.MeansTagged};
+ghost use Rattle.{pagable_value_spec.specs.declared.numbers.ArcRef.ArcRef as Reference, pagable_traits.specs.ReadBack.{AreRead, IsReadThroughout}};
 
-use crate::alike::CarriedAs;
+use crate::encoded_as::EncodedAs;
 use crate::impls::holders::Thin;
 use crate::impls::texts::PathText;
 use crate::keys::{PagableKey, PagableOrdKey};
@@ -45,7 +45,7 @@ pub fn carried_types_are_read<
     X: Carried<E>,
     K: PagableOrdKey<E>,
     H: PagableKey<E> + Hash,
-    O: CarriedAs<Other = T>,
+    O: EncodedAs<Other = T>,
     const N: usize,
 >()
     ensures numbers { (e : E) → AreRead (E.parts e) (⟦<u8 as Carried<E>>⟧.shape e ∷ ⟦<u16 as Carried<E>>⟧.shape e ∷ ⟦<u32 as Carried<E>>⟧.shape e

@@ -2,17 +2,17 @@
 //! shared values, regular expressions, and what registries of the environment hold, static values and readers of tagged ones.
 #![tactic(auto)]
 
-pub mod alike;
-pub mod erase;
-pub mod holding;
+pub mod arc;
+pub mod arc_erase;
+pub mod encoded_as;
 pub mod impls;
 pub mod keys;
 pub mod laws;
-pub mod loose;
 pub mod one_form;
-pub mod plain;
-pub mod polled;
-pub mod refers;
+pub mod pagable_arc;
+pub mod pin_future;
+pub mod raw_ref;
+pub mod references;
 mod refers_to_nothing;
 pub mod saved_regex;
 pub mod static_value;
@@ -20,22 +20,22 @@ pub mod storage;
 pub mod traits;
 pub mod typetag;
 
-pub use erase::{ArcErase, ArcEraseType, StdArcEraseType, deserialize_arc};
-pub use holding::{Arc, HoldingArc, PinnedPagableArc, PinnedPagableArcBorrow};
+pub use arc::{Arc, HoldingArc, PinnedPagableArc, PinnedPagableArcBorrow};
+pub use arc_erase::{ArcErase, ArcEraseType, StdArcEraseType, deserialize_arc};
 pub use impls::holders::Thin;
 pub use impls::lists::serialize_slice;
 pub use impls::texts::{PathText, serialize_str};
 pub use keys::{PagableKey, PagableOrdKey};
-pub use loose::PagableArc;
 pub use one_form::Canonical;
+pub use pagable_arc::PagableArc;
 pub use pagable_codec::{
     ArcRef, Env, HandleNumber, Identity, KeyHash, Kind, LoadNumber, NodeNumber, NodeSet, OfNode,
     PagableCursor, PagableDeserializer, PagableSerializer, Reader, SessionContext, SessionMap,
     SessionValue, WorkerNumber,
 };
-pub use plain::{OfKind, read_reference, write_reference};
-pub use polled::{PinFuture, PinStage, Polls};
-pub use refers::{Refers, references_of};
+pub use pin_future::{PinFuture, PinStage, Polls};
+pub use raw_ref::{RawRef, read_reference, write_reference};
+pub use references::{Refers, references_of};
 pub use saved_regex::SavedRegex;
 pub use static_value::{
     HasStaticValueRegistry, StaticBytes, StaticStr, StaticValue, StaticValueEntry,

@@ -1,7 +1,7 @@
 //! The types whose content addresses are keys: a value has one meaning, and a meaning one form.
 
 ghost use Rattle.std.specs.Prelude.{refl};
-ghost use Rattle.pagable_model.specs.OneForm.{HasOneFormThroughout, basic_has_one_form, over_has_one_form, run_has_one_form, two_has_one_form};
+ghost use Rattle.pagable_value_spec.specs.OneForm.{HasOneFormThroughout, basic_has_one_form, over_has_one_form, run_has_one_form, two_has_one_form};
 
 use crate::impls::holders::Thin;
 use crate::impls::texts::PathText;

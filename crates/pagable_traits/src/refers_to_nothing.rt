@@ -1,11 +1,11 @@
 //! Values that refer to nothing, and so list nothing: numbers, flags, texts, spans of time, patterns and static values.
-#![tactic(auto, using(crate::proofs::Listed::parts), unfolding(pagable_model::specs::References::references_in))]
+#![tactic(auto, using(crate::proofs::Listed::parts), unfolding(pagable_value_spec::specs::References::references_in))]
 
-ghost use Rattle.{pagable_model.specs.Statics.meanings_of, std.specs.Int.{w8, w16, w32, w64, w128}};
+ghost use Rattle.{pagable_value_spec.specs.Statics.meanings_of, std.specs.Int.{w8, w16, w32, w64, w128}};
 ghost use Rattle.pagable_traits.specs.Refers.{duration_in_order, flag_in_order, letter_in_order, nothing_in_order, pattern_in_order, signed_in_order, static_in_order, text_in_order, unsigned_in_order};
 
 use crate::impls::texts::PathText;
-use crate::refers::Refers;
+use crate::references::Refers;
 use crate::saved_regex::SavedRegex;
 use crate::static_value::{HasStaticValueRegistry, StaticValue};
 use pagable_codec::{ArcRef, Env};

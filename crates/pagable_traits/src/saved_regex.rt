@@ -1,11 +1,11 @@
 //! Regular expressions beside their texts.
 
 ghost use Rattle.std.{proofs.Common.rules, specs.{Cmp.Rules.{comparing, hashing}, Prelude.{IfErr, IfOk, List, ℕ, ◌≡◌, ◌≢◌}, Str.bytes_eq, String.string_bytes}};
-ghost use Rattle.pagable_model.specs.{Gives.{long_or, memory}, Keyed.pattern_is_same, Meaning.pattern, OneForm.{basic_has_one_form, basic_refers_to_nothing}, Reading.read, Standing.{HoldsLent, Is}};
-ghost use Rattle.{pagable_model.specs.{Standing.handles_at, declared.error.Error.TheVariants.RegexRefused}, pagable_traits.specs.Building.{IsBuiltFrom, IsRefusedPattern, ReadsNoPattern}};
+ghost use Rattle.pagable_value_spec.specs.{Outcomes.{long_or, memory}, Keyed.pattern_is_same, Meaning.pattern, OneForm.{basic_has_one_form, basic_refers_to_nothing}, Reading.read, Cursor.{HoldsLent, Is}};
+ghost use Rattle.{pagable_value_spec.specs.{Cursor.handles_at, declared.error.Error.TheVariants.RegexRefused}, pagable_traits.specs.Building.{IsBuiltFrom, IsRefusedPattern, ReadsNoPattern}};
 ghost use Rattle.pagable_traits.specs.{Building.{pattern_causes, reads_pattern, refusal_of}, Clauses.{Reads, Wrote, value as form}, Meanings.exactly, OwnCauses.{writes_long_or, writes_memory}};
 ghost use Rattle.std.specs.Hash as fed;
-ghost use Rattle.pagable_model.specs.Shape as shapes;
+ghost use Rattle.pagable_value_spec.specs.Shape as shapes;
 
 use crate::{Canonical, Carried, OneMeaning, PagableDeserialize, PagableKey, PagableSerialize};
 use pagable_codec::{Env, PagableDeserializer, PagableSerializer, Reader};

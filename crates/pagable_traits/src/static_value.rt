@@ -3,8 +3,8 @@
 
 ghost use Rattle.std.specs.{List.{Sorted.{IsPermutation, IsSorted, IsStable}, slice_get}, Prelude.{Err, IfErr, IfNone, IfOk, IfSome, IsTrue, List, Option, Some, length, map, vec_len, ◌<◌, ◌↔◌, ◌≡◌}};
 ghost use Rattle.std.specs.Prelude.{◌≤◌};
-ghost use Rattle.pagable_model.specs.{Basic.longest, Canonical.HasNoReference, Gives.{Gives, memory_or, never}, Lengths.long_or_memory, Meaning.{Meaning, lifted}, Reading.{read, registered}};
-ghost use Rattle.{pagable_model.specs.{Shape.static_value, Standing.{HoldsLent, Is}, Statics.{HasEqual, NoEqualBelow, StandsAt, meanings_of, unregistered}}, pagable_traits.specs.Clauses.{Reads, Wrote}};
+ghost use Rattle.pagable_value_spec.specs.{BasicValues.longest, Canonical.HasNoReference, Outcomes.{Gives, memory_or, never}, Lengths.long_or_memory, Meaning.{Meaning, lifted}, Reading.{read, registered}};
+ghost use Rattle.{pagable_value_spec.specs.{Shape.static_value, Cursor.{HoldsLent, Is}, Statics.{HasEqual, NoEqualBelow, StandsAt, meanings_of, unregistered}}, pagable_traits.specs.Clauses.{Reads, Wrote}};
 ghost use Rattle.pagable_traits.specs.{Clauses.value as form, Meanings.exactly, OwnCauses.writes_memory_or, StaticValues.{static_is_same, static_refers_to_nothing, writes_unregistered}};
 
 use crate::keys::PagableKey;
@@ -260,7 +260,7 @@ impl<E: Env, T: HasStaticValueRegistry<E>> PagableSerialize<E> for StaticValue<T
 impl<'de, E: Env, T: HasStaticValueRegistry<E>> PagableDeserialize<'de, E> for StaticValue<T> {
     /// Reads an index, and gives the value that the environment's registry has under it, with that index: so it can be
     /// written again. BadStaticIndex where there is none.
-    #[tactic(auto, unfolding(pagable_model::specs::Reading::read, pagable_model::specs::Reading::read_with), using(pagable_codec::proofs::Reading::parts))]
+    #[tactic(auto, unfolding(pagable_value_spec::specs::Reading::read, pagable_value_spec::specs::Reading::read_with), using(pagable_codec::proofs::Reading::parts))]
     fn pagable_deserialize<D: PagableDeserializer<E>>(
         alloc: Global,
         deserializer: &mut D,

@@ -1,13 +1,13 @@
 //! What makes, pins and gives up the handles of typed references: a pager behind a lock, or one that is lent.
 
-ghost use Rattle.pagable_traits.specs.declared.polled.PinStage.{PinStage};
+ghost use Rattle.pagable_traits.specs.declared.pin_future.PinStage.{PinStage};
 ghost use Rattle.std.specs.{Arc.arc_value, Prelude.{IfOk, IfSome, Option, Result, Some, ℕ, ◌≡◌}};
-ghost use Rattle.pagable_model.specs.declared.{data_key.OptionalDataKey.OptionalDataKey as Key, error.Error.Error as Refusal, numbers.{HandleNumber.HandleNumber as Handle, NodeNumber.NodeNumber as Node}};
+ghost use Rattle.pagable_value_spec.specs.declared.{data_key.OptionalDataKey.OptionalDataKey as Key, error.Error.Error as Refusal, numbers.{HandleNumber.HandleNumber as Handle, NodeNumber.NodeNumber as Node}};
 
-use crate::polled::Polls;
+use crate::pin_future::Polls;
 use pagable_codec::{Env, HandleNumber, NodeNumber};
 use pagable_flavors::Error;
-use pagable_model::{DataKey, OptionalDataKey};
+use pagable_value_spec::{DataKey, OptionalDataKey};
 use std::alloc::Global;
 use std::sync::{Arc, Wait};
 

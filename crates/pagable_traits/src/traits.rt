@@ -1,7 +1,7 @@
 //! The types that can be written and read, also into a box, eagerly, and as the values of nodes.
 
 ghost use Rattle.std.specs.Prelude.{IfOk, Some, ◌≡◌};
-ghost use Rattle.{pagable_model.specs.{Gives.memory_or, Reading.read, Shape.Shape, Standing.HoldsLent, declared.{error.Error.Error as Refusal, numbers.ArcRef.ArcRef as Reference}}, pagable_traits.specs.{InNodes.Holds, Clauses.{Reads, Wrote}}};
+ghost use Rattle.{pagable_value_spec.specs.{Outcomes.memory_or, Reading.read, Shape.Shape, Cursor.HoldsLent, declared.{error.Error.Error as Refusal, numbers.ArcRef.ArcRef as Reference}}, pagable_traits.specs.{InNodes.Holds, Clauses.{Reads, Wrote}}};
 ghost use Rattle.pagable_traits.specs.{Clauses.value as form, Meanings.{AreSingle, Meanings}, OwnCauses.{ReadCauses, WriteCauses, reads_memory_or, reads_never, writes_memory}};
 
 use pagable_codec::{Env, NodeSet, OfNode, PagableDeserializer, PagableSerializer};

@@ -2,8 +2,8 @@
 //! that is registered for the tag. Registries are handed in; there are no globals.
 
 ghost use Rattle.std.specs.{Prelude.{Bool, IfErr, IfNone, IfOk, IfSome, List, None, OnOk, Option, Some, [], length, map, ℕ, ◌≡◌, ◌≤◌}, Str.IsUtf8, String.string_bytes};
-ghost use Rattle.pagable_model.specs.{Basic.{longest, text_at, text_form}, Carried.tagged_by, Gives.{Gives, long_or, memory, memory_or}, Lengths.long_or_memory, Reading.{bytes_of, read}};
-ghost use Rattle.pagable_model.specs.{Shape.{Shape, tagged}, Standing.{HoldsLent, MovesOn}, Tagged.{HasDistinctTags, IsLastFor, MeansTagged, NoneFor, ReadsWhatIsWritten, grammars}, Writing.{Grows, added}, declared.numbers.ArcRef.ArcRef as Reference};
+ghost use Rattle.pagable_value_spec.specs.{BasicValues.{longest, text_at, text_form}, CarriedTypes.tagged_by, Outcomes.{Gives, long_or, memory, memory_or}, Lengths.long_or_memory, Reading.{bytes_of, read}};
+ghost use Rattle.pagable_value_spec.specs.{Shape.{Shape, tagged}, Cursor.{HoldsLent, MovesOn}, Tagged.{HasDistinctTags, IsLastFor, MeansTagged, NoneFor, ReadsWhatIsWritten, grammars}, Writing.{Grows, added}, declared.numbers.ArcRef.ArcRef as Reference};
 ghost use Rattle.pagable_traits.specs.{Clauses.{Reads, Wrote, value as form}, Meanings.Meanings, OwnCauses.{ReadCauses, WriteCauses}, ReadBack.IsReadThroughout};
 
 use pagable_codec::{Env, PagableDeserializer, PagableSerializer, Reader};
@@ -152,7 +152,7 @@ impl<T, F: ForTag> TypetagRegistry<T, F> {
     /// Reads a tag, and then the body by the reader that was registered last for the tag: UnknownTag where none was.
     /// The value that it gives has the tag that was read, and holds beside its references what was lent by them. This is
     /// for a registry at hand; `deserialize_tagged` finds the environment's own.
-    #[tactic(auto, unfolding(pagable_model::specs::Reading::read, pagable_model::specs::Reading::read_with), using(pagable_codec::proofs::Reading::parts, crate::proofs::Lent::held_so))]
+    #[tactic(auto, unfolding(pagable_value_spec::specs::Reading::read, pagable_value_spec::specs::Reading::read_with), using(pagable_codec::proofs::Reading::parts, crate::proofs::Lent::held_so))]
     pub fn deserialize_tagged<E: Env, D: PagableDeserializer<E>>(
         &self,
         alloc: Global,
@@ -230,7 +230,7 @@ fn registered_reader<E: Env, T: HasTypetagRegistry<E>>(tag: &str, env: &E) -> Op
 /// Reads a tag, and then the body by the reader that the environment's registry has for the tag, the last one that was
 /// registered: UnknownTag where none was. The value that it gives has the tag that was read, and holds beside its
 /// references what was lent by them.
-#[tactic(auto, unfolding(pagable_model::specs::Reading::read, pagable_model::specs::Reading::read_with), using(pagable_codec::proofs::Reading::parts, crate::proofs::Lent::held_so))]
+#[tactic(auto, unfolding(pagable_value_spec::specs::Reading::read, pagable_value_spec::specs::Reading::read_with), using(pagable_codec::proofs::Reading::parts, crate::proofs::Lent::held_so))]
 pub fn deserialize_tagged<E: Env, T: HasTypetagRegistry<E>, D: PagableDeserializer<E>>(
     alloc: Global,
     deserializer: &mut D,

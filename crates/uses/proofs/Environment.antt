@@ -1,8 +1,8 @@
 -- No operation changes the environment.
-use Rattle.pagable_laws.specs.CallerLaws.{Operation, Operations, calls, goes-on, is-done, pages-item, pages-list, pins, reads-key}
-use Rattle.pagable_world.specs.Access.{AccessState, EntryRun, ItemRun, ListRun, LoadRun, PinRun, ReadRun, WorkerRun, entry-is-refused, entry-is-walked, fails, item-is-walked, load-ends, load-fails, load-goes-on, load-is-refused, load-pins}
-use Rattle.pagable_world.specs.{Access.{load-reads, no-entry-worker, no-more, no-worker, pages, pin-is-refused, pins-at-once, reading-fails, reading-is-refused, skips, worker-ends, worker-goes-on}, Pager.PagerState}
-use Rattle.pagable_world.specs.{Plain.{Error, HandleNumber}, World.{Reading, Seen, Todo, Values, Written}, declared.{events.{LoadAnswer.LoadAnswer, Took.Took, WorkerAnswer.WorkerAnswer}, handles.Owner.Owner}}
+use Rattle.pagable_theorems.specs.CallerLaws.{Operation, Operations, calls, goes-on, is-done, pages-item, pages-list, pins, reads-key}
+use Rattle.pagable_pager_spec.specs.Access.{AccessState, EntryRun, ItemRun, ListRun, LoadRun, PinRun, ReadRun, WorkerRun, entry-is-refused, entry-is-walked, fails, item-is-walked, load-ends, load-fails, load-goes-on, load-is-refused, load-pins}
+use Rattle.pagable_pager_spec.specs.{Access.{load-reads, no-entry-worker, no-more, no-worker, pages, pin-is-refused, pins-at-once, reading-fails, reading-is-refused, skips, worker-ends, worker-goes-on}, Pager.PagerState}
+use Rattle.pagable_pager_spec.specs.{Basics.{Error, HandleNumber}, World.{Reading, Seen, Todo, Values, Written}, declared.{events.{LoadAnswer.LoadAnswer, Action.Action, WorkerAnswer.WorkerAnswer}, handle_row.Owner.Owner}}
 use Rattle.std.proofs.Common.{List, Result, refl, ℕ, ◌∙◌, ◌≡◌}
 
 load-keeps : {N E : Type 0} {v : Values N} {me : Owner} {reading : Reading} {s s' : PagerState N E} {answer : LoadAnswer N} → LoadRun v me reading s answer s'
@@ -24,7 +24,7 @@ read-keeps (load-reads x l mid s' starts run) = load-keeps run ∙ starts.moves.
 read-keeps (reading-fails e l mid s' starts run) = load-keeps run ∙ starts.moves.environment
 
 module _ {N E B W : Type 0} {m : Seen N B W} where
-  worker-keeps : {n : ℕ} {todo : List Todo} {s s' : AccessState N E} {steps : List (Took W)} {answer : WorkerAnswer} → WorkerRun m n todo s steps answer s'
+  worker-keeps : {n : ℕ} {todo : List Todo} {s s' : AccessState N E} {steps : List (Action W)} {answer : WorkerAnswer} → WorkerRun m n todo s steps answer s'
       → s'.pager.environment ≡ s.pager.environment
   worker-keeps (worker-ends todo next step answer s s' does is) = does.moves.environment
   worker-keeps (worker-goes-on todo next step steps answer s mid s' does is more) = worker-keeps more ∙ does.moves.environment

@@ -1,11 +1,11 @@
 -- A pin, the release of what it gave, other work, and a pin again: what both pins give.
-use Rattle.pagable_laws.{proofs.Callers.pinned_again_law, specs.CallerLaws.{Operations, calls, goes-on, is-done, pages-list}}
-use Rattle.pagable_pager.{proofs.Keeping.less-moves, specs.View.{Calls, OnlyLess, PagerView, Telling, state_in}}
-use Rattle.pagable_world.specs.{Access.{PinsOver}, Calls.ReleaseCall, Pager.{PagerState, WellFormed}, Plain.{Error, HandleNumber}}
-use Rattle.pagable_world.specs.World.{IsLawful, Values}
-use Rattle.pagable_world.specs.declared.{calls.{Call.Call, Reply.Reply}, handles.Owner.Owner}
+use Rattle.pagable_theorems.{proofs.Callers.pinned_again_law, specs.CallerLaws.{Operations, calls, goes-on, is-done, pages-list}}
+use Rattle.pagable_pager.{proofs.Invariant.less-moves, specs.View.{Calls, OnlyLess, PagerView, Telling, state_in}}
+use Rattle.pagable_pager_spec.specs.{Access.{PinsOver}, Calls.ReleaseCall, Pager.{PagerState, WellFormed}, Basics.{Error, HandleNumber}}
+use Rattle.pagable_pager_spec.specs.World.{IsLawful, Values}
+use Rattle.pagable_pager_spec.specs.declared.{calls.{Call.Call, Reply.Reply}, handle_row.Owner.Owner}
 use Rattle.std.proofs.Common.{Ok, Result, subst, ◌∙◌, ◌≡◌}
-use Rattle.{pagable.specs.Paged.PagesOutList, pagable_walk.specs.{Turns.plain, declared.tasks.PageOutError.PageOutError}, uses.{proofs.Environment.{all-keep, pin-keeps}, specs.Again.ShowsSame}}
+use Rattle.{pagable.specs.Paged.PagesOutList, pagable_pageout.specs.{Turns.plain, declared.tasks.PageOutError.PageOutError}, uses.{proofs.Environment.{all-keep, pin-keeps}, specs.Again.ShowsSame}}
 
 module _ {N S E : Type 0} {tells : Telling S} where
   -- the release of a handle is a call of the pager's

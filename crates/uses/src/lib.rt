@@ -2,8 +2,8 @@
 #![tactic(auto)]
 
 ghost use Rattle.std.specs.{Arc.arc_value, Prelude.{IfOk, IfSome, IsTrue, ◌≡◌}};
-ghost use Rattle.{pagable_core.specs.Data.blob_of, pagable_loads.specs.Telling.values_at, pagable_model.specs.Blob.key_of, pagable_pager.specs.View.{state_in, telling}};
-ghost use Rattle.{pagable_laws.specs.CallerLaws.Operations, pagable_walk.specs.Turns.plain, uses.specs.Again.ShowsSame};
+ghost use Rattle.{pagable_core.specs.Data.blob_of, pagable_load.specs.AccessView.values_at, pagable_value_spec.specs.Blob.key_of, pagable_pager.specs.View.{state_in, telling}};
+ghost use Rattle.{pagable_theorems.specs.CallerLaws.Operations, pagable_pageout.specs.Turns.plain, uses.specs.Again.ShowsSame};
 
 use pagable::paging::{page_out_pending, pin};
 use pagable::{

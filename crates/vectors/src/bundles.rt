@@ -5,10 +5,10 @@ use pagable::paging::{deserialize_pagable_data, page_out_pending};
 use pagable::{
     ArcRef, DataKey, HandleNumber, InMemoryBlobs, OfNode, OptionalDataKey, PagableStorage, Pager,
 };
-use pagable_rows::blobs::blob;
-use pagable_rows::linked::bundle::Bundle;
-use pagable_rows::linked::chain::Chain;
-use pagable_rows::linked::{Linked, LinkedNode};
+use pagable_testkit::blobs::blob;
+use pagable_testkit::linked::bundle::Bundle;
+use pagable_testkit::linked::chain::Chain;
+use pagable_testkit::linked::{Linked, LinkedNode};
 use std::alloc::Global;
 use std::sync::Arc;
 

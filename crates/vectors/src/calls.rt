@@ -5,10 +5,10 @@ use pagable::{
     Env, Error, HandleNumber, InMemoryBlobs, KeyHash, Machine, NodeSet, PagableStorage, Pager,
     Sha256Key, WeighHash,
 };
-use pagable_rows::asked::{events, split};
-use pagable_rows::cells::{CellEnv, CellNode};
-use pagable_rows::spelled::push_node;
-use pagable_rows::{FailingStorage, answers};
+use pagable_testkit::cells::{CellEnv, CellNode};
+use pagable_testkit::parse_events::{events, split};
+use pagable_testkit::parse_values::push_node;
+use pagable_testkit::{FailingStorage, print};
 use std::alloc::Global;
 
 type CellStorage<H> = FailingStorage<InMemoryBlobs<CellEnv<H>>>;
@@ -98,14 +98,14 @@ where
         bail!("no memory for the replies");
     };
     let before = replies.len().saturating_sub(most);
-    answers::replies(alloc, replies.as_slice().get(before..).unwrap_or_default())
+    print::replies(alloc, replies.as_slice().get(before..).unwrap_or_default())
 }
 
 /// Where the node of a live handle stands.
 fn standing<E: Env<Node = CellNode>, S: PagableStorage<E>>(
     pager: &Pager<E, S>,
     handle: HandleNumber,
-) -> Result<answers::Standing, Error>
+) -> Result<print::Standing, Error>
 where
     E::Node: NodeSet<E>,
 {
@@ -126,7 +126,7 @@ where
     for number in 1..=last {
         let handle = HandleNumber(number);
         if let Ok(standing) = standing(pager, handle) {
-            answers::push_handle(alloc, &mut text, number, standing)?;
+            print::push_handle(alloc, &mut text, number, standing)?;
         }
         if let Ok(Some(value)) = pager.value(handle) {
             text.push_str(" = ")?;

@@ -7,12 +7,12 @@ use pagable::cells::{cell_of, contains, follow, insert, look};
 use pagable::paging::page_out_pending;
 use pagable::typed_references::{holding, loose};
 use pagable::{
-    ArcRef, DataKey, Error, HandleNumber, InMemoryBlobs, Kind, NodeNumber, OfKind, OfNode,
-    PagableStorage, Pager,
+    ArcRef, DataKey, Error, HandleNumber, InMemoryBlobs, Kind, NodeNumber, OfNode, PagableStorage,
+    Pager, RawRef,
 };
-use pagable_rows::linked::bundle::Bundle;
-use pagable_rows::linked::chain::{ArcLink, Link};
-use pagable_rows::linked::{Linked, LinkedNode};
+use pagable_testkit::linked::bundle::Bundle;
+use pagable_testkit::linked::chain::{ArcLink, Link};
+use pagable_testkit::linked::{Linked, LinkedNode};
 use std::alloc::Global;
 use std::sync::Arc;
 
@@ -83,7 +83,7 @@ fn insert_unknown<S: PagableStorage<Linked>>(
         handle: HandleNumber(99),
     };
     let link = Link {
-        next: OfKind::from_reference(unknown),
+        next: RawRef::from_reference(unknown),
     };
     let link = Arc::new(alloc, link)?;
     Ok(insert(alloc, pager, Link::into_node(link))?)

@@ -2,16 +2,16 @@
 
 use crate::calls::Calls;
 use pagable::Reason;
-use pagable_examples::carried::text;
-use pagable_examples::{own, values};
-use pagable_rows::blobs::{bytes_of, weighed};
-use pagable_rows::served;
+use pagable_examples::round_trip::text;
+use pagable_examples::{dispatch, values};
+use pagable_testkit::blobs::{bytes_of, weighed};
+use pagable_testkit::serve;
 use std::alloc::{AllocError, Global};
 use std::fmt::Write;
 
 /// What comes of the bytes of a type.
 fn read_bytes(alloc: Global, name: &str, bytes: &[u8]) -> Result<String, AllocError> {
-    match own::answer(alloc, name, bytes) {
+    match dispatch::answer(alloc, name, bytes) {
         Some(outcome) => text(alloc, &outcome, bytes),
         None => String::from_str(alloc, "no such type"),
     }
@@ -50,7 +50,7 @@ fn answer_all(alloc: Global, name: &str, verb: &str, inputs: &str) -> anyhow::Re
             "read" => read_bytes(alloc, name, bytes_of(alloc, input)?.as_slice())?,
             "cut" => cut(alloc, name, input)?,
             "weigh" => weighed(alloc, input)?,
-            "serve" => served::answer(alloc, name, input)?,
+            "serve" => serve::answer(alloc, name, input)?,
             "reason" if !is_reason_in_parts(input) => String::from_str(alloc, "unlike in parts")?,
             _ => values::answer(alloc, name, verb, input)?,
         };

@@ -1,6 +1,6 @@
 //! The keys of a blob, which are read one after another.
 
-ghost use Rattle.pagable_model.specs.Track.{Track};
+ghost use Rattle.pagable_value_spec.specs.Progress.{Track};
 ghost use Rattle.std.specs.Prelude.{IfNone, IfSome, OnSome, Some, length, slice_get, ◌+◌, ◌<◌, ◌≡◌, ◌≤◌};
 
 use pagable_flavors::DataKey;
@@ -14,7 +14,7 @@ pub struct PagableKeys<'de> {
 }
 
 impl<'de> Model for PagableKeys<'de> {
-    ghost use Rattle.pagable_model.specs.Track.{Track};
+    ghost use Rattle.pagable_value_spec.specs.Progress.{Track};
     ghost use Rattle.std.specs.Prelude.{length, ◌≤◌};
 
     ghost Value = { Track };

@@ -56,7 +56,7 @@ impl<'de, E: Env, B: Reader, R: References<E>> PagableDeserializer<E>
     for PagableDeserializerImpl<'de, B, R> {
     type Reader = B;
 
-    ghost use Rattle.{pagable_core.specs.Context.{moves_of, standing_of}, pagable_model.specs.Standing.rest_at, std.specs.Prelude.refl};
+    ghost use Rattle.{pagable_core.specs.Context.{moves_of, standing_of}, pagable_value_spec.specs.Cursor.rest_at, std.specs.Prelude.refl};
 
     ghost standing = { λ s. standing_of (R.answer s.references) (R.lends_at s.references) s.keys (B.track s.reader) };
 

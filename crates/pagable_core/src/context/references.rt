@@ -1,7 +1,7 @@
 //! What a deserializer asks for references.
 
 ghost use Rattle.std.specs.Prelude.{◌≡◌, ℕ, Option, None, Some, Result, Err, IfOk, option_map, true};
-ghost use Rattle.pagable_model.specs.{Refusals.may_refuse_reference, declared.{error.Error.{Error as Refusal, TheVariants.WrongKind}, numbers.ArcRef.ArcRef as Reference}};
+ghost use Rattle.pagable_value_spec.specs.{Refusals.may_refuse_reference, declared.{error.Error.{Error as Refusal, TheVariants.WrongKind}, numbers.ArcRef.ArcRef as Reference}};
 
 use pagable_codec::{ArcRef, Env, Kind, SessionContext};
 use pagable_flavors::{DataKey, Error};

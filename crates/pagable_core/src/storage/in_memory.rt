@@ -2,7 +2,7 @@
 
 ghost use Rattle.std.specs.Prelude.{◌≡◌, ◌↔◌, ◌==◌, if◌then◌else◌, ℕ, IsTrue, OnOk, OnErr, IfErr, None, Some, false, true, option_map};
 ghost use Rattle.std.specs.HashMap.{get_by_text};
-ghost use Rattle.{pagable_core.specs.Data.{blob_of, stored_in}, pagable_model.specs.{Blob.key_of, Gives.memory, Stored.{AreNamed, IsCount}}};
+ghost use Rattle.{pagable_core.specs.Data.{blob_of, stored_in}, pagable_value_spec.specs.{Blob.key_of, Outcomes.memory, Stored.{AreNamed, IsCount}}};
 
 use crate::storage::data::PagableData;
 use crate::storage::roots::Roots;

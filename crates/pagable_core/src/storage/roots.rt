@@ -1,7 +1,7 @@
 //! Names that stand for keys.
 
 ghost use Rattle.std.specs.Prelude.{◌≡◌, ◌≤◌, ℕ, List, Option, false, IfErr, IfOk, IsTrue, OnErr, OnOk};
-ghost use Rattle.{pagable_core.specs.Roots.{RefusesRoot, Sets, Stands}, pagable_model.specs.Stored.RefusesFlush};
+ghost use Rattle.{pagable_core.specs.Roots.{RefusesRoot, Sets, Stands}, pagable_value_spec.specs.Stored.RefusesFlush};
 
 use crate::storage::traits::PagableStorage;
 use pagable_codec::Env;

@@ -1,7 +1,7 @@
 //! What a storage of blobs offers.
 
 ghost use Rattle.std.specs.{Arc.arc_value, Prelude.{◌≡◌, ◌≤◌, ◌↔◌, ℕ, Bool, true, false, IsTrue, Option, Some, None, OnOk, OnErr, IfOk, IfErr}};
-ghost use Rattle.{futures.specs.{Poll.{IfReady, OnPending}, Task.{IsArmed, Keeps as KeepsPoll}}, pagable_core.specs.Data.blob_of, pagable_model.specs.{Blob.{Blob, key_of}, Stored.{Adds, Keeps, RefusesFetch, RefusesStore, RefusesFlush}}};
+ghost use Rattle.{futures.specs.{Poll.{IfReady, OnPending}, Task.{IsArmed, Keeps as KeepsPoll}}, pagable_core.specs.Data.blob_of, pagable_value_spec.specs.{Blob.{Blob, key_of}, Stored.{Adds, Keeps, RefusesFetch, RefusesStore, RefusesFlush}}};
 
 use crate::storage::data::PagableData;
 use futures::task::{Context, Poll};

@@ -1,6 +1,6 @@
 //! A hash for tests.
 
-ghost use Rattle.{pagable_core.specs.Data.IsWeighed, pagable_model.specs.Blob.weigh_hash};
+ghost use Rattle.{pagable_core.specs.Data.IsWeighed, pagable_value_spec.specs.Blob.weigh_hash};
 ghost use Rattle.std.specs.Prelude.{List, length, ℕ, ◌%◌, ◌+◌, ◌^◌, ◌≡◌};
 
 use pagable_codec::KeyHash;
@@ -17,7 +17,7 @@ impl KeyHash for WeighHash {
 
     ghost digest = { weigh_hash };
 
-    #[tactic(auto, unfolding(pagable_model::specs::Blob::weight))]
+    #[tactic(auto, unfolding(pagable_value_spec::specs::Blob::weight))]
     fn new() -> WeighHash {
         WeighHash { place: 1, sum: 0 }
     }

@@ -1,10 +1,10 @@
 //! Numbers of several bytes, byte by byte.
 
 ghost use Rattle.std.specs.Prelude.{◌≡◌, ◌≤◌, ◌<◌, ◌^◌, IfOk, MatchOption, drop, length};
-ghost use Rattle.{pagable_flavors.specs.Calls.Reads, pagable_model.specs.{Gives.{Gives, never}, Numbers.{byte_at, varint_at, varint_limit}, Track.{left, GoesOn}}};
+ghost use Rattle.{pagable_flavors.specs.Calls.Reads, pagable_value_spec.specs.{Outcomes.{Gives, never}, Numbers.{byte_at, varint_at, varint_limit}, Progress.{left, GoesOn}}};
 
 use super::PagableSlice;
-use pagable_model::Error;
+use pagable_value_spec::Error;
 
 // The number at the front, of at most `more` bytes with the top bit set and one that is at most `last`, and how many bytes it takes.
 #[tactic(auto, using(crate::proofs::Varint::reading))]

@@ -1,6 +1,6 @@
 //! Basic values are read, and texts and byte arrays that stay where they are.
 
-ghost use Rattle.pagable_model.specs.{Basic.{byte_array_at, text_at}, Gives.{Gives, never}, Track.{GoesOn, left}};
+ghost use Rattle.pagable_value_spec.specs.{BasicValues.{byte_array_at, text_at}, Outcomes.{Gives, never}, Progress.{GoesOn, left}};
 ghost use Rattle.std.specs.Prelude.{◌≡◌};
 
 use super::PagableSlice;
@@ -8,7 +8,7 @@ use super::numbers::wide_varint_of;
 use crate::reader::Reader;
 use crate::vec_flavor::LONGEST;
 use crate::zigzag;
-use pagable_model::Error;
+use pagable_value_spec::Error;
 use std::alloc::Global;
 
 impl Reader for PagableSlice<'_> {
@@ -26,7 +26,7 @@ impl Reader for PagableSlice<'_> {
         PagableSlice::set_position(self, position);
     }
 
-    #[tactic(auto, unfolding(pagable_model::specs::Basic::bool_at))]
+    #[tactic(auto, unfolding(pagable_value_spec::specs::BasicValues::bool_at))]
     fn read_bool(&mut self) -> Result<bool, Error> {
         match self.pop()? {
             0 => Ok(false),
@@ -39,7 +39,7 @@ impl Reader for PagableSlice<'_> {
         self.pop()
     }
 
-    #[tactic(auto, using(crate::proofs::Varint::varint_at_first), unfolding(pagable_model::specs::Numbers::varint_limit))]
+    #[tactic(auto, using(crate::proofs::Varint::varint_at_first), unfolding(pagable_value_spec::specs::Numbers::varint_limit))]
     fn read_u16(&mut self) -> Result<u16, Error> {
         if let Some(byte) = self.short() {
             return Ok(u16::from(byte));
@@ -47,7 +47,7 @@ impl Reader for PagableSlice<'_> {
         Ok(self.varint(2, 3)? as u16)
     }
 
-    #[tactic(auto, using(crate::proofs::Varint::varint_at_first), unfolding(pagable_model::specs::Numbers::varint_limit))]
+    #[tactic(auto, using(crate::proofs::Varint::varint_at_first), unfolding(pagable_value_spec::specs::Numbers::varint_limit))]
     fn read_u32(&mut self) -> Result<u32, Error> {
         if let Some(byte) = self.short() {
             return Ok(u32::from(byte));
@@ -55,7 +55,7 @@ impl Reader for PagableSlice<'_> {
         Ok(self.varint(4, 15)? as u32)
     }
 
-    #[tactic(auto, using(crate::proofs::Varint::varint_at_first), unfolding(pagable_model::specs::Numbers::varint_limit))]
+    #[tactic(auto, using(crate::proofs::Varint::varint_at_first), unfolding(pagable_value_spec::specs::Numbers::varint_limit))]
     fn read_u64(&mut self) -> Result<u64, Error> {
         if let Some(byte) = self.short() {
             return Ok(u64::from(byte));
@@ -63,7 +63,7 @@ impl Reader for PagableSlice<'_> {
         Ok(self.varint(9, 1)?)
     }
 
-    #[tactic(auto, using(crate::proofs::Varint::varint_at_first), unfolding(pagable_model::specs::Numbers::varint_limit))]
+    #[tactic(auto, using(crate::proofs::Varint::varint_at_first), unfolding(pagable_value_spec::specs::Numbers::varint_limit))]
     fn read_u128(&mut self) -> Result<u128, Error> {
         if let Some(byte) = self.short() {
             return Ok(u128::from(byte));
@@ -97,7 +97,7 @@ impl Reader for PagableSlice<'_> {
         Ok(zigzag::decode_wide(self.read_u128()?))
     }
 
-    #[tactic(auto, using(crate::proofs::Basic::char_steps), unfolding(pagable_model::specs::Basic::char_at))]
+    #[tactic(auto, using(crate::proofs::Basic::char_steps), unfolding(pagable_value_spec::specs::BasicValues::char_at))]
     fn read_char(&mut self) -> Result<char, Error> {
         let text = self.read_str()?;
         let mut characters = text.chars();
@@ -107,7 +107,7 @@ impl Reader for PagableSlice<'_> {
         }
     }
 
-    #[tactic(auto, unfolding(pagable_model::specs::Basic::length_at))]
+    #[tactic(auto, unfolding(pagable_value_spec::specs::BasicValues::length_at))]
     fn read_len(&mut self) -> Result<usize, Error> {
         let number = self.read_usize()?;
         if number > LONGEST {
@@ -123,7 +123,7 @@ impl Reader for PagableSlice<'_> {
 
 impl<'de> PagableSlice<'de> {
     /// A text, which stays where it is among the bytes. `TooLong`, then `UnexpectedEnd`, then `BadUtf8`.
-    #[tactic(auto, using(crate::proofs::Basic::utf8_tests), unfolding(pagable_model::specs::Basic::text_at))]
+    #[tactic(auto, using(crate::proofs::Basic::utf8_tests), unfolding(pagable_value_spec::specs::BasicValues::text_at))]
     pub fn read_str(&mut self) -> Result<&'de str, Error>
         ensures gives { Gives never (λ t. (t.now, left self.new)) result (text_at (left self.old)) }
         ensures goes { GoesOn self.old self.new }
@@ -134,7 +134,7 @@ impl<'de> PagableSlice<'de> {
     }
 
     /// A byte array, which stays where it is among the bytes. `TooLong`, then `UnexpectedEnd`.
-    #[tactic(auto, unfolding(pagable_model::specs::Basic::byte_array_at))]
+    #[tactic(auto, unfolding(pagable_value_spec::specs::BasicValues::byte_array_at))]
     pub fn read_bytes(&mut self) -> Result<&'de [u8], Error>
         ensures gives { Gives never (λ b. (b.now, left self.new)) result (byte_array_at (left self.old)) }
         ensures goes { GoesOn self.old self.new }

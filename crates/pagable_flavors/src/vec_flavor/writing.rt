@@ -1,12 +1,12 @@
 //! Basic values are written: whole numbers, flags, lengths, texts and byte arrays.
 
-ghost use Rattle.{pagable_flavors.specs.Calls.{Appends, AppendsCounted}, pagable_model.specs.{Basic.{bool_form, byte_array_form, char_form, length_form, text_form}, Gives.{Extends, memory}}};
-ghost use Rattle.pagable_model.specs.Numbers.{AppendsVarint, signed_form, unsigned_form};
+ghost use Rattle.{pagable_flavors.specs.Calls.{Appends, AppendsCounted}, pagable_value_spec.specs.{BasicValues.{bool_form, byte_array_form, char_form, length_form, text_form}, Outcomes.{Extends, memory}}};
+ghost use Rattle.pagable_value_spec.specs.Numbers.{AppendsVarint, signed_form, unsigned_form};
 ghost use Rattle.std.specs.{Int.{w128, w16, w32, w64, w8}, Prelude.{IfErr, OnOk, length, ◌++◌, ◌≡◌}};
 
 use super::{LONGEST, PagableVecFlavor};
 use crate::zigzag;
-use pagable_model::Error;
+use pagable_value_spec::Error;
 
 impl PagableVecFlavor {
     // The shortest varint of a number, for every width that the number fits.
@@ -33,7 +33,7 @@ impl PagableVecFlavor {
     }
 
     /// A number of 16 bits, in 1 to 3 bytes. `OutOfMemory` where the writer can't grow.
-    #[tactic(auto, unfolding(pagable_model::specs::Numbers::varint_limit))]
+    #[tactic(auto, unfolding(pagable_value_spec::specs::Numbers::varint_limit))]
     pub fn write_u16(&mut self, number: u16) -> Result<(), Error>
         ensures { Appends (unsigned_form w16 number) result self.old self.new }
     {
@@ -41,7 +41,7 @@ impl PagableVecFlavor {
     }
 
     /// A number of 32 bits, in 1 to 5 bytes. `OutOfMemory` where the writer can't grow.
-    #[tactic(auto, unfolding(pagable_model::specs::Numbers::varint_limit))]
+    #[tactic(auto, unfolding(pagable_value_spec::specs::Numbers::varint_limit))]
     pub fn write_u32(&mut self, number: u32) -> Result<(), Error>
         ensures { Appends (unsigned_form w32 number) result self.old self.new }
     {
@@ -49,7 +49,7 @@ impl PagableVecFlavor {
     }
 
     /// A number of 64 bits, in 1 to 10 bytes. `OutOfMemory` where the writer can't grow.
-    #[tactic(auto, unfolding(pagable_model::specs::Numbers::varint_limit))]
+    #[tactic(auto, unfolding(pagable_value_spec::specs::Numbers::varint_limit))]
     pub fn write_u64(&mut self, number: u64) -> Result<(), Error>
         ensures { Appends (unsigned_form w64 number) result self.old self.new }
     {

@@ -3,21 +3,21 @@
 ghost use Rattle.std.specs.{Arc.arc_value, Prelude.{Err, IfErr, IfNone, IfOk, IfSome, IsTrue, [], ◌≡◌, ◌≤◌}};
 ghost use Rattle.pagable_core.specs.Data.{blob_of};
 ghost use Rattle.pagable_leaf.specs.Leaf.{IsLeaf};
-ghost use Rattle.pagable_loads.specs.{Decoding.IsReadAs, Telling.values_at};
+ghost use Rattle.pagable_load.specs.{Decoding.IsReadAs, AccessView.values_at};
 ghost use Rattle.pagable_tables.specs.HandleTable.{room};
 ghost use Rattle.pagable_pager.specs.{Leaf.{LeafBegun, LeafDropped, LeafFetched, LeafPinned, LeafUnbegun}, View.{core_in, state_in, telling}};
-ghost use Rattle.pagable_world.specs.Access.{PinRun};
+ghost use Rattle.pagable_pager_spec.specs.Access.{PinRun};
 
 use crate::pager::Pager;
-use crate::pager::births::place;
+use crate::pager::insert::place;
 use pagable_codec::{Env, NodeSet};
 use pagable_core::{PagableData, PagableStorage};
 use pagable_leaf::leaf::{self, Leaf};
-use pagable_loads::{Access, Decoded, decode};
-use pagable_model::{Error, HandleNumber, LoadNumber};
+use pagable_load::{Access, Decoded, decode};
+use pagable_pager_spec::Beginning;
+use pagable_pager_spec::handle_row::Owner;
 use pagable_tables::load;
-use pagable_world::Beginning;
-use pagable_world::handles::Owner;
+use pagable_value_spec::{Error, HandleNumber, LoadNumber};
 use std::alloc::Global;
 use std::sync::Arc;
 
@@ -65,7 +65,7 @@ impl<E: Env<Node: NodeSet<E>>, S: PagableStorage<E>> Pager<E, S> {
         ensures none { IfOk result (λ found. IfNone found (self.new ≡ self.old)) }
         ensures number { IfOk result (λ found. IfSome found (λ f. f.0.row.number ≡ handle)) }
         ensures leaf { IfOk result (λ found. IfSome found (λ f. IsLeaf (core_in (telling S.stored S.is_closed S.failed) self.new) Owner.Caller f.0)) }
-        ensures place { IfOk result (λ found. IfSome found (λ f. 1 ≤ room self.new.tables.holdings.handles)) }
+        ensures place { IfOk result (λ found. IfSome found (λ f. 1 ≤ room self.new.tables.ref_counts.handles)) }
         ensures fetched { IsTrue (S.is_honest self.new.storage) → IfOk result (λ found. IfSome found (λ f. LeafFetched (values_at E.Node.NodeSet E.Env E.Hash.KeyHash self.old.environment)
             (state_in (telling S.stored S.is_closed S.failed) self.old) f.0 (blob_of (arc_value f.1)) (state_in (telling S.stored S.is_closed S.failed) self.new))) }
         ensures refused { IsTrue (S.is_honest self.new.storage) → IfErr result (λ e. PinRun (values_at E.Node.NodeSet E.Env E.Hash.KeyHash self.old.environment)
@@ -93,7 +93,7 @@ impl<E: Env<Node: NodeSet<E>>, S: PagableStorage<E>> Pager<E, S> {
     /// - OutOfMemory: no load is left.
     pub(crate) fn begin_leaf(&mut self, leaf: Leaf) -> Result<LoadNumber, Error>
         requires leaf { IsLeaf (core_in (telling S.stored S.is_closed S.failed) self.old) Owner.Caller leaf }
-        requires place { 1 ≤ room self.old.tables.holdings.handles }
+        requires place { 1 ≤ room self.old.tables.ref_counts.handles }
         ensures begun { IfOk result (λ l. LeafBegun (values_at E.Node.NodeSet E.Env E.Hash.KeyHash self.old.environment) (state_in (telling S.stored S.is_closed S.failed) self.old) leaf l
             (state_in (telling S.stored S.is_closed S.failed) self.new)) }
         ensures dropped { IfErr result (λ e. (e ≡ Error.OutOfMemory) × LeafUnbegun (values_at E.Node.NodeSet E.Env E.Hash.KeyHash self.old.environment)
@@ -122,7 +122,7 @@ impl<E: Env<Node: NodeSet<E>>, S: PagableStorage<E>> Pager<E, S> {
         value: E::Node,
     ) -> Result<HandleNumber, Error>
         requires leaf { IsLeaf (core_in (telling S.stored S.is_closed S.failed) self.old) Owner.Caller leaf }
-        requires place { 1 ≤ room self.old.tables.holdings.handles }
+        requires place { 1 ≤ room self.old.tables.ref_counts.handles }
         requires typed { E.Node.type_of value ≡ leaf.node_type }
         requires bare { E.Node.refs_of value ≡ [] }
         ensures pinned { IfOk result (λ k. LeafPinned (values_at E.Node.NodeSet E.Env E.Hash.KeyHash self.old.environment) (state_in (telling S.stored S.is_closed S.failed) self.old) leaf value k

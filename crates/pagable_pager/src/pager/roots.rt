@@ -1,13 +1,13 @@
 //! Names of roots in a pager's storage.
 
 ghost use Rattle.std.specs.Prelude.{◌≡◌, IfErr, IfOk, IsTrue, OnErr, OnOk};
-ghost use Rattle.{pagable_core.specs.Roots.{RefusesRoot, Sets, Stands}, pagable_model.specs.Stored.RefusesFlush};
-ghost use Rattle.{pagable_pager.specs.View.{AsksStorage, telling}, pagable_world.specs.Calls.Asked};
+ghost use Rattle.{pagable_core.specs.Roots.{RefusesRoot, Sets, Stands}, pagable_value_spec.specs.Stored.RefusesFlush};
+ghost use Rattle.{pagable_pager.specs.View.{AsksStorage, telling}, pagable_pager_spec.specs.Calls.Asked};
 
 use crate::pager::Pager;
 use pagable_codec::{Env, NodeSet};
 use pagable_core::Roots;
-use pagable_model::{DataKey, Error};
+use pagable_value_spec::{DataKey, Error};
 use std::alloc::Global;
 
 impl<E: Env<Node: NodeSet<E>>, S: Roots<E>> Pager<E, S> {

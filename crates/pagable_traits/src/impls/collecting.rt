@@ -2,8 +2,8 @@
 //! as they are written.
 
 ghost use Rattle.std.specs.{Iterator.IsFinite, Prelude.{◌≡◌, ℕ, List, [], length, min, ◌≤◌, OnOk, IfOk, IfErr}};
-ghost use Rattle.pagable_model.specs.{Collected.Collected, Gives.{memory, memory_or, long_or}, Reading.{items, counted, read}, Standing.MovesOn};
-ghost use Rattle.pagable_traits.specs.{Beside.CollectsHeld, Clauses.{Reads, Wrote}, Walks.{counted as walked, each}};
+ghost use Rattle.pagable_value_spec.specs.{Collected.Collected, Outcomes.{memory, memory_or, long_or}, Reading.{items, counted, read}, Cursor.MovesOn};
+ghost use Rattle.pagable_traits.specs.{HeldValues.CollectsHeld, Clauses.{Reads, Wrote}, Walks.{counted as walked, each}};
 
 use crate::traits::{PagableDeserialize, PagableSerialize};
 use pagable_codec::parts::{places_for, read_count, write_count};

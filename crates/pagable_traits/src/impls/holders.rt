@@ -2,13 +2,13 @@
 //! as their first value and the tuple of the others; values that are lent; a header with a list behind it; marks of a
 //! type, of which there is nothing to write; and cells.
 
-ghost use Rattle.pagable_model.specs.{Carried.{atomic_i64, once_lock, thin}, Lifted.{MayHold, MeansAtomic, MeansOnce, atomic_has_meaning, once_has_meaning, result_single}, Shape.{optional, outcome, both}};
+ghost use Rattle.pagable_value_spec.specs.{CarriedTypes.{atomic_i64, once_lock, thin}, Composite.{MayHold, MeansAtomic, MeansOnce, atomic_has_meaning, once_has_meaning, result_single}, Shape.{optional, outcome, both}};
 ghost use Rattle.std.specs.Prelude.{option_copied};
-ghost use Rattle.pagable_traits.specs.Beside.{lists_beside, options_beside, pairs_beside, results_beside};
+ghost use Rattle.pagable_traits.specs.HeldValues.{lists_beside, options_beside, pairs_beside, results_beside};
 ghost use Rattle.pagable_traits.specs.Meanings.{lists, options, results, pairs, seen_by, lists_single, options_single, pairs_single};
 ghost use Rattle.pagable_traits.specs.OwnCauses.{reads_memory_or, reads_either, writes_memory_or, writes_either, writes_long_or, writes_never};
 
-use crate::alike::{CarriedAs, ReadAs};
+use crate::encoded_as::{DecodedAs, EncodedAs};
 use crate::impls::maps::write_entry;
 use crate::traits::{Carried, OneMeaning, PagableDeserialize, PagableSerialize};
 use pagable_codec::parts::{read_flag, write_flag};
@@ -48,7 +48,7 @@ impl<E: Env, T: PagableSerialize<E>> PagableSerialize<E> for Option<T> {
 impl<'de, E: Env, T: PagableDeserialize<'de, E>> PagableDeserialize<'de, E> for Option<T> {
     ghost read_causes = { T.read_causes };
 
-    #[tactic(auto, unfolding(pagable_model::specs::Reading::read, pagable_model::specs::Reading::read_with), using(crate::proofs::Parts::reads, crate::proofs::Lent::lent))]
+    #[tactic(auto, unfolding(pagable_value_spec::specs::Reading::read, pagable_value_spec::specs::Reading::read_with), using(crate::proofs::Parts::reads, crate::proofs::Lent::lent))]
     fn pagable_deserialize<D: PagableDeserializer<E>>(
         alloc: Global,
         deserializer: &mut D,
@@ -61,7 +61,7 @@ impl<'de, E: Env, T: PagableDeserialize<'de, E>> PagableDeserialize<'de, E> for 
     }
 }
 
-impl<T> CarriedAs for Box<T> {
+impl<T> EncodedAs for Box<T> {
     type Other = T;
 
     ghost other = { λ b. b.value };
@@ -116,7 +116,7 @@ impl<
 > PagableDeserialize<'de, E> for (A, B) {
     ghost read_causes = { reads_either A.read_causes B.read_causes };
 
-    #[tactic(auto, unfolding(pagable_model::specs::Reading::read, pagable_model::specs::Reading::read_with), using(crate::proofs::Parts::reads, crate::proofs::Lent::lent))]
+    #[tactic(auto, unfolding(pagable_value_spec::specs::Reading::read, pagable_value_spec::specs::Reading::read_with), using(crate::proofs::Parts::reads, crate::proofs::Lent::lent))]
     fn pagable_deserialize<D: PagableDeserializer<E>>(
         alloc: Global,
         deserializer: &mut D,
@@ -174,7 +174,7 @@ impl<'de, E: Env, T: PagableDeserialize<'de, E>, X: PagableDeserialize<'de, E>> 
 }
 
 /// A lent value is written as it is; nothing reads it, since a reader has nobody to lend from.
-impl<'a, T> CarriedAs for &'a T {
+impl<'a, T> EncodedAs for &'a T {
     type Other = T;
 
     ghost other = { λ r. r.now };
@@ -188,14 +188,14 @@ impl<'a, E: Env, T: PagableSerialize<E>> PagableSerialize<E> for &'a T {
     }
 }
 
-impl<T> CarriedAs for PhantomData<T> {
+impl<T> EncodedAs for PhantomData<T> {
     type Other = ();
 
     ghost other = { λ x. tt };
 }
 
-impl<T> ReadAs for PhantomData<T> {
-    fn of_other(_value: ()) -> Self {
+impl<T> DecodedAs for PhantomData<T> {
+    fn from_encoded(_value: ()) -> Self {
         PhantomData
     }
 }
@@ -253,40 +253,40 @@ impl<
     }
 }
 
-impl<A, B, C> CarriedAs for (A, B, C) {
+impl<A, B, C> EncodedAs for (A, B, C) {
     type Other = (A, (B, C));
 
     ghost other = { λ p. (p.0, (p.1, p.2)) };
 }
 
-impl<A, B, C> ReadAs for (A, B, C) {
-    fn of_other(value: (A, (B, C))) -> Self {
+impl<A, B, C> DecodedAs for (A, B, C) {
+    fn from_encoded(value: (A, (B, C))) -> Self {
         let (first, (second, third)) = value;
         (first, second, third)
     }
 }
 
-impl<A, B, C, D> CarriedAs for (A, B, C, D) {
+impl<A, B, C, D> EncodedAs for (A, B, C, D) {
     type Other = (A, (B, (C, D)));
 
     ghost other = { λ p. (p.0, (p.1, (p.2, p.3))) };
 }
 
-impl<A, B, C, D> ReadAs for (A, B, C, D) {
-    fn of_other(value: (A, (B, (C, D)))) -> Self {
+impl<A, B, C, D> DecodedAs for (A, B, C, D) {
+    fn from_encoded(value: (A, (B, (C, D)))) -> Self {
         let (first, (second, (third, fourth))) = value;
         (first, second, third, fourth)
     }
 }
 
-impl<A, B, C, D, F> CarriedAs for (A, B, C, D, F) {
+impl<A, B, C, D, F> EncodedAs for (A, B, C, D, F) {
     type Other = (A, (B, (C, (D, F))));
 
     ghost other = { λ p. (p.0, (p.1, (p.2, (p.3, p.4)))) };
 }
 
-impl<A, B, C, D, F> ReadAs for (A, B, C, D, F) {
-    fn of_other(value: (A, (B, (C, (D, F))))) -> Self {
+impl<A, B, C, D, F> DecodedAs for (A, B, C, D, F) {
+    fn from_encoded(value: (A, (B, (C, (D, F))))) -> Self {
         let (first, (second, (third, (fourth, fifth)))) = value;
         (first, second, third, fourth, fifth)
     }
@@ -341,7 +341,7 @@ impl<
 // no contract knows what one holds: each means what it may hold, and the four functions below say what that is.
 
 /// The number that a cell holds when it is looked at.
-#[tactic(auto, unfolding(pagable_model::specs::Lifted::MayHold))]
+#[tactic(auto, unfolding(pagable_value_spec::specs::Composite::MayHold))]
 fn number_in(cell: &AtomicI64) -> i64
     ensures { MayHold cell.now result }
 {
@@ -349,7 +349,7 @@ fn number_in(cell: &AtomicI64) -> i64
 }
 
 /// A cell that holds this number.
-#[tactic(auto, unfolding(pagable_model::specs::Lifted::MayHold))]
+#[tactic(auto, unfolding(pagable_value_spec::specs::Composite::MayHold))]
 fn atomic_of(number: i64) -> AtomicI64
     ensures { MayHold result number }
 {
@@ -358,7 +358,7 @@ fn atomic_of(number: i64) -> AtomicI64
 
 /// The value that a cell holds when it is looked at. It doesn't wait for a thread that is writing: until that is done the
 /// cell holds none.
-#[tactic(auto, unfolding(pagable_model::specs::Lifted::MayHold))]
+#[tactic(auto, unfolding(pagable_value_spec::specs::Composite::MayHold))]
 fn value_in<T>(cell: &OnceLock<T>) -> Option<&T>
     ensures { MayHold cell.now (option_copied result) }
 {
@@ -366,7 +366,7 @@ fn value_in<T>(cell: &OnceLock<T>) -> Option<&T>
 }
 
 /// A cell that holds this value, or none. No thread has seen it yet.
-#[tactic(auto, unfolding(pagable_model::specs::Lifted::MayHold))]
+#[tactic(auto, unfolding(pagable_value_spec::specs::Composite::MayHold))]
 fn once_of<T: Drop>(value: Option<T>) -> OnceLock<T>
     ensures { MayHold result value }
 {

@@ -2,8 +2,8 @@
 //! entered after their length was read.
 
 ghost use Rattle.std.specs.{Prelude.{[], length, ◌≡◌, ◌≤◌}, Int.w64, Vec.vec_capacity};
-ghost use Rattle.pagable_model.specs.{Reading.{bytes_of, items as items_at, read, seen, array_case, object_case}, Gives.{Gives, memory, never}, Lifted.MeansPair, Meaning.{sequence, variant}};
-ghost use Rattle.pagable_model.specs.{Numbers.unsigned_at, Shape.{both, json, text}, Standing.{Is, MovesOn}};
+ghost use Rattle.pagable_value_spec.specs.{Reading.{bytes_of, items as items_at, read, seen, array_case, object_case}, Outcomes.{Gives, memory, never}, Composite.MeansPair, Meaning.{sequence, variant}};
+ghost use Rattle.pagable_value_spec.specs.{Numbers.unsigned_at, Shape.{both, json, text}, Cursor.{Is, MovesOn}};
 ghost use Rattle.pagable_traits.specs.{JsonData.{of_key, of_value}, Clauses.{Reads, part_of, ObjectOf}, Meanings.exactly, OwnCauses.reads_memory};
 
 use crate::impls::collecting::with_room;
@@ -48,7 +48,7 @@ fn read_case<E: Env, D: PagableDeserializer<E>>(deserializer: &mut D) -> Result<
 /// Reads a JSON value. JsonCase where the case is above 5, JsonNumber where a number is a float, TooDeep for an array or
 /// an object where 128 levels were entered, and else the faults of its parts.
 #[cycle(reading_json)]
-#[tactic(auto, unfolding(pagable_model::specs::Reading::read, pagable_model::specs::Reading::read_with), using(crate::proofs::Json::read_cases))]
+#[tactic(auto, unfolding(pagable_value_spec::specs::Reading::read, pagable_value_spec::specs::Reading::read_with), using(crate::proofs::Json::read_cases))]
 pub fn read_value<E: Env, D: PagableDeserializer<E>>(
     alloc: Global,
     deserializer: &mut D,
@@ -165,7 +165,7 @@ fn read_members<E: Env, D: PagableDeserializer<E>>(
 }
 
 #[cycle(reading_json)]
-#[tactic(auto, unfolding(pagable_model::specs::Reading::read, pagable_model::specs::Reading::read_with), using(crate::proofs::Parts::reads))]
+#[tactic(auto, unfolding(pagable_value_spec::specs::Reading::read, pagable_value_spec::specs::Reading::read_with), using(crate::proofs::Parts::reads))]
 fn read_member<E: Env, D: PagableDeserializer<E>>(
     alloc: Global,
     deserializer: &mut D,

@@ -1,8 +1,8 @@
 //! How JSON values are written: the case, and then its part. Arrays and objects are one level further down, which is
 //! entered after their length was written.
 
-ghost use Rattle.{pagable_model.specs.Refusals.is_writing_fault, std.specs.{Int.w64, Prelude.{IfErr, IsTrue}, String.string_bytes}};
-ghost use Rattle.pagable_model.specs.{Gives.{memory, json_causes}, Lifted.{MeanAll, MeansPair}, Numbers.unsigned_form, Shape.{both, json, text}, Standing.Is};
+ghost use Rattle.{pagable_value_spec.specs.Refusals.is_writing_fault, std.specs.{Int.w64, Prelude.{IfErr, IsTrue}, String.string_bytes}};
+ghost use Rattle.pagable_value_spec.specs.{Outcomes.{memory, json_causes}, Composite.{MeanAll, MeansPair}, Numbers.unsigned_form, Shape.{both, json, text}, Cursor.Is};
 ghost use Rattle.serde_json.specs.{Data.{boolean, number, string, array, object}, View.{number_view, items_view, members_view, view}};
 ghost use Rattle.pagable_traits.specs.{JsonData.{of_value, of_key, long_or_no_memory}, Clauses.{Wrote, all, bytes, front, nested_in, value as form}, JsonFaults.{EntryFault, Fault, ItemFault, MemberFault}};
 ghost use Rattle.pagable_traits.specs.{JsonFaults.{json_of_value, refused_as}, OwnCauses.writes_json};

@@ -1,8 +1,8 @@
 //! Lists of each kind, slices and arrays, and the items of a list in turn.
 
 ghost use Rattle.std.specs.{Box.boxed_slice_items, Prelude.{[], max, ◌++◌, ◌∷◌, ◌≡◌}, Vec.vec_capacity};
-ghost use Rattle.pagable_model.specs.{Gives.{long_or, memory_or}, Lifted.{MeanAll, MeansList}, Shape.{array, list, run}};
-ghost use Rattle.pagable_traits.specs.{Beside.lists_beside, Clauses.{Wrote, all, value as form}, Meanings.{lists, lists_single, seen_by}, OwnCauses.{reads_memory_or, writes_long_or, writes_memory_or}};
+ghost use Rattle.pagable_value_spec.specs.{Outcomes.{long_or, memory_or}, Composite.{MeanAll, MeansList}, Shape.{array, list, run}};
+ghost use Rattle.pagable_traits.specs.{HeldValues.lists_beside, Clauses.{Wrote, all, value as form}, Meanings.{lists, lists_single, seen_by}, OwnCauses.{reads_memory_or, writes_long_or, writes_memory_or}};
 
 use crate::impls::collecting::{
     Collects, collect_items, read_collected, write_counted, write_each,
@@ -231,7 +231,7 @@ impl<'de, E: Env, T: PagableDeserialize<'de, E> + Drop, const N: usize> PagableD
     for [T; N] {
     ghost read_causes = { reads_memory_or T.read_causes };
 
-    #[tactic(auto, unfolding(pagable_model::specs::Reading::read, pagable_model::specs::Reading::read_with), using(crate::proofs::Items::lists))]
+    #[tactic(auto, unfolding(pagable_value_spec::specs::Reading::read, pagable_value_spec::specs::Reading::read_with), using(crate::proofs::Items::lists))]
     fn pagable_deserialize<D: PagableDeserializer<E>>(
         alloc: Global,
         deserializer: &mut D,

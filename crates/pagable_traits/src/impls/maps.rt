@@ -1,8 +1,8 @@
 //! Maps and sets: in order of their keys, in order of arrival, and in no order.
 
 ghost use Rattle.std.specs.{BTreeMap.insert_entry, BTreeSet.insert_key, HashMap.spare, Prelude.{◌≡◌, ◌≤◌}};
-ghost use Rattle.pagable_model.specs.{Gives.either, Hashed.{PutsAnywhere, hash_map_single}, Lifted.MeansPair, Shape.{both, hash_map, placed_map, placed_set, sorted_map, sorted_set}};
-ghost use Rattle.pagable_traits.specs.{Beside.{lists_beside, pairs_beside}, Clauses.{Wrote, value as form}, Meanings.{hash_maps, lists, lists_single, pairs, pairs_single, seen_by}, OwnCauses.{reads_either, reads_memory_or}};
+ghost use Rattle.pagable_value_spec.specs.{Outcomes.either, Hashed.{PutsAnywhere, hash_map_single}, Composite.MeansPair, Shape.{both, hash_map, placed_map, placed_set, sorted_map, sorted_set}};
+ghost use Rattle.pagable_traits.specs.{HeldValues.{lists_beside, pairs_beside}, Clauses.{Wrote, value as form}, Meanings.{hash_maps, lists, lists_single, pairs, pairs_single, seen_by}, OwnCauses.{reads_either, reads_memory_or}};
 ghost use Rattle.pagable_traits.specs.OwnCauses.{writes_either, writes_long_or, writes_memory_or};
 ghost use Rattle.indexmap.specs.IndexMap as placed_maps;
 ghost use Rattle.indexmap.specs.IndexSet as placed_sets;

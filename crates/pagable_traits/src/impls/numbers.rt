@@ -2,11 +2,11 @@
 #![tactic(auto, using(crate::proofs::Parts::basic))]
 
 ghost use Rattle.std.specs.{Int.{w8, w16, w32, w64, w128}, Prelude.{◌≡◌, ◌++◌, ◌<◌, ◌^◌, OnOk, IfErr}};
-ghost use Rattle.pagable_model.specs.{Meaning.{number, integer, none, flag as flag_meaning}, Shape.{unsigned, signed, flag, letter, nothing, duration}};
-ghost use Rattle.pagable_model.specs.{Basic.{duration_at, duration_form}, Gives.{Gives, never, memory, Extends}, Track.{left, GoesOn}, Carried.{of_span, seconds_of, nanos_of}};
+ghost use Rattle.pagable_value_spec.specs.{Meaning.{number, integer, none, flag as flag_meaning}, Shape.{unsigned, signed, flag, letter, nothing, duration}};
+ghost use Rattle.pagable_value_spec.specs.{BasicValues.{duration_at, duration_form}, Outcomes.{Gives, never, memory, Extends}, Progress.{left, GoesOn}, CarriedTypes.{of_span, seconds_of, nanos_of}};
 ghost use Rattle.pagable_traits.specs.{Meanings.{exactly}, OwnCauses.{writes_never}};
 
-use crate::alike::{CarriedAs, ReadAs};
+use crate::encoded_as::{DecodedAs, EncodedAs};
 use crate::traits::{Carried, OneMeaning, PagableDeserialize, PagableSerialize};
 use pagable_codec::{Env, PagableDeserializer, PagableSerializer, Reader};
 use pagable_flavors::{Error, PagableVecFlavor};
@@ -138,7 +138,7 @@ impl<'de, E: Env> PagableDeserialize<'de, E> for u128 {
     }
 }
 
-impl CarriedAs for usize {
+impl EncodedAs for usize {
     type Other = u64;
 
     ghost other = { λ x. x };
@@ -150,8 +150,8 @@ impl<E: Env> PagableSerialize<E> for usize {
     }
 }
 
-impl ReadAs for usize {
-    fn of_other(value: u64) -> Self {
+impl DecodedAs for usize {
+    fn from_encoded(value: u64) -> Self {
         value as usize
     }
 }
@@ -351,7 +351,7 @@ impl<E: Env> PagableSerialize<E> for () {
 }
 
 impl<'de, E: Env> PagableDeserialize<'de, E> for () {
-    #[tactic(auto, unfolding(pagable_model::specs::Reading::read, pagable_model::specs::Reading::read_with), using(pagable_codec::proofs::Reading::parts))]
+    #[tactic(auto, unfolding(pagable_value_spec::specs::Reading::read, pagable_value_spec::specs::Reading::read_with), using(pagable_codec::proofs::Reading::parts))]
     fn pagable_deserialize<D: PagableDeserializer<E>>(
         _alloc: Global,
         _deserializer: &mut D,
@@ -374,7 +374,7 @@ fn write_span(span: Duration, writer: &mut PagableVecFlavor) -> Result<(), Error
 }
 
 // Reads seconds and nanoseconds, of which whole seconds are carried over: BadDuration where the seconds overflow.
-#[tactic(auto, unfolding(pagable_model::specs::Basic::duration_at), using(crate::proofs::Parts::span_overflows, crate::proofs::Parts::span_read))]
+#[tactic(auto, unfolding(pagable_value_spec::specs::BasicValues::duration_at), using(crate::proofs::Parts::span_overflows, crate::proofs::Parts::span_read))]
 fn read_span<R: Reader>(reader: &mut R) -> Result<Duration, Error>
     ensures gives { Gives never (λ d. ((seconds_of d, nanos_of d), left (R.track reader.new))) result (duration_at (left (R.track reader.old))) }
     ensures goes { GoesOn (R.track reader.old) (R.track reader.new) }

@@ -1,7 +1,7 @@
 //! Texts, lent and boxed ones among them, and paths, which are texts here.
 
 ghost use Rattle.std.specs.{Prelude.◌≡◌, Box.boxed_str_bytes, String.string_bytes};
-ghost use Rattle.pagable_model.specs.{Carried.path_text, Gives.{memory, long_or}, Shape.{text as text_shape}, Meaning.{text as text_meaning}, Standing.Is};
+ghost use Rattle.pagable_value_spec.specs.{CarriedTypes.path_text, Outcomes.{memory, long_or}, Shape.{text as text_shape}, Meaning.{text as text_meaning}, Cursor.Is};
 ghost use Rattle.pagable_traits.specs.{Clauses.{Wrote, value as form}, Meanings.{exactly}, OwnCauses.{reads_memory, writes_memory, writes_long_or}};
 
 use crate::traits::{Carried, OneMeaning, PagableDeserialize, PagableSerialize};

@@ -9,7 +9,7 @@ use pagable::{
     Env, Error, FirstHandle, HandleNumber, InMemoryBlobs, InMemoryPagableStorage, KeyHash,
     OptionalDataKey, PagableStorageHandle, PageOutError,
 };
-use pagable_rows::text::{TextEnv, TextNode};
+use pagable_testkit::text::{TextEnv, TextNode};
 use std::alloc::Global;
 use std::sync::{Arc, Wait};
 

@@ -1,4 +1,4 @@
-use Rattle.{std.{proofs.{Common.{ap, arith, inl, inr, refl}, lemmas.Bool.Decides.nat_tests}, specs.{Map.lookup, Prelude.nat_eq}}, pagable_loads.specs.Telling.values_at}
+use Rattle.{std.{proofs.{Common.{ap, arith, inl, inr, refl}, lemmas.Bool.Decides.nat_tests}, specs.{Map.lookup, Prelude.nat_eq}}, pagable_load.specs.AccessView.values_at}
 use Rattle.pagable.proofs.{Driven.{keeps-after, key-made, key-none-made, serves-same}, Keeping.{drives-beside, nothing-done, refused, refuses}}
 use Rattle.pagable_tables.proofs.SameViews.{failed}
 use Rattle.pagable.proofs.events.load_key.Goals as goal

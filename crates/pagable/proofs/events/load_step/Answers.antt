@@ -1,4 +1,4 @@
-use Rattle.pagable_loads.specs.Telling.{values_at}
+use Rattle.pagable_load.specs.AccessView.{values_at}
 use Rattle.pagable_tables.proofs.SameViews.{failed}
 use Rattle.std.proofs.{Common.{arith, refl, rules, sym, ◌∙◌, ◌≡◌}, lemmas.{Bool.Decides.nat_tests, Grind.common_steps}}
 use Rattle.pagable.proofs.{Driven.{no-place-made, step-made, step-refused, untyped-made}, Keeping.{drives, drives-beside}}

@@ -1,6 +1,6 @@
 use Rattle.pagable.proofs.Driven.{keeps-after, unprepared}
 use Rattle.pagable.specs.Driving.{IsTaken, kept_at}
-use Rattle.pagable_laws.proofs.Trees.{same_some}
+use Rattle.pagable_theorems.proofs.Trees.{same_some}
 use Rattle.pagable_tables.proofs.SameViews.{failed}
 use Rattle.std.{proofs.{Common.{None, Some, ap, arith, inr, refl, subst, sym, ◌∙◌, ◌≡◌}, lemmas.Bool.Decides.nat_tests}, specs.{Map.lookup, Prelude.{is_none, nat_eq}}}
 use Rattle.pagable.proofs.events.prepare.Goals as goal

@@ -1,4 +1,4 @@
-use Rattle.{std.proofs.Common.{arith, refl}, pagable_loads.specs.Telling.values_at, pagable.proofs.{Driven.{call-made, serves-same, start-made}, Keeping.{drives, drives-beside}}}
+use Rattle.{std.proofs.Common.{arith, refl}, pagable_load.specs.AccessView.values_at, pagable.proofs.{Driven.{call-made, serves-same, start-made}, Keeping.{drives, drives-beside}}}
 use Rattle.pagable.proofs.events.serve.Goals as goal
 
 pub returns-in-Call : goal.returns-in-Call

@@ -1,4 +1,4 @@
-use Rattle.{pagable.proofs.{Driven.table-made, Keeping.{drives-beside, nothing-done, refused, refuses}}, pagable_loads.specs.Telling.values_at, std.proofs.{Common.{arith, length, rules, refl, ◌∙◌, ap, ◌++◌, ◌∷◌, []}, lemmas.List.length-append}}
+use Rattle.{pagable.proofs.{Driven.table-made, Keeping.{drives-beside, nothing-done, refused, refuses}}, pagable_load.specs.AccessView.values_at, std.proofs.{Common.{arith, length, rules, refl, ◌∙◌, ap, ◌++◌, ◌∷◌, []}, lemmas.List.length-append}}
 use Rattle.pagable_tables.proofs.SameViews.{failed}
 
 pub returns-in_err-reserve : Rattle.pagable.proofs.workers.table_new.Goals.returns-in_err-reserve

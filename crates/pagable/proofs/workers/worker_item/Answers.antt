@@ -1,4 +1,4 @@
-use Rattle.{std.proofs.Common.{arith, sym, ◌∙◌, ◌≡◌, refl, inl, inr}, pagable_loads.specs.Telling.values_at}
+use Rattle.{std.proofs.Common.{arith, sym, ◌∙◌, ◌≡◌, refl, inl, inr}, pagable_load.specs.AccessView.values_at}
 use Rattle.pagable.proofs.{Driven.{begun-on, item-started, keeps-after}, Keeping.{as-made, drives, lender-is, nothing-done, one-on, refused, refuses, stay-on, told-so}}
 use Rattle.pagable_tables.proofs.SameViews.{failed}
 use Rattle.pagable.proofs.workers.worker_item.Goals as goal

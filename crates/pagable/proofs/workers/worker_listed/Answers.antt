@@ -1,4 +1,4 @@
-use Rattle.{std.proofs.Common.{sym, ◌∙◌, ◌≡◌, inl, inr, refl, arith}, pagable_loads.specs.Telling.values_at}
+use Rattle.{std.proofs.Common.{sym, ◌∙◌, ◌≡◌, inl, inr, refl, arith}, pagable_load.specs.AccessView.values_at}
 use Rattle.pagable.proofs.Driven.{begun-on, entry-refused, keeps-after, listed-started}
 use Rattle.pagable.proofs.Keeping.{drives, lender-is, nothing-done, one-on, refused, refuses, stay-on, told-so}
 use Rattle.pagable_tables.proofs.SameViews.{failed}

@@ -1,4 +1,4 @@
-use Rattle.{std.{proofs.Common.{Some, arith, rules, sym, refl}, proofs.lemmas.Bool.Decides.nat_tests}, pagable.specs.Driving.{KeepsOne, kept_at}, pagable_loads.specs.Telling.values_at}
+use Rattle.{std.{proofs.Common.{Some, arith, rules, sym, refl}, proofs.lemmas.Bool.Decides.nat_tests}, pagable.specs.Driving.{KeepsOne, kept_at}, pagable_load.specs.AccessView.values_at}
 use Rattle.pagable.proofs.{Keeping.{at-work, nothing-done, one-on, refused, refuses}, Running.{apart, worker-moved}}
 use Rattle.pagable.proofs.workers.worker_step.Goals as goal
 

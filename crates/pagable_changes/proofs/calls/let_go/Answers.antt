@@ -1,5 +1,5 @@
-use Rattle.{pagable_changes.specs.Changes.{both-go, one-goes}, pagable_model.specs.declared.numbers.HandleNumber.HandleNumber}
-use Rattle.{pagable_changes.proofs.Changing.at-same, pagable_loads.specs.Telling.values_at, std.proofs.Common.{ap, ℕ}}
+use Rattle.{pagable_changes.specs.Changes.{both-go, one-goes}, pagable_value_spec.specs.declared.numbers.HandleNumber.HandleNumber}
+use Rattle.{pagable_changes.proofs.Changing.at-same, pagable_load.specs.AccessView.values_at, std.proofs.Common.{ap, ℕ}}
 use Rattle.pagable_changes.proofs.calls.let_go.Goals as goal
 
 pub returns-then-pin-through-clause-lets : goal.returns-then-pin-through-clause-lets

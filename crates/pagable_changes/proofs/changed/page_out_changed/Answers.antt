@@ -1,4 +1,4 @@
-use Rattle.{pagable_changes.proofs.Kept.changed_law, pagable_loads.specs.Telling.values_at}
+use Rattle.{pagable_changes.proofs.Kept.changed_law, pagable_load.specs.AccessView.values_at}
 use Rattle.pagable_changes.proofs.changed.page_out_changed.Goals as goal
 
 pub returns-clause-reads : goal.returns-clause-reads

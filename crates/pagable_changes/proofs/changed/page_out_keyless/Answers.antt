@@ -1,5 +1,5 @@
 use Rattle.pagable_changes.{proofs.Changing.walks-same, specs.Changes.{nothing-is-begun, root-is-refused, root-is-walked}}
-use Rattle.pagable_loads.specs.Telling.{values_at}
+use Rattle.pagable_load.specs.AccessView.{values_at}
 use Rattle.pagable_changes.proofs.changed.page_out_keyless.Goals as goal
 
 pub returns-in-Err-clause-pages : goal.returns-in-Err-clause-pages

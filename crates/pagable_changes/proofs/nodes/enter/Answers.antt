@@ -1,5 +1,5 @@
 use Rattle.pagable_changes.{proofs.Changing.lets-same, specs.Changes.{isnt-taken, isnt-written}}
-use Rattle.pagable_loads.specs.Telling.{values_at}
+use Rattle.pagable_load.specs.AccessView.{values_at}
 use Rattle.pagable_changes.proofs.nodes.enter.Goals as goal
 
 pub returns-in-Err-clause-fails : goal.returns-in-Err-clause-fails

@@ -1,5 +1,5 @@
 use Rattle.pagable_changes.{proofs.Changing.{at-same, pins-same}, specs.Changes.{cell-is-taken, clone-is-refused, pin-is-refused}}
-use Rattle.pagable_loads.specs.Telling.{values_at}
+use Rattle.pagable_load.specs.AccessView.{values_at}
 use Rattle.pagable_tables.proofs.SameViews.{failed}
 use Rattle.std.proofs.Common.{◌∙◌}
 use Rattle.pagable_changes.proofs.nodes.take_loose.Goals as goal

@@ -1,5 +1,5 @@
 use Rattle.pagable_changes.proofs.Changing.{lets-same, none-left, one-given-up}
-use Rattle.{pagable_loads.specs.Telling.values_at, std.proofs.Common.◌∙◌}
+use Rattle.{pagable_load.specs.AccessView.values_at, std.proofs.Common.◌∙◌}
 use Rattle.pagable_changes.proofs.turns.give_up.Goals as goal
 
 pub loop-node-preserved : goal.loop-node-preserved

@@ -1,5 +1,5 @@
-use Rattle.{pagable_changes.specs.{Changes.GivesUp, Keeping.KeepsStorage}, pagable_loads.specs.Telling.values_at, pagable_pager.specs.View.{state_in, telling}}
-use Rattle.{pagable_world.specs.Pager.PagerState, std.proofs.Common.length}
+use Rattle.{pagable_changes.specs.{Changes.GivesUp, Keeping.KeepsStorage}, pagable_load.specs.AccessView.values_at, pagable_pager.specs.View.{state_in, telling}}
+use Rattle.{pagable_pager_spec.specs.Pager.PagerState, std.proofs.Common.length}
 use Rattle.pagable_changes.proofs.turns.give_up.Given as goal
 
 -- what gives up those that are left has given up all

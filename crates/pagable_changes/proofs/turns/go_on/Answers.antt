@@ -1,5 +1,5 @@
 use Rattle.pagable_changes.{proofs.Changing.{down-by, nowhere-by}, specs.Changes.{has-key, nothing-is-done}}
-use Rattle.{pagable_loads.specs.Telling.values_at, std.proofs.Common.refl}
+use Rattle.{pagable_load.specs.AccessView.values_at, std.proofs.Common.refl}
 use Rattle.pagable_changes.proofs.turns.go_on.Goals as goal
 
 pub returns-in-Err-clause-fails : goal.returns-in-Err-clause-fails

@@ -1,5 +1,5 @@
 use Rattle.pagable_changes.{proofs.Changing.{blob-fails-by, err-any, key-fails-by, leaves-by, lets-same, sets-same, unset-same}, specs.Changes.nothing-is-stored}
-use Rattle.{pagable_loads.specs.Telling.values_at, std.proofs.Common.{IsTrue, subst, ◌∙◌}}
+use Rattle.{pagable_load.specs.AccessView.values_at, std.proofs.Common.{IsTrue, subst, ◌∙◌}}
 use Rattle.pagable_changes.proofs.turns.leave.Goals as goal
 
 pub returns-in-Err-clause-fails : goal.returns-in-Err-clause-fails

@@ -1,5 +1,5 @@
 use Rattle.pagable_changes.specs.Changes.{Turns, stage}
-use Rattle.pagable_loads.specs.Telling.{values_at}
+use Rattle.pagable_load.specs.AccessView.{values_at}
 use Rattle.pagable_pager.specs.View.{state_in, telling}
 use Rattle.pagable_tables.specs.NumberTable.{row_by}
 use Rattle.std.proofs.Common.{IsTrue, ◌≡◌}

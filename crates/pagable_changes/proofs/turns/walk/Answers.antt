@@ -1,5 +1,5 @@
 use Rattle.pagable_changes.proofs.Changing.{gives-same, lets-same, refused-by, walks-by}
-use Rattle.{pagable_loads.specs.Telling.values_at, std.proofs.Common.{IsTrue, subst, ◌∙◌}}
+use Rattle.{pagable_load.specs.AccessView.values_at, std.proofs.Common.{IsTrue, subst, ◌∙◌}}
 use Rattle.pagable_changes.proofs.turns.walk.Goals as goal
 
 pub returns-in-Ok-clause-walks : goal.returns-in-Ok-clause-walks

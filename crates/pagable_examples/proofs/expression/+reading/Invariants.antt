@@ -1,5 +1,5 @@
 use Rattle.std.proofs.Common.{◌*◌, ◌+◌, ◌-◌}
-use Rattle.pagable_model.specs.Reading.{deepest}
+use Rattle.pagable_value_spec.specs.Reading.{deepest}
 use Rattle.pagable_examples.proofs.expression.+reading.Given as goal
 
 abbrev pub decreases-read_below : goal.decreases-read_below

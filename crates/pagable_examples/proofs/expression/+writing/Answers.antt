@@ -1,6 +1,6 @@
 use Rattle.std.proofs.Common.{inl, refl}
 use Rattle.pagable_examples.{proofs.{Expressions.{left_unwritten, nothing, number_written, sum_written, written_down}, Levels.refused-deep}, specs.Expressions.nodes}
-use Rattle.{pagable_model.specs.Gives.memory, pagable_traits.proofs.JsonSteps.{wrote-deep, wrote-nothing}}
+use Rattle.{pagable_value_spec.specs.Outcomes.memory, pagable_traits.proofs.JsonSteps.{wrote-deep, wrote-nothing}}
 use Rattle.pagable_examples.proofs.expression.+writing.Goals as goal
 
 pub write_below-returns-in_err-enter : goal.write_below-returns-in_err-enter

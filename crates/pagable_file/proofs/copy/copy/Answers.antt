@@ -1,6 +1,6 @@
 use Rattle.std.proofs.Common.{Option, String, subst, sym, ℕ, ◌∙◌}
 use Rattle.std.specs.{String.string_bytes, declared.alloc.Global.Global}
-use Rattle.pagable_model.specs.Blob.{Blob}
+use Rattle.pagable_value_spec.specs.Blob.{Blob}
 use Rattle.pagable_file.specs.Copies.{AreCopied}
 use Rattle.pagable_file.proofs.Copying.{all_roots}
 use Rattle.pagable_file.proofs.copy.copy.Goals as goal

@@ -1,5 +1,5 @@
 use Rattle.std.proofs.Common.{Option, subst, sym, ℕ, ◌∙◌}
-use Rattle.pagable_model.specs.Blob.{Blob}
+use Rattle.pagable_value_spec.specs.Blob.{Blob}
 use Rattle.pagable_file.specs.Copies.{AreCopied}
 use Rattle.pagable_file.proofs.Copying.{keeps_then}
 use Rattle.pagable_file.proofs.copy.copy_reached.Goals as goal

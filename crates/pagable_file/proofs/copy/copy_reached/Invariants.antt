@@ -1,5 +1,5 @@
 use Rattle.std.proofs.Common.{IsTrue, ◌≡◌}
-use Rattle.pagable_model.specs.Stored.{Keeps}
+use Rattle.pagable_value_spec.specs.Stored.{Keeps}
 use Rattle.pagable_file.specs.Copies.{AreCopied}
 use Rattle.pagable_file.proofs.copy.copy_reached.Given as goal
 

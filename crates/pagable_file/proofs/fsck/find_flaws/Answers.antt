@@ -1,6 +1,6 @@
 use Rattle.std.proofs.Common.{List, subst, ℤ}
 use Rattle.std.specs.List.{AllByRecursion}
-use Rattle.pagable_model.specs.Blob.{key_of}
+use Rattle.pagable_value_spec.specs.Blob.{key_of}
 use Rattle.pagable_file.specs.{Flaws.{IsFlaw, IsSoundPlace, IsSoundRoot, Tested}, Rows.{blob_tree, root_tree}}
 use Rattle.pagable_file.proofs.Flawed.{exactly, whole_found}
 use Rattle.pagable_file.proofs.fsck.find_flaws.Goals as goal

@@ -1,7 +1,7 @@
 use Rattle.std.proofs.Common.{List, subst, sym, ℕ}
 use Rattle.std.specs.List.{AllByRecursion}
 use Rattle.pagable_core.specs.Data.{blob_of}
-use Rattle.pagable_model.specs.Blob.{key_of}
+use Rattle.pagable_value_spec.specs.Blob.{key_of}
 use Rattle.pagable_file.specs.{Flaws.{IsChild, IsFlaw, IsThere, Tested}, Rows.{blob_tree, root_tree}}
 use Rattle.pagable_file.proofs.Flawed.{are_children, blob_tested}
 use Rattle.pagable_file.proofs.fsck.test_blob.Goals as goal

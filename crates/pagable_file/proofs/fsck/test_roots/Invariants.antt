@@ -1,6 +1,6 @@
 use Rattle.std.proofs.Common.{IsTrue, ℕ, take}
 use Rattle.std.specs.List.{AllByRecursion}
-use Rattle.pagable_model.specs.Blob.{Blob}
+use Rattle.pagable_value_spec.specs.Blob.{Blob}
 use Rattle.pagable_file.specs.{Blobs.{StaysPut, is_sure}, Flaws.{IsFlaw, IsSoundRoot, Tested}, Rows.{blob_tree, root_tree}}
 use Rattle.pagable_file.proofs.fsck.test_roots.Given as goal
 

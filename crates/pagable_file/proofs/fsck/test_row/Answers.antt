@@ -1,6 +1,6 @@
 use Rattle.std.proofs.Common.{SFits, of_z, rules, subst, sym, to_z, to_z-of_z, w64, ℤ}
 use Rattle.pagable_core.specs.Data.{blob_of}
-use Rattle.pagable_model.specs.Blob.{key_of}
+use Rattle.pagable_value_spec.specs.Blob.{key_of}
 use Rattle.pagable_file.specs.{Flaws.{IsFlaw, IsSoundPlace, Tested}, Rows.{blob_tree, root_tree, row_at}}
 use Rattle.pagable_file.proofs.Flawed.{row_found, row_there}
 use Rattle.pagable_file.proofs.fsck.test_row.Goals as goal

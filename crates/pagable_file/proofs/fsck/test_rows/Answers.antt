@@ -1,6 +1,6 @@
 use Rattle.std.proofs.Common.{List, SFits, get_or, pos, rules, subst, to_z-of_z, w64, ℤ}
 use Rattle.sqlite_value.specs.Order.{Row}
-use Rattle.pagable_model.specs.Blob.{key_of}
+use Rattle.pagable_value_spec.specs.Blob.{key_of}
 use Rattle.pagable_file.specs.{Flaws.{IsFlaw, IsSoundPlace, Tested}, Rows.{blob_tree, root_tree}}
 use Rattle.pagable_file.proofs.{Flawed.{next_found, read_once}, Named.stays_then}
 use Rattle.pagable_file.proofs.fsck.test_rows.Goals as goal

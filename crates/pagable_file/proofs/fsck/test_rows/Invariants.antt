@@ -1,6 +1,6 @@
 use Rattle.std.proofs.Common.{IsTrue, take}
 use Rattle.std.specs.List.{AllByRecursion}
-use Rattle.pagable_model.specs.Blob.{key_of}
+use Rattle.pagable_value_spec.specs.Blob.{key_of}
 use Rattle.pagable_file.specs.{Blobs.{StaysPut, is_sure}, Flaws.{IsFlaw, IsSoundPlace, Tested}, Rows.{blob_tree, root_tree}}
 use Rattle.pagable_file.proofs.fsck.test_rows.Given as goal
 

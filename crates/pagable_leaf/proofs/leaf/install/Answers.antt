@@ -30,5 +30,5 @@ returns-clause-come c n =
     let same = c.take_numbers.ensures.same in
     let row = c.args.leaf.row in
     has-come c.take_numbers.new.t c.pin_here.new.t (λ key. None) false 0 row c.args.me (c.in-Ok.ensures.does.does (λ key. None) false 0).pinned.1 c.take_numbers.ensures.does.whole
-    c.in-Ok.ensures.does.whole (ap (λ (u : Tables). find_row row.number.0 (live u.holdings.handles.places.items)) same ∙ c.requires.leaf.owned.live) n
-    ∙ ap (λ (u : Tables). has_come (counts_at u.holdings.nodes) row.node n) same
+    c.in-Ok.ensures.does.whole (ap (λ (u : Tables). find_row row.number.0 (live u.ref_counts.handles.places.items)) same ∙ c.requires.leaf.owned.live) n
+    ∙ ap (λ (u : Tables). has_come (counts_at u.ref_counts.nodes) row.node n) same

@@ -1,4 +1,4 @@
-use Rattle.pagable_loads.specs.Telling.{values_at}
+use Rattle.pagable_load.specs.AccessView.{values_at}
 use Rattle.std.proofs.Common.{rules, ap, sym, ◌∙◌, arith, subst, ◌+◌, take}
 use Rattle.pagable_locked.specs.Answers.{AnswersEach, IsAnswerOf}
 use Rattle.pagable_locked.proofs.Order.{not-empty, rest-keyed, more-keyed}

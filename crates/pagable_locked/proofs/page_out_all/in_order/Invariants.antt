@@ -1,4 +1,4 @@
-use Rattle.pagable_loads.specs.Telling.{values_at}
+use Rattle.pagable_load.specs.AccessView.{values_at}
 use Rattle.std.proofs.Common.{◌≡◌, ◌<◌, ℕ, vec_len, slice_index_or, drop, take}
 use Rattle.pagable_locked.specs.Answers.{AnswersEach, IsAnswerOf, items_of}
 use Rattle.pagable_locked.proofs.page_out_all.in_order.Given as goal

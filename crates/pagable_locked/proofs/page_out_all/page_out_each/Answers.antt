@@ -1,4 +1,4 @@
-use Rattle.pagable_loads.specs.Telling.{values_at}
+use Rattle.pagable_load.specs.AccessView.{values_at}
 use Rattle.std.proofs.Common.{rules, ap, sym, ◌∙◌, subst, arith, take, ◌+◌, ◌∷◌, ◌++◌, [], refl}
 use Rattle.std.proofs.lemmas.Bool.Decides.{nat_tests}
 use Rattle.pagable_locked.specs.Answers.{AnswersEach, IsAnswerOf, items_of}

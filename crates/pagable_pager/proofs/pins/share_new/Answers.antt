@@ -1,4 +1,4 @@
-use Rattle.{pagable_loads.{proofs.Stepped.{acts_from, acts_then}, specs.{Starting.TakesBack, Telling.{Acts, values_at}}}, pagable_pager.proofs.Pinned.{back-so, shares-back}, std.{proofs.Common.true, specs.{Arc.arc_value, declared.alloc.Global.Global}}}
+use Rattle.{pagable_load.{proofs.LoadSteps.{acts_from, acts_then}, specs.{PinStart.TakesBack, AccessView.{Acts, values_at}}}, pagable_pager.proofs.LentPins.{back-so, shares-back}, std.{proofs.Common.true, specs.{Arc.arc_value, declared.alloc.Global.Global}}}
 
 pub returns-in-Err : Rattle.pagable_pager.proofs.pins.share_new.Goals.returns-in-Err
 returns-in-Err g c =

@@ -14,7 +14,7 @@ returns-clause-does c =
     let t = c.args.t.now in
     let t1 = record t { cache = c.keep_living.new.cache; cache_limit = c.saturating_add-t.result } in
     let known = λ (kind key : ℕ). number (known_at c.keep_living.new.cache kind key) in
-    let is = λ (kind key : ℕ). ap number (c.keep_living.ensures kind key) ∙ left (counts_at t.holdings.nodes) (known_at t.cache kind key) in
+    let is = λ (kind key : ℕ). ap number (c.keep_living.ensures kind key) ∙ left (counts_at t.ref_counts.nodes) (known_at t.cache kind key) in
     let forgets = λ (stored : ℕ → Option Blob) (closed : Bool) (failures : ℕ). forgets-gone (core_of t stored closed failures) known is in
     let plain = forgets (λ key. None) false 0 in
     record {

@@ -16,11 +16,11 @@ unreachable-requires g c =
     let again = found-again c.args.handle.0 _ _ _ c.in_ok-row.row _ c.in_ok-row.ensures.owns.live came refl in
     grind (arith, nat_tests, again, owner-self, c.in_ok-row.ensures.owns.own, c.in_default-own.ensures.fault (λ key. None) false 0 any_mode)
 
-pub give_back-requires-clause-plain : goal.give_back-requires-clause-plain
-give_back-requires-clause-plain g c = ap is_valued (owner-same c.args.me c.in-Ok.at.row.owner c.in-Ok.ensures.owner) ∙ not-a-value (plain_of c.args.t.now) c.args.me c.requires.holder
+pub try_release_at-requires-clause-plain : goal.try_release_at-requires-clause-plain
+try_release_at-requires-clause-plain g c = ap is_valued (owner-same c.args.me c.in-Ok.at.row.owner c.in-Ok.ensures.owner) ∙ not-a-value (plain_of c.args.t.now) c.args.me c.requires.holder
 
-pub give_back-requires-clause-free : goal.give_back-requires-clause-free
-give_back-requires-clause-free g c = ap (is_owner Owner.List) (owner-same c.args.me c.in-Ok.at.row.owner c.in-Ok.ensures.owner) ∙ not-list (plain_of c.args.t.now) c.args.me c.requires.holder
+pub try_release_at-requires-clause-free : goal.try_release_at-requires-clause-free
+try_release_at-requires-clause-free g c = ap (is_owner Owner.List) (owner-same c.args.me c.in-Ok.at.row.owner c.in-Ok.ensures.owner) ∙ not-list (plain_of c.args.t.now) c.args.me c.requires.holder
 
 pub returns : goal.returns
 returns g c =
@@ -28,7 +28,7 @@ returns g c =
     let t1 = c.make.new.t in
     let node = c.in-Some.node in
     let made = c.in_ok-known.ensures.does in
-    let went = lone-falling {w = plain_of t1} made.whole.core (c.give_back.ensures.falls (plain_of t1) (plain_of t1) (begun-whole t1 (λ key. None) false true 0 made.whole refl) (omega arith)) in
+    let went = lone-falling {w = plain_of t1} made.whole.core (c.try_release_at.ensures.falls (plain_of t1) (plain_of t1) (begun-whole t1 (λ key. None) false true 0 made.whole refl) (omega arith)) in
     record {
       offered = λ stored closed failures e.
           (let w = core_of t stored false failures in
@@ -41,14 +41,14 @@ returns g c =
           let spared : only_handle c.args.handle (w.last.handle + 1) ≡ false =
           let a = (c.requires.whole.core.handles.numbered c.in_ok-row.row given.0).1 in let b = given.1 in grind (arith, nat_tests) in
           let falls = falls-made t t1 stored false failures node (mode_of c.args.kind.0) c.args.me made.whole alike c.in_ok-known.ensures.same (not-a-value (plain_of t) c.args.me c.requires.holder)
-          c.give_back.new.t (rw c.in-Ok.ensures.number at (c.give_back.ensures.falls u u begun (let a = ap length alike.rows in omega arith))) spared in
+          c.try_release_at.new.t (rw c.in-Ok.ensures.number at (c.try_release_at.ensures.falls u u begun (let a = ap length alike.rows in omega arith))) spared in
           let is = sym (c.in-Some.ensures stored false failures) in
           rw (closed-is c.args.lists closed e ∙ ap not c.if-not-lists.false)
-          (record { answers = (c.in_ok-row.row, owns, c.in_ok-row.ensures.typed, inr (refl, (node.0, is, m.0, record { told = c.give_back.result; falls = falls }))); refused = tt }));
-      whole = whole-so c.give_back.ensures.steady went.whole;
+          (record { answers = (c.in_ok-row.row, owns, c.in_ok-row.ensures.typed, inr (refl, (node.0, is, m.0, record { told = c.try_release_at.result; falls = falls }))); refused = tt }));
+      whole = whole-so c.try_release_at.ensures.steady went.whole;
       sheds = λ there.
-          stays-first (λ n. c.in_ok-known.ensures.values n (λ eq pins. ap (λ k. has_value (counts_at t.holdings.nodes k)) eq
-          ∙ there node.0 (sym (c.in-Some.ensures (λ key. None) false 0)) (ap is_pinning (sym c.mode_of.ensures) ∙ pins))) c.give_back.ensures.sheds;
+          stays-first (λ n. c.in_ok-known.ensures.values n (λ eq pins. ap (λ k. has_value (counts_at t.ref_counts.nodes k)) eq
+          ∙ there node.0 (sym (c.in-Some.ensures (λ key. None) false 0)) (ap is_pinning (sym c.mode_of.ensures) ∙ pins))) c.try_release_at.ensures.sheds;
       later = λ later. later-on (made.later later) went.newer refl refl refl;
     }
 
@@ -89,5 +89,5 @@ returns-in_err-known-clause-offered g c stored closed failures e =
     record { answers = tt; refused = record { why = elim call.refused.why [ inl a ↦ inl (cause ∙ a) | inr b ↦ inr (b.0, cause ∙ b.1, (refl, inr b.2.1)) ]; stays = call.refused.stays } })
 
 pub returns-in_err-known-clause-sheds : goal.returns-in_err-known-clause-sheds
-returns-in_err-known-clause-sheds g c there = stays-first (λ n. c.in_err-known.ensures.values n (λ eq pins. ap (λ k. has_value (counts_at c.args.t.now.holdings.nodes k)) eq
-    ∙ there c.in-Some.node.0 (sym (c.in-Some.ensures (λ key. None) false 0)) (ap is_pinning (sym c.mode_of.ensures) ∙ pins))) (sheds-still c.make.new.t.holdings _ c.in_err-known.ensures.does.whole.steady)
+returns-in_err-known-clause-sheds g c there = stays-first (λ n. c.in_err-known.ensures.values n (λ eq pins. ap (λ k. has_value (counts_at c.args.t.now.ref_counts.nodes k)) eq
+    ∙ there c.in-Some.node.0 (sym (c.in-Some.ensures (λ key. None) false 0)) (ap is_pinning (sym c.mode_of.ensures) ∙ pins))) (sheds-still c.make.new.t.ref_counts _ c.in_err-known.ensures.does.whole.steady)

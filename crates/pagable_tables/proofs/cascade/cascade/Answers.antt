@@ -8,7 +8,7 @@ fall-preserved g c =
       (s.rest, s.falling, omega (arith, i.2)),
       λ before w given f. steps-on before w given c.args.lists c.fall.t c.step-done.new.t i.0 c.step-done.result (c.fall.invariant.1 before w given f) i.1 c.fall-test.true s,
       λ kept n. lasts-on (is_node c.step-done.result n) (counts_at c.fall.t.nodes n)
-          (counts_at c.step-done.new.t.nodes n) _ _ _ (c.let_go.ensures n) (λ other. s.values n (λ eq. absurd (grind (arith, nat_tests))))
+          (counts_at c.step-done.new.t.nodes n) _ _ _ (c.drop_value.ensures n) (λ other. s.values n (λ eq. absurd (grind (arith, nat_tests))))
           (λ is. let gone = s.gone in grind (arith, nat_tests)) (c.fall.invariant.2 kept n),
       omega arith,
       λ none. s.unlisting none ∙ c.fall.invariant.4 none,

@@ -1,5 +1,5 @@
 use Rattle.pagable_tables.proofs.{CascadeStep.{given-fits, held-here, owned-by-none, pin-here}, Counting.with-entry, HandleTable.row-le-live}
-use Rattle.pagable_tables.proofs.Words.{Fits, HandleRow, Holdings, MayList, Some, after, ap, arith}
+use Rattle.pagable_tables.proofs.Words.{Fits, HandleRow, RefCounts, MayList, Some, after, ap, arith}
 use Rattle.pagable_tables.proofs.Words.{cases_eq, counts_at, entry, if◌then◌else◌, is_fallen_by, is_pin, is_pinning, live, nat_tests, one, owns_nothing, pins_in, refl, refs_at, subst, sum_by, sym}
 use Rattle.pagable_tables.proofs.Words.{true, unpinned, ℕ, ◌+◌, ◌-◌, ◌∙◌, ◌∷◌, ◌≡◌, ◌≢◌, ◌≤◌}
 use Rattle.pagable_tables.specs.{CascadeInvariant.is_work, Nodes.work_at}
@@ -10,11 +10,11 @@ returns c stack w =
     let n = x.node.0 in
     let old = c.args.t.now in
     let stays = c.args.stays in
-    let gap : Holdings = record old { handles = c.leave.new.handles } in
-    let mid = c.enlist_if-listed.new.t in
+    let gap : RefCounts = record old { handles = c.remove_or_unpin.new.handles } in
+    let mid = c.push_pending_if-listed.new.t in
     let counts = c.unwrap-counts.result in
-    let listed = c.enlist_if-listed.result in
-    let e = c.enlist_if-listed.ensures.comes in
+    let listed = c.push_pending_if-listed.result in
+    let e = c.push_pending_if-listed.ensures.comes in
     let is : counts_at old.nodes n ≡ Some counts = sym c.counts_of.ensures ∙ c.unwrap-counts.ensures in
     let left : c.counts_after-left.result ≡ after counts (is_pinning x.mode) stays listed old.top = grind (arith, nat_tests, c.counts_after-left.ensures) in
     let b = is_fallen_by counts (is_pinning x.mode) (counts.pins - one (is_pinning x.mode)) ((if stays then counts.holds else counts.holds - 1) + one listed) in
@@ -30,16 +30,16 @@ returns c stack w =
     let refs' = refs_at c.leave_work.new.nodes in
     let rows' = live mid.handles.places.items in
     let sums : (f : HandleRow → ℕ) → sum_by f rows' + f x ≡ sum_by f (live old.handles.places.items) + (if stays then f (unpinned x) else 0) + (if listed then f (entry (old.last_handle + 1) x.node) else 0) =
-    λ f. let a = c.leave.ensures.sums f in let d = ap (sum_by f) e.rows in let g = with-entry f (live c.leave.new.handles.places.items) listed (old.last_handle + 1) x.node in omega arith in
+    λ f. let a = c.remove_or_unpin.ensures.sums f in let d = ap (sum_by f) e.rows in let g = with-entry f (live c.remove_or_unpin.new.handles.places.items) listed (old.last_handle + 1) x.node in omega arith in
     let plain = λ (so : stays ≡ true) (m q : ℕ). owned-by-none m q x (c.requires.plain so) in
     record {
-      left = c.leave.new.handles;
-      leaves = c.leave.ensures;
+      left = c.remove_or_unpin.new.handles;
+      leaves = c.remove_or_unpin.ensures;
       counts = counts;
       is = is;
       listed = listed;
       between = mid;
-      comes = subst (λ w. MayList gap x.node w listed mid) c.wants_entry-wanted.ensures c.enlist_if-listed.ensures;
+      comes = subst (λ w. MayList gap x.node w listed mid) c.wants_entry-wanted.ensures c.push_pending_if-listed.ensures;
       same = refl;
       cells = λ m there. grind (arith, nat_tests, cases_eq m n, is, here, others m);
       values = λ m. grind (arith, nat_tests, cases_eq m n, is, here, others m, some);

@@ -1,7 +1,7 @@
 use Rattle.pagable_tables.proofs.CascadeStep.{done-fits, done-gone, fallen, fits-same, is_owned, taken-fits, taken-owned, taken-there, top-stands}
 use Rattle.pagable_tables.proofs.{CascadeStep.top-there, Counting.gives-sums, HandleTable.{none-found, only-row}}
 use Rattle.pagable_tables.proofs.CascadeEnd.{gives-fewer, gives-unlisted}
-use Rattle.pagable_tables.proofs.Words.{ArcRef, GivesUp, HandleNumber, HandleRow, Holdings, IsFalling, List, Some, ValueStays, [], alive, ap, append-nil}
+use Rattle.pagable_tables.proofs.Words.{ArcRef, GivesUp, HandleNumber, HandleRow, RefCounts, IsFalling, List, Some, ValueStays, [], alive, ap, append-nil}
 use Rattle.pagable_tables.proofs.Words.{arith}
 use Rattle.pagable_tables.proofs.Words.{cases_eq, counts_at, false, inl, inr, is_valued, length, live, nat_tests, one, owner_value, owns, owns_nothing, refl, refs_at, slice_get, subst, sym, ℕ, ◌&&◌}
 use Rattle.pagable_tables.proofs.{Words.{is_at, sum_by-le-sum_by, ◌++◌, ◌==◌, ◌∙◌, ◌∷◌, ◌≡◌, ◌≢◌}, WorkCounts.work-more}
@@ -9,7 +9,7 @@ use Rattle.pagable_tables.specs.{CascadeInvariant.is_work, Nodes.work_at}
 use Rattle.pagable_tables.proofs.cascade.step.Goals as goal
 
 -- the first node that falls has this reference, which was taken
-module _ (t mid : Holdings) (ns : List ℕ) (p : ArcRef) (i : ℕ) (x : HandleRow) (w : IsFalling t (t.top ∷ ns) owns_nothing) (popped : refs_at t.nodes t.top ≡ refs_at mid.nodes t.top ++ p ∷ [])
+module _ (t mid : RefCounts) (ns : List ℕ) (p : ArcRef) (i : ℕ) (x : HandleRow) (w : IsFalling t (t.top ∷ ns) owns_nothing) (popped : refs_at t.nodes t.top ≡ refs_at mid.nodes t.top ++ p ∷ [])
     (others : (m : ℕ) → m ≢ t.top → refs_at mid.nodes m ≡ refs_at t.nodes m) (same : (m : ℕ) → counts_at mid.nodes m ≡ counts_at t.nodes m)
     (work : (m : ℕ) → work_at mid.nodes m ≡ work_at t.nodes m) (at : slice_get t.handles.places.items i ≡ Some (alive x)) (number : x.number.0 ≡ p.handle.0) where
   taken : (x.owner ≡ owner_value t.top) × IsFalling (record t { nodes = mid.nodes }) (t.top ∷ ns) (owns x)
@@ -40,7 +40,7 @@ unreachable-requires c =
     absurd (omega (arith, none-found c.in-Some.reference.handle.0 (live t.handles.places.items) c.in-None-look.ensures.none))
 
 -- nothing was taken
-untouched : (t mid : Holdings) (stack : List ℕ) → IsFalling t stack owns_nothing → refs_at t.nodes t.top ≡ refs_at mid.nodes t.top ++ []
+untouched : (t mid : RefCounts) (stack : List ℕ) → IsFalling t stack owns_nothing → refs_at t.nodes t.top ≡ refs_at mid.nodes t.top ++ []
     → ((m : ℕ) → m ≢ t.top → refs_at mid.nodes m ≡ refs_at t.nodes m) → ((m : ℕ) → counts_at mid.nodes m ≡ counts_at t.nodes m) → ((m : ℕ) → work_at mid.nodes m ≡ work_at t.nodes m)
     → IsFalling (record t { nodes = mid.nodes }) stack owns_nothing
 untouched t mid stack w here others same work =
@@ -55,7 +55,7 @@ untouched t mid stack w here others same work =
 pub unwrap-counts-requires : goal.unwrap-counts-requires
 unwrap-counts-requires c =
     let e = c.in-None.ensures in
-    let mid : Holdings = record c.args.t.now { nodes = c.pop_reference.new.nodes } in
+    let mid : RefCounts = record c.args.t.now { nodes = c.pop_reference.new.nodes } in
     grind (
       arith,
       nat_tests,
@@ -70,7 +70,7 @@ returns-in-Some-look c stack w =
     let s = top-stands t stack c.requires.some w in
     let e = c.in-Some.ensures in
     let x = c.in-Some-look.at.row in
-    let mid : Holdings = record t { nodes = c.pop_reference.new.nodes } in
+    let mid : RefCounts = record t { nodes = c.pop_reference.new.nodes } in
     let o = taken t mid s.0 c.in-Some.reference c.in-Some-look.at.place x s.2 e.here e.others e.counts e.work
     c.in-Some-look.ensures.place (ap (λ (n : HandleNumber). n.0) c.in-Some-look.ensures.number) in
     let g : GivesUp mid (t.top ∷ s.0) x false c.args.lists c.give_up.new.t = c.give_up.ensures (t.top ∷ s.0) o.1 in
@@ -90,13 +90,13 @@ pub returns-in-None : goal.returns-in-None
 returns-in-None c stack w =
     let t = c.args.t.now in
     let e = c.in-None.ensures in
-    let mid : Holdings = record t { nodes = c.pop_reference.new.nodes } in
+    let mid : RefCounts = record t { nodes = c.pop_reference.new.nodes } in
     let at = counts_at mid.nodes in
-    let new = counts_at c.land.new.nodes in
-    let l = c.land.ensures in
+    let new = counts_at c.finish_node.new.nodes in
+    let l = c.finish_node.ensures in
     let s = top-stands mid stack c.requires.some (untouched t mid stack w e.here e.others e.counts e.work) in
     let is : at t.top ≡ Some c.unwrap-counts.result = sym c.counts_of.ensures ∙ c.unwrap-counts.ensures in
-    let done = done-fits at new (refs_at mid.nodes) (refs_at c.land.new.nodes) _ t.top s.0 c.unwrap-counts.result s.2.fits is l.here e.none l.others l.refs c.requires.some in
+    let done = done-fits at new (refs_at mid.nodes) (refs_at c.finish_node.new.nodes) _ t.top s.0 c.unwrap-counts.result s.2.fits is l.here e.none l.others l.refs c.requires.some in
     record {
       rest = s.0;
       falling = record {
@@ -111,7 +111,7 @@ returns-in-None c stack w =
       less = omega (arith, ap length s.1);
       cells = λ m some. grind (arith, nat_tests, cases_eq m t.top, is, l.here, l.others m, e.counts m);
       values = λ m ne. let other = l.others m (λ eq. ne (ap (λ k. Some (record { 0 = k })) (sym eq))) in subst (λ o. ValueStays o (new m)) (other ∙ e.counts m) (λ falls. (falls, refl));
-      gone = done-gone at new (refs_at mid.nodes) (refs_at c.land.new.nodes) _ t.top s.0 c.unwrap-counts.result s.2.fits is l.here e.none l.others l.refs c.requires.some;
+      gone = done-gone at new (refs_at mid.nodes) (refs_at c.finish_node.new.nodes) _ t.top s.0 c.unwrap-counts.result s.2.fits is l.here e.none l.others l.refs c.requires.some;
       fewer = omega arith;
       unlisting = λ none. refl;
       what = inl (refl, refl);

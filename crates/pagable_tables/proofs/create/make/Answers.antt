@@ -5,7 +5,7 @@ pub add-requires-clause-live : Rattle.pagable_tables.proofs.create.make.Goals.ad
 add-requires-clause-live c =
     let d = c.requires.whole.steady.fits.holding c.args.node.0 in
     let e = held-some c.args.node.0 (plain_of c.args.t.now).rows c.requires.suits.row c.requires.suits.there (ap (λ (k : NodeNumber). k.0) c.requires.suits.at) in
-    some-held (counts_at c.args.t.now.holdings.nodes c.args.node.0) (omega arith)
+    some-held (counts_at c.args.t.now.ref_counts.nodes c.args.node.0) (omega arith)
 
 pub returns-clause-does : Rattle.pagable_tables.proofs.create.make.Goals.returns-clause-does
 returns-clause-does c = does-so (λ stored closed failures. c.add.ensures.made (core_of c.args.t.now stored closed failures)) c.add.ensures.steady

@@ -11,13 +11,13 @@ unreachable-requires c =
     let again = found-again c.args.row.number.0 _ _ _ c.args.row None c.requires.owns.live ((c.in_ok-handle.ensures.does.does (λ key. None) false 0).made.1.rows) c.in_default.ensures.none in
     absurd (cc)
 
-pub turn-requires-clause-unshared : goal.turn-requires-clause-unshared
-turn-requires-clause-unshared c =
+pub set_loose_pinned-requires-clause-unshared : goal.set_loose_pinned-requires-clause-unshared
+set_loose_pinned-requires-clause-unshared c =
     let again = found-again c.args.row.number.0 _ _ _ c.args.row (Some c.in-Some.loose.row) c.requires.owns.live ((c.in_ok-handle.ensures.does.does (λ key. None) false 0).made.1.rows) c.in-Some.ensures.found in
     grind (arith, nat_tests, loose-unshared, c.requires.owns.as_asked)
 
-pub turn-requires-clause-unlisted : goal.turn-requires-clause-unlisted
-turn-requires-clause-unlisted c =
+pub set_loose_pinned-requires-clause-unlisted : goal.set_loose_pinned-requires-clause-unlisted
+set_loose_pinned-requires-clause-unlisted c =
     let again = found-again c.args.row.number.0 _ _ _ c.args.row (Some c.in-Some.loose.row) c.requires.owns.live ((c.in_ok-handle.ensures.does.does (λ key. None) false 0).made.1.rows) c.in-Some.ensures.found in
     grind (arith, nat_tests, not-list (plain_of c.args.t.now) c.args.me c.requires.holder, c.requires.owns.own)
 
@@ -25,12 +25,12 @@ pub returns-clause-does : goal.returns-clause-does
 returns-clause-does c =
     let row = c.args.row in
     let numbered = c.requires.whole.core.handles.numbered row (found-among row.number.0 (plain_of c.args.t.now).rows row c.requires.owns.live).0 in
-    does-then c.in_ok-handle.ensures.does c.turn.ensures.does
+    does-then c.in_ok-handle.ensures.does c.set_loose_pinned.ensures.does
     (λ stored closed failures m turns.
     let cache = λ (u : Tables). (core_of u stored closed failures).cache in
     let u = core_of c.make.new.t stored closed failures in
-    let w' = core_of c.turn.new.t stored closed failures in
+    let w' = core_of c.set_loose_pinned.new.t stored closed failures in
     let turned = subst (λ q. Alike (with_mode u q Mode.LoosePinned) w') c.in-Some.ensures.number turns in
-    let same = λ (kind key : ℕ). ap (λ (u : Tables). cache u kind key) c.turn.ensures.same ∙ ap (λ (u : Tables). cache u kind key) c.in_ok-handle.ensures.same in
+    let same = λ (kind key : ℕ). ap (λ (u : Tables). cache u kind key) c.set_loose_pinned.ensures.same ∙ ap (λ (u : Tables). cache u kind key) c.in_ok-handle.ensures.same in
     let w = core_of c.args.t.now stored closed failures in
     record { pinned = (record { above = m.made.0.above; is_left = m.made.0.is_left }, pinned-alike w u w' row.number row.node c.args.me numbered.1 same m.made.1 turned); refused = tt })

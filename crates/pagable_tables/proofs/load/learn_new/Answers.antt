@@ -2,7 +2,7 @@ use Rattle.pagable_tables.proofs.SameViews.{alike-on}
 
 pub returns : Rattle.pagable_tables.proofs.load.learn_new.Goals.returns
 returns c =
-    let born = c.bear_known-handle.ensures in
+    let born = c.insert_known-handle.ensures in
     let forgets = c.forget_gone.ensures.does in
     record {
       does = λ stored closed failures. let (next, alike) = born.does stored closed failures in (next, λ lists. alike-on (alike lists) (forgets.does stored closed failures));

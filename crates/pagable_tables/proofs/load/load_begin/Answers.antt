@@ -5,8 +5,8 @@ use Rattle.pagable_tables.proofs.Words.{Alike, BeginCall, Core, Err, Error, Hand
 use Rattle.pagable_tables.proofs.Words.{arith, core_of, false}
 use Rattle.pagable_tables.proofs.Words.{find_row, greatest, if_there, inl, inr, is_here, is_loose, is_owner, load_at, nat_tests, of_cell, plain_of, refl, rules, sym, true, type_at, with_handle}
 use Rattle.pagable_tables.proofs.{SameViews.{failed, handle-first, owner-same, same-cache, still}, Words.{with_load, ◌+◌, ◌<◌, ◌∙◌, ◌≡◌}}
-use Rattle.pagable_world.specs.LoadCalls.{begin_fault}
-use Rattle.pagable_world.specs.World.{key_at}
+use Rattle.pagable_pager_spec.specs.LoadCalls.{begin_fault}
+use Rattle.pagable_pager_spec.specs.World.{key_at}
 use Rattle.pagable_tables.proofs.load.load_begin.Goals as goal
 
 pub returns-in_err-at : goal.returns-in_err-at
@@ -31,11 +31,11 @@ returns-in_err-open c = rw (failed c.from_residual-in_err-open.result c.from_res
 pub returns-in-Err : goal.returns-in-Err
 returns-in-Err c =
     let t = c.args.t.now in
-    let left : t.holdings.last_handle < greatest = omega arith in
+    let left : t.ref_counts.last_handle < greatest = omega arith in
     let memory : c.in-Err.e ≡ Error.OutOfMemory = (let why = (c.in-Err.ensures.made (plain_of t)).refused.why in grind (arith, nat_tests, left)) in
     rw memory (does-by
     (λ stored closed failures.
-    let a = (c.in-Err.ensures.made (core_of (record t { holdings = c.add.new.t; loads = c.close.new.rows }) stored closed failures)).refused.stays in
+    let a = (c.in-Err.ensures.made (core_of (record t { ref_counts = c.add.new.t; loads = c.close.new.rows }) stored closed failures)).refused.stays in
     unbegun c.args.me c.args.handle c.in_ok-at.at.row c.in_ok-at.ensures.found c.in_ok-at.ensures.owner (search rules) (search rules) (omega arith) left
     (grind (arith, nat_tests, c.requires.whole.core.loads.numbered, c.in_ok-open.ensures.others, c.close.ensures.gone, c.close.ensures.others)))
     c.add.ensures.steady (λ begins. settles (roomy-whole c.requires.whole.core) begins.refused.stays)
@@ -50,7 +50,7 @@ returns c =
     does-by
     (λ stored closed failures.
     let w = core_of t stored closed failures in
-    let w' = core_of (record t { holdings = c.add.new.t; loads = c.open.new.rows; last_load = l }) stored closed failures in
+    let w' = core_of (record t { ref_counts = c.add.new.t; loads = c.open.new.rows; last_load = l }) stored closed failures in
     let own : Owns w c.args.me c.args.handle is_loose row = record { live = c.in_ok-at.ensures.found; own = owner-same c.args.me row.owner c.in_ok-at.ensures.owner; as_asked = search rules } in
     let away : is_here w row.node.0 ≡ false = search rules in
     let key : key_at w row.node.0 ≡ OptionalDataKey.Some c.unwrap-key.result = grind (arith, nat_tests, c.key_in.ensures, c.unwrap-key.ensures) in

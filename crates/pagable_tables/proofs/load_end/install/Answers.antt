@@ -1,5 +1,5 @@
 use Rattle.pagable_tables.proofs.LastHandles.{above-noted, core-same, noted-does}
-use Rattle.pagable_tables.proofs.Words.{Core, Holdings, IsReady, Tables, ap, counts_at, row_by, subst, sym, ◌≤◌}
+use Rattle.pagable_tables.proofs.Words.{Core, RefCounts, IsReady, Tables, ap, counts_at, row_by, subst, sym, ◌≤◌}
 use Rattle.pagable_tables.specs.{EndingLoads.ShedsBeside, HandleTable.room}
 use Rattle.pagable_tables.proofs.load_end.install.Goals as goal
 
@@ -11,7 +11,7 @@ install_up_to-requires-clause-ready g c stored closed failures =
 
 pub install_up_to-requires-clause-place : goal.install_up_to-requires-clause-place
 install_up_to-requires-clause-place g c =
-    subst (λ (h : Holdings). 1 ≤ room h.handles) (sym (ap (λ (u : Tables). u.holdings) c.last_of-until.ensures.notes.same)) c.requires.place.place
+    subst (λ (h : RefCounts). 1 ≤ room h.handles) (sym (ap (λ (u : Tables). u.ref_counts) c.last_of-until.ensures.notes.same)) c.requires.place.place
 
 pub install_up_to-requires-clause-above : goal.install_up_to-requires-clause-above
 install_up_to-requires-clause-above g c =
@@ -22,5 +22,5 @@ returns-clause-does g c = noted-does c.last_of-until.ensures.notes c.install_up_
 
 pub returns-clause-sheds : goal.returns-clause-sheds
 returns-clause-sheds g c =
-    subst (λ (h : Holdings). ShedsBeside c.args.ending.row.node (counts_at h.nodes) (row_by c.args.values.now) (counts_at c.install_up_to.new.t.holdings.nodes) (row_by c.install_up_to.new.values))
-    (ap (λ (u : Tables). u.holdings) c.last_of-until.ensures.notes.same) c.install_up_to.ensures.sheds
+    subst (λ (h : RefCounts). ShedsBeside c.args.ending.row.node (counts_at h.nodes) (row_by c.args.values.now) (counts_at c.install_up_to.new.t.ref_counts.nodes) (row_by c.install_up_to.new.values))
+    (ap (λ (u : Tables). u.ref_counts) c.last_of-until.ensures.notes.same) c.install_up_to.ensures.sheds

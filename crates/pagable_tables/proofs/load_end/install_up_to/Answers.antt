@@ -2,7 +2,7 @@ use Rattle.pagable_tables.proofs.{CallsKeepWhole.{installs-goes, may-hold}, Casc
 use Rattle.pagable_tables.proofs.LoadEnd.{ended, has-come, joined-fits, pins-here}
 use Rattle.pagable_tables.proofs.{LoadEnd.ready-owner, OwnedByLoad.{closed-still, later-less, lazily-by, not-named, still-reaches}}
 use Rattle.pagable_tables.proofs.{Views.{none-named, not-a-value}, Words.{ArcRef, Bool}}
-use Rattle.pagable_tables.proofs.Words.{Core, Error, Falls, FallsAnyhow, HandleRow, Holdings, IsFalling, List, LoadNumber, Mode, None, Owner, Result, Tables, [], and-true, ap, arith, cases_Bool}
+use Rattle.pagable_tables.proofs.Words.{Core, Error, Falls, FallsAnyhow, HandleRow, RefCounts, IsFalling, List, LoadNumber, Mode, None, Owner, Result, Tables, [], and-true, ap, arith, cases_Bool}
 use Rattle.pagable_tables.proofs.Words.{cell_in, changed, core_of, counts_at, false, has_value, inl, inr, is_handle, is_here, is_named_by, is_owned_in, is_pin, live, load_at, load_in, moved}
 use Rattle.pagable_tables.proofs.Words.{nat_tests, not, one, option_map, owner_value, owns, owns_nothing, plain_of, references_fault, refl, refs_at, row_of, subst, sum_by, sym, true, with_pin}
 use Rattle.pagable_tables.proofs.{SameViews.named-none, Words.{without_load, ℕ, ◌&&◌, ◌++◌, ◌+◌, ◌<◌, ◌∙◌, ◌∷◌, ◌≡◌, ◌⊎◌}}
@@ -51,11 +51,11 @@ join-requires-clause-live g c =
     let n = c.args.ending.row.node.0 in
     let d = c.in-Ok.ensures.does.whole.steady.fits.holding n in
     let p = pins-here c.args.t.now t1 (λ key. None) false 0 c.args.ending.row c.args.me (c.in-Ok.ensures.does.does (λ key. None) false 0).pinned.1 in
-    let q = pins-le-held n (live t1.holdings.handles.places.items) in
-    some-held (counts_at t1.holdings.nodes n) (omega arith)
+    let q = pins-le-held n (live t1.ref_counts.handles.places.items) in
+    some-held (counts_at t1.ref_counts.nodes n) (omega arith)
 
-pub give_all-requires-clause-steady : goal.give_all-requires-clause-steady
-give_all-requires-clause-steady g c =
+pub release_owned-requires-clause-steady : goal.release_owned-requires-clause-steady
+release_owned-requires-clause-steady g c =
     let t = c.args.t.now in
     let t1 = c.pin_here.new.t in
     let me = c.args.me in
@@ -70,31 +70,31 @@ give_all-requires-clause-steady g c =
     let k = c.join.new.t in
     let r = c.requires.ready (λ key. None) false 0 in
     let a = (c.in-Ok.ensures.does.does (λ key. None) false 0).pinned.1 in
-    let x = row_of (t.holdings.last_handle + 1) row.node Mode.Pinned me in
+    let x = row_of (t.ref_counts.last_handle + 1) row.node Mode.Pinned me in
     elim (cases_Bool c.args.ending.is_away) [
-      | inr here ↦ subst (λ (h : Holdings). IsFalling h [] owns_nothing) (sym (j.none here)) whole.steady
+      | inr here ↦ subst (λ (h : RefCounts). IsFalling h [] owns_nothing) (sym (j.none here)) whole.steady
       | inl comes ↦
           (let away : is_here p n ≡ false = not-true (is_here p n) (sym r.away ∙ comes) in
-          let at : Option Counts = counts_at t.holdings.nodes n in
+          let at : Option Counts = counts_at t.ref_counts.nodes n in
           let still : falls_in at ≡ false = stands at (was.steady.fits.marked n) in
-          let bare : refs_at t.holdings.nodes n ≡ [] = bare-away at _ _ (was.steady.fits.right n) still (was.steady.fits.pinned n) away in
-          let none : (q : ℕ) → sum_by (λ h. owns h n q) (live t.holdings.handles.places.items) ≡ 0 =
+          let bare : refs_at t.ref_counts.nodes n ≡ [] = bare-away at _ _ (was.steady.fits.right n) still (was.steady.fits.pinned n) away in
+          let none : (q : ℕ) → sum_by (λ h. owns h n q) (live t.ref_counts.handles.places.items) ≡ 0 =
           λ q. sym (was.steady.fits.owned n q) ∙ ap (λ (refs : List ArcRef). named q refs + owns_nothing n q) bare in
           let unvalued = not-a-value p me (may-hold p me (ready-owner t me l c.args.node_type rs c.args.ending was r)) in
-          let spared = not-named p l rs was.core.handles r.may.good (t.holdings.last_handle + 1) (omega arith) in
-          let before = changed (is_handle row.number.0) turned (live t.holdings.handles.places.items) ++ x ∷ [] in
-          let fits = rows-told (counts_at t1.holdings.nodes) (refs_at t1.holdings.nodes) (live t1.holdings.handles.places.items) before t1.holdings.top (sym a.rows) whole.steady.fits in
+          let spared = not-named p l rs was.core.handles r.may.good (t.ref_counts.last_handle + 1) (omega arith) in
+          let before = changed (is_handle row.number.0) turned (live t.ref_counts.handles.places.items) ++ x ∷ [] in
+          let fits = rows-told (counts_at t1.ref_counts.nodes) (refs_at t1.ref_counts.nodes) (live t1.ref_counts.handles.places.items) before t1.ref_counts.top (sym a.rows) whole.steady.fits in
           let pinned : 0 < sum_by (λ y. one (is_pin n y)) before = grind (arith, nat_tests, pins-here) in
           let joined = joined-fits p (Owner.Load l) n rs was.core.handles.ordered r.may.good refl none row.number.0 x unvalued spared _ _ _ _ fits pinned (j.here comes) j.others in
           let told = fits-same _ _ _ _ _ _ [] joined j.counts (λ m. refl) in
-          let rows = j.handles.rows ∙ ap (λ b. moved (is_named_by (coming b rs)) (owner_value n) (live t1.holdings.handles.places.items)) comes ∙ ap (moved (is_named_by rs) (owner_value n)) a.rows in
+          let rows = j.handles.rows ∙ ap (λ b. moved (is_named_by (coming b rs)) (owner_value n) (live t1.ref_counts.handles.places.items)) comes ∙ ap (moved (is_named_by rs) (owner_value n)) a.rows in
           record {
             sound = j.handles.sound;
-            next = j.handles.next (k.last_handle + 1) (grind (arith, whole.steady.next, ap (λ (h : Holdings). h.last_handle) j.same));
-            fits = rows-told (counts_at k.nodes) (refs_at k.nodes) (moved (is_named_by rs) (owner_value n) before) (live k.handles.places.items) k.top rows (grind (arith, told, ap (λ (h : Holdings). h.top) j.same));
-            worked = work-told k.nodes (moved (is_named_by (coming c.args.ending.is_away rs)) (owner_value n) (live t1.holdings.handles.places.items)) (live k.handles.places.items) j.handles.rows
-                (work-moved k.nodes (is_named_by (coming c.args.ending.is_away rs)) (owner_value n) (live t1.holdings.handles.places.items) refl
-                (work-more (live t1.holdings.handles.places.items) t1.holdings.nodes k.nodes (λ m. rw (j.work m) (omega arith)) whole.steady.worked));
+            next = j.handles.next (k.last_handle + 1) (grind (arith, whole.steady.next, ap (λ (h : RefCounts). h.last_handle) j.same));
+            fits = rows-told (counts_at k.nodes) (refs_at k.nodes) (moved (is_named_by rs) (owner_value n) before) (live k.handles.places.items) k.top rows (grind (arith, told, ap (λ (h : RefCounts). h.top) j.same));
+            worked = work-told k.nodes (moved (is_named_by (coming c.args.ending.is_away rs)) (owner_value n) (live t1.ref_counts.handles.places.items)) (live k.handles.places.items) j.handles.rows
+                (work-moved k.nodes (is_named_by (coming c.args.ending.is_away rs)) (owner_value n) (live t1.ref_counts.handles.places.items) refl
+                (work-more (live t1.ref_counts.handles.places.items) t1.ref_counts.nodes k.nodes (λ m. rw (j.work m) (omega arith)) whole.steady.worked));
           })
     ]
 
@@ -121,15 +121,15 @@ returns-clause-does g c =
       owned = r.owned;
       at = refl;
       next = record { above = next.above; is_left = next.is_left };
-      falls = falls-so b (core_of t stored closed failures) me l row rs c.give_all.result _ r.away
+      falls = falls-so b (core_of t stored closed failures) me l row rs c.release_owned.result _ r.away
           (ended t t1 stored closed c.args.lists failures c.requires.whole c.in-Ok.ensures.does.whole e row p.owned.live me (ready-owner t me l c.args.node_type rs c.args.ending c.requires.whole p) l (coming b rs)
-          good (c.in-Ok.ensures.does.does stored closed failures).pinned.1 same c.join.new.t j.handles.rows (ap (λ (h : Holdings). h.list) j.same) (ap (λ (h : Holdings). h.last_handle) j.same)
-          j.handles.capacity (λ m. ap cell_in (j.counts m)) c.args.ending.load.since c.args.until c.give_all.new.t (load_at c.close.new.rows)
-          c.give_all.result (λ before v f few between. c.give_all.ensures.falls before v (record v { loads = λ m. option_map load_in (load_at c.close.new.rows m) }) (λ m. refl) f few
+          good (c.in-Ok.ensures.does.does stored closed failures).pinned.1 same c.join.new.t j.handles.rows (ap (λ (h : RefCounts). h.list) j.same) (ap (λ (h : RefCounts). h.last_handle) j.same)
+          j.handles.capacity (λ m. ap cell_in (j.counts m)) c.args.ending.load.since c.args.until c.release_owned.new.t (load_at c.close.new.rows)
+          c.release_owned.result (λ before v f few between. c.release_owned.ensures.falls before v (record v { loads = λ m. option_map load_in (load_at c.close.new.rows m) }) (λ m. refl) f few
           (λ q own. let b = between q own in let after = b.0 in ((omega arith, inl after), b.1)))
           (λ q own. (c.requires.above q own, c.requires.up_to q own)) c.close.ensures.gone c.close.ensures.others);
     })
-    c.give_all.ensures.steady
+    c.release_owned.ensures.steady
     (λ i. (installs-goes me l row.node row.number c.in-Ok.handle c.args.node_type rs c.requires.whole.core may i).whole)
     (λ i later. later-less later (installs-goes me l row.node row.number c.in-Ok.handle c.args.node_type rs c.requires.whole.core may i).newer (ap (λ (u : Tables). u.noted) same)
     (λ m load is. closed-still (load_at t.loads) (load_at c.close.new.rows) l.0 c.close.ensures.gone
@@ -137,7 +137,7 @@ returns-clause-does g c =
 
 pub returns-clause-sheds : goal.returns-clause-sheds
 returns-clause-sheds g c = record {
-  left = λ kept. c.give_all.ensures.sheds.left (λ n falls. kept n
+  left = λ kept. c.release_owned.ensures.sheds.left (λ n falls. kept n
       ∙ sym (ap has_value (c.join.ensures.counts n)
       ∙ has-come c.args.t.now c.pin_here.new.t (λ key. None) (not c.args.lists) 0 c.args.ending.row c.args.me
       (c.in-Ok.ensures.does.does (λ key. None) (not c.args.lists) 0).pinned.1 c.requires.whole c.in-Ok.ensures.does.whole (c.requires.ready (λ key. None) (not c.args.lists) 0).owned.live n));

@@ -1,6 +1,6 @@
-use Rattle.pagable_tables.proofs.{CallsKeepWhole.{MayHand, may-hand}, LastHandles.{core-same, noted-shed}}
+use Rattle.pagable_tables.proofs.{CallsKeepWhole.{MayHand, may-hand}, LastHandles.{core-same, noted-release_at}}
 use Rattle.pagable_tables.proofs.Words.{Core, None, ap, arith, false, nat_tests, plain_of, sym, ◌∙◌}
-use Rattle.pagable_world.specs.LoadCalls.{hand_over_fault}
+use Rattle.pagable_pager_spec.specs.LoadCalls.{hand_over_fault}
 use Rattle.pagable_tables.proofs.load_end.load_take.Goals as goal
 
 pub unwrap-row-requires : goal.unwrap-row-requires
@@ -16,4 +16,4 @@ take_up_to-requires-clause-free g c stored closed failures =
     ∙ sym (c.hand_over_fault.ensures stored closed failures) ∙ c.in_default.is
 
 pub returns : goal.returns
-returns g c = noted-shed c.last_of-until.ensures.notes c.take_up_to.ensures
+returns g c = noted-release_at c.last_of-until.ensures.notes c.take_up_to.ensures

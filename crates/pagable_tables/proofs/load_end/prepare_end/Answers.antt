@@ -39,11 +39,11 @@ returns-in-Ok-reserve-clause-ready c stored closed failures =
     let e : Ending = record { load = c.unwrap-row.result; row = c.in-Ok.at.row; is_away = not c.is_here-is_away.result } in
     let ready : IsReady w me l c.args.node_type c.args.references.now e =
     grind (arith, nat_tests, owner-same, c.in-Ok.ensures.number, c.in-Ok.ensures.found, c.in-Ok.ensures.owner, c.is_here-is_away.ensures, c.counts_of.ensures, c.requires.steady.fits.pinned) in
-    let w' = core_of (record t { holdings = record t.holdings { handles = c.reserve.new.handles } }) stored closed failures in
+    let w' = core_of (record t { ref_counts = record t.ref_counts { handles = c.reserve.new.handles } }) stored closed failures in
     ready-placed w w'.places w'.rows me l c.args.node_type c.args.references.now e c.reserve.ensures.widens.rows ready
 
 pub returns-in-Ok-reserve-clause-does : goal.returns-in-Ok-reserve-clause-does
-returns-in-Ok-reserve-clause-does c = widens-does c.args.t.now c.reserve.new.handles c.args.t.now.holdings.nodes c.args.t.now.cache c.requires c.reserve.ensures.widens (λ n. refl) (λ n. refl) (λ n. refl) (λ kind key. refl)
+returns-in-Ok-reserve-clause-does c = widens-does c.args.t.now c.reserve.new.handles c.args.t.now.ref_counts.nodes c.args.t.now.cache c.requires c.reserve.ensures.widens (λ n. refl) (λ n. refl) (λ n. refl) (λ kind key. refl)
 
 pub returns-in-Err-reserve-clause-unended : goal.returns-in-Err-reserve-clause-unended
 returns-in-Err-reserve-clause-unended c stored closed failures =
@@ -53,7 +53,7 @@ returns-in-Err-reserve-clause-unended c stored closed failures =
     grind (arith, nat_tests, no-load-fault, alike, c.reserve.ensures.widens.rows, c.reserve.ensures.widens.capacity)
 
 pub returns-in-Err-reserve-clause-does : goal.returns-in-Err-reserve-clause-does
-returns-in-Err-reserve-clause-does c = widens-does c.args.t.now c.reserve.new.handles c.args.t.now.holdings.nodes c.args.t.now.cache c.requires c.reserve.ensures.widens (λ n. refl) (λ n. refl) (λ n. refl) (λ kind key. refl)
+returns-in-Err-reserve-clause-does c = widens-does c.args.t.now c.reserve.new.handles c.args.t.now.ref_counts.nodes c.args.t.now.cache c.requires c.reserve.ensures.widens (λ n. refl) (λ n. refl) (λ n. refl) (λ kind key. refl)
 
 pub returns-in-Err-clause-unended : goal.returns-in-Err-clause-unended
 returns-in-Err-clause-unended c stored closed failures =

@@ -14,12 +14,12 @@ unwrap-row-requires g c =
     (c.requires.free (λ key. None) false 0) in
     let own = can.own in grind (arith, nat_tests, c.load_of.ensures)
 
-pub give_all-requires-clause-steady : goal.give_all-requires-clause-steady
-give_all-requires-clause-steady g c =
+pub release_owned-requires-clause-steady : goal.release_owned-requires-clause-steady
+release_owned-requires-clause-steady g c =
     let w = plain_of c.args.t.now in
     let hs = c.args.named.now in
     let can : MayHand w c.args.me c.args.load hs = may-hand c.requires.whole.core c.args.me c.args.load hs (c.requires.free (λ key. None) false 0) in
-    let t = c.args.t.now.holdings in
+    let t = c.args.t.now.ref_counts in
     let rows = live t.handles.places.items in
     let s = c.requires.whole.steady in
     let k = c.all_may_work.ensures in
@@ -46,30 +46,30 @@ returns g c =
     sheds-with (lazily-by
     (λ stored closed failures e.
     let w = core_of t stored closed failures in
-    let w' = core_of (record t { holdings = c.give_all.new.t; loads = c.close.new.rows }) stored closed failures in
+    let w' = core_of (record t { ref_counts = c.release_owned.new.t; loads = c.close.new.rows }) stored closed failures in
     let u : Core = record (without_load w l) { rows = moved s me w.rows } in
     let left : (q : ℕ) → is_owned_in u (Owner.Load l) q ≡ (is_owned_in w (Owner.Load l) q && not (s q)) = λ q. owned-moved s me (Owner.Load l) q w.rows (no-load p me l can.may) in
-    let so-far = begun w u c.args.lists (record t.holdings { handles = c.hand_each.new.handles; nodes = c.all_may_work.new.nodes; unlisted = None }) e
+    let so-far = begun w u c.args.lists (record t.ref_counts { handles = c.hand_each.new.handles; nodes = c.all_may_work.new.nodes; unlisted = None }) e
     (λ p own. moved-times p s me w.rows (λ x. own x me)) (unmixed t c.requires.whole)
     (λ q. let a = (handed-whole c.requires.whole.core me l hs can).owners_there.listed q in omega arith) c.hand_each.ensures.rows refl refl c.requires.whole.core.handles.within.0
     (record { handles = let a = c.hand_each.ensures.capacity in omega arith; entries = omega arith }) (λ n. rw (c.all_may_work.ensures.counts n) refl) refl in
-    let falls = c.give_all.ensures.falls w u (record u { loads = λ m. option_map load_in (load_at c.close.new.rows m) }) (λ m. refl) so-far (let a = ap length c.hand_each.ensures.rows in omega arith)
+    let falls = c.release_owned.ensures.falls w u (record u { loads = λ m. option_map load_in (load_at c.close.new.rows m) }) (λ m. refl) so-far (let a = ap length c.hand_each.ensures.rows in omega arith)
     (λ q own. let mine = and-left (is_owned_in w (Owner.Load l) q) (not (s q)) (sym (left q) ∙ own) in
     let after = c.requires.later.since l.0 c.unwrap-row.result q row mine in ((omega arith, inl after), c.requires.up_to q mine)) in
     record {
       hands = (
         c.requires.free stored closed failures,
         record {
-          told = c.give_all.result;
-          falls = loads-anew w u (with_tables u c.give_all.new.t) (λ q. is_owned_in w (Owner.Load l) q && not (s q)) c.give_all.result w'.loads
+          told = c.release_owned.result;
+          falls = loads-anew w u (with_tables u c.release_owned.new.t) (λ q. is_owned_in w (Owner.Load l) q && not (s q)) c.release_owned.result w'.loads
               (updated-by (option_map load_in) (load_at t.loads) (load_at c.close.new.rows) l.0 None c.close.ensures.gone c.close.ensures.others)
-              (subst (λ given. Falls w u given c.give_all.result (with_tables u c.give_all.new.t)) (λ i q. left q i) falls);
+              (subst (λ given. Falls w u given c.release_owned.result (with_tables u c.release_owned.new.t)) (λ i q. left q i) falls);
         },
       );
       refused = tt;
     })
-    c.give_all.ensures.steady (hand-over-whole me l hs c.requires.whole.core)
+    c.release_owned.ensures.steady (hand-over-whole me l hs c.requires.whole.core)
     (λ hands later. later-handed t later s me (λ m. no-load p me m can.may) _ refl l c.unwrap-row.result row (let own = can.own in grind (arith, nat_tests, row))
     (handed-mine p (Owner.Load l) [] hs can.named) (newer-falls hands.hands.1.falls)
     (closed-still (load_at t.loads) (load_at c.close.new.rows) l.0 c.close.ensures.gone c.close.ensures.others) refl refl))
-    (stays-first (λ m. rw (c.all_may_work.ensures.counts m) (λ falls. (falls, refl))) c.give_all.ensures.sheds)
+    (stays-first (λ m. rw (c.all_may_work.ensures.counts m) (λ falls. (falls, refl))) c.release_owned.ensures.sheds)

@@ -1,11 +1,11 @@
 use Rattle.pagable_tables.proofs.{LastHandles.{core-same, noted-later}, Words.{None, false, refl, subst, sym}}
-use Rattle.pagable_world.specs.Pager as pager
+use Rattle.pagable_pager_spec.specs.Pager as pager
 use Rattle.pagable_tables.proofs.load_handles.note_all.Goals as goal
 
 pub returns-clause-notes : goal.returns-clause-notes
 returns-clause-notes c =
     let t = c.args.t.now in
-    let t1 = record t { loads = c.note_above.new.loads; noted = t.holdings.last_handle } in
+    let t1 = record t { loads = c.note_above.new.loads; noted = t.ref_counts.last_handle } in
     record {
       same = refl;
       rows = c.note_above.ensures.rows;

@@ -11,26 +11,26 @@ use Rattle.pagable_tables.specs.CascadeInvariant.{AreAtWork, is_work}
 pub unreachable-requires-in_default-look : Rattle.pagable_tables.proofs.pending.take_pending.Goals.unreachable-requires-in_default-look
 unreachable-requires-in_default-look c =
     let listed = c.requires.whole.core.owners_there.listed c.in-Some.handle.0 in
-    entry-lives c.args.t.now.holdings.list.items c.args.t.now.holdings.handles.places.items c.args.place c.in-Some.handle (omega arith) c.in-Some.ensures.value listed (search rules)
+    entry-lives c.args.t.now.ref_counts.list.items c.args.t.now.ref_counts.handles.places.items c.args.place c.in-Some.handle (omega arith) c.in-Some.ensures.value listed (search rules)
 
 pub add_work-requires : Rattle.pagable_tables.proofs.pending.take_pending.Goals.add_work-requires
 add_work-requires c =
     let x = c.in-Some-look.at.row in
-    let t = c.args.t.now.holdings in
+    let t = c.args.t.now.ref_counts in
     let there = row-le-live (λ h. one (is_at x.node.0 h)) t.handles.places.items c.in-Some-look.at.place x c.in-Some-look.ensures.place in
     some-held (counts_at t.nodes x.node.0) (omega (arith, there, held-here x, c.requires.whole.steady.fits.holding x.node.0))
 
 pub returns : Rattle.pagable_tables.proofs.pending.take_pending.Goals.returns
 returns c =
     let u = c.args.t.now in
-    let t = u.holdings in
+    let t = u.ref_counts in
     let h = c.in-Some.handle in
     let w = c.requires.whole in
     let given = c.hand_over.ensures.becomes.rows ∙ ap (λ q. moved (only_handle q) c.args.me (live t.handles.places.items)) c.in-Some-look.ensures.number in
     let taken : (stored : ℕ → Option Blob) (closed : Bool) (failures : ℕ) → TakeCall (core_of u stored closed failures) c.args.me c.args.place (Some h)
-    (core_of (record u { holdings = record t { handles = c.hand_over.new.handles; list = c.remove.new.self; nodes = c.add_work.new.nodes }; workers = c.reach_to.new.workers }) stored closed failures) =
+    (core_of (record u { ref_counts = record t { handles = c.hand_over.new.handles; list = c.remove.new.self; nodes = c.add_work.new.nodes }; workers = c.reach_to.new.workers }) stored closed failures) =
     λ stored closed failures.
-    (let w' = core_of (record u { holdings = record t { handles = c.hand_over.new.handles; list = c.remove.new.self; nodes = c.add_work.new.nodes } }) stored closed failures in (
+    (let w' = core_of (record u { ref_counts = record t { handles = c.hand_over.new.handles; list = c.remove.new.self; nodes = c.add_work.new.nodes } }) stored closed failures in (
       slice_get_read t.list.items _ c.args.place h refl (omega arith) c.in-Some.ensures.value,
       at-work-still (alike _ w' given (λ n. rw (c.add_work.ensures.counts n) refl) c.in-Some.ensures.items (record { handles = omega arith; entries = omega arith }) refl) c.reach_to.ensures.at_work,
     )) in

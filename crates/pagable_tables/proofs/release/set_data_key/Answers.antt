@@ -1,5 +1,5 @@
 use Rattle.pagable_tables.proofs.{CallsKeepWhole.keyed-whole, CascadeEnd.stays-first, CascadeStep.{key-fits, keyed-on}}
-use Rattle.pagable_tables.proofs.{OwnedByLoad.{does-as, lazily-so, nothing-shed, sheds-with}, RowCounts.found-among, Views.falling}
+use Rattle.pagable_tables.proofs.{OwnedByLoad.{does-as, lazily-so, nothing-release_at, sheds-with}, RowCounts.found-among, Views.falling}
 use Rattle.pagable_tables.proofs.Views.{loose-unshared, unturned}
 use Rattle.pagable_tables.proofs.Words.{Falls, GetsKey, Some, [], any_mode, arith, cases_eq, counts_at, if◌then◌else◌, inl, inr, keyed, nat_tests, nobody}
 use Rattle.pagable_tables.proofs.{SameViews.{failed, owner-same, still}, Words.{plain_of, refl, sym, with_key, ◌==◌, ◌∙◌, ◌∷◌, ◌≡◌}}
@@ -8,11 +8,11 @@ use Rattle.pagable_tables.proofs.release.set_data_key.Goals as goal
 
 pub returns-in_err-at : goal.returns-in_err-at
 returns-in_err-at g c =
-    rw (failed c.from_residual.result c.from_residual.ensures.1) (nothing-shed c.requires.whole (λ stored closed failures e. record { does = inl (record { e = c.in_err-at.field-0.0; why = c.in_err-at.ensures.fault stored closed failures any_mode; told = refl; stays = still _ }) }))
+    rw (failed c.from_residual.result c.from_residual.ensures.1) (nothing-release_at c.requires.whole (λ stored closed failures e. record { does = inl (record { e = c.in_err-at.field-0.0; why = c.in_err-at.ensures.fault stored closed failures any_mode; told = refl; stays = still _ }) }))
 
 pub fall-requires : goal.fall-requires
 fall-requires g c =
-    let t = c.args.t.now.holdings in
+    let t = c.args.t.now.ref_counts in
     let n = c.in_ok-at.at.row.node.0 in
     let y = c.unwrap-counts.result in
     let b = y.pins == 0 in
@@ -30,10 +30,10 @@ returns g c =
     let row = c.in_ok-at.at.row in
     let t = c.args.t.now in
     let loose = sym c.is_loose_mode.ensures ∙ c.if-not-is_loose_mode.false in
-    let here : counts_at c.set_counts.new.nodes row.node.0 ≡ Some (keyed c.unwrap-counts.result c.args.key t.holdings.top) =
+    let here : counts_at c.set_counts.new.nodes row.node.0 ≡ Some (keyed c.unwrap-counts.result c.args.key t.ref_counts.top) =
     grind (arith, nat_tests, c.set_counts.ensures.here, c.top_after.ensures, c.get.ensures.value) in
-    let is : counts_at t.holdings.nodes row.node.0 ≡ Some c.unwrap-counts.result = sym c.counts_of.ensures ∙ c.unwrap-counts.ensures in
-    let cells : GetsKey (counts_at t.holdings.nodes) (counts_at c.set_counts.new.nodes) row.node.0 c.args.key =
+    let is : counts_at t.ref_counts.nodes row.node.0 ≡ Some c.unwrap-counts.result = sym c.counts_of.ensures ∙ c.unwrap-counts.ensures in
+    let cells : GetsKey (counts_at t.ref_counts.nodes) (counts_at c.set_counts.new.nodes) row.node.0 c.args.key =
     λ m. grind (arith, nat_tests, cases_eq m row.node.0, here, is, c.set_counts.ensures.others m, c.get.ensures.above, c.get.ensures.value) in
     let there = (found-among c.args.handle.0 (plain_of t).rows row c.in_ok-at.ensures.found).0 in
     let stands = unturned (with_key (plain_of t) row.node c.args.key) (keyed-whole c.requires.whole.core row there c.args.key (loose-unshared row.mode loose)) in

@@ -1,33 +1,33 @@
 use Rattle.std.specs.VecDeque.{deque_capacity}
 use Rattle.pagable_tables.proofs.{CascadeStep.rows-told, OwnedByLoad.{does-as, does-so}, Views.alike-goes}
-use Rattle.pagable_tables.proofs.{Words.{Alike, Holdings, Tables, arith, live, nat_tests, refl, ◌+◌, ◌≡◌}, WorkCounts.work-told}
+use Rattle.pagable_tables.proofs.{Words.{Alike, RefCounts, Tables, arith, live, nat_tests, refl, ◌+◌, ◌≡◌}, WorkCounts.work-told}
 use Rattle.pagable_tables.proofs.{SameViews.{failed, same-cache}, Words.◌≤◌}
 use Rattle.pagable_tables.specs.{Core.{Does, IsWhole}, HandleTable.Widens}
 use Rattle.pagable_tables.proofs.tables.reserve.Goals as goal
 
 -- there is room, and all else is as it was
-grown : (t : Tables) (u : Holdings) → IsWhole t → Widens t.holdings.handles u.handles → u.list.items ≡ t.holdings.list.items → deque_capacity t.holdings.list ≤ deque_capacity u.list
-    → Does t Alike (record t { holdings = record t.holdings { handles = u.handles; list = u.list } })
+grown : (t : Tables) (u : RefCounts) → IsWhole t → Widens t.ref_counts.handles u.handles → u.list.items ≡ t.ref_counts.list.items → deque_capacity t.ref_counts.list ≤ deque_capacity u.list
+    → Does t Alike (record t { ref_counts = record t.ref_counts { handles = u.handles; list = u.list } })
 grown t u w e items capacity = does-so (λ stored closed failures. grind (arith, nat_tests, same-cache, e.rows, items, e.capacity, capacity))
     (record {
       sound = e.sound;
-      next = e.next (t.holdings.last_handle + 1) w.steady.next;
-      fits = rows-told _ _ _ _ t.holdings.top e.rows w.steady.fits;
-      worked = work-told t.holdings.nodes (live t.holdings.handles.places.items) (live u.handles.places.items) e.rows w.steady.worked;
+      next = e.next (t.ref_counts.last_handle + 1) w.steady.next;
+      fits = rows-told _ _ _ _ t.ref_counts.top e.rows w.steady.fits;
+      worked = work-told t.ref_counts.nodes (live t.ref_counts.handles.places.items) (live u.handles.places.items) e.rows w.steady.worked;
     })
     (alike-goes w.core) refl refl refl
 
 pub returns-in_err-reserve : goal.returns-in_err-reserve
 returns-in_err-reserve c = rw (failed c.from_residual.result c.from_residual.ensures.1)
-    (does-as (grown c.args.t.now (record c.args.t.now.holdings { handles = c.reserve.new.handles }) c.requires c.reserve.ensures.widens refl (omega arith))
+    (does-as (grown c.args.t.now (record c.args.t.now.ref_counts { handles = c.reserve.new.handles }) c.requires c.reserve.ensures.widens refl (omega arith))
     (λ stored closed failures grown. record { stays = grown; enough = tt; wanting = (refl, grind (arith, nat_tests, c.in_err-reserve.ensures.err)) }))
 
 pub returns-in_err-reserve_entries : goal.returns-in_err-reserve_entries
 returns-in_err-reserve_entries c = rw (failed c.from_residual-in_err-reserve_entries.result c.from_residual-in_err-reserve_entries.ensures.1)
-    (does-as (grown c.args.t.now (record c.args.t.now.holdings { handles = c.reserve.new.handles; list = c.reserve_entries.new.list }) c.requires c.reserve.ensures.widens c.reserve_entries.ensures.items c.reserve_entries.ensures.capacity)
+    (does-as (grown c.args.t.now (record c.args.t.now.ref_counts { handles = c.reserve.new.handles; list = c.reserve_entries.new.list }) c.requires c.reserve.ensures.widens c.reserve_entries.ensures.items c.reserve_entries.ensures.capacity)
     (λ stored closed failures grown. record { stays = grown; enough = tt; wanting = (refl, grind (arith, nat_tests, c.in_err-reserve_entries.ensures.err)) }))
 
 pub returns : goal.returns
 returns c =
-    does-as (grown c.args.t.now (record c.args.t.now.holdings { handles = c.reserve.new.handles; list = c.reserve_entries.new.list }) c.requires c.reserve.ensures.widens c.reserve_entries.ensures.items c.reserve_entries.ensures.capacity)
+    does-as (grown c.args.t.now (record c.args.t.now.ref_counts { handles = c.reserve.new.handles; list = c.reserve_entries.new.list }) c.requires c.reserve.ensures.widens c.reserve_entries.ensures.items c.reserve_entries.ensures.capacity)
     (λ stored closed failures grown. record { stays = grown; enough = grind (arith, nat_tests, c.in_ok-reserve.ensures.ok, c.in_ok-reserve_entries.ensures.ok); wanting = tt })

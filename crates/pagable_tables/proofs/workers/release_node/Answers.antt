@@ -1,5 +1,5 @@
 use Rattle.pagable_tables.proofs.{CascadeStep.begun-whole, Counting.and-left, OwnedByLoad.{lazily-so, passes-given, sheds-with}, Views.lone-falling}
-use Rattle.pagable_tables.proofs.Words.{Giving, InReach, arith, core_of, gives_row, nat_tests}
+use Rattle.pagable_tables.proofs.Words.{ReleaseSet, InReach, arith, core_of, gives_row, nat_tests}
 use Rattle.pagable_tables.proofs.Words.{plain_of, refl, subst, sym}
 
 pub returns : Rattle.pagable_tables.proofs.workers.release_node.Goals.returns
@@ -9,12 +9,12 @@ returns g c =
     (λ stored closed failures e.
     let w = core_of t stored closed failures in
     record {
-      told = c.give_all.result;
-      falls = c.give_all.ensures.falls w w w (λ l. refl) (begun-whole t stored closed c.args.lists failures c.requires.whole e) (omega arith)
+      told = c.release_owned.result;
+      falls = c.release_owned.ensures.falls w w w (λ l. refl) (begun-whole t stored closed c.args.lists failures c.requires.whole e) (omega arith)
           (λ q gives. (
             subst (λ r. InReach r q) (sym c.reach_of-reach.ensures) (c.requires.later.reach c.args.worker.0 q (grind (arith, nat_tests, and-left))),
-            (passes-given (gives_row w (Giving.AtNode c.args.worker c.args.node)) (plain_of t) q c.requires.whole.core.handles gives).1,
+            (passes-given (gives_row w (ReleaseSet.AtNode c.args.worker c.args.node)) (plain_of t) q c.requires.whole.core.handles gives).1,
           ));
     })
-    c.give_all.ensures.steady
-    (λ falls. lone-falling c.requires.whole.core falls.falls) refl refl refl) c.give_all.ensures.sheds
+    c.release_owned.ensures.steady
+    (λ falls. lone-falling c.requires.whole.core falls.falls) refl refl refl) c.release_owned.ensures.sheds

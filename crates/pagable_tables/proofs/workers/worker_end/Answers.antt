@@ -1,7 +1,7 @@
 use Rattle.pagable_tables.proofs.{CallsKeepWhole.worker-end-whole, CascadeStep.begun-less}
 use Rattle.pagable_tables.proofs.{OwnedByLoad.{in-reach, later-less, lazily-by, loads-anew, passes-given, sheds-with, updated-by}, Views.newer-falls}
 use Rattle.pagable_tables.proofs.Words.{Falls}
-use Rattle.pagable_tables.proofs.Words.{Giving, InReach, None, Some, arith, cases_eq, core_of, gives_row, is_some, is_workers, left_load, load_at, nat_tests, plain_of, refl, subst, sym, with_tables}
+use Rattle.pagable_tables.proofs.Words.{ReleaseSet, InReach, None, Some, arith, cases_eq, core_of, gives_row, is_some, is_workers, left_load, load_at, nat_tests, plain_of, refl, subst, sym, with_tables}
 use Rattle.pagable_tables.proofs.Words.{without_worker, worker_at, ◌∙◌, ◌≡◌}
 
 pub returns : Rattle.pagable_tables.proofs.workers.worker_end.Goals.returns
@@ -12,14 +12,14 @@ returns g c =
     (λ stored closed failures e.
     let w = core_of t stored closed failures in
     let u = without_worker w v in
-    let h = c.give_all.new.t in
-    let r = c.give_all.result in
-    let w' = core_of (record t { holdings = h; loads = c.close_loads.new.loads; workers = c.close.new.rows }) stored closed failures in
-    let falls = c.give_all.ensures.falls w u w (λ l. refl) (begun-less t u.loads u.workers stored closed c.args.lists failures c.requires.whole e) (omega arith)
-    (λ q is. (subst (λ r. InReach r q) (sym c.reach_of-reach.ensures) (in-reach t c.requires.whole c.requires.later c.args.worker q is), (passes-given (gives_row w (Giving.Worker c.args.worker)) (plain_of t) q c.requires.whole.core.handles is).1)) in
+    let h = c.release_owned.new.t in
+    let r = c.release_owned.result in
+    let w' = core_of (record t { ref_counts = h; loads = c.close_loads.new.loads; workers = c.close.new.rows }) stored closed failures in
+    let falls = c.release_owned.ensures.falls w u w (λ l. refl) (begun-less t u.loads u.workers stored closed c.args.lists failures c.requires.whole e) (omega arith)
+    (λ q is. (subst (λ r. InReach r q) (sym c.reach_of-reach.ensures) (in-reach t c.requires.whole c.requires.later c.args.worker q is), (passes-given (gives_row w (ReleaseSet.Worker c.args.worker)) (plain_of t) q c.requires.whole.core.handles is).1)) in
     let loads = loads-anew w u (with_tables u h) (is_workers w v) r w'.loads (λ l. let left = c.close_loads.ensures l in grind (arith, nat_tests)) falls in
     record { told = r; falls = subst (λ s. Falls w u (is_workers w v) r (record (with_tables u h) { loads = w'.loads; workers = s })) (λ i q. updated-by is_some (worker_at t.workers) (worker_at c.close.new.rows) v None c.close.ensures.gone c.close.ensures.others q i) loads })
-    c.give_all.ensures.steady (worker-end-whole v c.requires.whole.core)
+    c.release_owned.ensures.steady (worker-end-whole v c.requires.whole.core)
     (λ ends later. later-less later (newer-falls ends.falls) refl (λ l load is. let left : left_load v (load_at t.loads l) ≡ Some load = sym (c.close_loads.ensures l) ∙ is in grind (arith, nat_tests))
     (grind (arith, nat_tests, cases_eq, c.close.ensures.gone, c.close.ensures.others))))
-    c.give_all.ensures.sheds
+    c.release_owned.ensures.sheds

@@ -1,4 +1,4 @@
-use Rattle.{pagable_model.specs.Meaning.pattern, pagable_traits.proofs.{Parts.{text-read, text_not_refused}, Words.{read, read_with, refl}}}
+use Rattle.{pagable_value_spec.specs.Meaning.pattern, pagable_traits.proofs.{Parts.{text-read, text_not_refused}, Words.{read, read_with, refl}}}
 
 pub returns : Rattle.pagable_traits.proofs.saved_regex.read_text.Goals.returns
 unfolding read read_with

@@ -1,4 +1,4 @@
-use Rattle.pagable_model.specs.Statics.{NoEqualBelow}
+use Rattle.pagable_value_spec.specs.Statics.{NoEqualBelow}
 use Rattle.pagable_traits.proofs.static_value.first_equal.Given as goal
 
 abbrev pub invariant-loop-place : goal.invariant-loop-place

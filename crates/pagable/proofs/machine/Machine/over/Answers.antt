@@ -1,4 +1,4 @@
-use Rattle.{pagable_laws.proofs.New.new_whole, pagable_loads.specs.Telling.values_at, std.proofs.Common.rules}
+use Rattle.{pagable_theorems.proofs.NewPager.new_whole, pagable_load.specs.AccessView.values_at, std.proofs.Common.rules}
 use Rattle.pagable.proofs.machine.Machine.over.Goals as goal
 
 -- the values are lawful by the laws of their nodes

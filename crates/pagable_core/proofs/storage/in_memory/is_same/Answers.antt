@@ -1,4 +1,4 @@
-use Rattle.{std.proofs.{Common.{ap, sym, ◌∙◌, refl}, lemmas.{Bool.{and_parts, Decides.Decides-eqb}, Slice.Eq.slice_eq-Decides}}, pagable_model.specs.Blob.Blob}
+use Rattle.{std.proofs.{Common.{ap, sym, ◌∙◌, refl}, lemmas.{Bool.{and_parts, Decides.Decides-eqb}, Slice.Eq.slice_eq-Decides}}, pagable_value_spec.specs.Blob.Blob}
 
 pub returns : Rattle.pagable_core.proofs.storage.in_memory.is_same.Goals.returns
 returns c =

@@ -1,4 +1,4 @@
-use Rattle.{pagable_loads.specs.Telling.values_at, pagable_pager.proofs.Pinned.{away-dropped, away-loads-pinned, away-loads-refused, away-pinned}, std.{proofs.{Common.subst, lemmas.Result.err_from_is_err_and}, specs.Prelude.IsTrue}}
+use Rattle.{pagable_load.specs.AccessView.values_at, pagable_pager.proofs.LentPins.{away-dropped, away-loads-pinned, away-loads-refused, away-pinned}, std.{proofs.{Common.subst, lemmas.Result.err_from_is_err_and}, specs.Prelude.IsTrue}}
 use Rattle.pagable_pager.proofs.lent.Lent.pin_away.Goals as goal
 
 pub returns-in_err-pinned-clause-goes : goal.returns-in_err-pinned-clause-goes

@@ -1,4 +1,4 @@
-use Rattle.{pagable_loads.specs.Telling.values_at, pagable_pager.proofs.Pinned.{environment-is, lender-is, loads-told, me-is, told-so}, std.{proofs.{Common.{refl, subst, ◌∙◌}}, specs.Prelude.IsTrue}}
+use Rattle.{pagable_load.specs.AccessView.values_at, pagable_pager.proofs.LentPins.{environment-is, lender-is, loads-told, me-is, told-so}, std.{proofs.{Common.{refl, subst, ◌∙◌}}, specs.Prelude.IsTrue}}
 use Rattle.pagable_pager.proofs.lent.Lent.pin_by_load.Goals as goal
 
 pub returns : goal.returns

@@ -1,5 +1,5 @@
-use Rattle.pagable_loads.specs.Telling.{AdoptsValue, values_at}
-use Rattle.pagable_pager.proofs.Keeping.{adopted_live, brings-so, told-if}
+use Rattle.pagable_load.specs.AccessView.{AdoptsValue, values_at}
+use Rattle.pagable_pager.proofs.Invariant.{adopted_live, brings-so, told-if}
 use Rattle.pagable_pager.specs.View.{core_in, telling}
 use Rattle.pagable_tables.proofs.SameViews.{failed}
 use Rattle.std.{proofs.Common.{Err, Ok, rules, subst}, specs.Prelude.IsTrue}

@@ -1,4 +1,4 @@
-use Rattle.{pagable_loads.specs.Telling.values_at, pagable_pager.{proofs.Keeping.{brings-so, told-if}, specs.View.{core_in, telling}}, pagable_world.specs.LoadCalls.EndCall, std.{proofs.Common.{rules, subst}, specs.Prelude.IsTrue}}
+use Rattle.{pagable_load.specs.AccessView.values_at, pagable_pager.{proofs.Invariant.{brings-so, told-if}, specs.View.{core_in, telling}}, pagable_pager_spec.specs.LoadCalls.EndCall, std.{proofs.Common.{rules, subst}, specs.Prelude.IsTrue}}
 
 pub returns : Rattle.pagable_pager.proofs.lent.LentAccess.load_end.Goals.returns
 returns g c =

@@ -1,4 +1,4 @@
-use Rattle.{pagable_loads.specs.Telling.{TakesLazily, values_at}, pagable_pager.{proofs.Keeping.{all_there, called_fewer, lazy_live, told-if}, specs.View.{core_in, telling}}, std.{proofs.Common.{Ok, rules, subst}, specs.Prelude.IsTrue}}
+use Rattle.{pagable_load.specs.AccessView.{TakesLazily, values_at}, pagable_pager.{proofs.Invariant.{all_there, called_fewer, lazy_live, told-if}, specs.View.{core_in, telling}}, std.{proofs.Common.{Ok, rules, subst}, specs.Prelude.IsTrue}}
 
 pub returns : Rattle.pagable_pager.proofs.lent.LentAccess.load_lazy.Goals.returns
 returns g c =

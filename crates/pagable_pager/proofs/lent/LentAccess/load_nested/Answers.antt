@@ -1,4 +1,4 @@
-use Rattle.{pagable_core.specs.Data.blob_of, pagable_loads.specs.Telling.{AsksFor, values_at}, pagable_pager.{proofs.Keeping.{all_there, called_fewer, found-made, still-at-work, told-if}, specs.View.{core_in, telling}}}
+use Rattle.{pagable_core.specs.Data.blob_of, pagable_load.specs.AccessView.{AsksFor, values_at}, pagable_pager.{proofs.Invariant.{all_there, called_fewer, found-made, still-at-work, told-if}, specs.View.{core_in, telling}}}
 use Rattle.{either.specs.declared.Either.Either, std.{proofs.Common.{Ok, rules}, specs.Arc.arc_value}}
 use Rattle.pagable_pager.proofs.lent.LentAccess.load_nested.Goals as goal
 

@@ -1,5 +1,5 @@
-use Rattle.{pagable_core.specs.Data.blob_of, pagable_loads.specs.Telling.values_at, pagable_model.specs.Blob.key_of, pagable_pager.{proofs.Keeping.{all_there, called_fewer, told-if}, specs.View.{core_in, telling}}}
-use Rattle.{pagable_world.specs.Calls.StoreCall, std.proofs.Common.rules}
+use Rattle.{pagable_core.specs.Data.blob_of, pagable_load.specs.AccessView.values_at, pagable_value_spec.specs.Blob.key_of, pagable_pager.{proofs.Invariant.{all_there, called_fewer, told-if}, specs.View.{core_in, telling}}}
+use Rattle.{pagable_pager_spec.specs.Calls.StoreCall, std.proofs.Common.rules}
 
 pub returns-clause-acts : Rattle.pagable_pager.proofs.lent.LentAccess.store_keyed.Goals.returns-clause-acts
 returns-clause-acts g c =

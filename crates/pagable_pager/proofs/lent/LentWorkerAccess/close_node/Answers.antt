@@ -1,4 +1,4 @@
-use Rattle.{pagable_loads.proofs.Stepped.{acts_map, acts_then}, std.proofs.lemmas.Result.err_from_is_err_and}
+use Rattle.{pagable_load.proofs.LoadSteps.{acts_map, acts_then}, std.proofs.lemmas.Result.err_from_is_err_and}
 use Rattle.pagable_pager.proofs.lent.LentWorkerAccess.close_node.Goals as goal
 
 pub returns-in_err-set_key_through : goal.returns-in_err-set_key_through

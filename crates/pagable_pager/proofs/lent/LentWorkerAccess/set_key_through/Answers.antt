@@ -1,4 +1,4 @@
-use Rattle.{pagable_loads.proofs.Stepped.{acts_all, acts_map}, std.proofs.Common.refl}
+use Rattle.{pagable_load.proofs.LoadSteps.{acts_all, acts_map}, std.proofs.Common.refl}
 use Rattle.pagable_pager.proofs.lent.LentWorkerAccess.set_key_through.Goals as goal
 
 pub returns-in-Some : goal.returns-in-Some

@@ -1,4 +1,4 @@
-use Rattle.{std.proofs.Common.refl, pagable_pager.proofs.Keeping.{new-asked, new-memory, new-refused, new-so, new-told, new-unknown, roomier}}
+use Rattle.{std.proofs.Common.refl, pagable_pager.proofs.Invariant.{new-asked, new-memory, new-refused, new-so, new-told, new-unknown, roomier}}
 use Rattle.pagable_pager.proofs.pager.Pager.adopt_as_new.Goals as goal
 
 pub invariant_of-self : goal.invariant_of-self

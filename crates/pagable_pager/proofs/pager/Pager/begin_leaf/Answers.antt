@@ -1,5 +1,5 @@
-use Rattle.{pagable_leaf.proofs.Prepared.begin-wants, pagable_pager.{proofs.{Keeping.called, Leaf.{begin-told, given-so, given-told, in-memory-never, leaf-in, unbegun-leaf, unbegun-place, unbegun-told}}, specs.View.telling}}
-use Rattle.{pagable_laws.proofs.ValuesOwned.begins, std.proofs.Common.{refl}}
+use Rattle.{pagable_leaf.proofs.Prepared.begin-wants, pagable_pager.{proofs.{Invariant.called, Leaf.{begin-told, given-so, given-told, in-memory-never, leaf-in, unbegun-leaf, unbegun-place, unbegun-told}}, specs.View.telling}}
+use Rattle.{pagable_theorems.proofs.ValuesOwned.begins, std.proofs.Common.{refl}}
 use Rattle.pagable_pager.proofs.pager.Pager.begin_leaf.Goals as goal
 
 pub invariant_of-self : goal.invariant_of-self

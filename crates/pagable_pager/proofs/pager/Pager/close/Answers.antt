@@ -1,4 +1,4 @@
-use Rattle.pagable_pager.proofs.Keeping.{shut-pager, shut-told}
+use Rattle.pagable_pager.proofs.Invariant.{shut-pager, shut-told}
 
 pub invariant_of-self : Rattle.pagable_pager.proofs.pager.Pager.close.Goals.invariant_of-self
 invariant_of-self g c =

@@ -1,4 +1,4 @@
-use Rattle.pagable_pager.proofs.Keeping.{asked, asks-it, kept-so}
+use Rattle.pagable_pager.proofs.Invariant.{asked, asks-it, kept-so}
 
 pub invariant_of-self : Rattle.pagable_pager.proofs.pager.Pager.flush.Goals.invariant_of-self
 invariant_of-self g c = let e = c.flush.ensures in kept-so c.self.invariant c.flush.new.self e.open e.later

@@ -1,4 +1,4 @@
-use Rattle.{std.{proofs.Common.{ap, sym}, specs.{Arc.arc_value, Option.option_map}}, pagable_pager.proofs.Keeping.{lends, lends-fault, lends-none}}
+use Rattle.{std.{proofs.Common.{ap, sym}, specs.{Arc.arc_value, Option.option_map}}, pagable_pager.proofs.Invariant.{lends, lends-fault, lends-none}}
 use Rattle.pagable_pager.proofs.pager.Pager.held.Goals as goal
 
 pub returns-in-Ok-None : goal.returns-in-Ok-None

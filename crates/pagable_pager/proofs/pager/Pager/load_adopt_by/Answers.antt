@@ -1,4 +1,4 @@
-use Rattle.{pagable_pager.proofs.Keeping.{known-valued, none-so, not-adopted, only-less, same-so, shed}, pagable_laws.proofs.ValuesOwned.adopted_known}
+use Rattle.{pagable_pager.proofs.Invariant.{known-valued, none-so, not-adopted, only-less, same-so, release_at}, pagable_theorems.proofs.ValuesOwned.adopted_known}
 use Rattle.pagable_tables.proofs.OwnedByLoad.{eager-pins}
 use Rattle.std.proofs.Common.{ap, inl, not, refl, ◌∙◌}
 use Rattle.pagable_pager.proofs.pager.Pager.load_adopt_by.Goals as goal
@@ -9,7 +9,7 @@ adopt_if_known-requires-clause-valued g c n known eager = known-valued c.self.in
 pub invariant_of-self : goal.invariant_of-self
 invariant_of-self g c =
     let e = c.in-Ok-Some.ensures in
-    shed c.self.invariant _ _ e.whole e.later e.sheds
+    release_at c.self.invariant _ _ e.whole e.later e.sheds
     (λ left. adopted_known c.self.invariant.state left ((rw c.in-Ok-Some.field-0-is at e.known) _ _ _ (ap not c.has_closed-lists.ensures)) (rw c.in-Ok-Some.field-0-is at e.given).1)
 
 pub returns-in-Ok-Some : goal.returns-in-Ok-Some

@@ -1,4 +1,4 @@
-use Rattle.{pagable_pager.proofs.Keeping.{ended-so, ended-told, no-room, ready-told, roomier, unended, vain}, std.proofs.Common.{inl, refl, ◌∙◌}}
+use Rattle.{pagable_pager.proofs.Invariant.{ended-so, ended-told, no-room, ready-told, roomier, unended, vain}, std.proofs.Common.{inl, refl, ◌∙◌}}
 use Rattle.pagable_pager.proofs.pager.Pager.load_end_by.Goals as goal
 
 pub invariant_of-self : goal.invariant_of-self

@@ -1,7 +1,7 @@
-use Rattle.pagable_pager.proofs.Keeping.{asks-kept}
+use Rattle.pagable_pager.proofs.Invariant.{asks-kept}
 use Rattle.pagable_tables.proofs.SameViews.{failed, still}
 use Rattle.pagable_tables.specs.Core.{load_in}
-use Rattle.pagable_world.specs.Refusals.{earlier}
+use Rattle.pagable_pager_spec.specs.Refusals.{earlier}
 use Rattle.std.proofs.Common.{None, ap, false, inl, inr}
 use Rattle.pagable_pager.proofs.pager.Pager.load_fetch_by.Goals as goal
 

@@ -1,4 +1,4 @@
-use Rattle.pagable_pager.proofs.Keeping.{born-so, born-told, only-room, roomier}
+use Rattle.pagable_pager.proofs.Invariant.{born-so, born-told, only-room, roomier}
 use Rattle.pagable_tables.proofs.SameViews.{room-alike}
 use Rattle.std.proofs.Common.{inr, refl}
 use Rattle.pagable_pager.proofs.pager.Pager.new_node.Goals as goal
@@ -15,11 +15,11 @@ returns-in-Err-place-clause-step g c =
     rw (← c.self.view_is) (record { made = tt; refused = (c.in-Err-place.ensures.back, record { why = inr (c.in-Err-place.ensures.only, refl, tt); stays = stays }) })
 
 pub invariant_of-self-2 : goal.invariant_of-self-2
-invariant_of-self-2 g c = born-so c.self.invariant c.place.new.values c.prepare.ensures.does c.bear.new.t c.args.node c.in_default-place.ensures.placed c.bear.ensures.does
+invariant_of-self-2 g c = born-so c.self.invariant c.place.new.values c.prepare.ensures.does c.insert_node.new.t c.args.node c.in_default-place.ensures.placed c.insert_node.ensures.does
     c.in_default.ensures.ready.node_left c.in_default.ensures.fit c.deref.ensures.value c.node_type-node_type.ensures.value c.in-Ok.ensures.ok c.requires
 
 pub returns : goal.returns
 returns g c =
-    let born = born-told c.self.invariant c.place.new.values c.prepare.ensures.does c.bear.new.t c.args.node c.in_default-place.ensures.placed c.bear.ensures.does
+    let born = born-told c.self.invariant c.place.new.values c.prepare.ensures.does c.insert_node.new.t c.args.node c.in_default-place.ensures.placed c.insert_node.ensures.does
     c.in_default.ensures.ready.node_left c.in_default.ensures.fit c.deref.ensures.value c.node_type-node_type.ensures.value c.in-Ok.ensures.ok in
     rw (← c.self.view_is) (record { step = born.0; moves = born.1; storage = refl })

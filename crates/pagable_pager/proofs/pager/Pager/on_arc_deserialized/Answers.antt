@@ -1,11 +1,11 @@
-use Rattle.{pagable_pager.proofs.Keeping.{caller-free, known-valued, only-less, shed}, pagable_laws.proofs.ValuesOwned.offered, std.proofs.Common.{ap, not}}
+use Rattle.{pagable_pager.proofs.Invariant.{caller-free, known-valued, only-less, release_at}, pagable_theorems.proofs.ValuesOwned.offered, std.proofs.Common.{ap, not}}
 
 pub invariant_of-self : Rattle.pagable_pager.proofs.pager.Pager.on_arc_deserialized.Goals.invariant_of-self
 invariant_of-self g c =
     let e = c.offer.ensures in
     let step = e.offered _ _ _ (ap not c.has_closed-lists.ensures) in
     let sheds = e.sheds (λ n known pinning. known-valued c.self.invariant c.args.kind.0 c.args.key n known pinning) in
-    shed c.self.invariant c.offer.new.t c.offer.new.values e.whole (e.later c.self.invariant.later) sheds (λ left. offered c.self.invariant.state left caller-free c.offer.result step)
+    release_at c.self.invariant c.offer.new.t c.offer.new.values e.whole (e.later c.self.invariant.later) sheds (λ left. offered c.self.invariant.state left caller-free c.offer.result step)
 
 pub returns : Rattle.pagable_pager.proofs.pager.Pager.on_arc_deserialized.Goals.returns
 returns g c =

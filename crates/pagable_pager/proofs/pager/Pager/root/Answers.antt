@@ -1,4 +1,4 @@
-use Rattle.pagable_pager.proofs.Keeping.{asked, asks-it, kept-so}
+use Rattle.pagable_pager.proofs.Invariant.{asked, asks-it, kept-so}
 
 pub invariant_of-self : Rattle.pagable_pager.proofs.pager.Pager.root.Goals.invariant_of-self
 invariant_of-self g c = let e = c.root.ensures in kept-so c.self.invariant c.root.new.self e.open e.later

@@ -1,4 +1,4 @@
-use Rattle.pagable_pager.proofs.Keeping.{asked, asks-it, kept-so}
+use Rattle.pagable_pager.proofs.Invariant.{asked, asks-it, kept-so}
 
 pub invariant_of-self : Rattle.pagable_pager.proofs.pager.Pager.set_root.Goals.invariant_of-self
 invariant_of-self g c = let e = c.set_root.ensures in kept-so c.self.invariant c.set_root.new.self e.open e.later

@@ -1,4 +1,4 @@
-use Rattle.{pagable_pager.proofs.Keeping.{in-step, owner-free, owner-loads}, pagable_laws.proofs.ValuesOwned.{spared, takes}, std.proofs.Common.refl}
+use Rattle.{pagable_pager.proofs.Invariant.{in-step, owner-free, owner-loads}, pagable_theorems.proofs.ValuesOwned.{spared, takes}, std.proofs.Common.refl}
 
 pub invariant_of-self : Rattle.pagable_pager.proofs.pager.Pager.take_pending_by.Goals.invariant_of-self
 invariant_of-self g c =

@@ -1,6 +1,6 @@
 use Rattle.pagable_tables.proofs.SameViews.{earlier-first, still}
 use Rattle.pagable_tables.specs.Core.{load_in}
-use Rattle.pagable_world.specs.{Kinds.is_owner, Plain.{Error, if_there}, Refusals.refused_if, World.OpenLoad}
+use Rattle.pagable_pager_spec.specs.{Kinds.is_owner, Basics.{Error, if_there}, Refusals.refused_if, World.OpenLoad}
 use Rattle.std.{proofs.Common.{None, Some, ap, arith, inl, inr, not, refl, sym, ◌∙◌}, specs.Option.option_map}
 
 pub returns-in-Some : Rattle.pagable_pager.proofs.pager.Pager.unlisted.Goals.returns-in-Some

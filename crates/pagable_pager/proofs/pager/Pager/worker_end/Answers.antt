@@ -1,9 +1,9 @@
-use Rattle.{pagable_pager.proofs.Keeping.{shed-by}, pagable_laws.proofs.ValuesOwned.worker_ended}
+use Rattle.{pagable_pager.proofs.Invariant.{release_at-by}, pagable_theorems.proofs.ValuesOwned.worker_ended}
 
 pub invariant_of-self : Rattle.pagable_pager.proofs.pager.Pager.worker_end.Goals.invariant_of-self
 invariant_of-self g c =
-    (shed-by c.self.invariant _ _ c.worker_end.ensures c.has_closed-lists.ensures (λ left. worker_ended c.self.invariant.state left c.args.worker.0)).0
+    (release_at-by c.self.invariant _ _ c.worker_end.ensures c.has_closed-lists.ensures (λ left. worker_ended c.self.invariant.state left c.args.worker.0)).0
 
 pub returns : Rattle.pagable_pager.proofs.pager.Pager.worker_end.Goals.returns
 returns g c = rw (← c.self.view_is)
-    (shed-by c.self.invariant _ _ c.worker_end.ensures c.has_closed-lists.ensures (λ left. worker_ended c.self.invariant.state left c.args.worker.0)).1
+    (release_at-by c.self.invariant _ _ c.worker_end.ensures c.has_closed-lists.ensures (λ left. worker_ended c.self.invariant.state left c.args.worker.0)).1

@@ -1,4 +1,4 @@
-use Rattle.{pagable_model.specs.Meaning.text, pagable_traits.proofs.{Parts.text-read, Words.{read, read_with, refl}}}
+use Rattle.{pagable_value_spec.specs.Meaning.text, pagable_traits.proofs.{Parts.text-read, Words.{read, read_with, refl}}}
 
 pub returns-clause-reads : Rattle.pagable_traits.proofs.impls.texts.StringPagableDeserialize.pagable_deserialize.Goals.returns-clause-reads
 unfolding read read_with

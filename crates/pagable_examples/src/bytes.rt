@@ -1,0 +1,56 @@
+//! Values that no environment bears on, written and read.
+
+use pagable_core::{NoReferences, PagableDeserializerImpl, PagableSerializerImpl, WeighHash};
+use pagable_flavors::Error;
+use pagable_traits::{Env, PagableDeserialize, PagableSerialize, SessionContext};
+use std::alloc::Global;
+
+/// An environment without nodes: the values hold no references, so any will do.
+#[derive(Drop)]
+pub struct AnyEnv;
+
+impl Env for AnyEnv {
+    type Node = ();
+
+    type Hash = WeighHash;
+
+    type CtxKey = ();
+
+    type CtxValue = ();
+
+    ghost use Rattle.pagable_value_spec.specs.Shape.{nothing};
+
+    ghost parts = { λ e number. nothing };
+}
+
+/// What a writer holds after a writing that came out so, or the number of the refusal.
+pub fn finished<E: Env>(
+    done: Result<(), Error>,
+    out: PagableSerializerImpl<'_, E>,
+) -> Result<Vec<u8>, u32> {
+    done.map_err(|refusal| refusal.number())?;
+    let data = out.finish().map_err(|refusal| refusal.number())?;
+    Ok(data.bytes)
+}
+
+/// The bytes of a value, or the number of the refusal.
+pub fn written<E: Env, T: PagableSerialize<E>>(
+    alloc: Global,
+    env: &E,
+    value: &T,
+) -> Result<Vec<u8>, u32> {
+    let mut out = PagableSerializerImpl::testing_new(alloc, env);
+    let done = value.pagable_serialize(&mut out);
+    finished(done, out)
+}
+
+/// The value at the front of an input.
+pub fn read<'de, E: Env, T: PagableDeserialize<'de, E>>(
+    alloc: Global,
+    env: &E,
+    input: &'de [u8],
+) -> Result<T, Error> {
+    let session = SessionContext::new(alloc);
+    let lent = NoReferences::new(env, &session);
+    T::pagable_deserialize(alloc, &mut PagableDeserializerImpl::new(input, &[], lent))
+}

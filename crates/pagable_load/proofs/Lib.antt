@@ -1,0 +1,4 @@
+mod Batches
+pub mod LoadSteps
+mod HeldByPins
+mod FromRoot

@@ -1,0 +1,10 @@
+use Rattle.{pagable_load.proofs.LoadSteps.{acts_map, acts_then}, std.proofs.lemmas.Result.err_from_is_err_and}
+use Rattle.pagable_load.proofs.access.WorkerAccess.close_node.Goals as goal
+
+pub returns-in_err-set_key_through : goal.returns-in_err-set_key_through
+returns-in_err-set_key_through g c =
+    let p = err_from_is_err_and c.from_residual.result c.from_residual.ensures.1 in
+    rw (p.1, p.2) (acts_map c.in_err-set_key_through.ensures (λ s t sets. record { closes = tt; refused = sets }))
+
+pub returns : goal.returns
+returns g c = acts_then c.in_ok-set_key_through.ensures c.give_up.ensures (λ s mid t sets gives. record { closes = (mid, sets, gives); refused = tt })

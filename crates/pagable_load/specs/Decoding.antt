@@ -1,0 +1,156 @@
+-- What decoding answers, in the words of loads; what a load needs next, in the words of the world; and what a blob asks for ahead.
+use Rattle.pagable_pager_spec.specs.{Loads.{is_faulty, need_of, needs_lazy, needs_nested, next_of, read_with, reads}, Basics.Types, World.{Frame, Reading, Values}, declared.events.LoadAnswer.LoadAnswer}
+use Rattle.std.specs.{Prelude.{Bool, Err, IsSome, List, None, Ok, Option, Result, Some, [], false, if◌then◌else◌, length, map, slice_get, true, ℕ, ◌++◌, ◌<◌, ◌∷◌, ◌≡◌, ◌⊎◌}, declared.{alloc.Global.Global, vec.Vec.Vec}}
+use Rattle.{pagable_load.specs.{Frames.reading_of, declared.{batch.Ahead.Ahead, decoding.Decoded.Decoded, reading.{Need.Need, Reading.Reading as Own}}}, pagable_value_spec.specs.{Blob.Blob, Height.is_eager, Meaning.Meaning, Reading.Rest}}
+use Rattle.{pagable_value_spec.specs.{Cursor.{Answer, GivesSome}, declared.{error.Error.Error, numbers.{ArcRef.ArcRef, Kind.Kind}}}, pagable_pager_spec.specs.Loads.{ReadsNode, ReadsRoot, RefusesBlob, asks}}
+
+-- the value is of the type, and means what the blob reads as
+pub record IsReadAs {N : Type 0} (v : Values N) (t : ℕ) (blob : Blob) (got : List ArcRef) (x : N) : Type 0 where
+  pub own : Meaning ArcRef
+  pub read : next_of v.types t blob got ≡ reads own
+  pub typed : v.node_type x ≡ t
+  pub means : v.means x own
+
+-- What decoding answers is what the blob asks for next, or a cause of the type's own.
+abbrev pub Answers : {N : Type 0} → Values N → ℕ → Blob → List ArcRef → Decoded N → Type 0
+Answers v t blob got (Decoded.Read x) = IsReadAs v t blob got x
+Answers v t blob got (Decoded.Wants kind key) = next_of v.types t blob got ≡ asks kind key
+Answers v t blob got (Decoded.Refused e) = (next_of v.types t blob got ≡ is_faulty e) ⊎ v.read_causes t e
+
+-- of the value, where one was read
+abbrev pub IfRead : {N : Type 0} → Decoded N → (N → Type 0) → Type 0
+IfRead (Decoded.Read x) P = P x
+IfRead d P = Unit {0}
+
+pub record Decodes {N : Type 0} (v : Values N) (t : ℕ) (blob : Blob) (got : List ArcRef) (d : Decoded N) : Type 0 where
+  pub answers : Answers v t blob got d
+
+-- the result is what the blob reads as with these references, or a cause of the type's own
+pub record ReadsWith {N : Type 0} (v : Values N) (t : ℕ) (blob : Blob) (got : List ArcRef) (result : Result N Error) : Type 0 where
+  pub after : Rest Answer
+  pub gives : GivesSome (v.read_causes t) v.means after result (read_with v.types t blob got)
+
+abbrev pub NeedIs : {N : Type 0} → Values N → Reading → Need N → Type 0
+NeedIs v reading Need.Root = reading.frames ≡ []
+NeedIs v reading (Need.Nested kind key) = need_of v.types reading.frames ≡ needs_nested kind key
+NeedIs v reading (Need.Lazy kind key) = need_of v.types reading.frames ≡ needs_lazy kind key
+NeedIs v reading (Need.Adopt x) = ReadsNode v reading x
+NeedIs v reading (Need.End x) = ReadsRoot v reading x
+NeedIs v reading (Need.Refuse e) = RefusesBlob v reading e
+
+abbrev pub FramesFor : {N : Type 0} → Own → Need N → Type 0
+FramesFor own (Need.Nested kind key) = IsSome own.top
+FramesFor own (Need.Lazy kind key) = IsSome own.top
+FramesFor own (Need.Adopt x) = IsSome own.top × (0 < length own.below.items)
+FramesFor own need = Unit {0}
+
+-- the need is the load's, and the blobs are there that it is of
+pub record Needs {N : Type 0} (v : Values N) (own : Own) (need : Need N) : Type 0 where
+  pub is : NeedIs v (reading_of own) need
+  pub there : FramesFor own need
+
+-- of the value that is to be adopted, or that ends the load
+abbrev pub IfValue : {N : Type 0} → Need N → (N → Type 0) → Type 0
+IfValue (Need.Adopt x) P = P x
+IfValue (Need.End x) P = P x
+IfValue need P = Unit {0}
+
+-- ---- what a blob asks for ahead: references of these kinds, one after the other
+
+abbrev pub kinds_of : List ArcRef → List ℕ
+kinds_of references = map (λ (r : ArcRef). r.kind.0) references
+
+-- with these references the blob asks next for one of this kind, under the key that is left
+pub record AsksNext (types : Types) (t : ℕ) (blob : Blob) (got : List ArcRef) (kind : ℕ) : Type 0 where
+  pub key : ℕ
+  pub there : slice_get blob.keys (length got) ≡ Some key
+  pub next : next_of types t blob got ≡ asks (record { 0 = kind }) key
+
+-- References of these kinds are asked for, one after the other, whichever of each kind are got. Those that were got are the first of them.
+pub record Foresees (types : Types) (f : Frame) (kinds : List ℕ) : Type 0 where
+  pub ahead : List ℕ
+  pub split : kinds ≡ kinds_of f.got ++ ahead
+  pub each : (got : List ArcRef) (kind : ℕ) (more : List ℕ) → kinds ≡ kinds_of got ++ kind ∷ more → AsksNext types f.node_type f.blob got kind
+
+-- a row tells nothing, or stands for the kinds that the blob asks for
+abbrev pub IsAheadOf : Types → Frame → List ArcRef → Type 0
+IsAheadOf types f row = (row ≡ []) ⊎ Foresees types f (kinds_of row)
+
+-- so it is of the innermost blob, if there is one
+pub record IsAhead (types : Types) (frames : List Frame) (row : List ArcRef) : Type 0 where
+  pub is : (f : Frame) (fs : List Frame) → frames ≡ f ∷ fs → IsAheadOf types f row
+
+-- and so are these rows of the blobs, as far as there are some
+abbrev pub AreAhead : Types → List Frame → List (List ArcRef) → Type 0
+AreAhead types [] rows = Unit {0}
+AreAhead types (f ∷ fs) [] = Unit {0}
+AreAhead types (f ∷ fs) (row ∷ rows) = IsAheadOf types f row × AreAhead types fs rows
+
+pub record AllAhead (types : Types) (frames : List Frame) (rows : List (List ArcRef)) : Type 0 where
+  pub are : AreAhead types frames rows
+
+-- these rows, the last of them first, on those; and those of all blobs, the innermost first
+unfoldable pub stacked : List (List ArcRef) → List (Vec ArcRef Global) → List (List ArcRef)
+stacked rows [] = rows
+stacked rows (x ∷ xs) = stacked (x.items ∷ rows) xs
+
+abbrev pub rows_of : Ahead → List (List ArcRef)
+rows_of a = a.top.items ∷ stacked [] a.below.items
+
+-- the load needs a reference of this kind, at once or later
+pub record NeedsNext (types : Types) (frames : List Frame) (kind : Kind) (key : ℕ) : Type 0 where
+  pub is : need_of types frames ≡ (if is_eager kind.0 then needs_nested kind key else needs_lazy kind key)
+
+-- the row stays, and has one of this kind at this place; or nothing is known any more
+abbrev pub KeptAt : ℕ → Kind → List ArcRef → List ArcRef → Type 0
+KeptAt place kind old new = (new ≡ []) ⊎ ((new ≡ old) × ((r : ArcRef) × (slice_get old place ≡ Some r) × (kind.0 ≡ r.kind.0)))
+
+-- the innermost blob's row is gone if it was read; where it was the only one, nothing is known
+abbrev pub LeftIf : Bool → List (List ArcRef) → List (List ArcRef) → Type 0
+LeftIf false old new = new ≡ old
+LeftIf true old new = ((row : List ArcRef) × (old ≡ row ∷ new)) ⊎ (new ≡ [] ∷ [])
+
+-- ---- what a load's step does to its blobs, where it ends nothing
+
+-- the innermost blob has got this reference besides
+pub record GotMore (old new : List Frame) (r : ArcRef) : Type 0 where
+  pub f : Frame
+  pub fs : List Frame
+  pub was : old ≡ f ∷ fs
+  pub is : new ≡ record f { got = f.got ++ r ∷ [] } ∷ fs
+
+-- a blob came, of which nothing was got
+pub record CameNew (old new : List Frame) : Type 0 where
+  pub f : Frame
+  pub is : new ≡ f ∷ old
+  pub none : f.got ≡ []
+
+-- the innermost blob was read, and the one below it has got a reference for it
+pub record CameBack (old new : List Frame) : Type 0 where
+  pub top : Frame
+  pub below : List Frame
+  pub r : ArcRef
+  pub was : old ≡ top ∷ below
+  pub more : GotMore below new r
+
+abbrev pub FramesGo : Bool → List Frame → List Frame → Type 0
+FramesGo true old new = CameBack old new
+FramesGo false old new = CameNew old new ⊎ ((r : ArcRef) × GotMore old new r)
+
+-- a need for a node of the innermost blob
+abbrev pub is_adoption : {N : Type 0} → Need N → Bool
+is_adoption (Need.Adopt x) = true
+is_adoption need = false
+
+-- the need was met, and the load goes on
+pub record GoesFor {N : Type 0} (need : Need N) (answer : Option (LoadAnswer N)) (old new : List Frame) : Type 0 where
+  pub goes : answer ≡ None → FramesGo (is_adoption need) old new
+
+-- what was ahead of the blobs is so of those that there are then
+pub record Follows (was_read : Bool) (new : List Frame) (rows rows' : List (List ArcRef)) : Type 0 where
+  pub follows : (types : Types) (old : List Frame) → FramesGo was_read old new → AllAhead types old rows → AllAhead types new rows'
+
+-- a step that gets a reference, or the root's blob, ends nothing
+abbrev pub goes_on_with : {N X : Type 0} → Result X Error → Result (Option (LoadAnswer N)) Error
+goes_on_with (Ok x) = Ok None
+goes_on_with (Err e) = Err e

@@ -1,0 +1,9 @@
+pub mod AccessView
+pub mod ResolvedReferences
+pub mod Decoding
+pub mod Frames
+pub mod LoadSteps
+pub mod WorkerCalls
+pub mod LoadEnd
+pub mod PinStart
+pub mod PolledPin

@@ -1,0 +1,43 @@
+-- Why a load comes to an end, whatever it meets: each step lowers a number. And what ends it.
+use Rattle.std.specs.Prelude.{ℕ, ◌≡◌, ◌+◌, ◌-◌, ◌*◌, ◌<◌, ◌^◌, Bool, true, false, zero, suc, List, [], ◌∷◌, length, Option, Some, None, Result, Ok, Err}
+use Rattle.{pagable_value_spec.specs.declared.error.Error.Error, pagable_pager_spec.specs.{declared.events.LoadAnswer.LoadAnswer, World.Frame}}
+
+-- how many references a blob has still to get; and so behind the one that it waits for
+abbrev pub left_in : Frame → ℕ
+left_in f = length f.blob.keys - length f.got
+
+abbrev pub left_behind : Frame → ℕ
+left_behind f = length f.blob.keys - (length f.got + 1)
+
+-- a blob has fewer references than this
+abbrev pub many : ℕ
+many = 2 ^ 64
+
+-- what a reference weighs over so many levels: more than all of a blob of one level less
+unfoldable pub weight : ℕ → ℕ
+weight zero = 1
+weight (suc k) = weight k * many
+
+-- a reference of the blob that stands on these, the root's the most
+abbrev pub weight_on : List Frame → ℕ
+weight_on fs = weight (129 - length fs)
+
+abbrev pub waiting : List Frame → ℕ
+waiting [] = 0
+waiting (f ∷ fs) = left_behind f * weight_on fs + waiting fs + 1
+
+-- all that is still to get, of the innermost blob and of those that wait
+abbrev pub to_do : List Frame → ℕ
+to_do [] = weight 129 * many
+to_do (f ∷ fs) = left_in f * weight_on fs + waiting fs + 1
+
+-- a load of a cell ends with a pin, one of a key with a value; and a step that ends nothing leaves less to do
+abbrev pub Leads : {N : Type 0} → Bool → List Frame → List Frame → Result (Option (LoadAnswer N)) Error → Type 0
+Leads for_cell old new (Ok None) = to_do new < to_do old
+Leads for_cell old new (Ok (Some (LoadAnswer.Pinned k))) = for_cell ≡ true
+Leads for_cell old new (Ok (Some (LoadAnswer.Read x))) = for_cell ≡ false
+Leads for_cell old new (Ok (Some (LoadAnswer.Refused e))) = Unit {0}
+Leads for_cell old new (Err e) = Unit {0}
+
+pub record LeadsOn {N : Type 0} (for_cell : Bool) (old new : List Frame) (r : Result (Option (LoadAnswer N)) Error) : Type 0 where
+  pub leads : Leads for_cell old new r

@@ -1,0 +1,219 @@
+//! What is ahead of a load: the references that a blob asks for, one after the other, are known before they are got, and a blob below the innermost keeps its own. They are found by two readings with
+//! stand-ins for what wasn't got: one that notes what is asked for, and one that asks for the last of them with all that are before it.
+
+ghost use Rattle.std.specs.{Prelude.{false, IfSome, IsSome, [], length, true, ◌++◌, ◌∷◌, ◌≡◌, ◌⊎◌}};
+ghost use Rattle.pagable_load.specs.{Decoding.{Follows, IfValue, IsAhead, KeptAt, LeftIf, Needs, NeedsNext, rows_of}, Frames.frames_of, ResolvedReferences.AreStandIns, AccessView.{Tells, values_at}};
+ghost use Rattle.pagable_pager_spec.specs.{Pager.HoldsPinned, Basics.Types};
+
+use crate::access::Access;
+use crate::decoding::{Decoded, decode, read_got, stand_in_for};
+use crate::reading::{Need, Reading, is_read_at_once, lend, value_of};
+use pagable_codec::{Env, NodeSet};
+use pagable_value_spec::{ArcRef, DataKey, Kind};
+use std::alloc::Global;
+use std::mem::replace;
+
+/// What is ahead of a load's blobs, as far as it is known: of each a row of references of the kinds that it asks for, from its first on. An empty row tells nothing.
+#[derive(Drop)]
+pub struct Ahead {
+    /// Of the innermost blob.
+    pub top: Vec<ArcRef>,
+    /// Of those that wait for it, the root's first.
+    pub below: Vec<Vec<ArcRef>>,
+}
+
+impl Ahead {
+    /// Nothing is known.
+    #[tactic(auto, using(crate::proofs::Batches::leaving))]
+    pub(crate) fn new(alloc: Global) -> Ahead
+        ensures { rows_of result ≡ [] ∷ [] }
+    {
+        Ahead {
+            top: Vec::new(alloc),
+            below: Vec::new(alloc),
+        }
+    }
+
+    // A blob came, of which nothing is known. Where memory is wanting, nothing is known of those below it any more.
+    fn enter(&mut self, alloc: Global)
+        ensures top { self.new.top.items ≡ [] }
+        ensures below { (self.new.below.items ≡ self.old.below.items ++ self.old.top ∷ []) ⊎ (self.new.below.items ≡ []) }
+    {
+        let row = replace(&mut self.top, Vec::new(alloc));
+        if self.below.push(row).is_err() {
+            self.below.clear();
+        }
+    }
+
+    // If the innermost blob was read, the one below it is the innermost.
+    #[tactic(auto, using(crate::proofs::Batches::leaving))]
+    fn leave_if(&mut self, alloc: Global, was_read: bool)
+        ensures { LeftIf was_read (rows_of self.old) (rows_of self.new) }
+    {
+        if !was_read {
+            return;
+        }
+        let Some(row) = self.below.pop() else {
+            self.top = Vec::new(alloc);
+            return;
+        };
+        self.top = row;
+    }
+
+    // The innermost blob got a reference of this kind at this place; its row stays if that is of the row's kind.
+    fn keep_if(&mut self, place: usize, kind: Kind)
+        ensures top { KeptAt place kind self.old.top.items self.new.top.items }
+        ensures below { self.new.below ≡ self.old.below }
+    {
+        let row = self.top.as_slice();
+        if place >= row.len() || row[place].kind.0 != kind.0 {
+            self.top.clear();
+        }
+    }
+}
+
+// Whether all of these stand for what wasn't got.
+fn are_stand_ins(noted: &[ArcRef]) -> bool
+    ensures { result ≡ true → AreStandIns (length noted.now) noted.now }
+{
+    for reference in noted {
+        if reference.handle.0 != 0 {
+            return false;
+        }
+    }
+    true
+}
+
+impl Reading {
+    // Finds the row that is ahead of the innermost blob, with the values of what it has got.
+    fn plan_batch<E: Env<Node: NodeSet<E>>, A: Access<E>>(
+        &self,
+        access: &A,
+        alloc: Global,
+    ) -> Option<Vec<ArcRef>>
+        ensures { IfSome result (λ row. IsAhead (values_at E.Node.NodeSet E.Env E.Hash.KeyHash (A.acting access.now).environment).types (frames_of self.now.top self.now.below.items) row.items) }
+    {
+        let Some(top) = &self.top else {
+            return None;
+        };
+        let blob = top.blob.as_ref();
+        let got = top.got.as_slice();
+        let lent = lend::<E, A>(access, alloc, got).ok()?;
+        // The blob's reader may ask otherwise than the blob is spelled: none of what it notes is trusted.
+        let noting = Some(Vec::new(alloc));
+        let (_read, noted) = read_got(
+            access,
+            alloc,
+            blob,
+            top.node_type,
+            got,
+            lent.as_slice(),
+            noting,
+        );
+        let mut noted = noted?;
+        let last = noted.pop()?;
+        // What stands for a reference that wasn't got has no value.
+        let none = value_of::<E, A>(access, stand_in_for(Kind(0))).ok()?;
+        if none.is_some() || !are_stand_ins(noted.as_slice()) {
+            return None;
+        }
+        let mut row = Vec::new(alloc);
+        if row.extend_from_slice(got).is_err() || row.extend_from_slice(noted.as_slice()).is_err() {
+            return None;
+        }
+        let next = decode(
+            access,
+            alloc,
+            blob,
+            top.node_type,
+            row.as_slice(),
+            lent.as_slice(),
+        );
+        let Decoded::Wants(kind, _) = next else {
+            return None;
+        };
+        if kind.0 == last.kind.0 && row.push(last).is_ok() {
+            return Some(row);
+        }
+        None
+    }
+
+    /// Finds the row that is ahead, if none is known and one is likely.
+    pub(crate) fn plan_batch_if_useful<E: Env<Node: NodeSet<E>>, A: Access<E>>(
+        &self,
+        access: &A,
+        alloc: Global,
+        row: &mut Vec<ArcRef>,
+    )
+        requires { IsAhead (values_at E.Node.NodeSet E.Env E.Hash.KeyHash (A.acting access.now).environment).types (frames_of self.now.top self.now.below.items) row.old.items }
+        ensures { IsAhead (values_at E.Node.NodeSet E.Env E.Hash.KeyHash (A.acting access.now).environment).types (frames_of self.now.top self.now.below.items) row.new.items }
+    {
+        let Some(top) = &self.top else {
+            return;
+        };
+        let got = top.got.as_slice();
+        let left = top.blob.as_ref().arcs.len().saturating_sub(got.len());
+        // One is likely where the innermost blob begins, or has got a reference that is read later, and several are left.
+        if !row.is_empty() || left < 4 || got.last().map_or(false, |r| is_read_at_once(r.kind)) {
+            return;
+        }
+        if let Some(found) = self.plan_batch(access, alloc) {
+            *row = found;
+        }
+    }
+
+    // What the row tells that the load needs next: a reference of this kind, under this key.
+    fn told(&self, row: &[ArcRef]) -> Option<(Kind, DataKey)>
+        ensures tells { IfSome result (λ k. (types : Types) → IsAhead types (frames_of self.now.top self.now.below.items) row.now → NeedsNext types (frames_of self.now.top self.now.below.items) k.0 k.1) }
+        ensures top { IfSome result (λ k. IsSome self.now.top) }
+    {
+        let Some(top) = &self.top else {
+            return None;
+        };
+        let place = top.got.len();
+        let keys = top.blob.as_ref().arcs.as_slice();
+        if place >= keys.len() || place >= row.len() {
+            return None;
+        }
+        Some((row[place].kind, keys[place]))
+    }
+
+    /// What the load needs next. The innermost blob is read for it only where its row doesn't tell. What a value that was read holds beside its references is what their handles pin.
+    #[tactic(auto, using(crate::proofs::LoadSteps::tells_all))]
+    pub(crate) fn needed<E: Env<Node: NodeSet<E>>, A: Access<E>>(
+        &self,
+        access: &A,
+        alloc: Global,
+        row: &[ArcRef],
+    ) -> Need<E::Node>
+        requires { IsAhead (values_at E.Node.NodeSet E.Env E.Hash.KeyHash (A.acting access.now).environment).types (frames_of self.now.top self.now.below.items) row.now }
+        ensures holds { Tells (A.told access.now) (λ s. IfValue result (HoldsPinned (values_at E.Node.NodeSet E.Env E.Hash.KeyHash (A.acting access.now).environment) s)) }
+        ensures needs { Needs (values_at E.Node.NodeSet E.Env E.Hash.KeyHash (A.acting access.now).environment) self.now result }
+    {
+        let Some((kind, key)) = self.told(row) else {
+            return self.next::<E, A>(access, alloc);
+        };
+        if is_read_at_once(kind) {
+            return Need::Nested(kind, key);
+        }
+        Need::Lazy(kind, key)
+    }
+
+    /// What is known ahead follows a step that got what was needed: the row of a blob that was read goes, a blob that came has none yet, and one that got a reference of another kind
+    /// than its row says loses its row.
+    pub(crate) fn follow(&self, alloc: Global, ahead: &mut Ahead, was_read: bool)
+        ensures { Follows was_read (frames_of self.now.top self.now.below.items) (rows_of ahead.old) (rows_of ahead.new) }
+    {
+        ahead.leave_if(alloc, was_read);
+        let Some(top) = &self.top else {
+            return;
+        };
+        let got = top.got.as_slice();
+        if got.is_empty() {
+            ahead.enter(alloc);
+            return;
+        }
+        let last = got.len() - 1;
+        ahead.keep_if(last, got[last].kind);
+    }
+}

@@ -1,0 +1,43 @@
+//! The reading of a cell, up to the blob of its root.
+
+ghost use Rattle.std.specs.Prelude.{true, ◌≡◌};
+ghost use Rattle.{pagable_load.specs.Frames.reading_of, pagable_pager_spec.specs.Workers.fresh};
+
+use crate::reading::Reading;
+use pagable_value_spec::{DataKey, LoadNumber};
+use std::alloc::Global;
+
+/// The reading of a cell, of which no blob has come yet. Its load is open.
+#[derive(Drop)]
+pub struct CellReading {
+    pub(crate) reading: Reading,
+    ghost of_cell: { reading.for_cell ≡ true },
+    ghost begun: { reading_of reading ≡ fresh reading.load reading.node_type },
+}
+
+impl CellReading {
+    /// Makes the reading of a load that has just begun, of a root of this key and type.
+    pub(crate) fn new(alloc: Global, load: LoadNumber, key: DataKey, node_type: u32) -> CellReading
+        ensures load { result.reading.load ≡ load }
+        ensures key { result.reading.key ≡ key }
+        ensures node_type { result.reading.node_type ≡ node_type }
+    {
+        CellReading {
+            reading: Reading::new(alloc, load, key, node_type, true),
+        }
+    }
+
+    /// Tells the key of the root's blob.
+    pub fn key(&self) -> DataKey
+        ensures { result ≡ self.now.reading.key }
+    {
+        self.reading.key
+    }
+
+    /// Tells the load.
+    pub fn load(&self) -> LoadNumber
+        ensures { result ≡ self.now.reading.load }
+    {
+        self.reading.load
+    }
+}

@@ -1,0 +1,169 @@
+//! A blob is read from its front, with the references that were got so far.
+
+ghost use Rattle.std.specs.{Arc.arc_value, Prelude.{IfOk, None, ◌≡◌}};
+ghost use Rattle.{pagable_core.specs.Data.blob_of, pagable_load.specs.{Decoding.{Decodes, IfRead, ReadsWith}, ResolvedReferences.{LendsEach, stand_in}, AccessView.{Tells, values_at}}};
+ghost use Rattle.pagable_pager_spec.specs.{Pager.HoldsPinned};
+
+use crate::access::Access;
+use pagable_codec::{Env, NodeSet};
+use pagable_core::{PagableData, PagableDeserializerImpl, References, SessionOf};
+use pagable_value_spec::{ArcRef, DataKey, Error, HandleNumber, Kind, NodeNumber};
+use std::alloc::Global;
+use std::sync::Arc;
+
+/// What stands for a reference of this kind that wasn't got.
+pub(crate) fn stand_in_for(kind: Kind) -> ArcRef
+    ensures { result ≡ stand_in kind.0 }
+{
+    ArcRef {
+        kind,
+        node: NodeNumber(0),
+        handle: HandleNumber(0),
+    }
+}
+
+/// Answers for a blob's references from a list of those that were got so far, the first of the blob's first. One that wasn't got is refused with Storage of its kind, and one that was got as another
+/// kind with WrongKind. It lends the value of the reference that it answered last, from a list of values by the references' places, which may be shorter: each place has what the access shares by the
+/// reference there. Where it notes what is asked for, it answers for a reference that wasn't got with a stand-in of its kind, which lends nothing.
+#[derive(Drop)]
+pub struct ResolvedReferences<'g, E: Env<Node: NodeSet<E>>, A: Access<E>> {
+    access: &'g A,
+    got: &'g [ArcRef],
+    lent: &'g [Option<Arc<E::Node>>],
+    // The place of the reference that was answered last.
+    last: usize,
+    noted: Option<Vec<ArcRef>>,
+    ghost each: { ∥ Tells (A.told access.now) (λ s. LendsEach arc_value s got.now lent.now) ∥₁ },
+}
+
+impl<'g, E: Env<Node: NodeSet<E>>, A: Access<E>> References<E> for ResolvedReferences<'g, E, A> {
+    ghost use Rattle.std.specs.{Option.is_some, Prelude.slice_get};
+    ghost use Rattle.pagable_pager_spec.specs.Loads.{answer_of};
+    ghost use Rattle.pagable_load.specs.ResolvedReferences.{found_or, lent_by, lent_there, may_refuse};
+
+    ghost environment = { λ s. (A.acting s.access.now).environment };
+
+    ghost answer = { λ s place key kind. answer_of (found_or (is_some s.noted) (slice_get s.got.now place) kind) kind };
+
+    ghost lends = { λ s reference. lent_by arc_value s.got.now s.lent.now s.last reference };
+
+    ghost lends_at = { λ s place. lent_there arc_value s.got.now s.lent.now place };
+
+    ghost refusals = { λ s place key kind e is. may_refuse (found_or (is_some s.noted) (slice_get s.got.now place) kind) kind e is };
+
+    fn env(&self) -> &E {
+        self.access.env()
+    }
+
+    fn session_context(&self) -> &SessionOf<E> {
+        self.access.session_context()
+    }
+
+    #[tactic(auto, using(crate::proofs::HeldByPins::lent_is, crate::proofs::HeldByPins::none_is))]
+    fn reference(&mut self, place: usize, _key: DataKey, kind: Kind) -> Result<ArcRef, Error> {
+        let got = self.got;
+        if place < got.len() {
+            let found = got[place];
+            if found.kind.0 != kind.0 {
+                return Err(Error::WrongKind);
+            }
+            self.last = place;
+            return Ok(found);
+        }
+        let Some(noted) = &mut self.noted else {
+            return Err(Error::Storage(kind.0));
+        };
+        let reference = stand_in_for(kind);
+        let _told = noted.push(reference);
+        self.last = place;
+        Ok(reference)
+    }
+
+    fn shared(&self, reference: ArcRef) -> Option<&E::Node> {
+        let got = self.got;
+        let lent = self.lent;
+        let place = self.last;
+        if place >= got.len() || place >= lent.len() {
+            return None;
+        }
+        if got[place].handle.0 != reference.handle.0 {
+            return None;
+        }
+        match &lent[place] {
+            Some(value) => Some(value.as_ref()),
+            None => None,
+        }
+    }
+}
+
+/// What a blob asks for next.
+#[derive(Drop)]
+pub enum Decoded<N: Drop> {
+    /// It is read, and this is its value.
+    Read(N),
+    /// A reference of this kind, which stands under this key.
+    Wants(Kind, DataKey),
+    /// It is refused.
+    Refused(Error),
+}
+
+/// Reads the blob, and gives back what was noted besides.
+pub(crate) fn read_got<E: Env<Node: NodeSet<E>>, A: Access<E>>(
+    access: &A,
+    alloc: Global,
+    blob: &PagableData,
+    node_type: u32,
+    got: &[ArcRef],
+    lent: &[Option<Arc<E::Node>>],
+    noted: Option<Vec<ArcRef>>,
+) -> (Result<E::Node, Error>, Option<Vec<ArcRef>>)
+    requires each { Tells (A.told access.now) (λ s. LendsEach arc_value s got.now lent.now) }
+    ensures asked { IfOk result.0 (λ x. E.Node.type_of x ≡ node_type) }
+    ensures holds { Tells (A.told access.now) (λ s. IfOk result.0 (HoldsPinned (values_at E.Node.NodeSet E.Env E.Hash.KeyHash (A.acting access.now).environment) s)) }
+    ensures reads { noted ≡ None → ReadsWith (values_at E.Node.NodeSet E.Env E.Hash.KeyHash (A.acting access.now).environment) node_type (blob_of blob.now) got.now result.0 }
+{
+    let references = ResolvedReferences {
+        access,
+        got,
+        lent,
+        last: 0,
+        noted,
+    };
+    let mut deserializer = PagableDeserializerImpl::new(
+        blob.bytes.as_slice(),
+        blob.arcs.as_slice(),
+        references,
+    );
+    let read = E::Node::read(node_type, alloc, &mut deserializer);
+    (read, deserializer.finish().noted)
+}
+
+/// Reads a blob from its front as a value of this type, with the references that were got for it so far, whose values are lent by their places. Nothing that
+/// its reader did on an earlier way is trusted: what it asks for next is told by the blob alone. What the value holds beside its references is what their handles pin.
+#[tactic(auto, using(crate::proofs::LoadSteps::tells_all))]
+pub fn decode<E: Env<Node: NodeSet<E>>, A: Access<E>>(
+    access: &A,
+    alloc: Global,
+    blob: &PagableData,
+    node_type: u32,
+    got: &[ArcRef],
+    lent: &[Option<Arc<E::Node>>],
+) -> Decoded<E::Node>
+    requires each { Tells (A.told access.now) (λ s. LendsEach arc_value s got.now lent.now) }
+    ensures holds { Tells (A.told access.now) (λ s. IfRead result (HoldsPinned (values_at E.Node.NodeSet E.Env E.Hash.KeyHash (A.acting access.now).environment) s)) }
+    ensures decodes { Decodes (values_at E.Node.NodeSet E.Env E.Hash.KeyHash (A.acting access.now).environment) node_type (blob_of blob.now) got.now result }
+{
+    let (read, _) = read_got(access, alloc, blob, node_type, got, lent, None);
+    match read {
+        Ok(value) => Decoded::Read(value),
+        Err(Error::Storage(kind)) => {
+            let arcs = blob.arcs.as_slice();
+            let place = got.len();
+            if place >= arcs.len() {
+                return Decoded::Refused(Error::NoMoreKeys);
+            }
+            Decoded::Wants(Kind(kind), arcs[place])
+        }
+        Err(e) => Decoded::Refused(e),
+    }
+}

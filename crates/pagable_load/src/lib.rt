@@ -1,0 +1,17 @@
+//! Loads as machines of their own: each step makes one call of an access to a pager, which may be lent or locked.
+#![tactic(auto)]
+
+pub mod access;
+pub mod batch;
+pub mod cell_reading;
+pub mod decoding;
+pub mod pin;
+pub mod reading;
+pub mod step;
+
+pub use access::{Access, PinStart, PinnedOrLoading, TakenValue, WorkerAccess, WorkerNode};
+pub use cell_reading::CellReading;
+pub use decoding::{Decoded, ResolvedReferences, decode};
+pub use pin::{BegunPin, begin_reading};
+pub use reading::{Frame, Need, Reading};
+pub use step::{pin_over, pin_with_state_over, read_over, share_pinned};

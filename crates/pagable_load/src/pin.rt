@@ -1,0 +1,72 @@
+//! A pin of a loose handle that goes on in parts: how it begins, and the reading of its cell, whose root's blob is
+//! fetched apart from it.
+
+ghost use Rattle.std.specs.{Arc.arc_value, Prelude.◌≡◌};
+ghost use Rattle.{pagable_core.specs.Data.blob_of, pagable_value_spec.specs.Blob.key_of, pagable_pager_spec.specs.Access.Called};
+ghost use Rattle.pagable_load.specs.{PolledPin.{PinsFrom, start_of}, PinStart.StartsPin, AccessView.{Acts, values_at}};
+
+use crate::access::{Access, PinStart};
+use crate::cell_reading::CellReading;
+use pagable_codec::{Env, NodeSet};
+use pagable_core::PagableData;
+use pagable_pager_spec::LoadAnswer;
+use pagable_value_spec::{Error, HandleNumber};
+use std::alloc::Global;
+use std::sync::Arc;
+
+/// How a pin of a loose handle begins.
+#[derive(Drop)]
+pub enum BegunPin {
+    /// The value is in memory: the new Pinned handle, and whether the loose one pinned nothing before.
+    Pinned(HandleNumber, bool),
+    /// The value is in the storage alone, and has to be read.
+    Reading(CellReading),
+}
+
+/// Begins a pin of a loose handle: pins its cell where the value is in memory, and else begins the reading of it.
+///
+/// # Errors
+/// - as `Access::begin_pin`: nothing is left of it.
+pub fn begin_reading<E: Env<Node: NodeSet<E>>, A: Access<E>>(
+    access: &mut A,
+    alloc: Global,
+    handle: HandleNumber,
+) -> Result<BegunPin, Error>
+    ensures { Acts A.told A.acting access.old access.new (λ a s t.
+        Called (values_at E.Node.NodeSet E.Env E.Hash.KeyHash a.environment) (λ w'. StartsPin s.core a.me handle (start_of result) w') s t) }
+{
+    match access.begin_pin(handle)? {
+        PinStart::Pinned(pinned, was_unpinned) => Ok(BegunPin::Pinned(pinned, was_unpinned)),
+        PinStart::Load(load, key, node_type) => {
+            let reading = CellReading::new(alloc, load, key, node_type);
+            Ok(BegunPin::Reading(reading))
+        }
+    }
+}
+
+impl CellReading {
+    /// Reads the cell's value from the root's blob, with all that it refers to and that is read together with it, and
+    /// ends the load with a pin of the cell. The blob has to be the one under the reading's key.
+    ///
+    /// # Errors
+    /// - as the steps of a load: the load is given up, with all that it owns.
+    #[tactic(auto, using(crate::proofs::LoadSteps::acts_map, crate::proofs::FromRoot::rooting))]
+    pub fn read<E: Env<Node: NodeSet<E>>, A: Access<E>>(
+        self,
+        access: &mut A,
+        alloc: Global,
+        blob: Arc<PagableData>,
+    ) -> Result<HandleNumber, Error>
+        requires named { key_of E.Hash.digest (blob_of (arc_value blob)) ≡ self.reading.key }
+        ensures { Acts A.told A.acting access.old access.new (λ a s t.
+            PinsFrom (values_at E.Node.NodeSet E.Env E.Hash.KeyHash a.environment) a.me self.reading (blob_of (arc_value blob)) s result t) }
+    {
+        let mut reading = self.reading;
+        reading.put_root(alloc, blob);
+        match reading.run(access, alloc) {
+            LoadAnswer::Pinned(pinned) => Ok(pinned),
+            LoadAnswer::Refused(e) => Err(e),
+            LoadAnswer::Read(_) => unreachable!(),
+        }
+    }
+}

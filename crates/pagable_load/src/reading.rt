@@ -1,0 +1,305 @@
+//! How far a load is: the blobs that it reads, what it needs next, and the values of the references that were got, which it lends to the reader of its innermost blob.
+
+ghost use Rattle.std.specs.{Arc.arc_value, Option.option_map, Prelude.{true, IfErr, IfOk, IsSome, OnOk, [], length, vec_capacity, vec_len, ◌++◌, ◌<◌, ◌^◌, ◌∷◌, ◌≡◌, ◌≤◌}};
+ghost use Rattle.{pagable_core.specs.Data.blob_of, pagable_load.specs.{Frames.{frame_of, frames_of, onto, reading_of}, ResolvedReferences.{AreLater, Lends, LendsEach}, LoadSteps.{IsSameLoad, TakenOff, TakenTwo}}};
+ghost use Rattle.{pagable_load.specs.{Decoding.{IfValue, Needs, is_adoption}, AccessView.{Tells, values_at}}, pagable_value_spec.specs.Height.{is_eager, longest_path}};
+ghost use Rattle.pagable_pager_spec.specs.{Loads.{handles_of, nested_frame, root_frame}, Pager.HoldsPinned};
+
+use crate::access::Access;
+use crate::decoding::{Decoded, decode};
+use pagable_codec::{Env, NodeSet};
+use pagable_core::PagableData;
+use pagable_value_spec::{ArcRef, DataKey, Error, HandleNumber, Kind, LoadNumber};
+use std::alloc::Global;
+use std::sync::Arc;
+
+/// A blob that a load has got and reads: the kind as which its node will stand, its key, the type of its value, and the references that were got for it so far, in the order in which they are read.
+#[derive(Drop)]
+pub struct Frame {
+    pub kind: Kind,
+    pub key: DataKey,
+    pub node_type: u32,
+    pub blob: Arc<PagableData>,
+    pub got: Vec<ArcRef>,
+}
+
+impl Frame {
+    /// Makes the frame of a root's blob. A root is no reference and becomes no node of its own, so nothing asks for the kind that stands there.
+    pub fn of_root(alloc: Global, key: DataKey, node_type: u32, blob: Arc<PagableData>) -> Frame
+        ensures { frame_of result ≡ root_frame key node_type (blob_of (arc_value blob)) }
+    {
+        Frame {
+            kind: Kind(3),
+            key,
+            node_type,
+            blob,
+            got: Vec::new(alloc),
+        }
+    }
+}
+
+/// A load's own side: its number, the key and the type of its root, whether it is a load of a cell, the blobs that it reads, and its steps.
+#[derive(Drop)]
+pub struct Reading {
+    pub load: LoadNumber,
+    pub key: DataKey,
+    pub node_type: u32,
+    pub for_cell: bool,
+    /// The innermost blob; none before the root's came.
+    pub top: Option<Frame>,
+    /// Those above it, the root's first.
+    pub below: Vec<Frame>,
+    pub steps: u64,
+}
+
+/// What a load needs next.
+#[derive(Drop)]
+pub enum Need<N: Drop> {
+    /// The blob of its own key.
+    Root,
+    /// A reference that is read together with the value: the cache's node, or a blob.
+    Nested(Kind, DataKey),
+    /// A reference that is read later.
+    Lazy(Kind, DataKey),
+    /// A node of this value, for the blob below.
+    Adopt(N),
+    /// The root is read: the value that the cell, or else the caller, gets.
+    End(N),
+    /// The innermost blob is refused.
+    Refuse(Error),
+}
+
+impl<N: Drop> Need<N> {
+    /// Whether its innermost blob was read, and becomes a node.
+    pub(crate) fn is_adoption(&self) -> bool
+        ensures { result ≡ is_adoption self.now }
+    {
+        matches!(self, Need::Adopt(_))
+    }
+}
+
+/// Whether a reference of this kind is read together with the value that holds it.
+pub(crate) fn is_read_at_once(kind: Kind) -> bool
+    ensures { result ≡ is_eager kind.0 }
+{
+    !(kind.0 % 3 == 1)
+}
+
+impl Reading {
+    /// A load that has just begun, of a root of this key and type.
+    pub fn new(
+        alloc: Global,
+        load: LoadNumber,
+        key: DataKey,
+        node_type: u32,
+        for_cell: bool,
+    ) -> Reading
+        ensures reading { reading_of result ≡ record { load = load; node_type = node_type; frames = []; steps = 0 } }
+        ensures key { result.key ≡ key }
+        ensures for_cell { result.for_cell ≡ for_cell }
+    {
+        Reading {
+            load,
+            key,
+            node_type,
+            for_cell,
+            top: None,
+            below: Vec::new(alloc),
+            steps: 0,
+        }
+    }
+}
+
+/// The value of a reference that is read together with it. What its handle doesn't share isn't lent, and its reader refuses it. Refused with OutOfMemory.
+#[tactic(auto, using(crate::proofs::LoadSteps::sharing))]
+pub(crate) fn value_of<E: Env<Node: NodeSet<E>>, A: Access<E>>(
+    access: &A,
+    reference: ArcRef,
+) -> Result<Option<Arc<E::Node>>, Error>
+    ensures lends { Tells (A.told access.now) (λ s. IfOk result (λ found. Lends s reference (option_map arc_value found))) }
+    ensures only { IfErr result (λ e. e ≡ Error.OutOfMemory) }
+{
+    if !is_read_at_once(reference.kind) {
+        return Ok(None);
+    }
+    match access.share(reference.handle) {
+        Ok(found) => Ok(found),
+        Err(e) => match e {
+            Error::OutOfMemory => Err(e),
+            _ => Ok(None),
+        },
+    }
+}
+
+// Whether none of these is read together with what holds it.
+fn are_read_later(got: &[ArcRef]) -> bool
+    ensures { result ≡ true → AreLater (length got.now) got.now }
+{
+    for reference in got {
+        if is_read_at_once(reference.kind) {
+            return false;
+        }
+    }
+    true
+}
+
+// The values of these references, each at its reference's place; no list is made where none of them is read together with its value. Refused with OutOfMemory.
+pub(crate) fn lend<E: Env<Node: NodeSet<E>>, A: Access<E>>(
+    access: &A,
+    alloc: Global,
+    got: &[ArcRef],
+) -> Result<Vec<Option<Arc<E::Node>>>, Error>
+    ensures lends { Tells (A.told access.now) (λ s. IfOk result (λ lent. LendsEach arc_value s got.now lent.items)) }
+    ensures only { IfErr result (λ e. e ≡ Error.OutOfMemory) }
+{
+    let mut lent = Vec::new(alloc);
+    if are_read_later(got) {
+        return Ok(lent);
+    }
+    for reference in got {
+        let value = value_of::<E, A>(access, *reference)?;
+        lent.push(value)?;
+    }
+    Ok(lent)
+}
+
+impl Reading {
+    /// What the load needs next. The innermost blob is read from its front for it, with the values of the references that it has got, and nothing else is touched. Want of memory for these refuses the
+    /// blob. What a value that was read holds beside its references is what their handles pin.
+    #[tactic(auto, using(crate::proofs::LoadSteps::needing, crate::proofs::LoadSteps::tells_all))]
+    pub fn next<E: Env<Node: NodeSet<E>>, A: Access<E>>(
+        &self,
+        access: &A,
+        alloc: Global,
+    ) -> Need<E::Node>
+        ensures holds { Tells (A.told access.now) (λ s. IfValue result (HoldsPinned (values_at E.Node.NodeSet E.Env E.Hash.KeyHash (A.acting access.now).environment) s)) }
+        ensures needs { Needs (values_at E.Node.NodeSet E.Env E.Hash.KeyHash (A.acting access.now).environment) self.now result }
+    {
+        let Some(top) = &self.top else {
+            return Need::Root;
+        };
+        let blob = top.blob.as_ref();
+        let got = top.got.as_slice();
+        let lent = match lend::<E, A>(access, alloc, got) {
+            Ok(lent) => lent,
+            Err(e) => return Need::Refuse(e),
+        };
+        match decode(access, alloc, blob, top.node_type, got, lent.as_slice()) {
+            Decoded::Refused(e) => Need::Refuse(e),
+            Decoded::Wants(kind, key) => {
+                if is_read_at_once(kind) {
+                    Need::Nested(kind, key)
+                } else {
+                    Need::Lazy(kind, key)
+                }
+            }
+            Decoded::Read(value) => {
+                if !self.below.is_empty() {
+                    return Need::Adopt(value);
+                }
+                Need::End(value)
+            }
+        }
+    }
+}
+
+// ---- the blobs of a load, the innermost apart from those below it
+
+impl Reading {
+    /// Takes the innermost blob off, with a place for one more reference, and makes a place for it below. Refused with OutOfMemory.
+    pub(crate) fn pop_frame(&mut self) -> Result<Frame, Error>
+        requires { IsSome self.old.top }
+        ensures ok { IfOk result (λ top. TakenOff self.old self.new top) }
+        ensures only { IfErr result (λ e. e ≡ Error.OutOfMemory) }
+        ensures same { IsSameLoad self.old self.new self.old.steps }
+    {
+        let mut top = self.top.take().unwrap();
+        top.got.reserve(1)?;
+        self.below.reserve(1)?;
+        Ok(top)
+    }
+
+    /// Takes the innermost blob off, and the one below it with a place for one more reference. Refused with OutOfMemory.
+    #[tactic(auto, using(crate::proofs::LoadSteps::stacking))]
+    pub(crate) fn pop_two_frames(&mut self) -> Result<(Frame, Frame), Error>
+        requires top { IsSome self.old.top }
+        requires below { 0 < length self.old.below.items }
+        ensures ok { IfOk result (λ two. TakenTwo self.old self.new two.0 two.1) }
+        ensures only { IfErr result (λ e. e ≡ Error.OutOfMemory) }
+        ensures same { IsSameLoad self.old self.new self.old.steps }
+    {
+        let top = self.top.take().unwrap();
+        let mut under = self.below.pop().unwrap();
+        under.got.reserve(1)?;
+        Ok((top, under))
+    }
+
+    /// The blob is the innermost, and has got one more reference.
+    pub(crate) fn push_resolved(&mut self, mut top: Frame, reference: ArcRef)
+        requires { vec_len top.got < vec_capacity top.got }
+        ensures gets { frames_of self.new.top self.new.below.items ≡ record (frame_of top) { got = top.got.items ++ reference ∷ [] } ∷ onto [] self.old.below.items }
+        ensures same { IsSameLoad self.old self.new self.old.steps }
+    {
+        top.got.push(reference).unwrap();
+        self.top = Some(top);
+    }
+
+    /// The root's blob is the only one.
+    #[tactic(auto, using(crate::proofs::LoadSteps::stacking))]
+    pub(crate) fn put_root(&mut self, alloc: Global, blob: Arc<PagableData>)
+        ensures few { length (blob_of (arc_value blob)).keys < 2 ^ 63 }
+        ensures root { frames_of self.new.top self.new.below.items ≡ root_frame self.old.key self.old.node_type (blob_of (arc_value blob)) ∷ [] }
+        ensures same { IsSameLoad self.old self.new self.old.steps }
+    {
+        // (by this count its references are known to be fewer than numbers go)
+        let _count = blob.as_ref().arcs.len();
+        self.below.clear();
+        self.top = Some(Frame::of_root(alloc, self.key, self.node_type, blob));
+    }
+
+    /// A reference's blob is the innermost, over the one that asked for it. Refused with TooDeep where it would be the 129th below the root.
+    #[tactic(auto, using(crate::proofs::LoadSteps::stacking))]
+    pub(crate) fn put_blob(
+        &mut self,
+        alloc: Global,
+        top: Frame,
+        kind: Kind,
+        key: DataKey,
+        blob: Arc<PagableData>,
+    ) -> Result<(), Error>
+        requires { vec_len self.old.below < vec_capacity self.old.below }
+        ensures ok { OnOk result (frames_of self.new.top self.new.below.items ≡ nested_frame kind key (blob_of (arc_value blob)) ∷ frame_of top ∷ onto [] self.old.below.items) }
+        ensures few { length (blob_of (arc_value blob)).keys < 2 ^ 63 }
+        ensures short { OnOk result (length self.old.below.items < longest_path) }
+        ensures deep { IfErr result (λ e. e ≡ Error.TooDeep) }
+        ensures long { IfErr result (λ e. longest_path ≤ length self.old.below.items) }
+        ensures same { IsSameLoad self.old self.new self.old.steps }
+    {
+        // (by this count its references are known to be fewer than numbers go)
+        let _count = blob.as_ref().arcs.len();
+        if self.below.len() >= 128 {
+            return Err(Error::TooDeep);
+        }
+        self.below.push(top).unwrap();
+        self.top = Some(Frame {
+            kind,
+            key,
+            node_type: kind.0 / 3,
+            blob,
+            got: Vec::new(alloc),
+        });
+        Ok(())
+    }
+}
+
+/// The handles of references, in their order. Refused with OutOfMemory.
+pub(crate) fn all_handles(alloc: Global, references: &[ArcRef]) -> Result<Vec<HandleNumber>, Error>
+    ensures ok { IfOk result (λ handles. handles.items ≡ handles_of references.now) }
+    ensures only { IfErr result (λ e. e ≡ Error.OutOfMemory) }
+{
+    let mut handles = Vec::with_capacity(alloc, references.len())?;
+    for reference in references {
+        handles.push(reference.handle)?;
+    }
+    Ok(handles)
+}

@@ -1,4 +1,0 @@
-mod Foreseen
-pub mod Stepped
-mod Pinned
-mod Rooted

@@ -1,4 +1,0 @@
-use Rattle.pagable_loads.proofs.Foreseen.{none_ahead}
-
-pub loop-answer-init : Rattle.pagable_loads.proofs.reading.Reading.run.Goals.loop-answer-init
-loop-answer-init g c = record { so_far = c.in_default.ensures.acts; ahead = none_ahead _ _ _ c.new-ahead.ensures; sort = c.run_first.ensures.sort }

@@ -1,5 +1,0 @@
-use Rattle.pagable_loads.{specs.Got.AreLater, proofs.reading.are_read_later.Given.invariant-loop-reference as invariant}
-
--- those before this one aren't
-abbrev pub invariant-loop-reference : invariant
-invariant-loop-reference l = AreLater l.reference-index l.got

@@ -1,9 +1,0 @@
--- Steps that may be refused, one after another.
-use Rattle.std.specs.Prelude.{Result, Ok, Err}
-use Rattle.pagable_model.specs.declared.error.Error.{Error}
-
--- The second step takes what the first gave; a refusal of the first is the answer.
-infixl 10 ◌>>=◌
-abbrev pub ◌>>=◌ : {A B : Type 0} → Result A Error → (A → Result B Error) → Result B Error
-(Ok x) >>= f = f x
-(Err e) >>= f = Err e

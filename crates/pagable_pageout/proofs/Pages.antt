@@ -1,0 +1,152 @@
+-- Page-outs of an item and of the entries of the list, from the runs of their workers.
+use Rattle.pagable_theorems.proofs.{LoadResults.{entry-answered, item-answered}, StepBounds.{Spares, none-shorter, release-spares-list, spares-then, walk-spares-list}}
+use Rattle.pagable_load.{proofs.LoadSteps.{acts_all, acts_from, acts_map, acts_same, acts_then, tells_map}, specs.{AccessView.{Acting, as_caller}, WorkerCalls.{RefusesEntry, StartsEntry}}}
+use Rattle.pagable_value_spec.specs.declared.{data_key.OptionalDataKey.OptionalDataKey, error.Error.Error, numbers.{ArcRef.ArcRef, HandleNumber.HandleNumber, WorkerNumber.WorkerNumber}}
+use Rattle.pagable_pageout.{proofs.Turns.{alike, plain-fits, same-shelf}, specs.{PageOuts.{HasPaged, PagesAt, PagesEntry, PagesEntryIfThere, PagesItem, PagesList, answer_of, there}, Tasks.{IsPlain, todo_of}}}
+use Rattle.{pagable_pageout.specs.{Turns.{Fits, IsAlone, RunsTo, Walked, plain}, declared.tasks.{PageOutError.PageOutError, Task.Task}}, pagable_pager_spec.specs.Access.AccessState}
+use Rattle.pagable_pager_spec.specs.Access.{Called, EntryHas, ListRun, WorkerRun, WorkerStarts, entry-is-refused, entry-is-walked, fails, item-is-walked, no-entry-worker, no-more, no-worker, pages}
+use Rattle.pagable_pager_spec.specs.{Access.{skips, worker-ends, worker-goes-on}, Calls.{ReleaseCall, TakeCall}, Events.{entry_task, no_shelf}, Kinds.{identity_of, owner_worker}, Pager.PagerState}
+use Rattle.pagable_pager_spec.specs.{Pager.WellFormed, Refusals.WorkerFault, Workers.first_todo, World.{Alike, SameShelf, Seen, Shelf, Todo, Values, Written, of_entry, of_item}, declared.events.Action.Action}
+use Rattle.{pagable_pager_spec.specs.declared.{events.WorkerAnswer.WorkerAnswer, handle_row.Owner.Owner}, std.proofs.Common.{Err, List, None, Ok, Option, Result, Some, ap, arith, inl, length, refl, subst, sym}}
+use Rattle.std.{proofs.{Common.{ℕ, ◌+◌, ◌<◌, ◌∙◌, ◌∷◌, ◌≡◌, ◌≤◌}, lemmas.{Bool.Decides.nat_tests, Grind.common_steps, List.Edits.length-remove}}, specs.List.remove}
+use Rattle.pagable_codec.specs.declared.{env.Env.Ghosts as Environments, hash.KeyHash.Ghosts as Hashes, nodes.NodeSet.Ghosts as Nodes}
+use Rattle.std.specs.declared.cmp.{Ord.Ghosts as Orders, PartialEq.Ghosts as Equalities, PartialOrd.Ghosts as PartialOrders}
+
+-- whoever acts for the caller does so again after a worker
+pub is-caller : {E : Type 0} (acting : Acting E) → acting.me ≡ Owner.Caller → as_caller acting ≡ acting
+is-caller acting mine = ap (λ me. record acting { me = me }) (sym mine)
+
+module _ {N E : Type 0} (v : Values N) where
+  pub stays-called : (s : PagerState N E) → WellFormed v s → Called v (λ w'. Alike s.core w') s s
+  stays-called s whole = record { step = alike s.core; moves = record { each = λ n x is. inl is; environment = refl }; whole = whole }
+
+  module _ (shelf : Shelf) (item : Written) where
+    pub item-unbegun : (e : Error) (s t : PagerState N E) → WorkerFault s.core e × Called v (λ w'. Alike s.core w') s t → PagesItem v shelf item shelf (WorkerAnswer.Failed e) s t
+    item-unbegun e s t (why, call) = grind (arith, nat_tests, common_steps, same-shelf, no-worker)
+
+    pub item-unstarted : (e : Error) → e ≡ Error.OutOfMemory → (s : PagerState N E) → PagesItem v shelf item shelf (WorkerAnswer.Failed e) s s
+    item-unstarted e is s = grind (arith, nat_tests, common_steps, stays-called, same-shelf, no-worker)
+
+    pub item-walked : {X XN XH XK XV : Type 0} {g : Environments X XN XH XK XV} {gh : Hashes XH} {go : Orders XK} {gq : Equalities XK} {gp : PartialOrders XK} {gn : Nodes XN X XN XH XK XV} (me : Owner) (n : ℕ) (task : Task X XN XH XK XV g gh go gq gp gn) (below : List Todo) (shelf' : Shelf) (answer : WorkerAnswer) → me ≡ owner_worker n → IsPlain task
+        → todo_of task ∷ below ≡ first_todo (of_item item) → (s mid t : PagerState N E) → WorkerStarts v s.core s n mid → RunsTo v me n shelf task below shelf' answer mid t
+        → PagesItem v shelf item shelf' answer s t
+    item-walked me n task below shelf' answer mine is_plain first s mid t starts runs = record {
+      over = λ whole all.
+          let fits : Fits v me n task mid = record { me_is = mine; whole = starts.begins.whole; task_fits = plain-fits n mid.core task is_plain } in
+          let alone : IsAlone n shelf = λ i slot still. let done = all i slot still.claimed in let none = still.no_result_yet in absurd (grind arith) in
+          let walked = subst (λ todo. Walked v n todo mid shelf answer t shelf') first (runs.runs fits alone) in
+          record { run = item-is-walked n walked.steps answer mid _ starts walked.run; all_have_results = item-answered (plain v) n item walked.run all };
+    }
+
+  -- ---- an entry
+
+  -- after a worker the pager is whole, and the handles of the list are left
+  run-keeps : {B W : Type 0} {m : Seen N B W} {n : ℕ} {todo : List Todo} {s s' : AccessState N E} {steps : List (Action W)} {answer : WorkerAnswer} → WorkerRun m n todo s steps answer s'
+      → WellFormed m.values s'.pager × Spares Owner.List s.pager.core s'.pager.core
+  run-keeps {m = m} {n} (worker-ends todo next step answer s s' w is) =
+      (w.whole, walk-spares-list m n (record { core = s.pager.core; shelf = s.shelf; todo = todo }) w.after s'.pager.core step _ w.does w.ends)
+  run-keeps {m = m} {n} (worker-goes-on todo next step steps answer s mid s' w is more) =
+      let k = run-keeps more in
+      (k.0, spares-then Owner.List (walk-spares-list m n (record { core = s.pager.core; shelf = s.shelf; todo = todo }) w.after mid.pager.core step _ w.does w.ends) k.1)
+
+  -- the list without one entry, and what comes then
+  entries-stay : (place : ℕ) (s mid t : PagerState N E) → place < length s.core.list → mid.core.list ≡ remove s.core.list place → length mid.core.list ≤ length t.core.list → place ≤ length t.core.list
+  entries-stay place s mid t within is longer = grind (arith, nat_tests, common_steps, length-remove)
+
+  pub entry-refused : (place : ℕ) (e : Error) (s t : PagerState N E) → RefusesEntry v s place e t → PagesEntry v place (WorkerAnswer.Failed e) s t
+  entry-refused place e s t r = grind (arith, nat_tests, common_steps, entry-is-refused, no-entry-worker)
+
+  pub entry-gone : (place : ℕ) (s t : PagerState N E) → RefusesEntry v s place Error.NoSuchHandle t → length s.core.list ≤ place
+  entry-gone place s t r = grind (arith, nat_tests, common_steps)
+
+  pub entry-walked : {X XN XH XK XV : Type 0} {g : Environments X XN XH XK XV} {gh : Hashes XH} {go : Orders XK} {gq : Equalities XK} {gp : PartialOrders XK} {gn : Nodes XN X XN XH XK XV} (place : ℕ) (me : Owner) (n : WorkerNumber) (r : ArcRef) (shelf : Shelf) (task : Task X XN XH XK XV g gh go gq gp gn) (below : List Todo) (shelf' : Shelf) (answer : WorkerAnswer) → me ≡ owner_worker n.0
+      → IsPlain task → todo_of task ∷ below ≡ first_todo (of_entry r.handle (identity_of r)) → SameShelf no_shelf shelf → (s mid t : PagerState N E) → StartsEntry v s place n r mid
+      → RunsTo v me n.0 shelf task below shelf' answer mid t
+      → PagesEntry v place answer s t
+  entry-walked place me n r shelf task below shelf' answer mine is_plain first same s mid t starts runs = record {
+    pages = λ whole listed.
+        let fits : Fits v me n.0 task mid = record { me_is = mine; whole = starts.starts.begins.whole; task_fits = plain-fits n.0 mid.core task is_plain } in
+        let empty : shelf ≡ no_shelf = λ p. record { slots = λ i. same.slots i p; waits = λ q. same.waits q p } in
+        let task_is : first_todo (of_entry r.handle (identity_of r)) ≡ first_todo (entry_task starts.h starts.row starts.type) = ap (λ (x : ArcRef). first_todo (of_entry x.handle (identity_of x))) starts.is in
+        let alone : IsAlone n.0 shelf = λ i slot still. let claimed = sym (same.slots i) ∙ still.claimed in absurd (cc) in
+        let walked = subst (λ todo. Walked v n.0 todo mid no_shelf answer t shelf') (first ∙ task_is) (subst (λ x. Walked v n.0 (todo_of task ∷ below) mid x answer t shelf') empty (runs.runs fits alone)) in
+        let keeps = run-keeps walked.run in
+        record {
+          run = entry-is-walked starts.h starts.row starts.type n.0 walked.steps answer mid _ starts.entry starts.kinds starts.starts walked.run;
+          whole = keeps.0;
+          long = entries-stay place s mid t listed starts.starts.begins.step.list (none-shorter starts.starts.begins.whole.whole keeps.0.whole keeps.1);
+          unfailed = entry-answered (plain v) n.0 starts.h _ walked.run (λ i. refl);
+        };
+  }
+
+  pub entry-there : (place : ℕ) (answer : Result ℕ PageOutError) (s t : PagerState N E) → PagesEntry v place (answer_of answer) s t → PagesEntryIfThere v place (there answer) s t
+  entry-there place (Ok key) s t pages_it = pages_it
+  entry-there place (Err why) s t pages_it = pages_it
+
+  -- ---- a place of the list
+
+  pub at-past : (place : ℕ) (s t : PagerState N E) → length s.core.list ≤ place → PagesAt v place (Ok tt) s t
+  at-past place s t past = record { done = λ whole within. absurd (omega (arith, past, within)) }
+
+  pub at-gone : (place : ℕ) (taken : Option HandleNumber) → ((h : HandleNumber) → taken ≡ Some h → ⊥) → (me : Owner) (s t : PagerState N E)
+      → Called v (λ w'. TakeCall s.core me place taken w') s t → PagesAt v place (Ok tt) s t
+  at-gone place taken none me s t call = grind (arith, nat_tests, common_steps)
+
+  -- the entry is taken and released
+  pub at-skipped : {me : Owner} → me ≡ Owner.Caller → (place key : ℕ) (k : HandleNumber) (told : Result (Unit {0}) Error) (s mid t : PagerState N E)
+      → Called v (λ w'. TakeCall s.core me place (Some k) w') s mid → Called v (λ w'. ReleaseCall mid.core me k told w') mid t
+      → (h : HandleNumber) × EntryHas s.core place h (OptionalDataKey.Some key) → PagesAt v place (Ok tt) s t
+  at-skipped mine place key k told s mid t takes releases (h, has) =
+      let e : h ≡ k = cc (takes.step.0, has.listed) in
+      let keyed = subst (λ x. EntryHas s.core place x (OptionalDataKey.Some key)) e has in
+      let out = rw mine at releases in
+      record {
+        done = λ whole within. record {
+          whole = out.whole;
+          long = entries-stay place s mid t within takes.step.1.list (none-shorter takes.whole.whole out.whole.whole (release-spares-list told out.step));
+          goes = λ i next answer s' more. skips i place key k told answer s mid t s' next keyed (rw mine at takes) out more;
+          stops = tt;
+        };
+      }
+
+  pub at-paged : (place key : ℕ) (s t : PagerState N E) → (h : HandleNumber) × EntryHas s.core place h OptionalDataKey.None
+      → PagesEntry v place (WorkerAnswer.Key key) s t → PagesAt v place (Ok tt) s t
+  at-paged place key s t (h, has) pages_it = record {
+    done = λ whole within.
+        let p = pages_it.pages whole within in
+        record { whole = p.whole; long = p.long; goes = λ i next answer s' more. pages i place key h answer s t s' next has p.run more; stops = tt };
+  }
+
+  pub at-done : (place : ℕ) (key : Option ℕ) (s t : PagerState N E) → (h : HandleNumber) × EntryHas s.core place h OptionalDataKey.None
+      → PagesEntryIfThere v place (Ok key) s t → PagesAt v place (Ok tt) s t
+  at-done place None s t has gone = at-past place s t gone
+  at-done place (Some key) s t has pages_it = at-paged place key s t has pages_it
+
+  pub at-failed : (place : ℕ) (why : PageOutError) (s t : PagerState N E) → (h : HandleNumber) × EntryHas s.core place h OptionalDataKey.None
+      → PagesEntry v place (answer_of (Err why)) s t → PagesAt v place (Err why) s t
+  at-failed place (PageOutError.Failed e) s t (h, has) pages_it = record {
+    done = λ whole within. let p = pages_it.pages whole within in record { whole = p.whole; long = p.long; goes = tt; stops = λ i next. fails i place h e s t next has p.run };
+  }
+  at-failed place PageOutError.AlreadyFailed s t (h, has) pages_it = record { done = λ whole within. let p = pages_it.pages whole within in absurd (p.unfailed refl) }
+
+  -- ---- the list
+
+  pub none-paged : (count : ℕ) (s : PagerState N E) → count ≡ length s.core.list → HasPaged v count s s
+  none-paged count s is = record { whole = λ whole. whole; long = λ whole. omega (arith, is); then = λ whole answer u run. subst (λ i. ListRun (plain v) i s answer u) is run }
+
+  pub more-paged : (left place : ℕ) → left ≡ place + 1 → (s mid t : PagerState N E) → HasPaged v left s mid → PagesAt v place (Ok tt) mid t → HasPaged v place s t
+  more-paged left place next s mid t paged at = grind (arith, nat_tests, common_steps)
+
+  pub ends-paged : (left place : ℕ) → left ≡ place + 1 → (why : PageOutError) (s mid t : PagerState N E) → HasPaged v left s mid → PagesAt v place (Err why) mid t → PagesList v (Err why) s t
+  ends-paged left place next why s mid t paged at = grind (arith, nat_tests)
+
+  pub all-paged : (left : ℕ) → left ≡ 0 → (s t : PagerState N E) → HasPaged v left s t → PagesList v (Ok tt) s t
+  all-paged left none s t paged = record { over = λ whole. paged.then whole (Ok tt) t (subst (λ i. ListRun (plain v) i t (Ok tt) t) (sym none) (no-more t)) }
+
+pub ruleset items = (nat_tests, acts_all, acts_map, item-unstarted, item-unbegun)
+
+pub ruleset entries = (nat_tests, acts_map, entry-gone, entry-refused)
+
+pub ruleset places = (nat_tests, tells_map, acts_same, acts_from, acts_map, at-past, at-gone, at-done, at-failed)
+
+pub ruleset listed = (nat_tests, acts_map, acts_then, tells_map, acts_same, none-paged, more-paged, ends-paged, all-paged)

@@ -1,0 +1,25 @@
+use Rattle.{pagable_load.proofs.LoadSteps.acts_map, pagable_pageout.proofs.{ItemLast.{refused-ends, stored-ends}, Strides.{turn-comes, turn-comes-as}, Turns.{finish-fails, finish-stores}}}
+use Rattle.{pagable_pageout.specs.{Slots.{keys_of, written_of}, Tasks.todos, declared.tasks.Task.Task}, std.{proofs.Common.refl, specs.Arc.arc_value}}
+use Rattle.pagable_pageout.proofs.stride.leave_item.Goals as goal
+
+pub returns-in-Ok-clause-acts : goal.returns-in-Ok-clause-acts
+returns-in-Ok-clause-acts g c n shelf =
+    let w = c.args.waiting in
+    let path = c.args.path.now.items in
+    acts_map c.in-Ok.ensures.acts (λ s t call. turn-comes-as _ _ n shelf (Task.Finish w) (todos path) shelf c.stored.result path _ s t
+    (finish-stores _ _ n shelf (todos path) w c.requires c.in-Ok.key c.stored.result path refl c.stored.ensures.stored s t call) refl)
+
+pub returns-in-Err-clause-acts : goal.returns-in-Err-clause-acts
+returns-in-Err-clause-acts g c n shelf =
+    let w = c.args.waiting in
+    let below = todos c.args.path.now.items in
+    acts_map c.in-Err.ensures.acts (λ s t call. turn-comes _ _ n shelf (Task.Finish w) below shelf _ _ s t
+    (finish-fails _ _ n shelf below w c.requires c.in-Err.e c.refuse.result _ c.refuse.ensures.plain c.refuse.ensures.todo s t call))
+
+pub returns-in-Ok-clause-ends : goal.returns-in-Ok-clause-ends
+returns-in-Ok-clause-ends g c =
+    let w = c.args.waiting in
+    stored-ends w.node (written_of (arc_value w.written)) (keys_of w.children.items) c.in-Ok.key c.stored.result c.args.path.now.items c.stored.ensures.stored c.stored.ensures.over
+
+pub returns-in-Err-clause-ends : goal.returns-in-Err-clause-ends
+returns-in-Err-clause-ends g c = refused-ends _ _ c.refuse.result _ _ c.refuse.ensures.todo

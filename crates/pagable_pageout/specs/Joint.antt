@@ -1,0 +1,25 @@
+-- What is told of an access and of a table together; and what is known of a claim wherever it was made.
+use Rattle.std.specs.Prelude.{Option, Some, None, ◌≡◌, ◌+◌, ◌≤◌, ℕ}
+use Rattle.{pagable_load.specs.AccessView.Acting, pagable_pager_spec.specs.Access.Told}
+use Rattle.pagable_pager_spec.specs.Basics.{longest_path}
+use Rattle.pagable_pageout.specs.declared.{claims.ClaimResult.ClaimResult}
+use Rattle.pagable_codec.specs.declared.{env.Env.Ghosts as Environments, hash.KeyHash.Ghosts as Hashes, nodes.NodeSet.Ghosts as Nodes}
+use Rattle.std.specs.declared.cmp.{Ord.Ghosts as Orders, PartialEq.Ghosts as Equalities, PartialOrd.Ghosts as PartialOrders}
+
+-- both states, if both are told
+abbrev pub both : {S Q : Type 0} → Option S → Option Q → Option (S × Q)
+both None q = None
+both (Some s) None = None
+both (Some s) (Some q) = Some (s, q)
+
+-- What is done to the state of an access and to that of a table, if both are told; and as whom the access acts afterwards.
+pub record ActsBoth {A T S Q E : Type 0} (told : A → Option S) (by : A → Acting E) (shelf : T → Option Q) (a : A) (t : T) (a' : A) (t' : T) (after : Acting E → Acting E) (does : Acting E → S → Q → S → Q → Type 0) : Type 0 where
+  pub step : Told (both (told a) (shelf t)) (both (told a') (shelf t')) (λ st st'. does (by a) st.0 st.1 st'.0 st'.1)
+  pub acting : by a' ≡ after (by a)
+
+module _ {E EN EH EK EV : Type 0} {g : Environments E EN EH EK EV} {gh : Hashes EH} {go : Orders EK} {gq : Equalities EK} {gp : PartialOrders EK} {gn : Nodes EN E EN EH EK EV} where
+  -- what was found fits at this place on a path
+  abbrev pub IsNear : ℕ → ClaimResult E EN EH EK EV g gh go gq gp gn → Type 0
+  IsNear place ClaimResult.Claimed = place ≤ longest_path
+  IsNear place (ClaimResult.Known r) = place + r.height ≤ longest_path
+  IsNear place found = Unit {0}

@@ -1,0 +1,124 @@
+-- The plain claims that a lent table tells; whom each waiting worker waits for; and what a claim finds.
+use Rattle.std.specs.Prelude.{◌≤◌, ◌⊎◌}
+use Rattle.std.specs.{Option.option_map, Prelude.{Bool, IfErr, IfOk, List, None, Option, Result, Some, [], false, if◌then◌else◌, map, nat_eq, suc, true, zero, ℕ, ◌&&◌, ◌+◌, ◌∷◌, ◌≡◌}}
+use Rattle.pagable_pager_spec.specs.{Workers.{ComesBack, ComesToEnd, IsOpenSlot, IsPublished, IsTooDeep, is_open_outcome, with_outcome, with_slot, with_wait}, World.{SameShelf, Shelf, Slot, Written}}
+use Rattle.pagable_pager_spec.specs.{World.{failed, is_identity, no_result, published}, declared.events.Claim.Claim}
+use Rattle.{indexmap.specs.IndexMap.{IndexMap, get}, pagable_core.specs.declared.context.writing.SerializedData.SerializedData, pagable_pageout.specs.declared.results.SlotResult.SlotResult}
+use Rattle.{pagable_pageout.specs.declared.{lent_slot.{LentSlot.LentSlot, Outcome.Outcome}}, pagable_pager_spec.specs.Basics.{ArcRef, Error, Identity, if_there, longest_path}}
+use Rattle.pagable_pager_spec.specs.World as world
+use Rattle.pagable_codec.specs.declared.{env.Env.Ghosts as Environments, hash.KeyHash.Ghosts as Hashes, nodes.NodeSet.Ghosts as Nodes}
+use Rattle.std.specs.declared.cmp.{Ord.Ghosts as Orders, PartialEq.Ghosts as Equalities, PartialOrd.Ghosts as PartialOrders}
+
+abbrev pub is_same : ℕ × ℕ → ℕ × ℕ → Bool
+is_same x y = nat_eq x.0 y.0 && nat_eq x.1 y.1
+
+-- what was written, without where it lies in memory
+abbrev pub written_of : SerializedData → Written
+written_of d = record { bytes = d.bytes.items; references = d.arcs.items }
+
+abbrev pub keys_of : {E EN EH EK EV : Type 0} {g : Environments E EN EH EK EV} {gh : Hashes EH} {go : Orders EK} {gq : Equalities EK} {gp : PartialOrders EK} {gn : Nodes EN E EN EH EK EV} → List (SlotResult E EN EH EK EV g gh go gq gp gn) → List ℕ
+keys_of xs = map (λ r. r.key) xs
+
+abbrev pub ids_of : {E EN EH EK EV : Type 0} {g : Environments E EN EH EK EV} {gh : Hashes EH} {go : Orders EK} {gq : Equalities EK} {gp : PartialOrders EK} {gn : Nodes EN E EN EH EK EV} → List (SlotResult E EN EH EK EV g gh go gq gp gn) → List Identity
+ids_of xs = map (λ r. r.identity) xs
+
+-- a slot of whose node these references were written
+abbrev pub with_references : List ArcRef → Slot → Slot
+with_references references slot = record slot { references = Some references }
+
+-- a slot after the worker v has failed; the same of what there is
+abbrev pub failed_by : ℕ → Slot → Slot
+failed_by v slot = if nat_eq slot.worker v then with_outcome failed slot else slot
+
+abbrev pub after_failure : ℕ → Option Slot → Option Slot
+after_failure v slot = if_there (λ (s : Slot). Some (failed_by v s)) None slot
+
+abbrev pub claimed_by : ℕ → Slot
+claimed_by v = record { worker = v; references = None; outcome = no_result }
+
+module _ {E EN EH EK EV : Type 0} {g : Environments E EN EH EK EV} {gh : Hashes EH} {go : Orders EK} {gq : Equalities EK} {gp : PartialOrders EK} {gn : Nodes EN E EN EH EK EV} where
+  abbrev pub outcome_of : Outcome E EN EH EK EV g gh go gq gp gn → world.Outcome
+  outcome_of Outcome.Open = no_result
+  outcome_of (Outcome.Published r) = published r.key r.height
+  outcome_of Outcome.Failed = failed
+
+  abbrev pub slot_of : LentSlot E EN EH EK EV g gh go gq gp gn → Slot
+  slot_of s = record { worker = s.worker.0; references = option_map (λ rs. rs.items) s.references; outcome = outcome_of s.outcome }
+
+  -- a result that stands is of this identity, by its numbers
+  abbrev pub IsNamed : Identity → LentSlot E EN EH EK EV g gh go gq gp gn → Type 0
+  IsNamed i s = (r : SlotResult E EN EH EK EV g gh go gq gp gn) → s.outcome ≡ Outcome.Published r → (r.identity.kind.0 ≡ i.kind.0) × (r.identity.node.0 ≡ i.node.0)
+
+  module _ {S : Type 0} where
+    abbrev pub slots_in : IndexMap (ℕ × ℕ) (LentSlot E EN EH EK EV g gh go gq gp gn) S → Identity → Option Slot
+    slots_in slots i = option_map slot_of (get is_same slots (i.kind.0, i.node.0))
+
+    abbrev pub AreNamed : IndexMap (ℕ × ℕ) (LentSlot E EN EH EK EV g gh go gq gp gn) S → Type 0
+    AreNamed slots = (i : Identity) (s : LentSlot E EN EH EK EV g gh go gq gp gn) → get is_same slots (i.kind.0, i.node.0) ≡ Some s → IsNamed i s
+
+    abbrev pub shelf_in : {T : Type 0} → IndexMap (ℕ × ℕ) (LentSlot E EN EH EK EV g gh go gq gp gn) S → IndexMap ℕ Identity T → Shelf
+    shelf_in slots waits = record { slots = slots_in slots; waits = λ v. get nat_eq waits v }
+
+  -- a row after the worker has failed
+  pub record FailedRow (v : ℕ) (old new : (ℕ × ℕ) × LentSlot E EN EH EK EV g gh go gq gp gn) : Type 0 where
+    pub key : new.0 ≡ old.0
+    pub slot : slot_of new.1 ≡ failed_by v (slot_of old.1)
+    pub own : (i : Identity) → IsNamed i old.1 → IsNamed i new.1
+
+  -- so many of the first rows are failed so
+  abbrev pub FailedTo : ℕ → ℕ → List ((ℕ × ℕ) × LentSlot E EN EH EK EV g gh go gq gp gn) → List ((ℕ × ℕ) × LentSlot E EN EH EK EV g gh go gq gp gn) → Type 0
+  FailedTo v zero old new = new ≡ old
+  FailedTo v (suc n) [] new = new ≡ []
+  FailedTo v (suc n) (e ∷ es) [] = ⊥
+  FailedTo v (suc n) (e ∷ es) (f ∷ fs) = FailedRow v e f × FailedTo v n es fs
+
+-- the slots with this one at an identity
+abbrev pub SlotIs : (Identity → Option Slot) → Identity → Option Slot → (Identity → Option Slot) → Type 0
+SlotIs old i slot new = (j : Identity) → new j ≡ (if is_identity i j then slot else old j)
+
+-- the worker of a slot that has no result yet
+abbrev pub open_worker : Option Slot → Option ℕ
+open_worker slot = if_there (λ (s : Slot). if is_open_outcome s.outcome then Some s.worker else None) None slot
+
+-- a slot that is there is changed so
+abbrev pub Changes : (Slot → Slot) → (Identity → Option Slot) → Identity → (Identity → Option Slot) → Type 0
+Changes f old i new = SlotIs old i (if_there (λ (s : Slot). Some (f s)) None (old i)) new
+
+-- whom a worker waits for
+abbrev pub waits_for : Shelf → ℕ → Option ℕ
+waits_for s u = if_there (λ i. open_worker (s.slots i)) None (s.waits u)
+
+-- who waits for one that waits, and so on, comes to an end
+pub data Ends (s : Shelf) : ℕ → Type 0 where
+  ends-at : (u : ℕ) → ((w : ℕ) → waits_for s u ≡ Some w → Ends s w) → Ends s u
+
+-- no workers wait in a ring
+abbrev pub EachEnds : Shelf → Type 0
+EachEnds s = (u : ℕ) → ∥ Ends s u ∥₁
+
+-- whether the wait of u leads to v, as is told
+abbrev pub Leads : Shelf → ℕ → ℕ → Bool → Type 0
+Leads s v u true = ComesBack s v u
+Leads s v u false = ComesToEnd s v u
+
+-- what a claim of this identity at this place on a path would find
+abbrev pub Would : ℕ → Shelf → Identity → ℕ → Claim → Type 0
+Would v s i place Claim.Claimed = (place ≤ longest_path) × (s.slots i ≡ None)
+Would v s i place (Claim.Known key height) = (place + height ≤ longest_path) × IsPublished s i key height
+Would v s i place Claim.Waiting = (place ≤ longest_path) × ((slot : Slot) × IsOpenSlot s i slot × ComesToEnd s v slot.worker)
+Would v s i place Claim.AlreadyFailed = (place ≤ longest_path) × ((slot : Slot) × (s.slots i ≡ Some slot) × (slot.outcome ≡ failed))
+
+-- the table after it; that a worker waits is forgotten as soon as a claim answers something else
+abbrev pub claimed_shelf : ℕ → Shelf → Identity → Claim → Shelf
+claimed_shelf v s i Claim.Claimed = with_slot (with_wait s v None) i (Some (claimed_by v))
+claimed_shelf v s i Claim.Waiting = with_wait s v (Some i)
+claimed_shelf v s i _ = with_wait s v None
+
+-- why a claim is refused
+abbrev pub RefusesClaim : ℕ → Shelf → Identity → ℕ → Error → Type 0
+RefusesClaim v s i place e = ((e ≡ Error.TooDeep) × IsTooDeep s v i place) ⊎ (e ≡ Error.OutOfMemory)
+
+-- a claim of a table: what it finds, and what it leaves
+pub record ClaimsThere (v : ℕ) (s : Shelf) (i : Identity) (place : ℕ) (result : Result Claim Error) (s' : Shelf) : Type 0 where
+  pub finds : IfOk result (λ c. Would v s i place c × SameShelf (claimed_shelf v s i c) s')
+  pub refused : IfErr result (λ e. RefusesClaim v s i place e × SameShelf (with_wait s v None) s')

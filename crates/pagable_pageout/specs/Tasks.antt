@@ -1,0 +1,169 @@
+-- A worker's task at hand and its path as plain data: what it has to do, what comes next first.
+use Rattle.std.specs.{Prelude.{ℕ, ◌≡◌, ◌≤◌, ◌<◌, ◌+◌, ◌*◌, ◌^◌, List, [], ◌∷◌, length, map, max, reverse, Option, None, Some, slice_get}, Arc.arc_value}
+use Rattle.{pagable_value_spec.specs.declared.numbers.{ArcRef.ArcRef, HandleNumber.HandleNumber}, pagable_load.specs.{LoadEnd.to_do, Frames.reading_of, AccessView.values_at}}
+use Rattle.pagable_pager_spec.specs.{World.{Todo, to_start, to_pin, to_load, to_write, to_finish, to_item, to_set, to_publish, to_release, to_fail, Fault, was_refused, was_failed, Written}, Basics.above}
+use Rattle.pagable_pager_spec.specs.declared.events.WorkerAnswer.{WorkerAnswer}
+use Rattle.{pagable_pager_spec.specs.{Basics.longest_path, Workers.{give, place_below}}, pagable_pageout.specs.{Results.IsOver, Slots.{keys_of, written_of}}}
+use Rattle.pagable_pageout.specs.declared.{tasks.{Node.Node, PageOutError.PageOutError, Task.Task, Turn.Turn, Waiting.Waiting}}
+use Rattle.pagable_codec.specs.declared.{env.Env.Ghosts as Environments, hash.KeyHash.Ghosts as Hashes, nodes.NodeSet.Ghosts as Nodes}
+use Rattle.std.specs.declared.cmp.{Ord.Ghosts as Orders, PartialEq.Ghosts as Equalities, PartialOrd.Ghosts as PartialOrders}
+
+abbrev pub fault_of : PageOutError → Fault
+fault_of (PageOutError.Failed e) = was_refused e
+fault_of PageOutError.AlreadyFailed = was_failed
+
+-- a walk that fails; the entry goes back where nothing waits
+abbrev pub back_of : Option HandleNumber → List Todo → Option HandleNumber
+back_of entry [] = entry
+back_of entry (x ∷ below) = None
+
+abbrev pub fails : Fault → Option HandleNumber → List Todo
+fails fault back = to_fail fault back ∷ []
+
+-- what waits for its references: a written node, or else the item
+abbrev pub waits_as : Option Node → Written → List ℕ → Todo
+waits_as None written keys = to_item written keys
+waits_as (Some n) written keys = to_finish (record { reference = n.reference; place = n.place; through = n.through; written = written; keys = keys; height = n.height })
+
+-- with the height by a reference of this kind too
+abbrev pub raised : ℕ → ℕ → Option Node → Option Node
+raised kind height None = None
+raised kind height (Some n) = Some (record n { height = max n.height (above kind height) })
+
+module _ {E EN EH EK EV : Type 0} {g : Environments E EN EH EK EV} {gh : Hashes EH} {go : Orders EK} {gq : Equalities EK} {gp : PartialOrders EK} {gn : Nodes EN E EN EH EK EV} where
+  abbrev pub waiting_todo : Waiting E EN EH EK EV g gh go gq gp gn → Todo
+  waiting_todo w = waits_as w.node (written_of (arc_value w.written)) (keys_of w.children.items)
+
+  abbrev pub todo_of : Task E EN EH EK EV g gh go gq gp gn → Todo
+  todo_of (Task.Start r place) = to_start r place
+  todo_of (Task.Pin r place) = to_pin r place
+  todo_of (Task.Load r place through reading) = to_load r place through (reading_of reading)
+  todo_of (Task.Write r place through pin) = to_write r place through
+  todo_of (Task.Finish w) = waiting_todo w
+  todo_of (Task.SetKey d through) = to_set d.reference through d.found.key d.found.height
+  todo_of (Task.Publish d) = to_publish d.reference d.found.key d.found.height
+  todo_of (Task.Release d) = to_release d.reference d.found.key d.found.height
+  todo_of (Task.Fail e back) = to_fail (fault_of e) back
+
+  -- a task that needs nothing of the pager
+  abbrev pub IsPlain : Task E EN EH EK EV g gh go gq gp gn → Type 0
+  IsPlain (Task.Pin r place) = ⊥
+  IsPlain (Task.Load r place through reading) = ⊥
+  IsPlain (Task.Write r place through pin) = ⊥
+  IsPlain task = Unit {0}
+
+  -- what waits on a path, the last first
+  unfoldable pub todos : List (Waiting E EN EH EK EV g gh go gq gp gn) → List Todo
+  todos ws = map waiting_todo (reverse ws)
+
+-- The list waits for this reference, at this place on the path: it is the next of what stands in front, which was itself waited for so.
+unfoldable pub Awaits : List Todo → ArcRef → ℕ → Type 0
+Awaits [] r place = place ≡ 0
+Awaits (to_finish o ∷ below) r place =
+    (slice_get o.written.references (length o.keys) ≡ Some r) × (place ≡ place_below o.place r.kind.0) × (o.place + o.height ≤ longest_path) × Awaits below o.reference o.place
+Awaits (to_item written keys ∷ below) r place = (slice_get written.references (length keys) ≡ Some r) × (place ≡ place_below 0 r.kind.0) × (below ≡ [])
+Awaits (_ ∷ below) r place = ⊥
+
+-- The list waits for a reference with a height that fits.
+abbrev pub AwaitsLow : List Todo → ArcRef → ℕ → Type 0
+AwaitsLow below r height = (place : ℕ) × Awaits below r place × (place + height ≤ longest_path)
+
+-- Each entry is the next of what stands below it, and all references of what is finished are done.
+abbrev pub IsWay : List Todo → Type 0
+IsWay [] = Unit {0}
+IsWay (to_start r place ∷ below) = Awaits below r place
+IsWay (to_pin r place ∷ below) = Awaits below r place × (place ≤ longest_path)
+IsWay (to_load r place through reading ∷ below) = Awaits below r place × (place ≤ longest_path)
+IsWay (to_write r place through ∷ below) = Awaits below r place × (place ≤ longest_path)
+IsWay (to_finish o ∷ below) = (length o.keys ≡ length o.written.references) × Awaits below o.reference o.place × (o.place + o.height ≤ longest_path)
+IsWay (to_item written keys ∷ below) = (length keys ≡ length written.references) × (below ≡ [])
+IsWay (to_set r through key height ∷ below) = AwaitsLow below r height
+IsWay (to_publish r key height ∷ below) = AwaitsLow below r height
+IsWay (to_release r key height ∷ below) = AwaitsLow below r height
+IsWay (to_fail fault back ∷ below) = below ≡ []
+
+-- the reference is the next of what waits, and the height by it fits
+pub record TakesNext (node : Option Node) (written : Written) (keys : List ℕ) (r : ArcRef) (height : ℕ) : Type 0 where
+  pub next : slice_get written.references (length keys) ≡ Some r
+  pub near : (n : Node) → node ≡ Some n → n.place + max n.height (above r.kind.0 height) ≤ longest_path
+
+abbrev pub IfKeyOf : WorkerAnswer → (ℕ → Type 0) → Type 0
+IfKeyOf (WorkerAnswer.Key key) P = P key
+IfKeyOf (WorkerAnswer.Failed e) P = Unit {0}
+IfKeyOf WorkerAnswer.AlreadyFailed P = Unit {0}
+
+-- The list ends with this item; or the walk fails.
+abbrev pub EndsWith : Written → List Todo → Type 0
+EndsWith w [] = ⊥
+EndsWith w (to_fail fault back ∷ below) = Unit {0}
+EndsWith w (to_item written keys ∷ below) = (written ≡ w) × (below ≡ [])
+EndsWith w (to_start r place ∷ below) = EndsWith w below
+EndsWith w (to_pin r place ∷ below) = EndsWith w below
+EndsWith w (to_load r place through reading ∷ below) = EndsWith w below
+EndsWith w (to_write r place through ∷ below) = EndsWith w below
+EndsWith w (to_finish o ∷ below) = EndsWith w below
+EndsWith w (to_set r through key height ∷ below) = EndsWith w below
+EndsWith w (to_publish r key height ∷ below) = EndsWith w below
+EndsWith w (to_release r key height ∷ below) = EndsWith w below
+
+-- what stands in front gets the result of its next reference, and goes on
+pub record Gives (r : ArcRef) (key height : ℕ) (old new : List Todo) : Type 0 where
+  pub x : Todo
+  pub rest : List Todo
+  pub was : old ≡ x ∷ rest
+  pub is : new ≡ give r key height (x ∷ rest)
+
+-- ---- why a walk comes to an end, whatever it meets: up to the next claim each step leaves less to do
+
+-- how much there is at most before a load has begun
+abbrev pub most : ℕ
+most = to_do [] + 11
+
+abbrev pub rank : Todo → ℕ
+rank (to_start r place) = 2
+rank (to_pin r place) = most
+rank (to_load r place through reading) = to_do reading.frames + 10
+rank (to_write r place through) = 9
+rank (to_finish o) = 6
+rank (to_item written keys) = 6
+rank (to_set r through key height) = 5
+rank (to_publish r key height) = 4
+rank (to_release r key height) = 3
+rank (to_fail fault back) = 1
+
+-- what there is to do up to the next claim
+abbrev pub due : List Todo → ℕ
+due [] = 0
+due (x ∷ below) = rank x + 6 * length below
+
+-- more than what there is to do up to the next claim over a path in memory
+abbrev pub far : ℕ
+far = most + 6 * 2 ^ 64 + 1
+
+-- a claim leads to what is bounded, and any other step leaves less to do
+abbrev pub Leads : List Todo → List Todo → Type 0
+Leads (to_start r place ∷ below) after = due after ≤ most + 6 * length below
+Leads todo after = due after < due todo
+
+module _ {X XN XH XK XV : Type 0} {g : Environments X XN XH XK XV} {gh : Hashes XH} {go : Orders XK} {gq : Equalities XK} {gp : PartialOrders XK} {gn : Nodes XN X XN XH XK XV} where
+  abbrev pub IfGoes : Turn X XN XH XK XV g gh go gq gp gn → Type 0 → Type 0
+  IfGoes (Turn.Goes t) P = P
+  IfGoes (Turn.Answers a) P = Unit {0}
+
+  abbrev pub LeadsOn : List Todo → Turn X XN XH XK XV g gh go gq gp gn → List Todo → Type 0
+  LeadsOn todo turn after = IfGoes turn (Leads todo after)
+
+  -- the answer is a key of which P holds, or none
+  abbrev pub IfKey : Turn X XN XH XK XV g gh go gq gp gn → (ℕ → Type 0) → Type 0
+  IfKey (Turn.Answers a) P = IfKeyOf a P
+  IfKey (Turn.Goes t) P = Unit {0}
+
+  -- An item stays at the list's end; a key that is answered is over its references' results.
+  pub record Ends (todo : List Todo) (turn : Turn X XN XH XK XV g gh go gq gp gn) (after : List Todo) : Type 0 where
+    pub stays : (w : Written) → EndsWith w todo → IfGoes turn (EndsWith w after)
+    pub over : (w : Written) → EndsWith w todo → IfKey turn (λ key. ∥ IsOver gh.digest (values_at gn g gh) w key ∥₁)
+
+  -- the list is in order, and less is left to do
+  pub record GoesOn (todo : List Todo) (turn : Turn X XN XH XK XV g gh go gq gp gn) (after : List Todo) : Type 0 where
+    pub way : IsWay after
+    pub leads : LeadsOn todo turn after

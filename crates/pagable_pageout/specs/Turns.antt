@@ -1,0 +1,222 @@
+-- A worker's turn over the pager's plain state and its table: what it needs to hold, what it does, and what it leaves to be done.
+use Rattle.std.specs.{Prelude.{ℕ, ◌≡◌, ◌≤◌, ◌+◌, ◌⊎◌, Bool, false, true, List, [], ◌∷◌, MatchOption, Option, Some, None, Result, Ok, Err, IfOk, IfErr}, Arc.arc_value, declared.{alloc.Global.Global, sync.Arc.Arc}}
+use Rattle.{pagable_value_spec.specs.{Blob.key_of, Refusals.is_writing_fault, declared.{error.Error.Error, numbers.{ArcRef.ArcRef, HandleNumber.HandleNumber}}}, pagable_pager_spec.specs.Access.Called}
+use Rattle.pagable_pager_spec.specs.World.{Core, Shelf, Slot, Todo, to_start, to_pin, to_set, was_failed, of_cell, Alike, HasForm, Open, Written, Values, Seen, seen_as, row_at, type_at}
+use Rattle.pagable_pager_spec.specs.{Workers.{IsOpenSlot, KeySetFor, Site, WalkDoes, WorkerEnds, give_known, failing, failing_by, answer_after, is_counted}, Access.{WalkStep, WorkerRun}, Calls.{ScheduleCall, StoreCall}}
+use Rattle.pagable_pager_spec.specs.{Kinds.{is_pinning, owner_worker, identity_of}, Pager.{HoldsItsNodes, PagerState, WellFormed, Moves, TodoBrings, TookWrites, IsWrittenOf, IsFormless, RefusesWriting}}
+use Rattle.pagable_pager_spec.specs.{Basics.{Blob, Identity, longest_path, type_of}, declared.{events.{Claim.Claim, Action.Action, WorkerAnswer.WorkerAnswer}, handle_row.{HandleRow.HandleRow, Owner.Owner}}}
+use Rattle.{pagable_theorems.specs.TreeSteps.StandsAt, pagable_load.specs.{Frames.IsLoadOf, AccessView.{Acting, as_caller}, declared.reading.Reading.Reading as Own}}
+use Rattle.{pagable_core.specs.declared.context.writing.SerializedData.SerializedData, pagable_pageout.specs.{Slots.written_of, Tasks.{IsPlain, todo_of, todos}}}
+use Rattle.pagable_pageout.specs.declared.{claims.ClaimResult.ClaimResult, tasks.{StepResult.StepResult, Node.Node, Task.Task, Turn.Turn, Waiting.Waiting}}
+use Rattle.pagable_codec.specs.declared.{env.Env.Ghosts as Environments, hash.KeyHash.Ghosts as Hashes, nodes.NodeSet.Ghosts as Nodes}
+use Rattle.std.specs.declared.cmp.{Ord.Ghosts as Orders, PartialEq.Ghosts as Equalities, PartialOrd.Ghosts as PartialOrders}
+
+abbrev pub site : Core → Shelf → List Todo → Site
+site core shelf todo = record { core = core; shelf = shelf; todo = todo }
+
+-- what is to be done after a claim
+abbrev pub claim_todo : ArcRef → ℕ → List Todo → Result Claim Error → List Todo
+claim_todo r place below (Ok Claim.Claimed) = to_pin r place ∷ below
+claim_todo r place below (Ok (Claim.Known key height)) = give_known r key height below
+claim_todo r place below (Ok Claim.Waiting) = to_start r place ∷ below
+claim_todo r place below (Ok Claim.AlreadyFailed) = failing was_failed (to_start r place ∷ below)
+claim_todo r place below (Err e) = failing_by e (to_start r place ∷ below)
+
+-- plain blobs, and what is written, as they are
+abbrev pub plain : {N : Type 0} → Values N → Seen N Blob Written
+plain v = record { values = v; blob_of = λ b. b; written_of = λ w. w }
+
+-- a step without where what it wrote lies in memory
+abbrev pub plain_took : Action (Arc SerializedData Global) → Action Written
+plain_took (Action.Claim i r) = Action.Claim i r
+plain_took (Action.Pin i r) = Action.Pin i r
+plain_took (Action.Write i out) = Action.Write i (seen_as (λ a. written_of (arc_value a)) out)
+plain_took (Action.Store i r) = Action.Store i r
+plain_took (Action.SetKey i r) = Action.SetKey i r
+plain_took (Action.Publish i key height) = Action.Publish i key height
+plain_took (Action.Release i) = Action.Release i
+plain_took Action.Fail = Action.Fail
+
+-- whether the step was a claim that has to wait
+abbrev pub is_waiting : {W : Type 0} → Action W → Bool
+is_waiting (Action.Claim i (Ok Claim.Waiting)) = true
+is_waiting step = false
+
+-- while the reference's node lives it has the type of the reference's kind
+pub record IsOfKind (w : Core) (r : ArcRef) : Type 0 where
+  pub given : r.node.0 ≤ w.last.node
+  pub typed : (t : ℕ) → type_at w r.node.0 ≡ Some t → t ≡ type_of r.kind.0
+
+-- the handle pins the reference's node
+pub record PinsAt (w : Core) (r : ArcRef) (k : HandleNumber) : Type 0 where
+  pub row : HandleRow
+  pub live : row_at w k ≡ Some row
+  pub at : row.node ≡ r.node
+  pub pins : is_pinning row.mode ≡ true
+
+-- and it is its owner's
+pub record HoldsPin (w : Core) (me : Owner) (r : ArcRef) (k : HandleNumber) : Type 0 where
+  pub pins : PinsAt w r k
+  pub own : pins.row.owner ≡ me
+
+-- the load is open, and reads the reference's cell for this handle
+pub record IsLoading (w : Core) (n : ℕ) (r : ArcRef) (through : HandleNumber) (own : Own) : Type 0 where
+  pub is : IsLoadOf w (owner_worker n) own
+  pub for_cell : own.for_cell ≡ true
+  pub t : ℕ
+  pub root : is.load.root ≡ of_cell r.node t through
+
+module _ {X XN XH XK XV : Type 0} {g : Environments X XN XH XK XV} {gh : Hashes XH} {go : Orders XK} {gq : Equalities XK} {gp : PartialOrders XK} {gn : Nodes XN X XN XH XK XV} where
+  -- what a task needs of the pager
+  abbrev pub TaskFits : ℕ → Core → Task X XN XH XK XV g gh go gq gp gn → Type 0
+  TaskFits n w (Task.Pin r place) = StandsAt w r r.handle × IsOfKind w r
+  TaskFits n w (Task.Load r place through own) = IsOfKind w r × IsLoading w n r through own
+  TaskFits n w (Task.Write r place through pin) = IsOfKind w r × HoldsPin w (owner_worker n) r pin
+  TaskFits n w task = Unit {0}
+
+  -- what a claim found is the reference's, and fits at its place
+  abbrev pub ClaimFits : ArcRef → ℕ → Result (ClaimResult X XN XH XK XV g gh go gq gp gn) Error → Type 0
+  ClaimFits r place (Ok ClaimResult.Claimed) = place ≤ longest_path
+  ClaimFits r place (Ok (ClaimResult.Known found)) = (found.identity ≡ identity_of r) × (place + found.height ≤ longest_path)
+  ClaimFits r place claim = Unit {0}
+
+  abbrev pub ClaimLeaves : ArcRef → ℕ → Result (ClaimResult X XN XH XK XV g gh go gq gp gn) Error → Task X XN XH XK XV g gh go gq gp gn → Type 0
+  ClaimLeaves r place (Ok ClaimResult.Claimed) task = task ≡ Task.Pin r place
+  ClaimLeaves r place claim task = IsPlain task
+
+  -- the pager is whole, the calls are the worker's, and the task fits
+  pub record Fits {N E : Type 0} (v : Values N) (me : Owner) (n : ℕ) (task : Task X XN XH XK XV g gh go gq gp gn) (s : PagerState N E) : Type 0 where
+    pub me_is : me ≡ owner_worker n
+    pub whole : WellFormed v s
+    pub task_fits : TaskFits n s.core task
+
+  -- what a turn comes to
+  abbrev pub plan : Turn X XN XH XK XV g gh go gq gp gn → List (Waiting X XN XH XK XV g gh go gq gp gn) → List Todo
+  plan (Turn.Goes t) path = todo_of t ∷ todos path
+  plan (Turn.Answers a) path = []
+
+  abbrev pub answer_in : Turn X XN XH XK XV g gh go gq gp gn → Option WorkerAnswer
+  answer_in (Turn.Goes t) = None
+  answer_in (Turn.Answers a) = Some a
+
+  abbrev pub LeavesFit : ℕ → Core → Turn X XN XH XK XV g gh go gq gp gn → Type 0
+  LeavesFit n w (Turn.Goes t) = TaskFits n w t
+  LeavesFit n w (Turn.Answers a) = Unit {0}
+
+  -- a step of the worker, up to its end
+  pub record Turned {N E : Type 0} (v : Values N) (n : ℕ) (shelf : Shelf) (todo : List Todo) (s : PagerState N E) (shelf' : Shelf) (moved : StepResult X XN XH XK XV g gh go gq gp gn) (after : List Todo) (t : PagerState N E) : Type 0 where
+    pub does : WalkDoes (plain v) n (site s.core shelf todo) (plain_took moved.action) (site t.core shelf' after)
+    pub answers : answer_after todo (plain_took moved.action) ≡ answer_in moved.turn
+    pub moves : Moves (TodoBrings v s.core todo) s t
+    pub holds : Moves (λ n x. HoldsItsNodes v s x) s t
+    pub writes : TookWrites v (λ w. w) s (plain_took moved.action)
+    pub whole : WellFormed v t
+    pub fits : LeavesFit n t.core moved.turn
+
+  -- A turn is a step of the worker, where the task fits, and is counted as one.
+  pub record TurnsTo {N E : Type 0} (v : Values N) (me : Owner) (n : ℕ) (shelf : Shelf) (task : Task X XN XH XK XV g gh go gq gp gn) (below : List Todo) (shelf' : Shelf) (moved : StepResult X XN XH XK XV g gh go gq gp gn) (after : List Todo) (s t : PagerState N E) : Type 0 where
+    pub turns : Fits v me n task s → Turned v n shelf (todo_of task ∷ below) s shelf' moved after t
+    pub counts : moved.counted ≡ is_counted (todo_of task ∷ below) (plain_took moved.action)
+
+  -- with an answer the worker ends
+  pub record Closes {N E : Type 0} (v : Values N) (n : ℕ) (turn : Turn X XN XH XK XV g gh go gq gp gn) (s s' : PagerState N E) : Type 0 where
+    pub closes : MatchOption (answer_in turn) (s' ≡ s) (λ a. Called v (λ w'. WorkerEnds s.core n w') s s')
+
+  abbrev pub acting_then : {E : Type 0} → Turn X XN XH XK XV g gh go gq gp gn → Acting E → Acting E
+  acting_then (Turn.Goes t) a = a
+  acting_then (Turn.Answers answer) a = as_caller a
+
+  -- a step of the worker, with its end
+  pub record Stepped {N E : Type 0} (v : Values N) (n : ℕ) (shelf : Shelf) (todo : List Todo) (s : PagerState N E) (shelf' : Shelf) (moved : StepResult X XN XH XK XV g gh go gq gp gn) (after : List Todo) (t : PagerState N E) : Type 0 where
+    pub does : WalkStep (plain v) n todo (record { pager = s; shelf = shelf }) (plain_took moved.action) after (record { pager = t; shelf = shelf' })
+    pub answers : answer_after todo (plain_took moved.action) ≡ answer_in moved.turn
+    pub fits : LeavesFit n t.core moved.turn
+
+  -- It is a step of the worker, where the task fits, and is counted as one.
+  pub record StepsTo {N E : Type 0} (v : Values N) (me : Owner) (n : ℕ) (shelf : Shelf) (task : Task X XN XH XK XV g gh go gq gp gn) (below : List Todo) (shelf' : Shelf) (moved : StepResult X XN XH XK XV g gh go gq gp gn) (after : List Todo) (s t : PagerState N E) : Type 0 where
+    pub steps : Fits v me n task s → Stepped v n shelf (todo_of task ∷ below) s shelf' moved after t
+    pub counts : moved.counted ≡ is_counted (todo_of task ∷ below) (plain_took moved.action)
+
+-- ---- a worker's walk from a task to its answer
+
+-- no worker but this one is at work on the table
+abbrev pub IsAlone : ℕ → Shelf → Type 0
+IsAlone n shelf = (i : Identity) (slot : Slot) → IsOpenSlot shelf i slot → slot.worker ≡ n
+
+-- some steps from what is to be done to this answer
+pub record Walked {N E : Type 0} (v : Values N) (n : ℕ) (todo : List Todo) (s : PagerState N E) (shelf : Shelf) (answer : WorkerAnswer) (t : PagerState N E) (shelf' : Shelf) : Type 0 where
+  pub steps : List (Action Written)
+  pub run : WorkerRun (plain v) n todo (record { pager = s; shelf = shelf }) steps answer (record { pager = t; shelf = shelf' })
+
+module _ {X XN XH XK XV : Type 0} {g : Environments X XN XH XK XV} {gh : Hashes XH} {go : Orders XK} {gq : Equalities XK} {gp : PartialOrders XK} {gn : Nodes XN X XN XH XK XV} where
+  -- It is a step of the worker, where it is alone.
+  pub record StepsAlone {N E : Type 0} (v : Values N) (me : Owner) (n : ℕ) (shelf : Shelf) (task : Task X XN XH XK XV g gh go gq gp gn) (below : List Todo) (shelf' : Shelf) (moved : StepResult X XN XH XK XV g gh go gq gp gn) (after : List Todo) (s t : PagerState N E) : Type 0 where
+    pub steps : IsAlone n shelf → StepsTo v me n shelf task below shelf' moved after s t
+
+  -- The answer is that of a run of the worker, where the task fits and it is alone.
+  pub record RunsTo {N E : Type 0} (v : Values N) (me : Owner) (n : ℕ) (shelf : Shelf) (task : Task X XN XH XK XV g gh go gq gp gn) (below : List Todo) (shelf' : Shelf) (answer : WorkerAnswer) (s t : PagerState N E) : Type 0 where
+    pub runs : Fits v me n task s → IsAlone n shelf → Walked v n (todo_of task ∷ below) s shelf answer t shelf'
+
+  -- Steps so far: what is to be done fits, the worker is still alone, and a run from there is one from the beginning.
+  pub record HasWalked {N E : Type 0} (v : Values N) (me : Owner) (n : ℕ) (shelf : Shelf) (first : Task X XN XH XK XV g gh go gq gp gn) (below : List Todo) (now_shelf : Shelf) (now : Task X XN XH XK XV g gh go gq gp gn) (now_below : List Todo) (s t : PagerState N E) : Type 0 where
+    pub fits : Fits v me n first s → IsAlone n shelf → Fits v me n now t
+    pub alone : Fits v me n first s → IsAlone n shelf → IsAlone n now_shelf
+    pub then : Fits v me n first s → IsAlone n shelf → (answer : WorkerAnswer) (u : PagerState N E) (shelf' : Shelf) → Walked v n (todo_of now ∷ now_below) t now_shelf answer u shelf' → Walked v n (todo_of first ∷ below) s shelf answer u shelf'
+
+-- ---- what a worker writes of a node that it has pinned, and what its turns at what it has written do
+
+-- a form of the value, with exactly its references
+pub record IsForm {N : Type 0} (v : Values N) (x : N) (written : Written) : Type 0 where
+  pub form : HasForm v x written
+  pub listed : written.references ≡ v.references x
+
+-- by a cause of the value's type; and by a name that says that it has no form only where it has none
+pub record WriteRefused {N : Type 0} (v : Values N) (x : N) (e : Error) : Type 0 where
+  pub cause : v.write_causes (v.node_type x) e
+  pub formless : is_writing_fault e ≡ true → IsFormless v x
+
+-- the handle pins the reference's node, which is of its kind's type
+pub record IsPinned {N E : Type 0} (v : Values N) (s : PagerState N E) (r : ArcRef) (pin : HandleNumber) : Type 0 where
+  pub whole : WellFormed v s
+  pub kind : IsOfKind s.core r
+  pub pins : PinsAt s.core r pin
+
+-- a form of the value that the handle pins, or why it isn't written
+pub record Forms {N E : Type 0} (v : Values N) (s : PagerState N E) (r : ArcRef) (pin : HandleNumber) (result : Result Written Error) : Type 0 where
+  pub written : IsPinned v s r pin → IfOk result (λ w. IsWrittenOf v s r.node.0 w)
+  pub refused : IsPinned v s r pin → IfErr result (λ e. (v.write_causes (type_of r.kind.0) e ⊎ (e ≡ Error.OutOfMemory)) × RefusesWriting v s r.node.0 e)
+
+-- a node that was just written
+abbrev pub just_open : ArcRef → ℕ → HandleNumber → Written → Open
+just_open r place through written = record { reference = r; place = place; through = through; written = written; keys = []; height = 0 }
+
+-- ---- what was written
+
+-- the blob is stored, or the call is refused
+pub record Stores {N E : Type 0} (v : Values N) (s : PagerState N E) (blob : Blob) (r : Result ℕ Error) (t : PagerState N E) : Type 0 where
+  pub stored : StoreCall (key_of v.hash) s.core blob r t.core
+  pub moves : Moves (λ n x. ⊥) s t
+  pub whole : WellFormed v s → WellFormed v t
+
+-- what a blob names, unless it is an item's
+abbrev pub named_by : Option Node → Option Identity
+named_by None = None
+named_by (Some n) = Some (identity_of n.reference)
+
+-- of a stored node the key is set next, and that of an item is answered
+module _ {X XN XH XK XV : Type 0} {g : Environments X XN XH XK XV} {gh : Hashes XH} {go : Orders XK} {gq : Equalities XK} {gp : PartialOrders XK} {gn : Nodes XN X XN XH XK XV} where
+  abbrev pub IsStored : Option Node → ℕ → Turn X XN XH XK XV g gh go gq gp gn → Type 0
+  IsStored None key turn = turn ≡ Turn.Answers (WorkerAnswer.Key key)
+  IsStored (Some n) key turn = (task : Task X XN XH XK XV g gh go gq gp gn) × (turn ≡ Turn.Goes task) × (todo_of task ≡ to_set n.reference n.through key n.height) × IsPlain task
+
+-- the key is set through the handle, where the reference's kind has one
+pub record SetsFor {N E : Type 0} (v : Values N) (me : Owner) (r : ArcRef) (through : HandleNumber) (key : ℕ) (result : Result (Unit {0}) Error) (s t : PagerState N E) : Type 0 where
+  pub sets : KeySetFor s.core me r through key result t.core
+  pub moves : Moves (λ n x. ⊥) s t
+  pub whole : WellFormed v s → WellFormed v t
+
+-- an entry goes back to the list, if one is to
+pub record GoesBack {N E : Type 0} (v : Values N) (me : Owner) (back : Option HandleNumber) (s t : PagerState N E) : Type 0 where
+  pub goes : MatchOption back (Alike s.core t.core) (λ h. (r : Result (Unit {0}) Error) × ScheduleCall s.core me h r t.core)
+  pub moves : Moves (λ n x. ⊥) s t
+  pub whole : WellFormed v s → WellFormed v t

@@ -1,0 +1,79 @@
+//! The slot of a claimed identity in a table that is lent.
+
+ghost use Rattle.std.specs.Prelude.{◌≡◌};
+ghost use Rattle.pagable_pager_spec.specs.{Workers.with_outcome, World.{failed, published}};
+ghost use Rattle.{pagable_value_spec.specs.declared.numbers.Identity.Identity as Named, pagable_pageout.specs.Slots.{AreNamed, IsNamed, after_failure, failed_by, slot_of, slots_in}};
+
+use crate::SlotResult;
+use indexmap::IndexMap;
+use pagable_codec::{Env, NodeSet};
+use pagable_value_spec::{ArcRef, WorkerNumber};
+
+/// What is known of a claim.
+#[derive(Drop)]
+pub enum Outcome<E: Env<Node: NodeSet<E>>> {
+    /// There is no result yet.
+    Open,
+    /// Its key and height.
+    Published(SlotResult<E>),
+    /// Its worker failed.
+    Failed,
+}
+
+/// A claim: the worker that made it, the references that were written of its node, and its outcome.
+#[derive(Drop)]
+pub struct LentSlot<E: Env<Node: NodeSet<E>>> {
+    pub worker: WorkerNumber,
+    pub references: Option<Vec<ArcRef>>,
+    pub outcome: Outcome<E>,
+}
+
+impl<E: Env<Node: NodeSet<E>>> LentSlot<E> {
+    /// Publishes a result, where there is none yet. It takes no memory.
+    pub fn set_success(&mut self, found: SlotResult<E>)
+        ensures slot { slot_of self.new ≡ with_outcome (published found.key found.height) (slot_of self.old) }
+        ensures own { IsNamed found.identity self.old → IsNamed found.identity self.new }
+    {
+        if matches!(&self.outcome, Outcome::Open) {
+            self.outcome = Outcome::Published(found);
+        }
+    }
+
+    /// Marks it failed, where there is no result yet. It takes no memory.
+    pub fn set_failed(&mut self)
+        ensures slot { slot_of self.new ≡ with_outcome failed (slot_of self.old) }
+        ensures own { (i : Named) → IsNamed i self.old → IsNamed i self.new }
+    {
+        if matches!(&self.outcome, Outcome::Open) {
+            self.outcome = Outcome::Failed;
+        }
+    }
+
+    // Marks it failed, if it is this worker's and has no result yet.
+    fn fail_of(&mut self, worker: u64)
+        ensures slot { slot_of self.new ≡ failed_by worker (slot_of self.old) }
+        ensures own { (i : Named) → IsNamed i self.old → IsNamed i self.new }
+    {
+        if self.worker.0 == worker {
+            self.set_failed();
+        }
+    }
+}
+
+/// A worker's claims without a result are failed. It takes no memory.
+#[tactic(auto, using(crate::proofs::Waits::failing))]
+pub fn fail_all<E: Env<Node: NodeSet<E>>>(
+    slots: &mut IndexMap<(u32, u64), LentSlot<E>>,
+    worker: u64,
+)
+    requires { AreNamed slots.old }
+    ensures slots { (j : Named) → slots_in slots.new j ≡ after_failure worker (slots_in slots.old j) }
+    ensures own { AreNamed slots.new }
+{
+    for place in 0..slots.len() {
+        let Some(slot) = slots.get_index_mut(place) else {
+            continue;
+        };
+        slot.fail_of(worker);
+    }
+}

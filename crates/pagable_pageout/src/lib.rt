@@ -1,0 +1,21 @@
+//! Page-out of what values refer to: the claims of a table, and a worker's walk over them with a stack of tasks.
+#![tactic(auto)]
+
+pub mod claims;
+pub mod lent_claims;
+pub mod lent_slot;
+pub mod lent_table;
+pub mod refusal;
+pub mod results;
+pub mod stack;
+pub mod step;
+pub mod stride;
+pub mod tasks;
+pub mod turns;
+
+pub use claims::{ClaimResult, Claims};
+pub use lent_slot::{LentSlot, Outcome};
+pub use lent_table::LentTable;
+pub use results::SlotResult;
+pub use step::{page_out_entry, page_out_item_over, page_out_pending_over};
+pub use tasks::{Done, Node, PageOutError, StepResult, Task, Turn, Waiting};

@@ -1,0 +1,21 @@
+//! The refusal that a failed page-out comes down to.
+
+ghost use Rattle.std.specs.Prelude.{◌≡◌};
+ghost use Rattle.pagable_pageout.specs.declared.tasks.PageOutError.{PageOutError};
+
+use crate::tasks::PageOutError;
+use pagable_value_spec::{Error, Reason};
+
+/// A failure of its own is its refusal, and that of another worker is told in words.
+impl From<PageOutError> for Error {
+    ghost use Rattle.pagable_value_spec.specs.declared.error.Error.{Error as Refusal};
+
+    ghost from_gives = { λ why e. (cause : Refusal) → why ≡ PageOutError.Failed cause → e ≡ cause };
+
+    fn from(why: PageOutError) -> Error {
+        match why {
+            PageOutError::Failed(e) => e,
+            PageOutError::AlreadyFailed => Error::Custom(Reason::new("another worker failed here")),
+        }
+    }
+}

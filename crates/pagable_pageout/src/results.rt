@@ -1,0 +1,36 @@
+//! What page-out found of a node, with a finite tree of such results below it.
+
+ghost use Rattle.std.specs.Prelude.{◌≡◌, ◌≤◌};
+ghost use Rattle.pagable_pager_spec.specs.Basics.{longest_path};
+ghost use Rattle.{pagable_load.specs.AccessView.values_at, pagable_pageout.specs.Results.ResultStands};
+
+use pagable_codec::{Env, NodeSet};
+use pagable_value_spec::{DataKey, Identity};
+use std::marker::PhantomData;
+
+/// What page-out found of a node: its key, and its height, which is at most the longest path.
+#[derive(Drop)]
+pub struct SlotResult<E: Env<Node: NodeSet<E>>> {
+    pub identity: Identity,
+    pub key: DataKey,
+    pub height: u64,
+    pub(crate) of: PhantomData<E>,
+    pub ghost low: { height ≤ longest_path },
+    pub ghost stands: { ∥ ResultStands E.Hash.digest (values_at E.Node.NodeSet E.Env E.Hash.KeyHash) identity key ∥₁ },
+}
+
+impl<E: Env<Node: NodeSet<E>>> SlotResult<E> {
+    /// The same again.
+    pub fn again(&self) -> SlotResult<E>
+        ensures identity { result.identity ≡ self.now.identity }
+        ensures key { result.key ≡ self.now.key }
+        ensures height { result.height ≡ self.now.height }
+    {
+        SlotResult {
+            identity: self.identity,
+            key: self.key,
+            height: self.height,
+            of: PhantomData,
+        }
+    }
+}

@@ -1,0 +1,154 @@
+//! A worker's path: what was written and waits for the next of its references. And what a worker does first.
+
+ghost use Rattle.std.specs.{Arc.arc_value, Prelude.{IfErr, IfOk, OnErr, [], length, vec_capacity, vec_len, ◌*◌, ◌++◌, ◌+◌, ◌<◌, ◌∷◌, ◌≡◌, ◌≤◌}};
+ghost use Rattle.pagable_pageout.specs.{Slots.{keys_of, written_of}, Tasks.{AwaitsLow, Gives, IsPlain, IsWay, TakesNext, back_of, due, fails, fault_of, raised, todo_of, todos, waits_as}};
+ghost use Rattle.{pagable_pageout.specs.Tasks.waiting_todo, pagable_pager_spec.specs.{Kinds.identity_of, Basics.longest_path, World.{of_entry, of_item, was_refused}}};
+ghost use Rattle.pagable_pager_spec.specs.Workers.{first_todo, place_below, settle};
+
+use crate::PageOutError;
+use crate::tasks::{Done, Node, Task, Waiting};
+use pagable_codec::{Env, NodeSet};
+use pagable_core::SerializedData;
+use pagable_value_spec::{ArcRef, Error, HandleNumber, Kind};
+use std::alloc::Global;
+use std::sync::Arc;
+
+/// The place of a reference of this kind on the path below a node at this place. A path ends at a reference through a loose handle.
+pub fn place_below(place: u64, kind: Kind) -> u64
+    requires { place ≤ longest_path }
+    ensures { result ≡ place_below place kind.0 }
+{
+    if kind.0 % 3 == 1 { 0 } else { place + 1 }
+}
+
+/// What waits goes on: its next reference is started, for which it waits on a path that has room; or it is finished.
+#[tactic(auto, using(crate::proofs::Stacks::settling))]
+pub fn settle<E: Env<Node: NodeSet<E>>>(path: &mut Vec<Waiting<E>>, waiting: Waiting<E>) -> Task<E>
+    requires { vec_len path.old < vec_capacity path.old }
+    ensures todo { todo_of result ∷ todos path.new.items ≡ settle (waiting_todo waiting ∷ todos path.old.items) }
+    ensures plain { IsPlain result }
+    ensures less { due (todo_of result ∷ todos path.new.items) ≤ 8 + 6 * length (todos path.old.items) }
+{
+    let done = waiting.children.len();
+    if done >= waiting.written.arcs.len() {
+        return Task::Finish(waiting);
+    }
+    let next = waiting.written.arcs[done];
+    let place = place_below(waiting.node.map_or(0, |node| node.place), next.kind);
+    path.push_reserved(waiting);
+    Task::Start(next, place)
+}
+
+// A node with the height by a reference of this kind too, to what is so high.
+fn raised(node: Option<Node>, kind: Kind, below: u64) -> Option<Node>
+    requires { below ≤ longest_path }
+    ensures { result ≡ raised kind.0 below node }
+{
+    let node = node?;
+    Some(Node {
+        height: node.height.max(place_below(below, kind)),
+        ..node
+    })
+}
+
+// What waits, with the result of its next reference.
+#[tactic(auto, using(crate::proofs::Stacks::giving))]
+fn with_result<E: Env<Node: NodeSet<E>>>(waiting: Waiting<E>, done: Done<E>) -> Waiting<E>
+    requires { TakesNext waiting.node (written_of (arc_value waiting.written)) (keys_of waiting.children.items) done.reference done.found.height }
+    ensures { waiting_todo result ≡ waits_as (raised done.reference.kind.0 done.found.height waiting.node) (written_of (arc_value waiting.written)) (keys_of waiting.children.items ++ done.found.key ∷ []) }
+{
+    let node = raised(waiting.node, done.reference.kind, done.found.height);
+    let mut children = waiting.children;
+    children.push_reserved(done.found);
+    Waiting {
+        node,
+        written: waiting.written,
+        children,
+    }
+}
+
+/// A result goes to what waits for it, and that goes on. Where nothing waits, it comes back.
+#[tactic(auto, using(crate::proofs::Stacks::giving))]
+pub fn give<E: Env<Node: NodeSet<E>>>(
+    path: &mut Vec<Waiting<E>>,
+    done: Done<E>,
+) -> Result<Task<E>, Done<E>>
+    requires { AwaitsLow (todos path.old.items) done.reference done.found.height }
+    ensures gives { IfOk result (λ task. Gives done.reference done.found.key done.found.height (todos path.old.items) (todo_of task ∷ todos path.new.items)) }
+    ensures plain { IfOk result (λ task. IsPlain task) }
+    ensures less { IfOk result (λ task. due (todo_of task ∷ todos path.new.items) ≤ 2 + 6 * length (todos path.old.items)) }
+    ensures back { IfErr result (λ back. back ≡ done) }
+    ensures none { OnErr result ((todos path.old.items ≡ []) × (todos path.new.items ≡ [])) }
+{
+    let Some(waiting) = path.pop() else {
+        return Err(done);
+    };
+    Ok(settle(path, with_result(waiting, done)))
+}
+
+/// The walk fails: all that waits goes. Where nothing waits, this entry goes back to the list.
+#[tactic(auto, using(crate::proofs::Stacks::paths))]
+pub fn fail<E: Env<Node: NodeSet<E>>>(
+    path: &mut Vec<Waiting<E>>,
+    why: PageOutError,
+    entry: Option<HandleNumber>,
+) -> Task<E>
+    ensures todo { todo_of result ∷ todos path.new.items ≡ fails (fault_of why) (back_of entry (todos path.old.items)) }
+    ensures plain { IsPlain result }
+    ensures less { due (todo_of result ∷ todos path.new.items) ≡ 1 }
+    ensures none { todos path.new.items ≡ [] }
+{
+    if path.is_empty() {
+        return Task::Fail(why, entry);
+    }
+    path.clear();
+    Task::Fail(why, None)
+}
+
+/// The walk fails by a step of its own that was refused.
+pub fn refuse<E: Env<Node: NodeSet<E>>>(
+    path: &mut Vec<Waiting<E>>,
+    e: &Error,
+    entry: Option<HandleNumber>,
+) -> Task<E>
+    ensures todo { todo_of result ∷ todos path.new.items ≡ fails (was_refused e.now) (back_of entry (todos path.old.items)) }
+    ensures plain { IsPlain result }
+    ensures less { due (todo_of result ∷ todos path.new.items) ≡ 1 }
+    ensures none { todos path.new.items ≡ [] }
+{
+    fail(path, PageOutError::Failed(*e), entry)
+}
+
+/// The first task for an item, and a path with places for it. Refused by want of memory alone.
+#[tactic(auto, using(crate::proofs::Stacks::paths))]
+pub fn start_item<E: Env<Node: NodeSet<E>>>(
+    alloc: Global,
+    written: Arc<SerializedData>,
+) -> Result<(Task<E>, Vec<Waiting<E>>), Error>
+    ensures todo { IfOk result (λ w. todo_of w.0 ∷ todos w.1.items ≡ first_todo (of_item (written_of (arc_value written)))) }
+    ensures way { IfOk result (λ w. IsWay (todo_of w.0 ∷ todos w.1.items)) }
+    ensures plain { IfOk result (λ w. IsPlain w.0) }
+    ensures only { IfErr result (λ e. e ≡ Error.OutOfMemory) }
+{
+    let mut path = Vec::with_capacity(alloc, 1)?;
+    let children = Vec::with_capacity(alloc, written.arcs.len())?;
+    let item = Waiting {
+        node: None,
+        written,
+        children,
+    };
+    Ok((settle(&mut path, item), path))
+}
+
+/// The first task for an entry of the list, which this reference names, and an empty path. It takes no memory.
+#[tactic(auto, using(crate::proofs::Stacks::paths), unfolding(crate::specs::Tasks::Awaits))]
+pub fn start_entry<E: Env<Node: NodeSet<E>>>(
+    alloc: Global,
+    reference: ArcRef,
+) -> (Task<E>, Vec<Waiting<E>>)
+    ensures todo { todo_of result.0 ∷ todos result.1.items ≡ first_todo (of_entry reference.handle (identity_of reference)) }
+    ensures way { IsWay (todo_of result.0 ∷ todos result.1.items) }
+    ensures plain { IsPlain result.0 }
+{
+    (Task::Start(reference, 0), Vec::new(alloc))
+}

@@ -1,0 +1,259 @@
+//! A worker's step: what is to be done next is done, and with its answer the worker ends. Its walk, from its first task to its answer. And page-out of an item, and of the entries of the list, over an
+//! access, each by workers of its own.
+
+ghost use Rattle.pagable_pager_spec.specs.World.{Written};
+ghost use Rattle.std.specs.{Arc.arc_value, Prelude.{IfOk, ◌∷◌, ◌≡◌}};
+ghost use Rattle.{pagable_load.specs.AccessView.{Acts, ActsThen, as_caller, values_at}, pagable_pageout.specs.{PageOuts.{answer_of, PagesAt, PagesEntryIfThere, PagesItem, there}, Tasks.{Ends, EndsWith, GoesOn, IfKeyOf, LeadsOn}, Results.IsOver}};
+ghost use Rattle.pagable_pageout.specs.{PageOuts.PagesList, Joint.ActsBoth, Slots.written_of, Tasks.{IsWay, todo_of, todos}, Turns.{acting_then, Closes, plan, RunsTo, StepsTo, TurnsTo}};
+ghost use Rattle.pagable_pager_spec.specs.declared.handle_row.Owner.{Owner};
+
+use crate::stack::{start_entry, start_item};
+use crate::stride::stride;
+use crate::tasks::{StepResult, Task, Turn, Waiting, named};
+use crate::turns::{
+    after_claim, answer, claim, finish, found, give_back, load, pin, release, set_key, write,
+};
+use crate::{Claims, LentTable, PageOutError};
+use pagable_codec::{Env, NodeSet};
+use pagable_core::SerializedData;
+use pagable_load::WorkerAccess;
+use pagable_pager_spec::{Action, WorkerAnswer};
+use pagable_value_spec::{DataKey, Error, OptionalDataKey, WorkerNumber};
+use std::alloc::Global;
+use std::sync::Arc;
+
+// Does what is to be done next: one task, by one step of the access at most.
+#[tactic(auto, using(crate::proofs::Turns::turning))]
+fn turn<E: Env<Node: NodeSet<E>>, A: WorkerAccess<E>, T: Claims<E>>(
+    access: &mut A,
+    alloc: Global,
+    table: &mut T,
+    worker: WorkerNumber,
+    path: &mut Vec<Waiting<E>>,
+    task: Task<E>,
+) -> StepResult<E>
+    requires { IsWay (todo_of task ∷ todos path.old.items) }
+    ensures goes { GoesOn (todo_of task ∷ todos path.old.items) result.turn (plan result.turn path.new.items) }
+    ensures ends { Ends (todo_of task ∷ todos path.old.items) result.turn (plan result.turn path.new.items) }
+    ensures acts { ActsBoth A.told A.acting T.shelf access.old table.old access.new table.new (λ a. a) (λ a s q s' q'. TurnsTo (values_at E.Node.NodeSet E.Env E.Hash.KeyHash a.environment) a.me worker.0 q task (todos path.old.items) q' result (plan result.turn path.new.items) s s') }
+{
+    match task {
+        Task::Start(reference, place) => {
+            let checked = access.check_reference(reference);
+            let claim = claim(table, worker, reference, place, checked);
+            let (told, counted) = found(&claim);
+            StepResult {
+                action: Action::Claim(named(reference), told),
+                turn: Turn::Goes(after_claim(path, reference, place, claim)),
+                counted,
+            }
+        }
+        Task::Pin(reference, place) => pin(access, alloc, path, reference, place),
+        Task::Load(reference, place, through, reading) => {
+            load(access, alloc, path, reference, place, through, reading)
+        }
+        Task::Write(reference, place, through, pin) => {
+            write(access, alloc, table, path, reference, place, through, pin)
+        }
+        Task::Finish(waiting) => finish(access, alloc, path, waiting),
+        Task::SetKey(done, through) => set_key(access, path, done, through),
+        Task::Publish(done) => {
+            table.publish(&done.found);
+            StepResult {
+                action: Action::Publish(named(done.reference), done.key(), done.found.height),
+                turn: Turn::Goes(Task::Release(done)),
+                counted: true,
+            }
+        }
+        Task::Release(done) => release(access, worker, path, done),
+        Task::Fail(why, back) => {
+            give_back(access, back);
+            table.fail_claims(worker);
+            StepResult {
+                action: Action::Fail,
+                turn: Turn::Answers(answer(why)),
+                counted: true,
+            }
+        }
+    }
+}
+
+// With its answer the worker ends.
+pub(crate) fn end_answered<E: Env<Node: NodeSet<E>>, A: WorkerAccess<E>>(
+    access: &mut A,
+    worker: WorkerNumber,
+    turn: &Turn<E>,
+)
+    ensures { ActsThen A.told A.acting access.old access.new (acting_then turn.now) (λ a. Closes (values_at E.Node.NodeSet E.Env E.Hash.KeyHash a.environment) worker.0 turn.now) }
+{
+    let Turn::Answers(_) = turn else {
+        return;
+    };
+    access.worker_end(worker);
+}
+
+/// A worker's next step, by its task and its path, on the pager and its table: what it was, and what is to be done after it, or its answer. With its answer the worker
+/// gives up all that it still has, and the calls are the caller's again.
+pub fn step<E: Env<Node: NodeSet<E>>, A: WorkerAccess<E>, T: Claims<E>>(
+    access: &mut A,
+    alloc: Global,
+    table: &mut T,
+    worker: WorkerNumber,
+    path: &mut Vec<Waiting<E>>,
+    task: Task<E>,
+) -> StepResult<E>
+    requires { IsWay (todo_of task ∷ todos path.old.items) }
+    ensures way { IsWay (plan result.turn path.new.items) }
+    ensures ends { Ends (todo_of task ∷ todos path.old.items) result.turn (plan result.turn path.new.items) }
+    ensures leads { LeadsOn (todo_of task ∷ todos path.old.items) result.turn (plan result.turn path.new.items) }
+    ensures acts { ActsBoth A.told A.acting T.shelf access.old table.old access.new table.new (acting_then result.turn) (λ a s q s' q'. StepsTo (values_at E.Node.NodeSet E.Env E.Hash.KeyHash a.environment) a.me worker.0 q task (todos path.old.items) q' result (plan result.turn path.new.items) s s') }
+{
+    let moved = turn(access, alloc, table, worker, path, task);
+    end_answered(access, worker, &moved.turn);
+    moved
+}
+
+/// Makes a worker's steps from its task and its path on, up to its answer. Where other workers have claims without a
+/// result on its table, nothing is said of it: it waits for none of them, and fails with TooDeep where it would have
+/// to. It makes at most 2^64 - 1 claims, and fails with NumbersSpent at one more.
+#[tactic(auto, using(crate::proofs::Turns::joining))]
+pub fn run<E: Env<Node: NodeSet<E>>, A: WorkerAccess<E>, T: Claims<E>>(
+    access: &mut A,
+    alloc: Global,
+    table: &mut T,
+    worker: WorkerNumber,
+    path: &mut Vec<Waiting<E>>,
+    first: Task<E>,
+) -> WorkerAnswer
+    requires { IsWay (todo_of first ∷ todos path.old.items) }
+    ensures over { (w : Written) → EndsWith w (todo_of first ∷ todos path.old.items) → IfKeyOf result (λ key. ∥ IsOver E.Hash.digest (values_at E.Node.NodeSet E.Env E.Hash.KeyHash) w key ∥₁) }
+    ensures acts { ActsBoth A.told A.acting T.shelf access.old table.old access.new table.new as_caller (λ a s q s' q'. RunsTo (values_at E.Node.NodeSet E.Env E.Hash.KeyHash a.environment) a.me worker.0 q first (todos path.old.items) q' result s s') }
+{
+    let mut task = first;
+    let mut left = u64::MAX;
+    loop {
+        let turn = stride(access, alloc, table, worker, path, &mut left, task);
+        match turn {
+            Turn::Goes(next) => task = next,
+            Turn::Answers(answer) => return answer,
+        }
+    }
+}
+
+// ---- page-outs
+
+/// A worker's answer as that of a page-out.
+fn told(answer: WorkerAnswer) -> Result<DataKey, PageOutError>
+    ensures { answer_of result ≡ answer }
+{
+    match answer {
+        WorkerAnswer::Key(key) => Ok(key),
+        WorkerAnswer::Failed(e) => Err(PageOutError::Failed(e)),
+        WorkerAnswer::AlreadyFailed => Err(PageOutError::AlreadyFailed),
+    }
+}
+
+/// Pages an item out on a table, by a worker of its own, up to the worker's answer: the item's key, or why it fails. The access is the caller's, before and
+/// after. A failure leaves what was stored and set so far, and no claim without a result.
+#[tactic(auto, using(crate::proofs::Pages::items))]
+pub fn page_out_item_over<E: Env<Node: NodeSet<E>>, A: WorkerAccess<E>, T: Claims<E>>(
+    access: &mut A,
+    alloc: Global,
+    table: &mut T,
+    item: Arc<SerializedData>,
+) -> Result<DataKey, PageOutError>
+    requires caller { (A.acting access.old).me ≡ Owner.Caller }
+    ensures over { IfOk result (λ key. ∥ IsOver E.Hash.digest (values_at E.Node.NodeSet E.Env E.Hash.KeyHash) (written_of (arc_value item)) key ∥₁) }
+    ensures acts { ActsBoth A.told A.acting T.shelf access.old table.old access.new table.new (λ a. a) (λ a s q s' q'. PagesItem (values_at E.Node.NodeSet E.Env E.Hash.KeyHash a.environment) q (written_of (arc_value item)) q' (answer_of result) s s') }
+{
+    let (task, mut path) = match start_item(alloc, item) {
+        Ok(first) => first,
+        Err(e) => return Err(PageOutError::Failed(e)),
+    };
+    match access.worker_begin() {
+        Ok(worker) => told(run(access, alloc, table, worker, &mut path, task)),
+        Err(e) => Err(PageOutError::Failed(e)),
+    }
+}
+
+// The answer for an entry that was there.
+fn was_there(answer: Result<DataKey, PageOutError>) -> Result<Option<DataKey>, PageOutError>
+    ensures { result ≡ there answer }
+{
+    match answer {
+        Ok(key) => Ok(Some(key)),
+        Err(why) => Err(why),
+    }
+}
+
+/// Pages out the entry at a place of the list, on the table as a new one, up to its worker's answer; or answers None where there is none any more: behind a lock
+/// another thread may have taken it.
+#[tactic(auto, using(crate::proofs::Pages::entries))]
+pub fn page_out_entry<E: Env<Node: NodeSet<E>>, A: WorkerAccess<E>>(
+    access: &mut A,
+    alloc: Global,
+    table: &mut LentTable<E>,
+    place: usize,
+) -> Result<Option<DataKey>, PageOutError>
+    requires caller { (A.acting access.old).me ≡ Owner.Caller }
+    ensures { Acts A.told A.acting access.old access.new (λ a. PagesEntryIfThere (values_at E.Node.NodeSet E.Env E.Hash.KeyHash a.environment) place result) }
+{
+    let (worker, reference) = match access.worker_listed(place) {
+        Ok(begun) => begun,
+        Err(Error::NoSuchHandle) => return Ok(None),
+        Err(e) => return Err(PageOutError::Failed(e)),
+    };
+    table.restart(alloc);
+    let (task, mut path) = start_entry(alloc, reference);
+    was_there(told(run(access, alloc, table, worker, &mut path, task)))
+}
+
+// Pages out the entry at a place of the list, or releases it where its cell has a key.
+#[tactic(auto, using(crate::proofs::Pages::places))]
+fn page_out_at<E: Env<Node: NodeSet<E>>, A: WorkerAccess<E>>(
+    access: &mut A,
+    alloc: Global,
+    table: &mut LentTable<E>,
+    place: usize,
+) -> Result<(), PageOutError>
+    requires caller { (A.acting access.old).me ≡ Owner.Caller }
+    ensures { Acts A.told A.acting access.old access.new (λ a. PagesAt (values_at E.Node.NodeSet E.Env E.Hash.KeyHash a.environment) place result) }
+{
+    match access.entry_key(place) {
+        None => Ok(()),
+        Some(OptionalDataKey::Some(_)) => {
+            let Some(entry) = access.take_pending(place) else {
+                return Ok(());
+            };
+            let _told = access.release(entry);
+            Ok(())
+        }
+        // (also where it has gone meanwhile)
+        Some(OptionalDataKey::None) => match page_out_entry(access, alloc, table, place) {
+            Ok(_) => Ok(()),
+            Err(why) => Err(why),
+        },
+    }
+}
+
+/// Pages out the entries that stand in the list at the call, from the last to the first, each on a table without claims, up to the first failure, which is answered. What is
+/// listed meanwhile stays. An entry whose cell has a key is only released. The access is the caller's, before and after.
+#[tactic(auto, using(crate::proofs::Pages::listed))]
+pub fn page_out_pending_over<E: Env<Node: NodeSet<E>>, A: WorkerAccess<E>>(
+    access: &mut A,
+    alloc: Global,
+) -> Result<(), PageOutError>
+    requires caller { (A.acting access.old).me ≡ Owner.Caller }
+    ensures { Acts A.told A.acting access.old access.new (λ a. PagesList (values_at E.Node.NodeSet E.Env E.Hash.KeyHash a.environment) result) }
+{
+    let mut table = LentTable::new(alloc);
+    let mut left = access.pending();
+    while left > 0 {
+        let place = left - 1;
+        match page_out_at(access, alloc, &mut table, place) {
+            Ok(()) => left = place,
+            Err(why) => return Err(why),
+        }
+    }
+    Ok(())
+}

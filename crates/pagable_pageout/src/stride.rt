@@ -1,0 +1,268 @@
+//! Strides of a walk: the steps of a worker from one claim to the next, or at a node that is done, made together, so
+//! that no task is kept between them.
+
+ghost use Rattle.pagable_pager_spec.specs.World.{SameShelf, Shelf, published, was_refused, to_pin, to_publish, to_start, to_write};
+ghost use Rattle.pagable_pager_spec.specs.{Access.Told, Workers.{with_changed_slot, with_outcome, with_wait}};
+ghost use Rattle.std.specs.{Arc.arc_value, Prelude.{None, Some, ℕ, ◌*◌, ◌+◌, ◌<◌, ◌∷◌, ◌≡◌}};
+ghost use Rattle.{pagable_load.specs.{PinStart.Shares, AccessView.{Acts, Tells, values_at}}, pagable_pageout.specs.{Joint.ActsBoth, Strides.{ComesTo, HandsOn, Strides}, Tasks.{AwaitsLow, IsPlain, back_of, due, Ends, fails, far, GoesOn, IfGoes, IsWay, todo_of, todos, waiting_todo}, Turns.{acting_then, HasWalked, plan}}};
+
+use crate::stack::{give, refuse, settle};
+use crate::step::{end_answered, step};
+use crate::tasks::{Done, Node, StepResult, Task, Turn, Waiting, named};
+use crate::turns::{after_claim, claim, done_with, prepare, store, store_node, stored};
+use crate::{ClaimResult, Claims};
+use pagable_codec::{Env, NodeSet};
+use pagable_load::{Reading, TakenValue, WorkerAccess};
+use pagable_pager_spec::WorkerAnswer;
+use pagable_value_spec::{ArcRef, Error, HandleNumber, WorkerNumber};
+use std::alloc::Global;
+use std::sync::Arc;
+
+// A claim that isn't made, for this reason: the worker waits for nothing, and its walk fails.
+fn unclaimed<E: Env<Node: NodeSet<E>>, T: Claims<E>>(
+    table: &mut T,
+    worker: WorkerNumber,
+    path: &mut Vec<Waiting<E>>,
+    reference: ArcRef,
+    e: Error,
+) -> Task<E>
+    ensures todo { todo_of result ∷ todos path.new.items ≡ fails (was_refused e) (back_of (Some reference.handle) (todos path.old.items)) }
+    ensures plain { IsPlain result }
+    ensures less { due (todo_of result ∷ todos path.new.items) ≡ 1 }
+    ensures table { Told (T.shelf table.old) (T.shelf table.new) (λ q q'. SameShelf (with_wait q worker.0 None) q') }
+{
+    table.forget_wait(worker);
+    refuse(path, &e, Some(reference.handle))
+}
+
+// Writes the value that was shared from the handle that pins it, and comes to its references.
+fn enter<E: Env<Node: NodeSet<E>>, A: WorkerAccess<E>, T: Claims<E>>(
+    access: &A,
+    alloc: Global,
+    table: &mut T,
+    path: &mut Vec<Waiting<E>>,
+    reference: ArcRef,
+    place: u64,
+    through: HandleNumber,
+    shared: Result<Option<Arc<E::Node>>, Error>,
+) -> Task<E>
+    requires { IsWay (to_write reference place through ∷ todos path.old.items) }
+    ensures ends { Ends (to_write reference place through ∷ todos path.old.items) (Turn.Goes result) (todo_of result ∷ todos path.new.items) }
+    ensures goes { GoesOn (to_write reference place through ∷ todos path.old.items) (Turn.Goes result) (todo_of result ∷ todos path.new.items) }
+    ensures step { (n : ℕ) (pin : HandleNumber) → Tells (A.told access.now) (λ s. Shares arc_value s pin shared) → ActsBoth A.told A.acting T.shelf access.now table.old access.now table.new (λ a. a) (λ a s q s' q'. HasWalked (values_at E.Node.NodeSet E.Env E.Hash.KeyHash a.environment) a.me n q (Task.Write reference place through pin) (todos path.old.items) q' result (todos path.new.items) s s') }
+{
+    match prepare(access, alloc, path, reference, place, through, shared) {
+        Ok((waiting, references, told)) => {
+            let _written = told;
+            table.note_written(named(reference), references);
+            settle(path, waiting)
+        }
+        Err(e) => refuse(path, &e, None),
+    }
+}
+
+// Pins what was claimed, and writes it where its value is in memory; or begins a load of it.
+#[tactic(auto, using(std::proofs::lemmas::Bool::Decides::nat_tests))]
+fn take<E: Env<Node: NodeSet<E>>, A: WorkerAccess<E>, T: Claims<E>>(
+    access: &mut A,
+    alloc: Global,
+    table: &mut T,
+    path: &mut Vec<Waiting<E>>,
+    reference: ArcRef,
+    place: u64,
+) -> Task<E>
+    requires { IsWay (to_pin reference place ∷ todos path.old.items) }
+    ensures ends { Ends (to_pin reference place ∷ todos path.old.items) (Turn.Goes result) (todo_of result ∷ todos path.new.items) }
+    ensures goes { GoesOn (to_pin reference place ∷ todos path.old.items) (Turn.Goes result) (todo_of result ∷ todos path.new.items) }
+    ensures acts { (n : ℕ) → ActsBoth A.told A.acting T.shelf access.old table.old access.new table.new (λ a. a) (λ a s q s' q'. HasWalked (values_at E.Node.NodeSet E.Env E.Hash.KeyHash a.environment) a.me n q (Task.Pin reference place) (todos path.old.items) q' result (todos path.new.items) s s') }
+{
+    match access.take_value(reference) {
+        Ok(taken) => match taken {
+            TakenValue::Held(through, _pin, shared) => {
+                enter(
+                    access, alloc, table, path, reference, place, through, shared,
+                )
+            }
+            TakenValue::Begun(through, load, key) => {
+                let reading = Reading::new(alloc, load, key, reference.kind.0 / 3, true);
+                Task::Load(reference, place, through, reading)
+            }
+        },
+        Err(e) => refuse(path, &e, Some(reference.handle)),
+    }
+}
+
+// Claims what a reference names, and takes it where it was free. A claim that would have to wait is refused with
+// TooDeep: nobody else goes on meanwhile.
+#[tactic(auto, using(std::proofs::lemmas::Bool::Decides::nat_tests))]
+fn start<E: Env<Node: NodeSet<E>>, A: WorkerAccess<E>, T: Claims<E>>(
+    access: &mut A,
+    alloc: Global,
+    table: &mut T,
+    worker: WorkerNumber,
+    path: &mut Vec<Waiting<E>>,
+    reference: ArcRef,
+    place: u64,
+) -> Task<E>
+    requires { IsWay (to_start reference place ∷ todos path.old.items) }
+    ensures ends { Ends (to_start reference place ∷ todos path.old.items) (Turn.Goes result) (todo_of result ∷ todos path.new.items) }
+    ensures goes { GoesOn (to_start reference place ∷ todos path.old.items) (Turn.Goes result) (todo_of result ∷ todos path.new.items) }
+    ensures acts { ActsBoth A.told A.acting T.shelf access.old table.old access.new table.new (λ a. a) (λ a s q s' q'. HasWalked (values_at E.Node.NodeSet E.Env E.Hash.KeyHash a.environment) a.me worker.0 q (Task.Start reference place) (todos path.old.items) q' result (todos path.new.items) s s') }
+{
+    let checked = access.check_reference(reference);
+    let found = claim(table, worker, reference, place, checked);
+    match found {
+        Ok(ClaimResult::Claimed) => take(access, alloc, table, path, reference, place),
+        Ok(ClaimResult::Waiting) => unclaimed(table, worker, path, reference, Error::TooDeep),
+        other => after_claim(path, reference, place, other),
+    }
+}
+
+// Claims what a reference names, as `start` does.
+fn begin<E: Env<Node: NodeSet<E>>, A: WorkerAccess<E>, T: Claims<E>>(
+    access: &mut A,
+    alloc: Global,
+    table: &mut T,
+    worker: WorkerNumber,
+    path: &mut Vec<Waiting<E>>,
+    reference: ArcRef,
+    place: u64,
+) -> Turn<E>
+    requires { IsWay (to_start reference place ∷ todos path.old.items) }
+    ensures ends { Ends (to_start reference place ∷ todos path.old.items) result (plan result path.new.items) }
+    ensures goes { GoesOn (to_start reference place ∷ todos path.old.items) result (plan result path.new.items) }
+    ensures acts { ActsBoth A.told A.acting T.shelf access.old table.old access.new table.new (acting_then result) (λ a s q s' q'. Strides (values_at E.Node.NodeSet E.Env E.Hash.KeyHash a.environment) a.me worker.0 q (Task.Start reference place) (todos path.old.items) q' result (todos path.new.items) s s') }
+{
+    Turn::Goes(start(access, alloc, table, worker, path, reference, place))
+}
+
+// Publishes the result of a node whose key is set and whose handles are given up. Its result goes to what waits for it;
+// where nothing does, its key is answered.
+#[tactic(auto, using(std::proofs::lemmas::Bool::Decides::nat_tests, crate::proofs::Stacks::ways))]
+fn publish<E: Env<Node: NodeSet<E>>, T: Claims<E>>(
+    table: &mut T,
+    path: &mut Vec<Waiting<E>>,
+    done: Done<E>,
+) -> Turn<E>
+    requires { AwaitsLow (todos path.old.items) done.reference done.found.height }
+    ensures ends { Ends (to_publish done.reference done.found.key done.found.height ∷ todos path.old.items) result (plan result path.new.items) }
+    ensures goes { GoesOn (to_publish done.reference done.found.key done.found.height ∷ todos path.old.items) result (plan result path.new.items) }
+    ensures hands { HandsOn done (todos path.old.items) result (plan result path.new.items) }
+    ensures table { Told (T.shelf table.old) (T.shelf table.new) (λ q q'. SameShelf (with_changed_slot q done.found.identity (with_outcome (published done.found.key done.found.height))) q') }
+{
+    table.publish(&done.found);
+    match give(path, done) {
+        Ok(task) => Turn::Goes(task),
+        Err(done) => Turn::Answers(WorkerAnswer::Key(done.key())),
+    }
+}
+
+// Stores the blob of a node whose references are all done, sets its key, gives up the worker's handles of it, and
+// publishes its result.
+#[tactic(auto, using(std::proofs::lemmas::Bool::Decides::nat_tests))]
+fn leave_node<E: Env<Node: NodeSet<E>>, A: WorkerAccess<E>, T: Claims<E>>(
+    access: &mut A,
+    alloc: Global,
+    table: &mut T,
+    worker: WorkerNumber,
+    path: &mut Vec<Waiting<E>>,
+    waiting: Waiting<E>,
+    node: Node,
+) -> Turn<E>
+    requires way { IsWay (waiting_todo waiting ∷ todos path.old.items) }
+    requires node { waiting.node ≡ Some node }
+    ensures ends { Ends (waiting_todo waiting ∷ todos path.old.items) result (plan result path.new.items) }
+    ensures goes { GoesOn (waiting_todo waiting ∷ todos path.old.items) result (plan result path.new.items) }
+    ensures acts { ActsBoth A.told A.acting T.shelf access.old table.old access.new table.new (λ a. a) (λ a s q s' q'. ComesTo (values_at E.Node.NodeSet E.Env E.Hash.KeyHash a.environment) a.me worker.0 q (Task.Finish waiting) (todos path.old.items) q' result (plan result path.new.items) s s') }
+{
+    match store_node(access, alloc, worker, &waiting, node) {
+        Ok(key) => publish(table, path, done_with(&waiting, node, key)),
+        Err(e) => Turn::Goes(refuse(path, &e, None)),
+    }
+}
+
+// Stores the blob of an item whose references are all done, and answers its key.
+#[tactic(auto, using(crate::proofs::Turns::finishing))]
+fn leave_item<E: Env<Node: NodeSet<E>>, A: WorkerAccess<E>>(
+    access: &mut A,
+    alloc: Global,
+    path: &mut Vec<Waiting<E>>,
+    waiting: Waiting<E>,
+) -> Turn<E>
+    requires { IsWay (waiting_todo waiting ∷ todos path.old.items) }
+    ensures ends { Ends (waiting_todo waiting ∷ todos path.old.items) result (plan result path.new.items) }
+    ensures goes { GoesOn (waiting_todo waiting ∷ todos path.old.items) result (plan result path.new.items) }
+    ensures acts { (n : ℕ) (shelf : Shelf) → Acts A.told A.acting access.old access.new (λ a s t. ComesTo (values_at E.Node.NodeSet E.Env E.Hash.KeyHash a.environment) a.me n shelf (Task.Finish waiting) (todos path.old.items) shelf result (plan result path.new.items) s t) }
+{
+    match store(access, alloc, &waiting) {
+        Ok(key) => stored(waiting, key),
+        Err(e) => Turn::Goes(refuse(path, &e, None)),
+    }
+}
+
+// Leaves what was written, a node or the item, once its references are all done.
+fn leave<E: Env<Node: NodeSet<E>>, A: WorkerAccess<E>, T: Claims<E>>(
+    access: &mut A,
+    alloc: Global,
+    table: &mut T,
+    worker: WorkerNumber,
+    path: &mut Vec<Waiting<E>>,
+    waiting: Waiting<E>,
+) -> Turn<E>
+    requires { IsWay (waiting_todo waiting ∷ todos path.old.items) }
+    ensures ends { Ends (waiting_todo waiting ∷ todos path.old.items) result (plan result path.new.items) }
+    ensures goes { GoesOn (waiting_todo waiting ∷ todos path.old.items) result (plan result path.new.items) }
+    ensures acts { ActsBoth A.told A.acting T.shelf access.old table.old access.new table.new (λ a. a) (λ a s q s' q'. ComesTo (values_at E.Node.NodeSet E.Env E.Hash.KeyHash a.environment) a.me worker.0 q (Task.Finish waiting) (todos path.old.items) q' result (plan result path.new.items) s s') }
+{
+    match waiting.node {
+        Some(node) => leave_node(access, alloc, table, worker, path, waiting, node),
+        None => leave_item(access, alloc, path, waiting),
+    }
+}
+
+/// A worker's next steps, by its task and its path, on the pager and its table, where so many claims are left: what is
+/// to be done after them, or its answer, with which it ends as by `step`. At a claim these are the steps up to the next
+/// claim or the next blob, as far as the value is in memory and nothing is refused; at what was written, those up to
+/// the next claim, blob or answer; at any other task it is one step. Where no claim is left, a claim is refused with
+/// NumbersSpent.
+#[tactic(auto, using(crate::proofs::Stacks::dues))]
+pub fn stride<E: Env<Node: NodeSet<E>>, A: WorkerAccess<E>, T: Claims<E>>(
+    access: &mut A,
+    alloc: Global,
+    table: &mut T,
+    worker: WorkerNumber,
+    path: &mut Vec<Waiting<E>>,
+    left: &mut u64,
+    task: Task<E>,
+) -> Turn<E>
+    requires { IsWay (todo_of task ∷ todos path.old.items) }
+    ensures way { IsWay (plan result path.new.items) }
+    ensures ends { Ends (todo_of task ∷ todos path.old.items) result (plan result path.new.items) }
+    ensures falls { IfGoes result (left.new * far + due (plan result path.new.items) < left.old * far + due (todo_of task ∷ todos path.old.items)) }
+    ensures acts { ActsBoth A.told A.acting T.shelf access.old table.old access.new table.new (acting_then result) (λ a s q s' q'. Strides (values_at E.Node.NodeSet E.Env E.Hash.KeyHash a.environment) a.me worker.0 q task (todos path.old.items) q' result (todos path.new.items) s s') }
+{
+    match task {
+        Task::Start(reference, place) => {
+            if *left == 0 {
+                return Turn::Goes(unclaimed(table, worker, path, reference, Error::NumbersSpent));
+            }
+            // (by its count the path is known to be no longer than numbers go)
+            let _entries = path.len();
+            *left -= 1;
+            begin(access, alloc, table, worker, path, reference, place)
+        }
+        Task::Finish(waiting) => {
+            let last = leave(access, alloc, table, worker, path, waiting);
+            end_answered(access, worker, &last);
+            last
+        }
+        other => {
+            let StepResult {
+                turn,
+                action: _,
+                counted: _,
+            } = step(access, alloc, table, worker, path, other);
+            turn
+        }
+    }
+}

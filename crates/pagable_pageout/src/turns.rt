@@ -1,0 +1,520 @@
+//! A worker's turns at a reference that it has come to: it claims what the reference names, pins it, by a load where it is needed, and writes its value; and at what it has written: its blob is
+//! stored, its key set and published, and its handles given up.
+
+ghost use Rattle.std.specs.{Arc.arc_value, Prelude.{IfErr, IfOk, length, List, OnOk, Some, vec_capacity, vec_len, ℕ, ◌*◌, ◌+◌, ◌<◌, ◌∷◌, ◌≡◌, ◌≤◌}};
+ghost use Rattle.{pagable_core.specs.Data.blob_of, pagable_load.specs.{Frames.reading_of, PinStart.Shares, AccessView.{Acts, values_at}, WorkerCalls.fault_in}, pagable_value_spec.specs.Blob.key_of};
+ghost use Rattle.{pagable_value_spec.specs.Merkle.blob_of as blob_over, pagable_pageout.specs.{Results.{HasFormOf, IsOver}, Joint.ActsBoth, Strides.{LeavesNode, loose_of}, Tasks.{due, Ends, GoesOn, IfKey, most}, Slots.{keys_of, written_of}, Table.found_as}};
+ghost use Rattle.pagable_pageout.specs.{Tasks.{Awaits, AwaitsLow, fault_of, IsWay, todo_of, todos, waiting_todo}, Turns.{claim_todo, ClaimFits, ClaimLeaves, Forms, plan, site, TurnsTo}};
+ghost use Rattle.{pagable_pageout.specs.Turns.{GoesBack, IsForm, IsStored, just_open, named_by, SetsFor, Stores, WriteRefused}, pagable_pager_spec.specs.{Access.Told, Kinds.identity_of, Pager.PagerState, Basics.longest_path, Workers.claim_fault}};
+ghost use Rattle.pagable_pager_spec.specs.{Workers.{Claims, is_counted_claim}, World.{answer_of_fault, Core, seen_as, Shelf, to_finish, to_load, to_pin, to_release, to_set, to_start, to_write, Todo}};
+
+use crate::stack::{fail, give, refuse, settle};
+use crate::tasks::{Done, Node, StepResult, Task, Turn, Waiting, named};
+use crate::{ClaimResult, Claims, PageOutError, SlotResult};
+use pagable_codec::{Env, NodeSet};
+use pagable_core::{PagableData, SerializedData, SerializerForPaging, SessionOf};
+use pagable_load::{PinnedOrLoading, Reading, WorkerAccess, WorkerNode};
+use pagable_pager_spec::{Action, Claim, LoadAnswer, PinStep, WorkerAnswer};
+use pagable_value_spec::{ArcRef, DataKey, Error, HandleNumber, Identity, WorkerNumber};
+use std::alloc::Global;
+use std::marker::PhantomData;
+use std::sync::Arc;
+
+/// A claim of what a reference names, at this place on the path. `checked` is why the reference itself can't be claimed. It is refused so first, and then as `try_claim`.
+/// A claim that is refused leaves the claims as they were, and the worker waits for nothing.
+#[tactic(auto, using(crate::proofs::Turns::claiming))]
+pub fn claim<E: Env<Node: NodeSet<E>>, T: Claims<E>>(
+    table: &mut T,
+    worker: WorkerNumber,
+    reference: ArcRef,
+    place: u64,
+    checked: Result<(), Error>,
+) -> Result<ClaimResult<E>, Error>
+    ensures step { Told (T.shelf table.old) (T.shelf table.new) (λ s s'. (core : Core) (below : List Todo) → fault_in checked ≡ claim_fault core reference
+        → Claims worker.0 (site core s (to_start reference place ∷ below)) reference place below (found_as result)
+        (site core s' (claim_todo reference place below (found_as result)))) }
+    ensures fits { ClaimFits reference place result }
+{
+    match checked {
+        Ok(()) => table.claim_for(worker, named(reference), place),
+        Err(e) => {
+            table.forget_wait(worker);
+            Err(e)
+        }
+    }
+}
+
+/// What a claim found, with key and height alone of a result; and whether it counts: it does unless it waits.
+pub fn found<E: Env<Node: NodeSet<E>>>(
+    claim: &Result<ClaimResult<E>, Error>,
+) -> (Result<Claim, Error>, bool)
+    ensures found { result.0 ≡ found_as claim.now }
+    ensures counts { result.1 ≡ is_counted_claim (found_as claim.now) }
+{
+    match claim {
+        Ok(ClaimResult::Claimed) => (Ok(Claim::Claimed), true),
+        Ok(ClaimResult::Known(found)) => (Ok(Claim::Known(found.key, found.height)), true),
+        Ok(ClaimResult::Waiting) => (Ok(Claim::Waiting), false),
+        Ok(ClaimResult::AlreadyFailed) => (Ok(Claim::AlreadyFailed), true),
+        Err(e) => (Err(*e), true),
+    }
+}
+
+/// What is done after a claim.
+#[tactic(auto, using(crate::proofs::Stacks::ways))]
+pub fn after_claim<E: Env<Node: NodeSet<E>>>(
+    path: &mut Vec<Waiting<E>>,
+    reference: ArcRef,
+    place: u64,
+    claim: Result<ClaimResult<E>, Error>,
+) -> Task<E>
+    requires way { Awaits (todos path.old.items) reference place }
+    requires fits { ClaimFits reference place claim }
+    ensures todo { todo_of result ∷ todos path.new.items ≡ claim_todo reference place (todos path.old.items) (found_as claim) }
+    ensures way { IsWay (todo_of result ∷ todos path.new.items) }
+    ensures less { due (todo_of result ∷ todos path.new.items) ≤ most + 6 * length (todos path.old.items) }
+    ensures leaves { ClaimLeaves reference place claim result }
+{
+    match claim {
+        Ok(ClaimResult::Claimed) => Task::Pin(reference, place),
+        // Where nothing waits for a result that was known already, the handle of the listed cell is released.
+        Ok(ClaimResult::Known(found)) => match give(path, Done { reference, found }) {
+            Ok(task) => task,
+            Err(done) => Task::Release(done),
+        },
+        Ok(ClaimResult::Waiting) => Task::Start(reference, place),
+        Ok(ClaimResult::AlreadyFailed) => fail(
+            path,
+            PageOutError::AlreadyFailed,
+            Some(reference.handle),
+        ),
+        Err(e) => refuse(path, &e, Some(reference.handle)),
+    }
+}
+
+/// Pins what was claimed, or begins a load of it.
+#[tactic(auto, using(std::proofs::lemmas::Bool::Decides::nat_tests))]
+pub fn pin<E: Env<Node: NodeSet<E>>, A: WorkerAccess<E>>(
+    access: &mut A,
+    alloc: Global,
+    path: &mut Vec<Waiting<E>>,
+    reference: ArcRef,
+    place: u64,
+) -> StepResult<E>
+    requires { IsWay (to_pin reference place ∷ todos path.old.items) }
+    ensures ends { Ends (to_pin reference place ∷ todos path.old.items) result.turn (plan result.turn path.new.items) }
+    ensures goes { GoesOn (to_pin reference place ∷ todos path.old.items) result.turn (plan result.turn path.new.items) }
+    ensures acts { (n : ℕ) (shelf : Shelf) → Acts A.told A.acting access.old access.new (λ a. TurnsTo (values_at E.Node.NodeSet E.Env E.Hash.KeyHash a.environment) a.me n shelf (Task.Pin reference place) (todos path.old.items) shelf result (plan result.turn path.new.items)) }
+{
+    let identity = named(reference);
+    match access.take_reference(reference) {
+        Ok(taken) => match taken {
+            PinnedOrLoading::Held(through, pin) => StepResult {
+                action: Action::Pin(identity, Ok(PinStep::Held(pin))),
+                turn: Turn::Goes(Task::Write(reference, place, through, pin)),
+                counted: true,
+            },
+            PinnedOrLoading::Begun(through, load, key) => {
+                let reading = Reading::new(alloc, load, key, reference.kind.0 / 3, true);
+                StepResult {
+                    action: Action::Pin(identity, Ok(PinStep::LoadBegun(load))),
+                    turn: Turn::Goes(Task::Load(reference, place, through, reading)),
+                    counted: true,
+                }
+            }
+        },
+        Err(e) => StepResult {
+            turn: Turn::Goes(refuse(path, &e, Some(reference.handle))),
+            action: Action::Pin(identity, Err(e)),
+            counted: true,
+        },
+    }
+}
+
+/// Makes the next step of the load of what was claimed.
+#[tactic(auto, using(crate::proofs::Turns::pinning))]
+pub fn load<E: Env<Node: NodeSet<E>>, A: WorkerAccess<E>>(
+    access: &mut A,
+    alloc: Global,
+    path: &mut Vec<Waiting<E>>,
+    reference: ArcRef,
+    place: u64,
+    through: HandleNumber,
+    mut reading: Reading,
+) -> StepResult<E>
+    requires { IsWay (to_load reference place through (reading_of reading) ∷ todos path.old.items) }
+    ensures ends { Ends (to_load reference place through (reading_of reading) ∷ todos path.old.items) result.turn (plan result.turn path.new.items) }
+    ensures goes { GoesOn (to_load reference place through (reading_of reading) ∷ todos path.old.items) result.turn (plan result.turn path.new.items) }
+    ensures acts { (n : ℕ) (shelf : Shelf) → Acts A.told A.acting access.old access.new (λ a. TurnsTo (values_at E.Node.NodeSet E.Env E.Hash.KeyHash a.environment) a.me n shelf (Task.Load reference place through reading) (todos path.old.items) shelf result (plan result.turn path.new.items)) }
+{
+    let identity = named(reference);
+    match reading.step(access, alloc) {
+        None => StepResult {
+            action: Action::Pin(identity, Ok(PinStep::LoadWent)),
+            turn: Turn::Goes(Task::Load(reference, place, through, reading)),
+            counted: false,
+        },
+        Some(LoadAnswer::Pinned(pin)) => StepResult {
+            action: Action::Pin(identity, Ok(PinStep::Held(pin))),
+            turn: Turn::Goes(Task::Write(reference, place, through, pin)),
+            counted: false,
+        },
+        Some(LoadAnswer::Refused(e)) => StepResult {
+            turn: Turn::Goes(refuse(path, &e, Some(reference.handle))),
+            action: Action::Pin(identity, Err(e)),
+            counted: false,
+        },
+        Some(LoadAnswer::Read(_value)) => StepResult {
+            action: Action::Pin(identity, Err(Error::WrongMode)),
+            turn: Turn::Goes(refuse(path, &Error::WrongMode, Some(reference.handle))),
+            counted: false,
+        },
+    }
+}
+
+// Writes a value.
+fn written<E: Env<Node: NodeSet<E>>>(
+    env: &E,
+    session: &SessionOf<E>,
+    alloc: Global,
+    node: &E::Node,
+) -> Result<SerializedData, Error>
+    ensures form { IfOk result (λ d. IsForm (values_at E.Node.NodeSet E.Env E.Hash.KeyHash env.now) node.now (written_of d)) }
+    ensures refused { IfErr result (λ e. WriteRefused (values_at E.Node.NodeSet E.Env E.Hash.KeyHash env.now) node.now e) }
+{
+    let mut serializer = SerializerForPaging::new(alloc, env, session);
+    node.write(&mut serializer)?;
+    let (bytes, arcs) = serializer.finish();
+    Ok(SerializedData { bytes, arcs })
+}
+
+// A form of a value of this kind's type, as sharing it from the handle that pins it answered.
+fn form<E: Env<Node: NodeSet<E>>>(
+    env: &E,
+    session: &SessionOf<E>,
+    alloc: Global,
+    reference: ArcRef,
+    shared: Result<Option<Arc<E::Node>>, Error>,
+) -> Result<SerializedData, Error>
+    ensures form { IfOk result (λ d. ∥ HasFormOf (values_at E.Node.NodeSet E.Env E.Hash.KeyHash) (identity_of reference) (written_of d) ∥₁) }
+    ensures forms { (s : PagerState E.Node E) (pin : HandleNumber) → Shares arc_value s pin shared → Forms (values_at E.Node.NodeSet E.Env E.Hash.KeyHash env.now) s reference pin (seen_as written_of result) }
+{
+    match shared {
+        Ok(Some(node)) => {
+            if node.node_type() != reference.kind.0 / 3 {
+                return Err(Error::WrongKind);
+            }
+            written(env, session, alloc, node.as_ref())
+        }
+        Ok(None) => Err(Error::WrongMode),
+        Err(e) => Err(e),
+    }
+}
+
+// The node whose value was shared, written, with places for the results of its references; these references, and what
+// was written of it once more; for a path that has room for it then.
+#[tactic(auto, using(crate::proofs::Turns::forming))]
+pub(crate) fn prepare<E: Env<Node: NodeSet<E>>, A: WorkerAccess<E>>(
+    access: &A,
+    alloc: Global,
+    path: &mut Vec<Waiting<E>>,
+    reference: ArcRef,
+    place: u64,
+    through: HandleNumber,
+    shared: Result<Option<Arc<E::Node>>, Error>,
+) -> Result<(Waiting<E>, Vec<ArcRef>, Arc<SerializedData>), Error>
+    requires near { place ≤ longest_path }
+    ensures path { path.new.items ≡ path.old.items }
+    ensures room { OnOk result (vec_len path.new < vec_capacity path.new) }
+    ensures open { IfOk result (λ p. waiting_todo p.0 ≡ to_finish (just_open reference place through (written_of (arc_value p.2)))) }
+    ensures listed { IfOk result (λ p. p.1.items ≡ (written_of (arc_value p.2)).references) }
+    ensures forms { (s : PagerState E.Node E) (pin : HandleNumber) → Shares arc_value s pin shared → Forms (values_at E.Node.NodeSet E.Env E.Hash.KeyHash (A.acting access.now).environment) s reference pin (seen_as (λ p. written_of (arc_value p.2)) result) }
+{
+    path.reserve(1)?;
+    let once = form(
+        access.env(),
+        access.session_context(),
+        alloc,
+        reference,
+        shared,
+    )?;
+    let children = Vec::with_capacity(alloc, once.arcs.len())?;
+    let references = Vec::from_slice(alloc, once.arcs.as_slice())?;
+    let written = Arc::new(alloc, once)?;
+    let told = Arc::try_clone(&written)?;
+    let node = Some(Node {
+        reference,
+        place,
+        through,
+        height: 0,
+    });
+    let waiting = Waiting {
+        node,
+        written,
+        children,
+    };
+    Ok((waiting, references, told))
+}
+
+/// Writes the value that is pinned, and comes to its references.
+pub fn write<E: Env<Node: NodeSet<E>>, A: WorkerAccess<E>, T: Claims<E>>(
+    access: &A,
+    alloc: Global,
+    table: &mut T,
+    path: &mut Vec<Waiting<E>>,
+    reference: ArcRef,
+    place: u64,
+    through: HandleNumber,
+    pin: HandleNumber,
+) -> StepResult<E>
+    requires { IsWay (to_write reference place through ∷ todos path.old.items) }
+    ensures ends { Ends (to_write reference place through ∷ todos path.old.items) result.turn (plan result.turn path.new.items) }
+    ensures goes { GoesOn (to_write reference place through ∷ todos path.old.items) result.turn (plan result.turn path.new.items) }
+    ensures step { (n : ℕ) → ActsBoth A.told A.acting T.shelf access.now table.old access.now table.new (λ a. a) (λ a s q s' q'. TurnsTo (values_at E.Node.NodeSet E.Env E.Hash.KeyHash a.environment) a.me n q (Task.Write reference place through pin) (todos path.old.items) q' result (plan result.turn path.new.items) s s') }
+{
+    let identity = named(reference);
+    let shared = access.share(pin);
+    match prepare(access, alloc, path, reference, place, through, shared) {
+        Ok((waiting, references, told)) => {
+            table.note_written(identity, references);
+            StepResult {
+                action: Action::Write(identity, Ok(told)),
+                turn: Turn::Goes(settle(path, waiting)),
+                counted: true,
+            }
+        }
+        Err(e) => StepResult {
+            turn: Turn::Goes(refuse(path, &e, None)),
+            action: Action::Write(identity, Err(e)),
+            counted: true,
+        },
+    }
+}
+
+// ---- at what was written
+
+// The blob of what was written over the results of its references. Refused by want of memory alone.
+fn blob<E: Env<Node: NodeSet<E>>>(alloc: Global, waiting: &Waiting<E>) -> Result<PagableData, Error>
+    ensures blob { IfOk result (λ blob. blob_of blob ≡ blob_over (written_of (arc_value waiting.now.written)).bytes (keys_of waiting.now.children.items)) }
+    ensures only { IfErr result (λ e. e ≡ Error.OutOfMemory) }
+{
+    let children = &waiting.children;
+    let arcs = children.iter().map(|found| found.key).collect(alloc)?;
+    let bytes = Vec::from_slice(alloc, waiting.written.bytes.as_slice())?;
+    Ok(PagableData { bytes, arcs })
+}
+
+// Stores the blob of what was written over the results of its references.
+pub(crate) fn store<E: Env<Node: NodeSet<E>>, A: WorkerAccess<E>>(
+    access: &mut A,
+    alloc: Global,
+    waiting: &Waiting<E>,
+) -> Result<DataKey, Error>
+    ensures key { IfOk result (λ key. key ≡ key_of E.Hash.digest (blob_over (written_of (arc_value waiting.now.written)).bytes (keys_of waiting.now.children.items))) }
+    ensures acts { Acts A.told A.acting access.old access.new (λ a s t. Stores (values_at E.Node.NodeSet E.Env E.Hash.KeyHash a.environment) s
+        (blob_over (written_of (arc_value waiting.now.written)).bytes (keys_of waiting.now.children.items)) result t) }
+{
+    let blob = blob(alloc, waiting)?;
+    access.store(alloc, blob)
+}
+
+fn named_by(node: &Option<Node>) -> Option<Identity>
+    ensures { result ≡ named_by node.now }
+{
+    let node = (*node)?;
+    Some(named(node.reference))
+}
+
+// The handle through which a written node's cell gets its key, where its reference is a loose one.
+#[tactic(auto, using(std::proofs::lemmas::Bool::Decides::nat_tests))]
+fn loose_of(node: Node) -> Option<HandleNumber>
+    ensures { result ≡ loose_of node }
+{
+    if node.reference.kind.0 % 3 == 1 {
+        return Some(node.through);
+    }
+    None
+}
+
+// Stores the blob of a written node over the results of its references, sets its key and gives up the worker's handles
+// of it.
+pub(crate) fn store_node<E: Env<Node: NodeSet<E>>, A: WorkerAccess<E>>(
+    access: &mut A,
+    alloc: Global,
+    worker: WorkerNumber,
+    waiting: &Waiting<E>,
+    node: Node,
+) -> Result<DataKey, Error>
+    ensures key { IfOk result (λ key. key ≡ key_of E.Hash.digest (blob_over (written_of (arc_value waiting.now.written)).bytes (keys_of waiting.now.children.items))) }
+    ensures acts { Acts A.told A.acting access.old access.new (λ a s t. LeavesNode (values_at E.Node.NodeSet E.Env E.Hash.KeyHash a.environment) a.me worker.0 node s
+        (blob_over (written_of (arc_value waiting.now.written)).bytes (keys_of waiting.now.children.items)) result t) }
+{
+    let blob = blob(alloc, waiting)?;
+    let at = WorkerNode {
+        worker,
+        node: node.reference.node,
+        loose: loose_of(node),
+    };
+    access.store_node(alloc, blob, at)
+}
+
+// A written node's reference with its result: the key of the node's blob over the results of its references.
+pub(crate) fn done_with<E: Env<Node: NodeSet<E>>>(
+    waiting: &Waiting<E>,
+    node: Node,
+    key: DataKey,
+) -> Done<E>
+    requires node { waiting.now.node ≡ Some node }
+    requires all { length (keys_of waiting.now.children.items) ≡ length (written_of (arc_value waiting.now.written)).references }
+    requires key { key ≡ key_of E.Hash.digest (blob_over (written_of (arc_value waiting.now.written)).bytes (keys_of waiting.now.children.items)) }
+    ensures reference { result.reference ≡ node.reference }
+    ensures key { result.found.key ≡ key }
+    ensures height { result.found.height ≡ node.height }
+{
+    let reference = node.reference;
+    let found = SlotResult {
+        identity: named(reference),
+        key,
+        height: node.height,
+        of: PhantomData,
+    };
+    Done { reference, found }
+}
+
+// The result of a node whose blob was stored is known: its key is set next. That of an item is answered.
+pub(crate) fn stored<E: Env<Node: NodeSet<E>>>(waiting: Waiting<E>, key: DataKey) -> Turn<E>
+    requires all { length (keys_of waiting.children.items) ≡ length (written_of (arc_value waiting.written)).references }
+    requires key { key ≡ key_of E.Hash.digest (blob_over (written_of (arc_value waiting.written)).bytes (keys_of waiting.children.items)) }
+    ensures stored { IsStored waiting.node key result }
+    ensures over { IfKey result (λ key. ∥ IsOver E.Hash.digest (values_at E.Node.NodeSet E.Env E.Hash.KeyHash) (written_of (arc_value waiting.written)) key ∥₁) }
+{
+    let Some(node) = waiting.node else {
+        return Turn::Answers(WorkerAnswer::Key(key));
+    };
+    Turn::Goes(Task::SetKey(done_with(&waiting, node, key), node.through))
+}
+
+/// Stores the blob of a node or an item whose references are all done.
+#[tactic(auto, using(crate::proofs::Turns::finishing))]
+pub fn finish<E: Env<Node: NodeSet<E>>, A: WorkerAccess<E>>(
+    access: &mut A,
+    alloc: Global,
+    path: &mut Vec<Waiting<E>>,
+    waiting: Waiting<E>,
+) -> StepResult<E>
+    requires { IsWay (waiting_todo waiting ∷ todos path.old.items) }
+    ensures ends { Ends (waiting_todo waiting ∷ todos path.old.items) result.turn (plan result.turn path.new.items) }
+    ensures goes { GoesOn (waiting_todo waiting ∷ todos path.old.items) result.turn (plan result.turn path.new.items) }
+    ensures acts { (n : ℕ) (shelf : Shelf) → Acts A.told A.acting access.old access.new (λ a. TurnsTo (values_at E.Node.NodeSet E.Env E.Hash.KeyHash a.environment) a.me n shelf (Task.Finish waiting) (todos path.old.items) shelf result (plan result.turn path.new.items)) }
+{
+    let identity = named_by(&waiting.node);
+    match store(access, alloc, &waiting) {
+        Ok(key) => StepResult {
+            action: Action::Store(identity, Ok(key)),
+            turn: stored(waiting, key),
+            counted: true,
+        },
+        Err(e) => StepResult {
+            turn: Turn::Goes(refuse(path, &e, None)),
+            action: Action::Store(identity, Err(e)),
+            counted: true,
+        },
+    }
+}
+
+// Sets the key of what a loose kind names, through the worker's handle. Through any other kind none is set, also where the reference's handle became loose meanwhile.
+#[tactic(auto, using(crate::proofs::Turns::keys))]
+pub(crate) fn set_key_of<E: Env<Node: NodeSet<E>>, A: WorkerAccess<E>>(
+    access: &mut A,
+    reference: ArcRef,
+    through: HandleNumber,
+    key: DataKey,
+) -> Result<(), Error>
+    ensures { Acts A.told A.acting access.old access.new (λ a. SetsFor (values_at E.Node.NodeSet E.Env E.Hash.KeyHash a.environment) a.me reference through key result) }
+{
+    if reference.kind.0 % 3 != 1 {
+        return Ok(());
+    }
+    access.set_data_key(through, key)
+}
+
+/// Sets the key of a node whose blob was stored.
+#[tactic(auto, using(std::proofs::lemmas::Bool::Decides::nat_tests))]
+pub fn set_key<E: Env<Node: NodeSet<E>>, A: WorkerAccess<E>>(
+    access: &mut A,
+    path: &mut Vec<Waiting<E>>,
+    done: Done<E>,
+    through: HandleNumber,
+) -> StepResult<E>
+    requires { AwaitsLow (todos path.old.items) done.reference done.found.height }
+    ensures ends { Ends (to_set done.reference through done.found.key done.found.height ∷ todos path.old.items) result.turn (plan result.turn path.new.items) }
+    ensures goes { GoesOn (to_set done.reference through done.found.key done.found.height ∷ todos path.old.items) result.turn (plan result.turn path.new.items) }
+    ensures acts { (n : ℕ) (shelf : Shelf) → Acts A.told A.acting access.old access.new (λ a. TurnsTo (values_at E.Node.NodeSet E.Env E.Hash.KeyHash a.environment) a.me n shelf (Task.SetKey done through) (todos path.old.items) shelf result (plan result.turn path.new.items)) }
+{
+    let identity = named(done.reference);
+    match set_key_of(access, done.reference, through, done.key()) {
+        Ok(()) => StepResult {
+            action: Action::SetKey(identity, Ok(())),
+            turn: Turn::Goes(Task::Publish(done)),
+            counted: true,
+        },
+        Err(e) => StepResult {
+            turn: Turn::Goes(refuse(path, &e, None)),
+            action: Action::SetKey(identity, Err(e)),
+            counted: true,
+        },
+    }
+}
+
+/// Gives up the worker's handles of a node that is done. Its result goes to what waits for it; where nothing does, its key is answered.
+#[tactic(auto, using(std::proofs::lemmas::Bool::Decides::nat_tests, crate::proofs::Stacks::ways))]
+pub fn release<E: Env<Node: NodeSet<E>>, A: WorkerAccess<E>>(
+    access: &mut A,
+    worker: WorkerNumber,
+    path: &mut Vec<Waiting<E>>,
+    done: Done<E>,
+) -> StepResult<E>
+    requires { AwaitsLow (todos path.old.items) done.reference done.found.height }
+    ensures ends { Ends (to_release done.reference done.found.key done.found.height ∷ todos path.old.items) result.turn (plan result.turn path.new.items) }
+    ensures goes { GoesOn (to_release done.reference done.found.key done.found.height ∷ todos path.old.items) result.turn (plan result.turn path.new.items) }
+    ensures acts { (shelf : Shelf) → Acts A.told A.acting access.old access.new (λ a. TurnsTo (values_at E.Node.NodeSet E.Env E.Hash.KeyHash a.environment) a.me worker.0 shelf (Task.Release done) (todos path.old.items) shelf result (plan result.turn path.new.items)) }
+{
+    let identity = named(done.reference);
+    access.give_up(worker, identity.node);
+    match give(path, done) {
+        Ok(task) => StepResult {
+            action: Action::Release(identity),
+            turn: Turn::Goes(task),
+            counted: true,
+        },
+        Err(done) => StepResult {
+            action: Action::Release(identity),
+            turn: Turn::Answers(WorkerAnswer::Key(done.key())),
+            counted: true,
+        },
+    }
+}
+
+/// An entry goes back to the list, as far as the list can take it.
+#[tactic(auto, using(crate::proofs::Turns::backs))]
+pub fn give_back<E: Env<Node: NodeSet<E>>, A: WorkerAccess<E>>(
+    access: &mut A,
+    back: Option<HandleNumber>,
+)
+    ensures { Acts A.told A.acting access.old access.new (λ a s t. GoesBack (values_at E.Node.NodeSet E.Env E.Hash.KeyHash a.environment) a.me back s t) }
+{
+    let Some(entry) = back else {
+        return;
+    };
+    let _told = access.schedule_for_paging(entry);
+}
+
+/// What a failed walk answers.
+pub fn answer(why: PageOutError) -> WorkerAnswer
+    ensures { result ≡ answer_of_fault (fault_of why) }
+{
+    match why {
+        PageOutError::Failed(e) => WorkerAnswer::Failed(e),
+        PageOutError::AlreadyFailed => WorkerAnswer::AlreadyFailed,
+    }
+}

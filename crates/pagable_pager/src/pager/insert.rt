@@ -1,0 +1,271 @@
+//! Nodes that come, what loads have read becomes nodes, and loads of cells that end with a value.
+
+ghost use Rattle.std.specs.Prelude.{Bool, IfErr, None, OnErr, OnOk, Option, true, ℕ, ◌≡◌};
+ghost use Rattle.pagable_pager.specs.View.{Calls, OnlyTables, core_in, state_in, telling, value_in, with_value};
+ghost use Rattle.pagable_tables.specs.{Core.{core_of, plain_of}, EndingLoads.early_fault};
+ghost use Rattle.pagable_pager_spec.specs.{Calls.{AwayBirthCall, BirthCall}, Kinds.is_pinning, LoadCalls.{AdoptCall, EndCall}, Pager.{IsCellOf, IsNewNode, Moves}};
+ghost use Rattle.pagable_pager_spec.specs.{Basics.{Blob, Error}, Refusals.{Refused, closed_fault, earlier, load_fault}, World.usable};
+
+use crate::pager::Pager;
+use pagable_codec::{Env, NodeSet};
+use pagable_core::PagableStorage;
+use pagable_pager_spec::Mode;
+use pagable_pager_spec::handle_row::Owner;
+use pagable_tables::load_end::Unended;
+use pagable_tables::number_table::NumberTable;
+use pagable_tables::{create, load, load_end, load_table};
+use pagable_value_spec::{ArcRef, DataKey, Error, HandleNumber, Kind, LoadNumber};
+use std::alloc::Global;
+use std::sync::Arc;
+
+/// A value is in memory from now on, if it comes, and else it is dropped. Refused with OutOfMemory, and the value comes back.
+pub(crate) fn place<N: Drop>(
+    values: &mut NumberTable<Arc<N>>,
+    alloc: Global,
+    node: u64,
+    comes: bool,
+    value: N,
+) -> Result<(), (Error, N)>
+    ensures placed { OnOk result ((n : ℕ) → value_in values.new n ≡ with_value comes node value (value_in values.old) n) }
+    ensures only { IfErr result (λ e. e.0 ≡ Error.OutOfMemory) }
+    ensures back { IfErr result (λ e. e.1 ≡ value) }
+    ensures kept { OnErr result ((n : ℕ) → value_in values.new n ≡ value_in values.old n) }
+{
+    if !comes {
+        return Ok(());
+    }
+    if let Err(e) = values.reserve(node) {
+        return Err((Error::from(e), value));
+    }
+    let shared = match Arc::new(alloc, value) {
+        Ok(shared) => shared,
+        Err(refused) => return Err(Error::parted(refused)),
+    };
+    values.put(node, shared);
+    Ok(())
+}
+
+impl<E: Env<Node: NodeSet<E>>, S: PagableStorage<E>> Pager<E, S> {
+    /// A new node with a pinning handle of this mode.
+    fn new_node(
+        &mut self,
+        alloc: Global,
+        node: E::Node,
+        mode: Mode,
+    ) -> Result<HandleNumber, (Error, E::Node)>
+        requires { is_pinning mode ≡ true }
+        ensures step { BirthCall (core_in (telling S.stored S.is_closed S.failed) self.old) Owner.Caller node (E.Node.type_of node) (E.Node.refs_of node) mode result (core_in (telling S.stored S.is_closed S.failed) self.new) }
+        ensures moves { Moves (λ n x. (x ≡ node) × IsNewNode (core_in (telling S.stored S.is_closed S.failed) self.old) n) (state_in (telling S.stored S.is_closed S.failed) self.old) (state_in (telling S.stored S.is_closed S.failed) self.new) }
+        ensures storage { self.new.storage ≡ self.old.storage }
+    {
+        let references = match node.refs(alloc) {
+            Ok(references) => references,
+            Err(e) => return Err((e, node)),
+        };
+        if let Err(e) = create::prepare(&mut self.tables, Owner::Caller, &references) {
+            return Err((e, node));
+        }
+        let node_type = node.node_type();
+        let number = self.tables.last_node + 1;
+        if let Err((e, node)) = place(&mut self.values, alloc, number, true, node) {
+            return Err((e, node));
+        }
+        let tables = &mut self.tables;
+        Ok(create::insert_node(tables, Owner::Caller, node_type, 0, references, mode))
+    }
+
+    /// A new node of the value, without a key, with a Pinned handle of the caller's, and the handles of its references move to it. Refused with the cause of
+    /// the first reference that has one, NoSuchHandle, NotYours, WrongMode or WrongKind; with NumbersSpent and OutOfMemory. The value comes back.
+    pub fn new_pinned(
+        &mut self,
+        alloc: Global,
+        node: E::Node,
+    ) -> Result<HandleNumber, (Error, E::Node)>
+        ensures step { BirthCall (core_in (telling S.stored S.is_closed S.failed) self.old) Owner.Caller node (E.Node.type_of node) (E.Node.refs_of node) Mode.Pinned result (core_in (telling S.stored S.is_closed S.failed) self.new) }
+        ensures moves { Moves (λ n x. (x ≡ node) × IsNewNode (core_in (telling S.stored S.is_closed S.failed) self.old) n) (state_in (telling S.stored S.is_closed S.failed) self.old) (state_in (telling S.stored S.is_closed S.failed) self.new) }
+        ensures storage { self.new.storage ≡ self.old.storage }
+    {
+        self.new_node(alloc, node, Mode::Pinned)
+    }
+
+    /// The same, with a loose pinned handle.
+    pub fn new_loose(
+        &mut self,
+        alloc: Global,
+        node: E::Node,
+    ) -> Result<HandleNumber, (Error, E::Node)>
+        ensures step { BirthCall (core_in (telling S.stored S.is_closed S.failed) self.old) Owner.Caller node (E.Node.type_of node) (E.Node.refs_of node) Mode.LoosePinned result (core_in (telling S.stored S.is_closed S.failed) self.new) }
+        ensures moves { Moves (λ n x. (x ≡ node) × IsNewNode (core_in (telling S.stored S.is_closed S.failed) self.old) n) (state_in (telling S.stored S.is_closed S.failed) self.old) (state_in (telling S.stored S.is_closed S.failed) self.new) }
+        ensures storage { self.new.storage ≡ self.old.storage }
+    {
+        self.new_node(alloc, node, Mode::LoosePinned)
+    }
+
+    /// The same, with a Shared handle: a node that never has a key and is never paged out.
+    pub fn new_shared(
+        &mut self,
+        alloc: Global,
+        node: E::Node,
+    ) -> Result<HandleNumber, (Error, E::Node)>
+        ensures step { BirthCall (core_in (telling S.stored S.is_closed S.failed) self.old) Owner.Caller node (E.Node.type_of node) (E.Node.refs_of node) Mode.Shared result (core_in (telling S.stored S.is_closed S.failed) self.new) }
+        ensures moves { Moves (λ n x. (x ≡ node) × IsNewNode (core_in (telling S.stored S.is_closed S.failed) self.old) n) (state_in (telling S.stored S.is_closed S.failed) self.old) (state_in (telling S.stored S.is_closed S.failed) self.new) }
+        ensures storage { self.new.storage ≡ self.old.storage }
+    {
+        self.new_node(alloc, node, Mode::Shared)
+    }
+
+    /// A new cell that has a key and no value, with an unpinned handle of the caller's. Asks that the key reads as a value of this type. Refused with NumbersSpent and OutOfMemory.
+    pub fn new_paged_out(
+        &mut self,
+        alloc: Global,
+        node_type: u32,
+        key: DataKey,
+    ) -> Result<HandleNumber, Error>
+        ensures { Calls OnlyTables (telling S.stored S.is_closed S.failed) self.old (λ w w'. AwayBirthCall w Owner.Caller node_type key result w') self.new }
+    {
+        create::insert_paged_out(&mut self.tables, alloc, Owner::Caller, node_type, key)
+    }
+
+    /// A new node of what a load has read, where the cache gives none and nothing is against it. Refused with NumbersSpent and OutOfMemory, and the value comes back.
+    fn adopt_as_new(
+        &mut self,
+        me: Owner,
+        alloc: Global,
+        load: LoadNumber,
+        kind: Kind,
+        key: DataKey,
+        references: Vec<ArcRef>,
+        node: E::Node,
+    ) -> Result<HandleNumber, (Error, E::Node)>
+        requires listed { references.items ≡ E.Node.refs_of node }
+        requires fresh { (stored : ℕ → Option Blob) (closed : Bool) (failures : ℕ) → early_fault (core_of self.old.tables stored closed failures) me load kind (E.Node.type_of node) references.items ≡ None }
+        requires unknown { usable (plain_of self.old.tables) kind.0 key ≡ None }
+        ensures step { AdoptCall (core_in (telling S.stored S.is_closed S.failed) self.old) me load kind key node (E.Node.type_of node) (E.Node.refs_of node) result (core_in (telling S.stored S.is_closed S.failed) self.new) }
+        ensures moves { Moves (λ n x. (x ≡ node) × IsNewNode (core_in (telling S.stored S.is_closed S.failed) self.old) n) (state_in (telling S.stored S.is_closed S.failed) self.old) (state_in (telling S.stored S.is_closed S.failed) self.new) }
+        ensures storage { self.new.storage ≡ self.old.storage }
+    {
+        if let Err(e) = create::make_ready_to_learn(&mut self.tables) {
+            return Err((e, node));
+        }
+        let number = self.tables.last_node + 1;
+        if let Err((e, node)) = place(&mut self.values, alloc, number, true, node) {
+            return Err((e, node));
+        }
+        let lists = !self.storage.has_closed();
+        let tables = &mut self.tables;
+        Ok(load::adopt(tables, load, kind, key, references, lists))
+    }
+
+    /// Why a load's value neither becomes a node nor ends the load, where its references can't be listed for want of memory: the load isn't open, or else that.
+    fn unlisted(&self, me: Owner, load: LoadNumber, e: Error) -> Error
+        ensures { e ≡ Error.OutOfMemory → (later : Option Error) → Refused (earlier (load_fault (core_in (telling S.stored S.is_closed S.failed) self.now) me load) later)
+            (closed_fault (core_in (telling S.stored S.is_closed S.failed) self.now) load) (Unit {0}) (core_in (telling S.stored S.is_closed S.failed) self.now) result
+            (core_in (telling S.stored S.is_closed S.failed) self.now) }
+    {
+        match load_table::load_of(&self.tables.loads, load.0) {
+            Some(_) => e,
+            None => Error::NoSuchHandle,
+        }
+    }
+
+    /// What a load has read becomes a node, which the cache knows from now on, with a handle of the load's, and the handles of its references move to it. Where the cache gives a node already, what
+    /// was read is dropped, the handles that its references name are given up, and the load gets a handle of that node. Asks that the value is what the key reads as. A refusal gives the value back:
+    /// NoSuchHandle and NotYours, of the load and of the references; WrongMode for a loose kind; WrongKind where the kind isn't the value's; NumbersSpent and OutOfMemory.
+    pub fn load_adopt(
+        &mut self,
+        alloc: Global,
+        load: LoadNumber,
+        kind: Kind,
+        key: DataKey,
+        node: E::Node,
+    ) -> Result<HandleNumber, (Error, E::Node)>
+        ensures step { AdoptCall (core_in (telling S.stored S.is_closed S.failed) self.old) Owner.Caller load kind key node (E.Node.type_of node) (E.Node.refs_of node) result (core_in (telling S.stored S.is_closed S.failed) self.new) }
+        ensures moves { Moves (λ n x. (x ≡ node) × IsNewNode (core_in (telling S.stored S.is_closed S.failed) self.old) n) (state_in (telling S.stored S.is_closed S.failed) self.old) (state_in (telling S.stored S.is_closed S.failed) self.new) }
+        ensures storage { self.new.storage ≡ self.old.storage }
+    {
+        self.load_adopt_by(Owner::Caller, alloc, load, kind, key, node)
+    }
+
+    pub(crate) fn load_adopt_by(
+        &mut self,
+        me: Owner,
+        alloc: Global,
+        load: LoadNumber,
+        kind: Kind,
+        key: DataKey,
+        node: E::Node,
+    ) -> Result<HandleNumber, (Error, E::Node)>
+        ensures step { AdoptCall (core_in (telling S.stored S.is_closed S.failed) self.old) me load kind key node (E.Node.type_of node) (E.Node.refs_of node) result (core_in (telling S.stored S.is_closed S.failed) self.new) }
+        ensures moves { Moves (λ n x. (x ≡ node) × IsNewNode (core_in (telling S.stored S.is_closed S.failed) self.old) n) (state_in (telling S.stored S.is_closed S.failed) self.old) (state_in (telling S.stored S.is_closed S.failed) self.new) }
+        ensures storage { self.new.storage ≡ self.old.storage }
+    {
+        let references = match node.refs(alloc) {
+            Ok(references) => references,
+            Err(e) => return Err((self.unlisted(me, load, e), node)),
+        };
+        let node_type = node.node_type();
+        let lists = !self.storage.has_closed();
+        let (t, values) = (&mut self.tables, &mut self.values);
+        let read = &references;
+        match load::adopt_if_known(t, values, me, load, kind, key, node_type, read, lists) {
+            Ok(Some(known)) => Ok(known),
+            Ok(None) => self.adopt_as_new(me, alloc, load, kind, key, references, node),
+            Err(e) => Err((e, node)),
+        }
+    }
+
+    /// Ends a load of a cell with its value, which the load read: the handle that began it is pinned, a Pinned one is made and answered, and what the load still owns is given up. The value comes into
+    /// the cell with the handles of its references; where the cell has its value already, it is dropped. Asks that the value is what the cell's key reads as. A refusal gives the value back and leaves
+    /// the load open: NoSuchHandle and NotYours, of the load and of the references; WrongMode where the load is of a key, and of a reference; WrongKind of another type; NumbersSpent and OutOfMemory.
+    /// Where the handle that began it is gone or another's, the load is closed with all that it owns, the value is dropped, and NoSuchHandle or NotYours comes alone.
+    pub fn load_end(
+        &mut self,
+        alloc: Global,
+        load: LoadNumber,
+        value: E::Node,
+    ) -> Result<HandleNumber, (Error, Option<E::Node>)>
+        ensures step { EndCall (core_in (telling S.stored S.is_closed S.failed) self.old) Owner.Caller load value (E.Node.type_of value) (E.Node.refs_of value) result (core_in (telling S.stored S.is_closed S.failed) self.new) }
+        ensures moves { Moves (λ n x. (x ≡ value) × IsCellOf (core_in (telling S.stored S.is_closed S.failed) self.old) load n) (state_in (telling S.stored S.is_closed S.failed) self.old) (state_in (telling S.stored S.is_closed S.failed) self.new) }
+        ensures storage { self.new.storage ≡ self.old.storage }
+    {
+        self.load_end_by(Owner::Caller, alloc, load, value)
+    }
+
+    /// Ends a load of an owner's, as `load_end` does one of the caller's; refused as that. An access behind a lock can't tell this pager's environment, so it asks
+    /// of its own that the value was read, and ends its loads by this call.
+    pub fn load_end_by(
+        &mut self,
+        me: Owner,
+        alloc: Global,
+        load: LoadNumber,
+        value: E::Node,
+    ) -> Result<HandleNumber, (Error, Option<E::Node>)>
+        ensures step { EndCall (core_in (telling S.stored S.is_closed S.failed) self.old) me load value (E.Node.type_of value) (E.Node.refs_of value) result (core_in (telling S.stored S.is_closed S.failed) self.new) }
+        ensures moves { Moves (λ n x. (x ≡ value) × IsCellOf (core_in (telling S.stored S.is_closed S.failed) self.old) load n) (state_in (telling S.stored S.is_closed S.failed) self.old) (state_in (telling S.stored S.is_closed S.failed) self.new) }
+        ensures storage { self.new.storage ≡ self.old.storage }
+    {
+        let references = match value.refs(alloc) {
+            Ok(references) => references,
+            Err(e) => return Err((self.unlisted(me, load, e), Some(value))),
+        };
+        let node_type = value.node_type();
+        let tables = &mut self.tables;
+        let ready = match load_end::prepare_end(tables, me, load, node_type, &references) {
+            Ok(ready) => ready,
+            Err(Unended::Refused(e)) => return Err((e, Some(value))),
+            Err(Unended::InVain(e)) => {
+                let _ = self.load_drop_by(me, load);
+                return Err((e, None));
+            }
+        };
+        let node = ready.row.node.0;
+        if let Err((e, value)) = place(&mut self.values, alloc, node, ready.is_away, value) {
+            return Err((e, Some(value)));
+        }
+        let lists = !self.storage.has_closed();
+        let (tables, values) = (&mut self.tables, &mut self.values);
+        Ok(load_end::install(
+            tables, values, me, load, node_type, references, ready, lists,
+        ))
+    }
+}

@@ -1,0 +1,16 @@
+pub mod Basics
+pub mod Kinds
+pub mod World
+pub mod Cascade
+pub mod Refusals
+pub mod Calls
+pub mod LoadCalls
+pub mod Loads
+pub mod Workers
+pub mod Events
+pub mod Pager
+pub mod Runs
+pub mod Order
+pub mod Rightness
+pub mod WorkerClaims
+pub mod Access

@@ -1,0 +1,258 @@
+-- The plain world: handles, cells, list, cache, store, loads, claims and workers, with no values and no counts; in parts, by who tells them. What the
+-- caller's types say of values: the members of the traits, with what is asked of them.
+use Rattle.std.specs.Prelude.{ℕ, ◌≡◌, ◌≤◌, ◌==◌, ◌&&◌, ◌^◌, ◌-◌, ◌+◌, min, Bool, not, if◌then◌else◌, List, Option, Some, None, true, Result, Ok, Err}
+use Rattle.pagable_value_spec.specs.{Blob.key_of, Reading.deepest, Refusals.{is_own_reading, may_refuse_writing}, Form.Form, Writing.kind_of_arc, References.{references_in, SameReferences}}
+use Rattle.pagable_pager_spec.specs.Basics.{Error, OptionalDataKey, Kind, ArcRef, Identity, HandleNumber, LoadNumber, NodeNumber, Blob, Owner, HandleRow, WorkerAnswer, SameAt, Meaning, Shape, Types}
+use Rattle.pagable_pager_spec.specs.{Basics.{is_pinned_kind, if_there}, Kinds.{find_row, pins, is_in_memory}}
+
+pub record Cell : Type 0 where
+  pub node_type : ℕ
+  pub key : OptionalDataKey
+
+-- how many rows the vector of handles and the list have room for in all, before they have to grow
+pub record Places : Type 0 where
+  pub handles : ℕ
+  pub entries : ℕ
+
+-- the last number that was given, of each sort
+pub record Last : Type 0 where
+  pub node : ℕ
+  pub handle : ℕ
+  pub load : ℕ
+  pub worker : ℕ
+
+-- what a load reads its key for: the value of a cell of a type, with the handle by which the load was begun; or what the caller makes of it
+pub data Root : Type 0 where
+  of_cell : NodeNumber → ℕ → HandleNumber → Root
+  of_key : Root
+
+-- an open load: who began it, the key that it reads and what for
+pub record OpenLoad : Type 0 where
+  pub owner : Owner
+  pub key : ℕ
+  pub root : Root
+
+pub record Core : Type 0 where
+  -- the live handles in the order of their numbers, and the cells of live nodes by their numbers
+  pub rows : List HandleRow
+  pub cells : ℕ → Option Cell
+  -- the cells that wait for page-out, by the handles that the list owns
+  pub list : List HandleNumber
+  -- which node is known under a kind and a key
+  pub cache : ℕ → ℕ → Option ℕ
+  -- what is stored under each key, whether the storage was closed, and how often it failed
+  pub stored : ℕ → Option Blob
+  pub closed : Bool
+  pub failures : ℕ
+  -- the open loads, and which workers are at work, by their numbers
+  pub loads : ℕ → Option OpenLoad
+  pub workers : ℕ → Bool
+  pub last : Last
+  pub places : Places
+
+-- what was written of a value: its bytes, and its references in the order written
+pub record Written : Type 0 where
+  pub bytes : List ℕ
+  pub references : List ArcRef
+
+-- what is known of a claim: no result yet, a key with a height, or that it failed
+pub data Outcome : Type 0 where
+  no_result : Outcome
+  published : ℕ → ℕ → Outcome
+  failed : Outcome
+
+-- a claim: the worker that made it, the references that were written of its node, and its outcome
+pub record Slot : Type 0 where
+  pub worker : ℕ
+  pub references : Option (List ArcRef)
+  pub outcome : Outcome
+
+-- The claims of one table by their identities; and of each worker whose last answer was that it waits, for which identity.
+pub record Shelf : Type 0 where
+  pub slots : Identity → Option Slot
+  pub waits : ℕ → Option Identity
+
+-- A blob that a load has got and reads: the kind as which its node will stand (of no meaning for the root), its key, the type of its value, and the
+-- references that were got for it so far, in the order in which they are read.
+pub record Frame : Type 0 where
+  pub kind : Kind
+  pub key : ℕ
+  pub node_type : ℕ
+  pub blob : Blob
+  pub got : List ArcRef
+
+-- how far a load is: its number, the type that its root is read as, the blobs that it reads, the innermost first, and its steps
+pub record Reading : Type 0 where
+  pub load : LoadNumber
+  pub node_type : ℕ
+  pub frames : List Frame
+  pub steps : ℕ
+
+-- A node that a worker has written and whose references it walks: the reference by which it was claimed, its place on the path, the worker's handle
+-- of the reference's mode, what was written, and key after key and the height by the references done so far.
+pub record Open : Type 0 where
+  pub reference : ArcRef
+  pub place : ℕ
+  pub through : HandleNumber
+  pub written : Written
+  pub keys : List ℕ
+  pub height : ℕ
+
+-- why a walk fails: a step of its own was refused, or another worker had failed where it came
+pub data Fault : Type 0 where
+  was_refused : Error → Fault
+  was_failed : Fault
+
+abbrev pub answer_of_fault : Fault → WorkerAnswer
+answer_of_fault (was_refused e) = WorkerAnswer.Failed e
+answer_of_fault was_failed = WorkerAnswer.AlreadyFailed
+
+-- what a worker has to do
+pub data Todo : Type 0 where
+  -- claim what the reference names, at this place on the path
+  to_start : ArcRef → ℕ → Todo
+  -- pin what was claimed, or go on with the load that this handle began
+  to_pin : ArcRef → ℕ → Todo
+  to_load : ArcRef → ℕ → HandleNumber → Reading → Todo
+  -- write it, once it is pinned; this handle has the reference's mode
+  to_write : ArcRef → ℕ → HandleNumber → Todo
+  -- store its blob, once its references are done
+  to_finish : Open → Todo
+  -- store the item's blob, once its references are done: these keys are known so far
+  to_item : Written → List ℕ → Todo
+  -- set, publish and release: with key and height
+  to_set : ArcRef → HandleNumber → ℕ → ℕ → Todo
+  to_publish to_release : ArcRef → ℕ → ℕ → Todo
+  -- give all up, and this entry back to the list
+  to_fail : Fault → Option HandleNumber → Todo
+
+-- what a worker pages out: an item, or the cell of an entry of the list, by the entry's handle
+pub data Task : Type 0 where
+  of_item : Written → Task
+  of_entry : HandleNumber → Identity → Task
+
+-- a worker: its table and task, what it has to do, what comes next first, its steps, and its answer once it has given one
+pub record Walking : Type 0 where
+  pub table : ℕ
+  pub task : Task
+  pub todo : List Todo
+  pub steps : ℕ
+  pub answer : Option WorkerAnswer
+
+-- tables, and loads and workers of a machine, by their numbers
+pub record Work : Type 0 where
+  pub shelves : ℕ → Shelf
+  pub last_table : ℕ
+  pub readings : ℕ → Option Reading
+  pub walkings : ℕ → Option Walking
+
+pub record World : Type 0 where
+  pub core : Core
+  pub work : Work
+
+-- the greatest number there is of any sort
+abbrev pub greatest : ℕ
+greatest = 2 ^ 64 - 1
+
+-- one more, up to the greatest number
+abbrev pub one_more : ℕ → ℕ
+one_more n = min (n + 1) greatest
+
+abbrev pub row_at : Core → HandleNumber → Option HandleRow
+row_at w h = find_row h.0 w.rows
+
+abbrev pub type_at : Core → ℕ → Option ℕ
+type_at w n = if_there (λ (cell : Cell). Some cell.node_type) None (w.cells n)
+
+abbrev pub key_at : Core → ℕ → OptionalDataKey
+key_at w n = if_there (λ (cell : Cell). cell.key) OptionalDataKey.None (w.cells n)
+
+-- whether a live node has its value in memory
+abbrev pub is_here : Core → ℕ → Bool
+is_here w n = is_in_memory (pins n w.rows) (key_at w n)
+
+-- The node that the cache gives for a kind and a key. An entry counts only while its node lives and, as a pin, has its value.
+abbrev pub usable : Core → ℕ → ℕ → Option ℕ
+usable w kind key = if_there (λ n. if_there (λ (cell : Cell). if is_pinned_kind kind && not (is_in_memory (pins n w.rows) cell.key) then None else Some n) None (w.cells n)) None (w.cache kind key)
+
+abbrev pub is_identity : Identity → Identity → Bool
+is_identity i j = (j.kind.0 == i.kind.0) && (j.node.0 == i.node.0)
+
+-- The cache gives the same; of the entries that it can't use any may be forgotten, and none comes.
+pub record SameCache (w w' : Core) : Type 0 where
+  pub gives : (kind key : ℕ) → usable w' kind key ≡ usable w kind key
+  pub only : (kind key n : ℕ) → w'.cache kind key ≡ Some n → w.cache kind key ≡ Some n
+
+-- room never shrinks
+pub record HasRoom (places places' : Places) : Type 0 where
+  pub handles : places.handles ≤ places'.handles
+  pub entries : places.entries ≤ places'.entries
+
+-- The second is the first, but for unusable entries of the cache and for room that was made.
+pub record Alike (w w' : Core) : Type 0 where
+  pub rows : w'.rows ≡ w.rows
+  pub cells : SameAt w.cells w'.cells
+  pub list : w'.list ≡ w.list
+  pub cache : SameCache w w'
+  pub stored : SameAt w.stored w'.stored
+  pub closed : w'.closed ≡ w.closed
+  pub failures : w'.failures ≡ w.failures
+  pub loads : SameAt w.loads w'.loads
+  pub workers : SameAt w.workers w'.workers
+  pub last : w'.last ≡ w.last
+  pub places : HasRoom w.places w'.places
+
+pub record SameShelf (s s' : Shelf) : Type 0 where
+  pub slots : (i : Identity) → s'.slots i ≡ s.slots i
+  pub waits : SameAt s.waits s'.waits
+
+-- Values of the type N in an environment. Trees, forms, readings and keys follow from these alone.
+pub record Values (N : Type 0) : Type 1 where
+  -- the number of a value's type, its references in the order written, and what it may mean
+  pub node_type : N → ℕ
+  pub references : N → List ArcRef
+  pub means : N → Meaning ArcRef → Type 0
+  -- what a value holds beside the reference, wherever it refers by it, is the value of this node
+  pub beside : N → ArcRef → N → Type 0
+  -- why a reader of values of the type may refuse one, beside the faults of the blob; and all refusals of a writer of them
+  pub read_causes : ℕ → Error → Type 0
+  pub write_causes : ℕ → Error → Type 0
+  -- how values are spelled, and the hash
+  pub types : Types
+  pub hash : List ℕ → List ℕ
+
+-- the same, with how the storage's blobs and what is written of a value are seen
+pub record Seen (N B W : Type 0) : Type 1 where
+  pub values : Values N
+  pub blob_of : B → Blob
+  pub written_of : W → Written
+
+-- the key of a blob
+abbrev pub digest : {N : Type 0} → Values N → Blob → ℕ
+digest v b = key_of v.hash b
+
+-- what was answered, as it is seen
+abbrev pub seen_as : {X Y : Type 0} → (X → Y) → Result X Error → Result Y Error
+seen_as f (Ok x) = Ok (f x)
+seen_as f (Err e) = Err e
+
+-- The laws of values that are asked of the caller's types: a value means something, refers to what it means to, and is of a type that is there; a
+-- reader has no cause of its own that tells of a reference, nor a writer one that tells of reading.
+pub record IsLawful {N : Type 0} (v : Values N) : Type 0 where
+  pub some : (x : N) → (own : Meaning ArcRef) × v.means x own
+  pub refers : (x : N) (own : Meaning ArcRef) → v.means x own → SameReferences (v.references x) (references_in own)
+  pub shaped : (x : N) → (shape : Shape) × (v.types.nodes (v.node_type x) ≡ Some shape)
+  pub own_reading : (t : ℕ) (e : Error) → v.read_causes t e → is_own_reading e ≡ true
+  pub own_writing : (t : ℕ) (e : Error) → v.write_causes t e → may_refuse_writing e ≡ true
+
+-- a value of which the clauses on trees speak: it means one thing, whatever is written to it later
+abbrev pub IsSettled : {N : Type 0} → Values N → N → Type 0
+IsSettled v x = (a b : Meaning ArcRef) → v.means x a → v.means x b → b ≡ a
+
+-- these bytes, with these references in their order, are a form of the value
+pub record HasForm {N : Type 0} (v : Values N) (x : N) (written : Written) : Type 0 where
+  pub shape : Shape
+  pub own : Meaning ArcRef
+  pub is : v.types.nodes (v.node_type x) ≡ Some shape
+  pub means : v.means x own
+  pub form : Form ArcRef kind_of_arc v.types.parts deepest shape own written.bytes written.references

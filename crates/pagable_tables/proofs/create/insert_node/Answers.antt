@@ -1,0 +1,43 @@
+use Rattle.pagable_tables.proofs.{CascadeStep.rows-told, LoadEnd.born-fits, OwnedByLoad.{bears-goes, does-so}, Views.not-a-value}
+use Rattle.pagable_tables.proofs.Words.{Counts, HandleRow, NodeRow, None, Option, Some, [], ap, arith}
+use Rattle.pagable_tables.proofs.Words.{counts_at, false, has_key, inl, inr, is_named_by, is_pinning, key_in, live, moved, nat_tests, one, option_map, owner_value, plain_of, refl, refs_at, ℕ}
+use Rattle.pagable_tables.proofs.{Words.{cases_eq, ◌≤◌}, WorkCounts.{work-moved, work-push, work-told}}
+use Rattle.pagable_tables.specs.{CascadeInvariant.is_worker, Nodes.work_at}
+use Rattle.pagable_tables.proofs.{SameViews.same-cache, Words.{◌++◌, ◌+◌, ◌∙◌, ◌∷◌, ◌≡◌, ◌≢◌}}
+use Rattle.std.specs.Option.{option_map_or}
+
+pub returns-clause-does : Rattle.pagable_tables.proofs.create.insert_node.Goals.returns-clause-does
+returns-clause-does c =
+    let u = c.args.t.now in
+    let t = u.ref_counts in
+    let me = c.args.me in
+    let rs = c.args.references.items in
+    let at = counts_at t.nodes in
+    let w = c.requires.whole in
+    let n = u.last_node + 1 in
+    let x : HandleRow = record { number = record { 0 = t.last_handle + 1 }; node = record { 0 = n }; mode = c.args.mode; owner = me } in
+    let is : Counts = record { node_type = c.args.node_type; key = c.args.key; pins = one (is_pinning c.args.mode); holds = 1; is_dying = false; next = 0 } in
+    let came = ap (option_map (λ (r : NodeRow). r.counts)) c.put.ensures.here in
+    let here : counts_at c.put.new.self n ≡ Some is = grind (arith, nat_tests, came, c.pins.ensures) in
+    let others : (q : ℕ) → q ≢ n → counts_at c.put.new.self q ≡ at q = λ q ne. ap (option_map (λ (r : NodeRow). r.counts)) (c.put.ensures.others q ne) in
+    let refers = λ (o : Option NodeRow). option_map_or (λ (r : NodeRow). r.references.items) o [] in
+    let free : at n ≡ None = let given = w.core.handles.nodes_numbered n in grind (arith, nat_tests) in
+    let rows = c.in-Ok.ensures.rows ∙ ap (λ l. l ++ x ∷ []) (c.hand_over_all.ensures.rows ∙ ap (λ l. moved (is_named_by l) (owner_value n) (live t.handles.places.items)) c.deref.ensures.value) in
+    let given = moved (is_named_by rs) (owner_value n) (live t.handles.places.items) in
+    let works = λ (o : Option NodeRow). option_map_or (λ (r : NodeRow). r.at_work) o 0 in
+    let before = work-moved t.nodes (is_named_by rs) (owner_value n) (live t.handles.places.items) refl w.steady.worked in
+    let none : work_at t.nodes n ≡ 0 = grind (arith, nat_tests, free) in
+    let worker : work_at c.put.new.self n ≡ one (is_worker me) = grind (arith, nat_tests, ap works c.put.ensures.here, c.is_worker.ensures) in
+    let more : (q : ℕ) → work_at t.nodes q ≤ work_at c.put.new.self q = λ q. let a = λ (ne : q ≢ n). ap works (c.put.ensures.others q ne) in grind (arith, nat_tests, cases_eq q n) in
+    let worked = work-push given x t.nodes c.put.new.self before more (let a = before n in omega (arith, none, worker)) in
+    let unvalued = not-a-value (plain_of u) me c.requires.holder in
+    let fits = born-fits (plain_of u) me rs w.core.handles.ordered c.requires.fit unvalued at (counts_at c.put.new.self) (refs_at t.nodes) (refs_at c.put.new.self) t.top x _ w.steady.fits refl
+    refl (elim c.requires.bare [ inl none ↦ inl none | inr so ↦ inr so.1 ]) (omega arith) free here others (ap refers c.put.ensures.here) (λ q ne. ap refers (c.put.ensures.others q ne)) in
+    does-so (λ stored closed failures. grind (arith, nat_tests, same-cache))
+    (record {
+      sound = c.push.ensures.sound;
+      next = c.in-Ok.ensures.next;
+      fits = rows-told (counts_at c.put.new.self) (refs_at c.put.new.self) _ _ t.top rows fits;
+      worked = work-told c.put.new.self (given ++ x ∷ []) (live c.push.new.handles.places.items) rows worked;
+    })
+    (bears-goes me c.args.node_type c.args.key rs c.args.mode _ w.core c.requires.holder c.requires.fit c.requires.ready.node_left (elim c.requires.bare [ inl none ↦ λ is. ap (λ k. has_key (key_in k)) none | inr so ↦ λ is. absurd (let a = so.0 in cc) ])) refl refl refl

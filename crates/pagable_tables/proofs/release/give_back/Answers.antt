@@ -1,4 +1,0 @@
-use Rattle.pagable_tables.proofs.{Words.{inl, nobody, only_handle}}
-
-pub returns-clause-falls : Rattle.pagable_tables.proofs.release.give_back.Goals.returns-clause-falls
-returns-clause-falls g c before w f few = c.fall.ensures.falls before w (only_handle c.args.at.row.number) (c.shed.ensures.so_far before w nobody f few (inl c.requires.free))

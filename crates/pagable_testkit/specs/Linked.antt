@@ -1,0 +1,159 @@
+-- What links and bundles mean and refer to, and what the nodes that hold them do.
+use Rattle.std.{proofs.Common.arith, specs.{Arc.arc_value, Global.Vec, Prelude.{List, None, Option, Some, false, refl, suc, true, zero, ℕ, ◌<◌, ◌^◌, ◌≡◌}}}
+use Rattle.{pagable_testkit.specs.declared.linked.{LinkedNode.LinkedNode, bundle.Bundle.Bundle, chain.Chain.Chain}, pagable_value_spec.specs.Meaning.Meaning}
+use Rattle.pagable_value_spec.specs.{OneForm.{HasOneFormThroughout, over_has_one_form, two_has_one_form}, References.{SameReferences, references_in}}
+use Rattle.pagable_value_spec.specs.{Shape.{Shape, both, list, nothing, optional, reference}, Cursor.SomeMeaning, declared.numbers.ArcRef.ArcRef}
+use Rattle.pagable_traits.specs.{HeldValues.{Beside, holding_beside, lists_beside, pairs_beside}, InNodes.{Holds, holds-none, holds-value}}
+use Rattle.pagable_traits.specs.Meanings.{AreSingle, Meanings, exactly, lists, lists_single, options, options_single, pairs, pairs_single, seen_by, some}
+use Rattle.pagable_traits.specs.OwnCauses.{ReadCauses, WriteCauses, reads_either, reads_memory_or, reads_never, writes_either, writes_long_or, writes_memory, writes_memory_or}
+use Rattle.pagable_traits.specs.ReadBack.{IsReadThroughout, over_is_read, two_is_read}
+use Rattle.pagable_traits.specs.References.{holding_means, loose_means, plain_means, reads_unlent, reference_has_one_form, reference_is_read}
+use Rattle.pagable_traits.specs.Refers.{ListsInOrder, both_in_order, list_in_order, optional_in_order, reference_in_order}
+use Rattle.pagable_traits.specs.declared.{arc.HoldingArc.HoldingArc, pagable_arc.PagableArc.PagableArc}
+use Rattle.pagable_testkit.specs.declared.linked.LinkedNode.TheVariants as nodes
+
+-- the environment has no part with a number
+abbrev pub no_parts : ℕ → Shape
+no_parts n = nothing
+
+pub numbers_are_small : (0 < 2 ^ 30) × ((1 < 2 ^ 30) × (2 < 2 ^ 30))
+numbers_are_small = (omega arith, (omega arith, omega arith))
+
+-- ---- links: at most one reference
+
+abbrev pub chain_means : (kind : ℕ) → Meanings (Chain kind)
+chain_means kind = seen_by (λ c. c.next) (options (exactly (plain_means kind)))
+
+pub chain_single : (kind : ℕ) → AreSingle (chain_means kind)
+chain_single kind c = options_single (exactly (plain_means kind)) (λ a m is. is) c.next
+
+pub one_in_order : (parts : ℕ → Shape) (kind : ℕ) → ListsInOrder parts (optional (reference kind))
+one_in_order parts kind = optional_in_order parts (reference kind) (reference_in_order parts kind)
+
+-- ---- bundles: lists of references of three sorts
+
+abbrev pub bundle_shape : Shape
+bundle_shape = both (list (reference 3)) (both (list (reference 1)) (list (reference 2)))
+
+abbrev many : {T : Type 0} → (T → Meaning ArcRef) → Meanings (Vec T)
+many meaning = seen_by (λ v. v.items) (lists (exactly meaning))
+
+many-single : {T : Type 0} (meaning : T → Meaning ArcRef) → AreSingle (many meaning)
+many-single meaning v = lists_single (exactly meaning) (λ a m is. is) v.items
+
+abbrev pub bundle_means : Meanings Bundle
+bundle_means = seen_by (λ b. (b.shared, (b.loose, b.pinned))) (pairs (many (holding_means 1 false)) (pairs (many (loose_means 0)) (many (holding_means 0 true))))
+
+pub bundle_single : AreSingle bundle_means
+bundle_single b = pairs_single (many (holding_means 1 false)) (pairs (many (loose_means 0)) (many (holding_means 0 true))) (many-single (holding_means 1 false))
+    (pairs_single (many (loose_means 0)) (many (holding_means 0 true)) (many-single (loose_means 0)) (many-single (holding_means 0 true))) (b.shared, (b.loose, b.pinned))
+
+-- what holds of a list of references of any kind, and of a pair if of its parts, holds of a bundle
+in-bundle : (P : Shape → Type 0) → ((s t : Shape) → P s → P t → P (both s t)) → ((kind : ℕ) → P (list (reference kind))) → P bundle_shape
+in-bundle P pairs lists = pairs (list (reference 3)) (both (list (reference 1)) (list (reference 2))) (lists 3) (pairs (list (reference 1)) (list (reference 2)) (lists 1) (lists 2))
+
+pub bundle_has_one_form : HasOneFormThroughout no_parts bundle_shape
+bundle_has_one_form = in-bundle (HasOneFormThroughout no_parts) (λ s t. two_has_one_form (refl, refl)) (λ kind. over_has_one_form refl (reference_has_one_form no_parts kind))
+
+pub bundle_is_read : IsReadThroughout no_parts bundle_shape
+bundle_is_read = in-bundle (IsReadThroughout no_parts) (λ s t. two_is_read (refl, refl)) (λ kind. over_is_read refl (reference_is_read no_parts kind))
+
+pub bundle_in_order : ListsInOrder no_parts bundle_shape
+bundle_in_order = in-bundle (ListsInOrder no_parts) (both_in_order no_parts) (λ kind. list_in_order no_parts (reference kind) (reference_in_order no_parts kind))
+
+-- all refusals of the writing of at most one reference, and of a list of them, of which a bundle has three; and of a bundle's reading, beside the faults of the input and of references
+abbrev pub one_writes : WriteCauses
+one_writes = writes_memory_or writes_memory
+
+abbrev pub bundle_writes : WriteCauses
+bundle_writes = writes_either (writes_long_or one_writes) (writes_either (writes_long_or one_writes) (writes_long_or one_writes))
+
+abbrev pub bundle_reads : ReadCauses
+bundle_reads = reads_either (reads_memory_or reads_unlent) (reads_either (reads_memory_or reads_never) (reads_memory_or reads_unlent))
+
+-- ---- nodes
+
+-- what a case of a node says: its type's number, its shape, what it means, and what it refers to, which is what its one meaning refers to
+pub record Case (shape_of : ℕ → Option Shape) : Type 1 where
+  pub number : ℕ
+  pub shape : Shape
+  pub has_shape : shape_of number ≡ Some shape
+  pub means : Meaning ArcRef → Type 0
+  pub has_meaning : SomeMeaning means
+  pub refs : List ArcRef
+  pub refers : (m : Meaning ArcRef) → means m → SameReferences refs (references_in m)
+
+abbrev pub node_case : {T : Type 0} (shape_of : ℕ → Option Shape) (number : ℕ) (s : Shape) → shape_of number ≡ Some s → (M : Meanings T) → AreSingle M → T → Case shape_of
+node_case shapes t s is M single x = record {
+  number = t;
+  shape = s;
+  has_shape = is;
+  means = M.of x;
+  has_meaning = some M x;
+  refs = references_in (M.meaning x);
+  refers = λ m h. rw (single x m h) (λ test. refl);
+}
+
+abbrev pub shape_of : ℕ → Option Shape
+shape_of zero = Some (optional (reference 1))
+shape_of (suc zero) = Some (optional (reference 3))
+shape_of (suc (suc zero)) = Some bundle_shape
+shape_of (suc (suc (suc n))) = None
+
+abbrev pub told : LinkedNode → Case shape_of
+told (nodes.Link c) = node_case shape_of 0 (optional (reference 1)) refl (chain_means 1) (chain_single 1) (arc_value c)
+told (nodes.ArcLink c) = node_case shape_of 1 (optional (reference 3)) refl (chain_means 3) (chain_single 3) (arc_value c)
+told (nodes.Bundle b) = node_case shape_of 2 bundle_shape refl bundle_means bundle_single (arc_value b)
+
+-- all refusals of the writing of a type's values, and of the reading, beside the faults of the input and of references
+abbrev pub writes : ℕ → WriteCauses
+writes (suc (suc t)) = bundle_writes
+writes _ = one_writes
+
+abbrev pub reads : ℕ → ReadCauses
+reads (suc (suc t)) = reads_memory_or bundle_reads
+reads _ = reads_memory_or reads_never
+
+-- ---- what a node holds
+
+abbrev pub HoldsIn : {T : Type 0} → Meanings T → ℕ → LinkedNode → Option T → Type 0
+HoldsIn M t n = Holds M.of t (told n).number (told n).means
+
+abbrev pub link_in : LinkedNode → Option (Chain 1)
+link_in (nodes.Link x) = Some (arc_value x)
+link_in _ = None
+
+pub holds_link : (n : LinkedNode) → HoldsIn (chain_means 1) 0 n (link_in n)
+holds_link (nodes.Link x) = holds-value (arc_value x) refl (λ m h. h) (λ m h. h)
+holds_link _ = holds-none (λ e. omega (arith, e))
+
+abbrev pub arc_link_in : LinkedNode → Option (Chain 3)
+arc_link_in (nodes.ArcLink x) = Some (arc_value x)
+arc_link_in _ = None
+
+pub holds_arc_link : (n : LinkedNode) → HoldsIn (chain_means 3) 1 n (arc_link_in n)
+holds_arc_link (nodes.ArcLink x) = holds-value (arc_value x) refl (λ m h. h) (λ m h. h)
+holds_arc_link _ = holds-none (λ e. omega (arith, e))
+
+abbrev pub bundle_in : LinkedNode → Option Bundle
+bundle_in (nodes.Bundle x) = Some (arc_value x)
+bundle_in _ = None
+
+pub holds_bundle : (n : LinkedNode) → HoldsIn bundle_means 2 n (bundle_in n)
+holds_bundle (nodes.Bundle x) = holds-value (arc_value x) refl (λ m h. h) (λ m h. h)
+holds_bundle _ = holds-none (λ e. omega (arith, e))
+
+-- ---- what is held beside references: by the shared ones and the pins of a bundle, the values of their nodes
+
+abbrev many-beside : {T : Type 0} → Beside LinkedNode T → Beside LinkedNode (Vec T)
+many-beside B v = lists_beside B v.items
+
+abbrev pub fields_beside : {shared pin : ℕ} → Beside LinkedNode (Vec (HoldingArc (Chain 3) shared) × (Vec (PagableArc (Chain 1)) × Vec (HoldingArc (Chain 1) pin)))
+fields_beside = pairs_beside (many-beside (holding_beside 1 false arc_link_in)) (pairs_beside (many-beside (λ x r y. Unit {0})) (many-beside (holding_beside 0 true link_in)))
+
+abbrev pub bundle_beside : Beside LinkedNode Bundle
+bundle_beside b = fields_beside (b.shared, (b.loose, b.pinned))
+
+abbrev pub node_beside : LinkedNode → ArcRef → LinkedNode → Type 0
+node_beside (nodes.Bundle b) = bundle_beside (arc_value b)
+node_beside _ = λ r y. Unit {0}

@@ -1,0 +1,192 @@
+//! The values of the rows, by the numbers of their types.
+
+use crate::linked::chain::Chain;
+use crate::linked::write_with_refs;
+use pagable_flavors::{Error, Reason};
+use pagable_traits::{
+    ArcRef, Env, KeyHash, NodeSet, PagableDeserialize, PagableDeserializer, PagableSerialize,
+    PagableSerializer, RawRef, references_of,
+};
+use std::alloc::Global;
+use std::marker::PhantomData;
+
+/// The environment of these values, whose keys are made by the hash `H`.
+#[derive(Drop)]
+pub struct CellEnv<H> {
+    hash: PhantomData<H>,
+}
+
+impl<H: KeyHash> CellEnv<H> {
+    pub fn new() -> CellEnv<H> {
+        CellEnv { hash: PhantomData }
+    }
+}
+
+impl<H: KeyHash> Env for CellEnv<H> {
+    type Node = CellNode;
+
+    type Hash = H;
+
+    type CtxKey = ();
+
+    type CtxValue = ();
+
+    ghost use Rattle.pagable_value_spec.specs.Shape.{nothing};
+
+    ghost parts = { λ e number. nothing };
+}
+
+/// References of each sort to values of their own type, and to names, loose and shared.
+type Lists = (
+    Vec<RawRef<6>>,
+    (Vec<RawRef<7>>, (Vec<RawRef<8>>, (Vec<RawRef<1>>, Names))),
+);
+
+/// A byte and lists.
+type Mixed = (u8, Lists);
+
+/// A link to the next one by a loose reference: of its own kind.
+type Link = Chain<10>;
+
+/// A link to the next one by a shared reference: of its own kind.
+type ArcLink = Chain<12>;
+
+/// Shared references to names.
+type Names = Vec<RawRef<0>>;
+
+/// A node's value.
+#[derive(Drop)]
+pub enum CellNode {
+    /// Of the type 0: a text.
+    Name(String),
+    /// Of the type 1: a text that can be read, and whose writer refuses.
+    Note(String),
+    /// Of the type 2: a byte and lists.
+    Mixed(Mixed),
+    /// Of the type 3.
+    Link(Link),
+    /// Of the type 4.
+    ArcLink(ArcLink),
+    /// Of the type 5.
+    Names(Names),
+    /// Of the type 6: a shared reference to a name, and no byte.
+    Holder(RawRef<0>),
+    /// Of the type 7: two bytes.
+    Bytes((u8, u8)),
+}
+
+/// Those that are of the kind that is wanted.
+pub fn of_kinds<const KIND: u32>(
+    alloc: Global,
+    references: &[ArcRef],
+) -> Result<Vec<RawRef<KIND>>, Error> {
+    let mut found = Vec::new(alloc);
+    for reference in references {
+        if let Some(reference) = RawRef::from_reference(*reference) {
+            found.push(reference)?;
+        }
+    }
+    Ok(found)
+}
+
+/// Those that are of the one kind, and those that are of the other.
+pub fn of_two_kinds<const KIND: u32, const OTHER: u32>(
+    alloc: Global,
+    references: &[ArcRef],
+) -> Result<(Vec<RawRef<KIND>>, Vec<RawRef<OTHER>>), Error> {
+    let first = of_kinds(alloc, references)?;
+    Ok((first, of_kinds(alloc, references)?))
+}
+
+/// The lists of these references, list after list.
+pub fn lists(alloc: Global, spelled: &[ArcRef]) -> Result<Lists, Error> {
+    let (own, loose) = of_two_kinds(alloc, spelled)?;
+    let pinned = of_kinds(alloc, spelled)?;
+    let names = of_two_kinds(alloc, spelled)?;
+    Ok((own, (loose, (pinned, names))))
+}
+
+impl<H: KeyHash> NodeSet<CellEnv<H>> for CellNode {
+    ghost use Rattle.{pagable_testkit.specs.Cells.{shape_of, told, writes}, pagable_traits.specs.OwnCauses.reads_memory};
+
+    ghost type_of = { λ n. (told n).number };
+
+    ghost shape_of = { λ e t. shape_of t };
+
+    ghost own_shape = { λ e n. (told n).shape };
+
+    ghost means = { λ n. (told n).means };
+
+    ghost refs_of = { λ n. (told n).refs };
+
+    ghost write_causes = { λ t. (writes t).are };
+
+    ghost read_causes = { λ t. reads_memory.are };
+
+    ghost write_causes_may_refuse = { λ t. (writes t).may };
+
+    ghost read_causes_are_own = { λ t. reads_memory.own };
+
+    ghost has_meaning = { λ n. (told n).has_meaning };
+
+    ghost refers = { λ n. (told n).refers };
+
+    ghost has_shape = { λ e n. (told n).has_shape };
+
+    fn node_type(&self) -> u32 {
+        match self {
+            CellNode::Name(_) => 0,
+            CellNode::Note(_) => 1,
+            CellNode::Mixed(_) => 2,
+            CellNode::Link(_) => 3,
+            CellNode::ArcLink(_) => 4,
+            CellNode::Names(_) => 5,
+            CellNode::Holder(_) => 6,
+            CellNode::Bytes(_) => 7,
+        }
+    }
+
+    #[tactic(auto, unfolding(pagable_value_spec::specs::References::references_in))]
+    fn refs(&self, alloc: Global) -> Result<Vec<ArcRef>, Error> {
+        match self {
+            CellNode::Mixed(mixed) => references_of::<CellEnv<H>, Lists>(alloc, &mixed.1),
+            CellNode::Link(next) => references_of::<CellEnv<H>, Link>(alloc, next),
+            CellNode::ArcLink(next) => references_of::<CellEnv<H>, ArcLink>(alloc, next),
+            CellNode::Names(names) => references_of::<CellEnv<H>, Names>(alloc, names),
+            CellNode::Holder(name) => references_of::<CellEnv<H>, RawRef<0>>(alloc, name),
+            CellNode::Name(_) | CellNode::Note(_) | CellNode::Bytes(_) => Ok(Vec::new(alloc)),
+        }
+    }
+
+    #[tactic(auto, using(crate::proofs::Listed::mixed_listed))]
+    fn write<S: PagableSerializer<CellEnv<H>>>(&self, serializer: &mut S) -> Result<(), Error> {
+        match self {
+            CellNode::Name(text) => write_with_refs(text, serializer),
+            CellNode::Note(_) => Err(Error::Custom(Reason::new("writing is refused"))),
+            CellNode::Mixed(mixed) => mixed.pagable_serialize(serializer),
+            CellNode::Link(next) => write_with_refs(next, serializer),
+            CellNode::ArcLink(next) => write_with_refs(next, serializer),
+            CellNode::Names(names) => write_with_refs(names, serializer),
+            CellNode::Holder(name) => write_with_refs(name, serializer),
+            CellNode::Bytes(bytes) => write_with_refs(bytes, serializer),
+        }
+    }
+
+    fn read<D: PagableDeserializer<CellEnv<H>>>(
+        node_type: u32,
+        alloc: Global,
+        deserializer: &mut D,
+    ) -> Result<CellNode, Error> {
+        match node_type {
+            0 => Ok(CellNode::Name(String::pagable_deserialize(alloc, deserializer)?)),
+            1 => Ok(CellNode::Note(String::pagable_deserialize(alloc, deserializer)?)),
+            2 => Ok(CellNode::Mixed(Mixed::pagable_deserialize(alloc, deserializer)?)),
+            3 => Ok(CellNode::Link(Link::pagable_deserialize(alloc, deserializer)?)),
+            4 => Ok(CellNode::ArcLink(ArcLink::pagable_deserialize(alloc, deserializer)?)),
+            5 => Ok(CellNode::Names(Names::pagable_deserialize(alloc, deserializer)?)),
+            6 => Ok(CellNode::Holder(RawRef::<0>::pagable_deserialize(alloc, deserializer)?)),
+            7 => Ok(CellNode::Bytes(PagableDeserialize::pagable_deserialize(alloc, deserializer)?)),
+            _ => Err(Error::WrongKind),
+        }
+    }
+}

@@ -1,0 +1,47 @@
+//! Links: a value that may refer to another one of its own type.
+
+ghost use Rattle.pagable_testkit.specs.Linked.{one_in_order, one_writes};
+
+use pagable_flavors::Error;
+use pagable_traits::encoded_as::{DecodedAs, EncodedAs};
+use pagable_traits::{ArcRef, Env, PagableSerialize, PagableSerializer, RawRef, Refers};
+
+/// A link: the next one, by a reference of the kind `KIND`. The kind names no type, so it may be one of the link's own.
+#[derive(Drop)]
+pub struct Chain<const KIND: u32> {
+    pub next: Option<RawRef<KIND>>,
+}
+
+/// A link by a loose reference: it is read without those that follow. The type number is 0, so the kind is 1.
+pub type Link = Chain<1>;
+
+/// A link by a shared reference: it is read with all that follow. The type number is 1, so the kind is 3.
+pub type ArcLink = Chain<3>;
+
+impl<const KIND: u32> EncodedAs for Chain<KIND> {
+    type Other = Option<RawRef<KIND>>;
+
+    ghost other = { λ c. c.next };
+}
+
+impl<const KIND: u32> DecodedAs for Chain<KIND> {
+    fn from_encoded(value: Option<RawRef<KIND>>) -> Self {
+        Chain { next: value }
+    }
+}
+
+impl<E: Env, const KIND: u32> Refers<E> for Chain<KIND> {
+    fn list_references(&self, list: &mut Vec<ArcRef>) -> Result<(), Error> {
+        Refers::<E>::list_references(&self.next, list)
+    }
+
+    ghost in_order = { λ e. one_in_order (E.parts e) KIND };
+}
+
+impl<E: Env, const KIND: u32> PagableSerialize<E> for Chain<KIND> {
+    ghost write_causes = { one_writes };
+
+    fn pagable_serialize<S: PagableSerializer<E>>(&self, serializer: &mut S) -> Result<(), Error> {
+        self.next.pagable_serialize(serializer)
+    }
+}

@@ -1,0 +1,123 @@
+//! Values and references as rows spell them.
+
+use crate::blobs::bytes_of;
+use crate::cells::{CellEnv, CellNode, lists, of_kinds};
+use crate::linked::chain::Chain;
+use anyhow::{Context, bail, ensure};
+use pagable_core::WeighHash;
+use pagable_flavors::Error;
+use pagable_traits::{NodeSet, RawRef};
+use pagable_value_spec::{ArcRef, HandleNumber, Kind, NodeNumber};
+use std::alloc::Global;
+
+/// The references that are spelled, parted by commas.
+pub fn references(alloc: Global, spelled: &str) -> anyhow::Result<Vec<ArcRef>> {
+    let mut references = Vec::new(alloc);
+    for word in spelled.split(',') {
+        if !word.is_empty() {
+            references.push(reference(word))?;
+        }
+    }
+    Ok(references)
+}
+
+/// A reference by its kind, its node and its handle.
+fn reference(word: &str) -> ArcRef {
+    let (kind, rest) = word.split_once(':').unwrap_or((word, ""));
+    let (node, handle) = rest.split_once(':').unwrap_or((rest, ""));
+    ArcRef {
+        kind: Kind(kind.parse::<u32>().unwrap_or_default()),
+        node: NodeNumber(node.parse::<u64>().unwrap_or_default()),
+        handle: HandleNumber(handle.parse::<u64>().unwrap_or_default()),
+    }
+}
+
+/// Adds references as rows spell them, parted by commas.
+pub fn push_references(
+    alloc: Global,
+    text: &mut String,
+    references: &[ArcRef],
+) -> Result<(), Error> {
+    let mut comma = "";
+    for r in references {
+        let word = format!(in alloc; "{comma}{}:{}:{}", r.kind.0, r.node.0, r.handle.0)?;
+        text.push_str(word.as_str())?;
+        comma = ",";
+    }
+    Ok(())
+}
+
+/// A reference of the kind that is wanted.
+fn of_kind<const KIND: u32>(reference: ArcRef) -> anyhow::Result<RawRef<KIND>> {
+    RawRef::from_reference(reference).context("a reference of another kind")
+}
+
+/// A link by this reference, if that is of the link's kind.
+fn link<const KIND: u32>(reference: ArcRef) -> anyhow::Result<Chain<KIND>> {
+    Ok(Chain {
+        next: Some(of_kind(reference)?),
+    })
+}
+
+/// Adds a value as rows spell it, but for its type. The byte before lists is left out if it is 0.
+pub fn push_node(alloc: Global, text: &mut String, node: &CellNode) -> Result<(), Error> {
+    match node {
+        CellNode::Name(name) | CellNode::Note(name) => text.push_str(name.as_str())?,
+        CellNode::Bytes((first, second)) => {
+            text.push_str(hex::encode(alloc, &[*first, *second])?.as_str())?;
+        }
+        _ => {
+            if let CellNode::Mixed((tag, _)) = node {
+                if *tag != 0 {
+                    text.push_str(format!(in alloc; "{tag}/")?.as_str())?;
+                }
+            }
+            let references = NodeSet::<CellEnv<WeighHash>>::refs(node, alloc)?;
+            push_references(alloc, text, references.as_slice())?;
+        }
+    }
+    Ok(())
+}
+
+/// The value that a row spells, as `0 hello world`: its type, and all after the first space, or the empty text. References are
+/// spelled `2 7:1:2,8:3:4`: of each the kind, the node and the handle, list after list. The byte stands before them, as in `2 5/7:1:2`, if it isn't 0.
+pub fn node(alloc: Global, spelled: &str) -> anyhow::Result<CellNode> {
+    let (node_type, rest) = spelled.split_once(' ').unwrap_or((spelled, ""));
+    match node_type {
+        "0" => Ok(CellNode::Name(String::from_str(alloc, rest)?)),
+        "1" => Ok(CellNode::Note(String::from_str(alloc, rest)?)),
+        "2" => mixed(alloc, rest),
+        "7" => match bytes_of(alloc, rest)?.as_slice() {
+            [first, second] => Ok(CellNode::Bytes((*first, *second))),
+            _ => bail!("no two bytes"),
+        },
+        _ => node_case(alloc, node_type, references(alloc, rest)?.as_slice()),
+    }
+}
+
+/// A byte and lists.
+fn mixed(alloc: Global, spelled: &str) -> anyhow::Result<CellNode> {
+    let (tag, rest) = spelled.split_once('/').unwrap_or(("0", spelled));
+    let tag = tag.parse::<u8>()?;
+    let spelled = references(alloc, rest)?;
+    let node = CellNode::Mixed((tag, lists(alloc, spelled.as_slice())?));
+    let listed = NodeSet::<CellEnv<WeighHash>>::refs(&node, alloc)?;
+    ensure!(
+        listed == spelled,
+        "references of other kinds, or in another order"
+    );
+    Ok(node)
+}
+
+/// A value of references of one kind.
+fn node_case(alloc: Global, node_type: &str, references: &[ArcRef]) -> anyhow::Result<CellNode> {
+    match (node_type, references) {
+        ("5", names) => Ok(CellNode::Names(of_kinds(alloc, names)?)),
+        ("3", []) => Ok(CellNode::Link(Chain { next: None })),
+        ("3", [next]) => Ok(CellNode::Link(link(*next)?)),
+        ("4", []) => Ok(CellNode::ArcLink(Chain { next: None })),
+        ("4", [next]) => Ok(CellNode::ArcLink(link(*next)?)),
+        ("6", [name]) => Ok(CellNode::Holder(of_kind(*name)?)),
+        _ => bail!("no such value"),
+    }
+}

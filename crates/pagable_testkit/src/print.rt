@@ -1,0 +1,264 @@
+//! What events answer, in words, and where a handle's node stands.
+
+use crate::cells::CellNode;
+use crate::parse_values::{push_node, push_references};
+use pagable_core::{PagableData, SerializedData};
+use pagable_flavors::{Error, OptionalDataKey};
+use pagable_pager_spec::{
+    Action, Beginning, Claim, EventReply, Found, LoadAnswer, LoadReply, PinStep, Pinning, Reply,
+    WorkerAnswer, WorkerReply,
+};
+use pagable_value_spec::{Identity, NodeNumber};
+use std::alloc::{AllocError, Global};
+use std::sync::Arc;
+
+type CellReply = Reply<CellNode, Arc<PagableData>>;
+
+type CellAnswer = EventReply<CellNode, Arc<PagableData>, Arc<SerializedData>>;
+
+/// A word, which may be empty, and at most two numbers behind it.
+type Told = (&'static str, Option<u128>, Option<u128>);
+
+/// Nothing more is told.
+const NOTHING: Told = ("", None, None);
+
+/// A refusal: its number, and the key or code that it carries.
+fn refused(word: &'static str, refusal: &Error) -> Told {
+    let second = match refusal {
+        Error::NoData(key) => Some(key.get()),
+        Error::Storage(code) => Some(*code as u128),
+        _ => None,
+    };
+    (word, Some(refusal.number() as u128), second)
+}
+
+/// A refusal by its number alone.
+fn fault(word: &'static str, refusal: &Error) -> Told {
+    let (word, number, _) = refused(word, refusal);
+    (word, number, None)
+}
+
+/// What the begin of a load answers.
+fn begun(begun: &Beginning) -> Told {
+    match begun {
+        Beginning::InMemory => ("memory", None, None),
+        Beginning::Load(load, key) => ("load", Some(load.0 as u128), Some(key.get())),
+    }
+}
+
+/// What a call answers, but for a blob, and for a value that comes back.
+fn told(reply: &CellReply) -> Told {
+    let number = match reply {
+        Reply::Made(Ok(handle))
+        | Reply::Handle(Ok(handle))
+        | Reply::LoadEnded(Ok(handle))
+        | Reply::Pin(Ok(Pinning::Pinned(handle)))
+        | Reply::FromCache(Ok(Some(handle)))
+        | Reply::LoadFound(Ok(Found::Cached(handle)))
+        | Reply::Taken(Some(handle)) => handle.0 as u128,
+        Reply::Count(Ok(count)) | Reply::Length(count) => *count as u128,
+        Reply::Node(Ok(node)) => node.0 as u128,
+        Reply::NodeType(Some(node_type)) => *node_type as u128,
+        Reply::Stored(Ok(key)) | Reply::KeyFound(Ok(OptionalDataKey::Some(key))) => key.get(),
+        Reply::Pin(Ok(Pinning::NeedsLoad(key))) => return ("needs", Some(key.get()), None),
+        Reply::Begun(Ok(beginning)) => return begun(beginning),
+        Reply::Away(Ok(false)) => return ("no", None, None),
+        Reply::Away(Ok(true)) => return ("yes", None, None),
+        Reply::Done(Ok(_)) => return ("ok", None, None),
+        Reply::LoadEnded(Err((e, None)))
+        | Reply::Handle(Err(e))
+        | Reply::Pin(Err(e))
+        | Reply::Done(Err(e))
+        | Reply::Count(Err(e))
+        | Reply::KeyFound(Err(e))
+        | Reply::Away(Err(e))
+        | Reply::Node(Err(e))
+        | Reply::FromCache(Err(e))
+        | Reply::Fetched(Err(e))
+        | Reply::Stored(Err(e))
+        | Reply::Begun(Err(e))
+        | Reply::LoadFound(Err(e)) => return refused("refused", e),
+        _ => return ("none", None, None),
+    };
+    ("ok", Some(number), None)
+}
+
+/// Adds a word and its numbers to a text.
+fn push_words(alloc: Global, text: &mut String, told: Told) -> anyhow::Result<()> {
+    let (word, first, second) = told;
+    text.push_str(word)?;
+    if let Some(number) = first {
+        text.push_str(format!(in alloc; " {number}")?.as_str())?;
+    }
+    if let Some(number) = second {
+        text.push_str(format!(in alloc; " {number}")?.as_str())?;
+    }
+    Ok(())
+}
+
+/// Adds bytes in hex.
+fn push_bytes(alloc: Global, text: &mut String, bytes: &[u8]) -> Result<(), AllocError> {
+    text.push_str("0x")?;
+    text.push_str(hex::encode(alloc, bytes)?.as_str())
+}
+
+/// Adds what a call answers. That a value comes back is told too.
+fn push_call(alloc: Global, text: &mut String, reply: &CellReply) -> anyhow::Result<()> {
+    match reply {
+        Reply::Fetched(Ok(blob)) | Reply::LoadFound(Ok(Found::Blob(blob))) => {
+            Ok(push_bytes(alloc, text, blob.as_ref().bytes.as_slice())?)
+        }
+        Reply::Made(Err((e, _))) | Reply::LoadEnded(Err((e, Some(_)))) => {
+            push_words(alloc, text, refused("refused", e))?;
+            Ok(text.push_str(" back")?)
+        }
+        _ => push_words(alloc, text, told(reply)),
+    }
+}
+
+/// What a step of a load answers, and how many it has made, but for a value that was read.
+fn moved(moved: &LoadReply<CellNode>) -> Told {
+    let steps = Some(moved.steps as u128);
+    match &moved.ended {
+        None => ("more", steps, None),
+        Some(LoadAnswer::Pinned(handle)) => ("pinned", steps, Some(handle.0 as u128)),
+        Some(LoadAnswer::Read(_)) => ("read", steps, None),
+        Some(LoadAnswer::Refused(e)) => ("refused", steps, Some(e.number() as u128)),
+    }
+}
+
+/// What a step of a worker was: its kind, whom it was about, and what its call answered, but for what was written.
+fn action(action: &Action<Arc<SerializedData>>) -> (&'static str, Option<Identity>, Told) {
+    match action {
+        Action::Claim(identity, found) => (" claim", Some(*identity), claimed(found)),
+        Action::Pin(identity, step) => (" pin", Some(*identity), pinned(step)),
+        Action::Write(identity, Ok(_)) => (" write", Some(*identity), NOTHING),
+        Action::Write(identity, Err(e)) => (" write", Some(*identity), fault(" refused", e)),
+        Action::Store(identity, Ok(key)) => (" store", *identity, ("", Some(key.get()), None)),
+        Action::Store(identity, Err(e)) => (" store", *identity, fault(" refused", e)),
+        Action::SetKey(identity, Ok(_)) => (" set", Some(*identity), NOTHING),
+        Action::SetKey(identity, Err(e)) => (" set", Some(*identity), fault(" refused", e)),
+        Action::Publish(identity, key, height) => {
+            let told = ("", Some(key.get()), Some(*height as u128));
+            (" publish", Some(*identity), told)
+        }
+        Action::Release(identity) => (" release", Some(*identity), NOTHING),
+        Action::Fail => (" fail", None, NOTHING),
+    }
+}
+
+/// What a claim found.
+fn claimed(found: &Result<Claim, Error>) -> Told {
+    match found {
+        Ok(Claim::Claimed) => (" claimed", None, None),
+        Ok(Claim::Known(key, height)) => (" known", Some(key.get()), Some(*height as u128)),
+        Ok(Claim::Waiting) => (" waiting", None, None),
+        Ok(Claim::AlreadyFailed) => (" failed", None, None),
+        Err(e) => fault(" refused", e),
+    }
+}
+
+/// What a step of pinning did.
+fn pinned(step: &Result<PinStep, Error>) -> Told {
+    match step {
+        Ok(PinStep::Held(handle)) => (" held", Some(handle.0 as u128), None),
+        Ok(PinStep::LoadBegun(load)) => (" load", Some(load.0 as u128), None),
+        Ok(PinStep::LoadWent) => (" went", None, None),
+        Err(e) => fault(" refused", e),
+    }
+}
+
+/// What a worker answered in the end.
+fn worker_answer(answer: &WorkerAnswer) -> Told {
+    match answer {
+        WorkerAnswer::Key(key) => (" -> ok", Some(key.get()), None),
+        WorkerAnswer::Failed(e) => fault(" -> failed", e),
+        WorkerAnswer::AlreadyFailed => (" -> already", None, None),
+    }
+}
+
+/// Adds a step of a worker: how many it has made, the step, and the answer if it was the last.
+fn push_work(
+    alloc: Global,
+    text: &mut String,
+    reply: &WorkerReply<Arc<SerializedData>>,
+) -> anyhow::Result<()> {
+    let (kind, identity, told) = action(&reply.action);
+    text.push_str(format!(in alloc; "{}", reply.steps)?.as_str())?;
+    text.push_str(kind)?;
+    if let Some(it) = identity {
+        text.push_str(format!(in alloc; " {}:{}", it.kind.0, it.node.0)?.as_str())?;
+    }
+    push_words(alloc, text, told)?;
+    if let Action::Write(_, Ok(written)) = &reply.action {
+        push_written(alloc, text, written.as_ref())?;
+    }
+    match &reply.answer {
+        Some(answer) => push_words(alloc, text, worker_answer(answer)),
+        None => Ok(()),
+    }
+}
+
+/// Adds what was written of a value, as an item is spelled.
+fn push_written(alloc: Global, text: &mut String, written: &SerializedData) -> anyhow::Result<()> {
+    text.push_str(" ")?;
+    push_bytes(alloc, text, written.bytes.as_slice())?;
+    text.push_str(":")?;
+    Ok(push_references(alloc, text, written.arcs.as_slice())?)
+}
+
+/// Adds what a step of a load answers, with a value that was read.
+fn push_moved(alloc: Global, text: &mut String, reply: &LoadReply<CellNode>) -> anyhow::Result<()> {
+    push_words(alloc, text, moved(reply))?;
+    if let Some(LoadAnswer::Read(value)) = &reply.ended {
+        text.push_str(" = ")?;
+        push_node(alloc, text, value)?;
+    }
+    Ok(())
+}
+
+/// Adds what an event answers.
+fn push_event(alloc: Global, text: &mut String, answer: &CellAnswer) -> anyhow::Result<()> {
+    let told = match answer {
+        EventReply::CallReply(reply) => return push_call(alloc, text, reply),
+        EventReply::LoadMoved(Ok(reply)) => return push_moved(alloc, text, reply),
+        EventReply::WorkerMoved(Ok(reply)) => return push_work(alloc, text, reply),
+        EventReply::Started(Ok(beginning)) => begun(beginning),
+        EventReply::TableMade(Ok(table)) => ("ok", Some(table.0 as u128), None),
+        EventReply::WorkerMade(Ok(worker)) => ("ok", Some(worker.0 as u128), None),
+        EventReply::Started(Err(e))
+        | EventReply::LoadMoved(Err(e))
+        | EventReply::TableMade(Err(e))
+        | EventReply::WorkerMade(Err(e))
+        | EventReply::WorkerMoved(Err(e)) => refused("refused", e),
+    };
+    push_words(alloc, text, told)
+}
+
+/// The answers of a list, in the order of its events.
+pub fn replies(alloc: Global, replies: &[CellAnswer]) -> anyhow::Result<String> {
+    let mut text = String::new(alloc);
+    for reply in replies {
+        if !text.is_empty() {
+            text.push_str("; ")?;
+        }
+        push_event(alloc, &mut text, reply)?;
+    }
+    Ok(text)
+}
+
+/// Where a handle's node stands: its number, its count, its key, and whether its value is away.
+pub type Standing = (NodeNumber, u64, OptionalDataKey, bool);
+
+/// Adds a live handle: its number, its node, the node's count and key, or 0 for none, and whether the value is in memory.
+pub fn push_handle(
+    alloc: Global,
+    text: &mut String,
+    handle: u64,
+    standing: Standing,
+) -> Result<(), AllocError> {
+    let (node, count, key, is_away) = standing;
+    let key = if key.is_some() { key.unwrap().get() } else { 0 };
+    let place = if is_away { "away" } else { "here" };
+    text.push_str(format!(in alloc; "; {handle}: {} {count} {key} {place}", node.0)?.as_str())
+}

@@ -1,0 +1,279 @@
+//! Storages for tests: one over another storage, which fails once, and one whose memory answers wrongly once.
+
+ghost use Rattle.std.specs.Prelude.{◌≡◌, true, false};
+ghost use Rattle.pagable_testkit.specs.Failing.{failures_of};
+
+use futures::task::{Context, Poll};
+use pagable_core::{InMemoryBlobs, PagableData, PagableStorage};
+use pagable_flavors::{DataKey, Error};
+use pagable_traits::Env;
+use std::alloc::Global;
+use std::sync::Arc;
+
+/// A storage of which one call fails, as another storage is called: `fetch_data_blocking`, each poll of `fetch_data`,
+/// `store_data` and `flush` count as calls.
+#[derive(Drop)]
+pub struct FailingStorage<S> {
+    inner: S,
+    calls_before: u64,
+    has_failed: bool,
+}
+
+impl<S> FailingStorage<S> {
+    /// The storage, which lets `calls_before` calls through and then refuses one with Storage(7).
+    pub fn new(inner: S, calls_before: u64) -> FailingStorage<S> {
+        FailingStorage {
+            inner,
+            calls_before,
+            has_failed: false,
+        }
+    }
+
+    /// Whether this call is the one that fails.
+    fn fails_now(&mut self) -> bool
+        ensures same_inner { self.new.inner ≡ self.old.inner }
+        ensures raised { result ≡ true → (self.old.has_failed ≡ false) × (self.new.has_failed ≡ true) }
+        ensures kept { result ≡ false → self.new.has_failed ≡ self.old.has_failed }
+    {
+        if self.has_failed {
+            return false;
+        }
+        if self.calls_before > 0 {
+            self.calls_before -= 1;
+            return false;
+        }
+        self.has_failed = true;
+        true
+    }
+}
+
+impl<E: Env, S: PagableStorage<E>> PagableStorage<E> for FailingStorage<S> {
+    ghost stored = { λ s. S.stored s.inner };
+
+    ghost flushed = { λ s. S.flushed s.inner };
+
+    ghost is_closed = { λ s. S.is_closed s.inner };
+
+    ghost is_honest = { λ s. S.is_honest s.inner };
+
+    ghost failed = { λ s. failures_of s.has_failed (S.failed s.inner) };
+
+    #[tactic(auto, using(crate::proofs::Refusing::refusing))]
+    fn fetch_data_blocking(
+        &mut self,
+        alloc: Global,
+        key: DataKey,
+    ) -> Result<Arc<PagableData>, Error> {
+        if self.fails_now() {
+            return Err(Error::Storage(7));
+        }
+        self.inner.fetch_data_blocking(alloc, key)
+    }
+
+    #[tactic(auto, using(crate::proofs::Refusing::refusing))]
+    fn fetch_data(
+        &mut self,
+        cx: &mut Context<'_>,
+        alloc: Global,
+        key: DataKey,
+    ) -> Poll<Result<Arc<PagableData>, Error>> {
+        if self.fails_now() {
+            return Poll::Ready(Err(Error::Storage(7)));
+        }
+        self.inner.fetch_data(cx, alloc, key)
+    }
+
+    #[tactic(auto, using(crate::proofs::Refusing::refusing))]
+    fn store_data(&mut self, alloc: Global, blob: PagableData) -> Result<DataKey, Error> {
+        if self.fails_now() {
+            return Err(Error::Storage(7));
+        }
+        self.inner.store_data(alloc, blob)
+    }
+
+    #[tactic(auto, using(crate::proofs::Refusing::refusing))]
+    fn flush(&mut self) -> Result<(), Error> {
+        if self.fails_now() {
+            return Err(Error::Storage(7));
+        }
+        self.inner.flush()
+    }
+
+    fn close(&mut self) {
+        self.inner.close();
+    }
+
+    fn has_closed(&self) -> bool {
+        self.inner.has_closed()
+    }
+
+    fn failures(&self) -> u64 {
+        let own = u64::from(self.has_failed);
+        self.inner.failures().saturating_add(own)
+    }
+}
+
+/// What is answered wrongly, of whatever key is asked for.
+#[derive(Clone, Copy)]
+pub enum Lie {
+    /// That nothing stands there, which nobody can tell.
+    Nothing,
+    /// An empty blob, which has another key.
+    Empty,
+}
+
+/// A storage over blobs in memory, which answers one fetch wrongly. An answer that has another key than the one asked
+/// for is refused with Storage(2), and counts as a failure; any other is taken as true, and the storage is in doubt from
+/// then on.
+#[derive(Drop)]
+pub struct DoubtfulBlobs<E: Env> {
+    blobs: InMemoryBlobs<E>,
+    lie: Lie,
+    fetches_before: u64,
+    has_lied: bool,
+    failures: u64,
+    // No call reads it.
+    is_honest: bool,
+}
+
+impl<E: Env> DoubtfulBlobs<E> {
+    /// Makes the storage, which answers `fetches_before` fetches truly and then one wrongly. It takes no memory.
+    pub fn new(blobs: InMemoryBlobs<E>, lie: Lie, fetches_before: u64) -> DoubtfulBlobs<E> {
+        DoubtfulBlobs {
+            blobs,
+            lie,
+            fetches_before,
+            has_lied: false,
+            failures: 0,
+            is_honest: true,
+        }
+    }
+
+    /// Tells whether this fetch is the one that is answered wrongly.
+    fn lies_now(&mut self) -> bool
+        ensures blobs { self.new.blobs ≡ self.old.blobs }
+        ensures failures { self.new.failures ≡ self.old.failures }
+        ensures honest { self.new.is_honest ≡ self.old.is_honest }
+    {
+        if self.has_lied {
+            return false;
+        }
+        if self.fetches_before > 0 {
+            self.fetches_before -= 1;
+            return false;
+        }
+        self.has_lied = true;
+        true
+    }
+}
+
+impl<E: Env> PagableStorage<E> for DoubtfulBlobs<E> {
+    ghost stored = { λ s. ⟦<InMemoryBlobs<E> as PagableStorage<E>>⟧.stored s.blobs };
+
+    ghost flushed = { λ s. ⟦<InMemoryBlobs<E> as PagableStorage<E>>⟧.flushed s.blobs };
+
+    ghost is_closed = { λ s. ⟦<InMemoryBlobs<E> as PagableStorage<E>>⟧.is_closed s.blobs };
+
+    ghost is_honest = { λ s. s.is_honest };
+
+    ghost failed = { λ s. s.failures };
+
+    #[tactic(auto, using(crate::proofs::Refusing::unfailing))]
+    fn fetch_data_blocking(
+        &mut self,
+        alloc: Global,
+        key: DataKey,
+    ) -> Result<Arc<PagableData>, Error> {
+        if !self.lies_now() {
+            return self.blobs.fetch_data_blocking(alloc, key);
+        }
+        let Lie::Empty = self.lie else {
+            self.is_honest = false;
+            return Err(Error::NoData(key));
+        };
+        let empty = PagableData {
+            bytes: Vec::new(alloc),
+            arcs: Vec::new(alloc),
+        };
+        if empty.compute_key::<E::Hash>() != key {
+            self.failures = self.failures.saturating_add(1);
+            return Err(Error::Storage(2));
+        }
+        self.is_honest = false;
+        Ok(Arc::new(alloc, empty)?)
+    }
+
+    fn fetch_data(
+        &mut self,
+        _cx: &mut Context<'_>,
+        alloc: Global,
+        key: DataKey,
+    ) -> Poll<Result<Arc<PagableData>, Error>> {
+        Poll::Ready(self.fetch_data_blocking(alloc, key))
+    }
+
+    #[tactic(auto, using(crate::proofs::Refusing::unfailing))]
+    fn store_data(&mut self, alloc: Global, blob: PagableData) -> Result<DataKey, Error> {
+        self.blobs.store_data(alloc, blob)
+    }
+
+    #[tactic(auto, using(crate::proofs::Refusing::unfailing))]
+    fn flush(&mut self) -> Result<(), Error> {
+        self.blobs.flush()
+    }
+
+    fn close(&mut self) {
+        self.blobs.close();
+    }
+
+    fn has_closed(&self) -> bool {
+        self.blobs.has_closed()
+    }
+
+    fn failures(&self) -> u64 {
+        self.failures
+    }
+}
+
+#[cfg(test)]
+mod tests {
+    use super::*;
+    use crate::text::TextEnv;
+    use pagable_core::Sha256Key;
+
+    fn one_blob(alloc: Global) -> Result<PagableData, Error> {
+        Ok(PagableData {
+            bytes: vec![in alloc; 5]?,
+            arcs: Vec::new(alloc),
+        })
+    }
+
+    #[test]
+    fn refuses_a_blob_of_another_key(rt: HostRuntime) -> Result<(), Error> {
+        let alloc = rt.alloc();
+        let blobs = InMemoryBlobs::<TextEnv<Sha256Key>>::new(alloc);
+        let mut storage = DoubtfulBlobs::new(blobs, Lie::Empty, 1);
+        let key = storage.store_data(alloc, one_blob(alloc)?)?;
+        assert!(rt; storage.fetch_data_blocking(alloc, key).is_ok());
+        let refused = storage.fetch_data_blocking(alloc, key);
+        assert!(rt; matches!(refused, Err(Error::Storage(2))));
+        assert_eq!(rt; storage.failures(), 1);
+        assert!(rt; storage.is_honest);
+        assert!(rt; storage.fetch_data_blocking(alloc, key).is_ok());
+        Ok(())
+    }
+
+    #[test]
+    fn takes_a_missing_blob_as_true(rt: HostRuntime) -> Result<(), Error> {
+        let alloc = rt.alloc();
+        let blobs = InMemoryBlobs::<TextEnv<Sha256Key>>::new(alloc);
+        let mut storage = DoubtfulBlobs::new(blobs, Lie::Nothing, 0);
+        let key = storage.store_data(alloc, one_blob(alloc)?)?;
+        let refused = storage.fetch_data_blocking(alloc, key);
+        assert!(rt; matches!(refused, Err(Error::NoData(_))));
+        assert_eq!(rt; storage.failures(), 0);
+        assert!(rt; !storage.is_honest);
+        assert!(rt; storage.fetch_data_blocking(alloc, key).is_ok());
+        Ok(())
+    }
+}

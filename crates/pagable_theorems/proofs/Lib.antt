@@ -1,0 +1,33 @@
+mod Words
+pub mod RoundTrip
+pub mod Trees
+mod Merkle
+pub mod Naturality
+pub mod CascadeWitness
+pub mod HandlesKept
+pub mod Effects
+pub mod CallEffects
+pub mod ReadingSteps
+mod SlotsGrow
+mod NewClaims
+pub mod LoadResults
+pub mod Decoding
+pub mod FormsOfTrees
+mod TablesKept
+pub mod LoadProgress
+pub mod Chains
+pub mod NewPager
+mod WitnessRun
+mod DepthBounds
+pub mod StepBounds
+pub mod Moments
+pub mod HeldValues
+pub mod Callers
+mod LoadFaults
+mod RefusalCauses
+mod RefusalEffects
+mod UninterruptedLoads
+mod Heights
+pub mod ValueRows
+pub mod ValuesOwned
+mod Laws

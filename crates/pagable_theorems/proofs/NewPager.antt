@@ -1,0 +1,97 @@
+-- A new pager over any storage is whole and stands for whatever trees, since there is nothing in it.
+use Rattle.pagable_theorems.proofs.Words.{Among, Bool, HandleNumber, HandleRow, HandlesAreWhole, IsIdle, IsLawful, IsMachineWhole, MachineState, Owner, PagerState, Reading, Represents, Some, Tree, Values, WellFormed}
+use Rattle.pagable_theorems.proofs.Words.{ap, arith, false, held, inl, is_handle, is_owned_by, is_some, nat_tests, owner_value, pins, refl, sym, times, ℕ, ◌&&◌, ◌==◌, ◌∙◌, ◌≡◌}
+use Rattle.{pagable_theorems.specs.SmallWorlds.{NewIsWhole, StartsWell}, pagable_pager_spec.specs.{Kinds.sharing, Pager.{IsNew, IsReadingOf, OwnersAreThere, of_caller, of_worker}}}
+
+module _ {N E : Type 0} (v : Values N) (s : PagerState N E) (new : IsNew s) where
+  nobody-has : (h : HandleRow) → Among s.core.rows h → ⊥
+  nobody-has h among = let e = new.rows in let is = among.1 in grind (arith, nat_tests)
+
+  none-counted : (q : HandleRow → Bool) → times q s.core.rows ≡ 0
+  none-counted q = rw (new.rows) refl
+
+  none-listed : (q : HandleNumber → Bool) → times q s.core.list ≡ 0
+  none-listed q = rw (new.list) refl
+
+  no-cell : (n : ℕ) → is_some (s.core.cells n) ≡ false
+  no-cell n = ap is_some (new.cells n)
+
+  no-pins : (n : ℕ) → pins n s.core.rows ≡ 0
+  no-pins n = rw (new.rows) refl
+
+  no-held : (n : ℕ) → held n s.core.rows ≡ 0
+  no-held n = rw (new.rows) refl
+
+  no-sharing : (n : ℕ) → sharing n s.core.rows ≡ 0
+  no-sharing n = rw (new.rows) refl
+
+  new-handles : HandlesAreWhole s.core
+  new-handles = record {
+    ordered = rw (new.rows) (grind (arith, nat_tests));
+    numbered = λ h among. absurd (nobody-has h among);
+    nodes_numbered = λ n is. absurd (let e = no-cell n in cc);
+    within = rw (new.last) (omega arith, omega arith, omega arith);
+    live = λ n. let e = no-cell n in let f = no-held n in rw (e, f) refl;
+    uniform = λ n. inl (no-sharing n);
+    unkeyed = λ n some. absurd (let e = no-sharing n in omega (arith, e, some));
+    places = rw (new.rows, new.list) (omega arith, omega arith);
+  }
+
+  new-owners : OwnersAreThere s.core
+  new-owners = record {
+    listed = λ q. none-listed (λ h. h.0 == q) ∙ sym (none-counted (λ h. is_handle q h && is_owned_by Owner.List h));
+    waiting = λ h among own. absurd (nobody-has h among);
+    loads = λ h l among own. absurd (nobody-has h among);
+    workers = λ h v among own. absurd (nobody-has h among);
+  }
+
+  new-well : WellFormed v s
+  new-well = record {
+    whole = record {
+      handles = new-handles;
+      owners_there = new-owners;
+      loads = record {
+        numbered = λ l is. absurd (let e = new.loads l in grind (arith, nat_tests));
+        owned = λ l load is. absurd (let e = new.loads l in cc);
+        roots = λ l load node t h is root. absurd (let e = new.loads l in cc);
+      };
+      cache = λ kind key n is. absurd (let e = new.cache kind key in cc);
+      workers_numbered = λ u is. absurd (let e = new.workers u in cc);
+      shut = λ closed. (new.list, new.cache);
+    };
+    counted = λ n. new.counts n ∙ sym (no-pins n);
+    valued = λ n. let e = new.values n in let f = no-cell n in rw (e, f) refl;
+    typed = λ n x is. absurd (let e = new.values n in cc);
+    inside = λ n x q is. absurd (let e = new.values n in cc);
+    bare = λ n none. none-counted (is_owned_by (owner_value n));
+    references = λ n x r is among. absurd (let e = new.values n in cc);
+  }
+
+  new-represents : (trees : ℕ → Tree) → Represents v s trees
+  new-represents trees = record {
+    stands = λ n some. absurd (let e = no-held n in omega (arith, e, some));
+    typed = λ n some. absurd (let e = no-held n in omega (arith, e, some));
+    loads = λ l load node t h is root. absurd (let e = new.loads l in cc);
+    cache = λ kind key n is. absurd (let e = new.cache kind key in cc);
+  }
+
+new-starts : {N E : Type 0} (v : Values N) (s : MachineState N E) → IsNew s.pager → IsIdle s → IsLawful v → StartsWell v s
+new-starts v s new idle lawful = record {
+  whole = record {
+    pager = new-well v s.pager new;
+    readings = λ l reading is. absurd (let e = idle.readings l in cc);
+    walkings = λ n walking is. absurd (let e = idle.walkings n in cc);
+    all_there = λ n is. absurd (let e = idle.nobody n in cc);
+  };
+  idle = idle;
+  stands = λ trees. record { pager = new-represents v s.pager new trees; readings = λ reading is. absurd (unread reading is) };
+  lawful = lawful;
+  settled = λ n x is. absurd (let e = new.values n in cc);
+}
+  where
+    unread : (reading : Reading) → IsReadingOf s.work reading → ⊥
+    unread reading (of_caller l is) = let e = idle.readings l in cc
+    unread reading (of_worker n place walking r through below is front) = let e = idle.walkings n in cc
+
+pub new_whole : {N : Type 0} (E : Type 0) (v : Values N) → NewIsWhole E v
+new_whole E v = record { new = grind arith; idle = grind arith; starts = new-starts v }

@@ -1,0 +1,537 @@
+-- A pager with few of each is whole, by facts about its first numbers that compute. So the chain of two levels is one of the machine, and meets the headline with all that it asks.
+use Rattle.pagable_theorems.proofs.{Chains.headline_law, CascadeWitness.{and-false, within-self}, HandlesKept.good, NewPager.new_whole, Trees.{same_some, sum-zero}, Words.{Alike, Among, ArcRef, AreMoments, Beginning, Blob}}
+use Rattle.pagable_theorems.proofs.Words.{IsReadableType, Kind, type_of, Bool, CloneCall, Core, Event, EventReply, HandleRow, Happens, IsLawful, IsMachineWhole, IsReadable, IsWellAsked, KeepsOpen, LiesIn, List, LoadAnswer, Mode, None}
+use Rattle.pagable_theorems.proofs.Words.{MachineState, Ok, OpenLoad, Option, Owner, PagerState, Reading, ReadsRoot, Shelf, Some, Todo, Tree, WalkDoes, Walking, WellFormed, WorkerAnswer}
+use Rattle.pagable_theorems.proofs.Words.{Written, [], and_parts, ap, arith, blob_of, cases_lt, false, find_row, held, identity_of, if_there, inl, inr, is_handle, is_in, is_named_by, is_owned_by, length}
+use Rattle.pagable_theorems.proofs.Words.{is_owner, is_some, nat_eq, nat_tests, not, of_cell, one, owner_value, owner_worker, pins, reference-form, references_fault, references_in, refl, row_at, rules}
+use Rattle.pagable_theorems.proofs.Words.{state_after, subst, suc, sym, times, to_finish, to_item, to_pin, to_release, to_set, to_start, to_write, tree, true, updated, world_of, zero, ℕ, ◌&&◌, ◌++◌, ◌+◌}
+use Rattle.pagable_theorems.{proofs.Words.{◌<◌, ◌==◌, ◌∙◌, ◌∷◌, ◌≡◌, ◌≤◌, ◌⊎◌}, specs.{SmallWorlds.{StartsWell, no_work, outer}, Witness.{ArePremised, Sample, TwoLevelsMeetTheHeadline, machine, sample, value_at}}}
+use Rattle.{pagable_value_spec.specs.{Blob.preimage, Form.nothing-form, Keyed.throughout-alone, Trees.{none-followed, rest_of}}, pagable_pager_spec.specs.Calls.{CountCall, IsNext, UnpinCall, row_of, with_key}}
+use Rattle.pagable_pager_spec.specs.{Calls.with_mode, Cascade.{Falls, IsLeast, MustList, fallen, is_keyed, loses_value, nobody, owned_outside}, Events.{Ends, ReadingsAre, WorkStays, no_shelf, reading_at}}
+use Rattle.pagable_pager_spec.specs.{Events.steps_after, Kinds.{is_at, is_loose, is_pin, is_share, is_shared, sharing}, LoadCalls.{BeginCall, EndCall, Installs, LazyCall}, Loads.ReadingDoes}
+use Rattle.pagable_pager_spec.specs.{Loads.answers_from, Pager.{EventBrings, EventHolds, HoldsItsNodes, IsCellOf, Moves, IsHandleBefore, IsIdle, IsReadingWhole, MayOwnLoad, ReadingBrings, ReplyWrites, StandsFor, TookWrites}}
+use Rattle.pagable_pager_spec.specs.{Refusals.named_fault, Runs.{Does, HoldsSettled, IsPremised, ReadsAsType, TakesWell, TodoAsksWell}, Workers.{claim_fault, fresh, is_counted, is_workers, is_workers_at}}
+use Rattle.{pagable_pager_spec.specs.{Basics.{is_eager, is_loose_kind}, Workers.without_worker, World.{HasForm, Root, SameShelf, digest, is_here, of_key, to_publish, type_at}}, std.proofs.{Common.All, lemmas.Bool.agree_below}}
+use Rattle.std.{proofs.lemmas.{Bool.agree_below_at, List.Kept.AllPairs-cons}, specs.{List.{AllByRecursion as Each, AllPairs}, Prelude.{IfSome, is_none, nat_le, nat_lt}}}
+use Rattle.pagable_theorems.specs.Witness as two
+use Rattle.pagable_value_spec.specs.Meaning as meanings
+use Rattle.pagable_value_spec.specs.Reading as grammar
+use Rattle.pagable_value_spec.specs.Shape as shapes
+use Rattle.pagable_pager_spec.specs.Loads.{need_of, needs_lazy}
+
+-- what holds of what there is
+of-some : {X : Type 0} (P : X → Type 0) {x : Option X} {y : X} → IfSome x P → x ≡ Some y → P y
+of-some P {x} {y} h is = subst (λ o. IfSome o P) is h
+
+each-among : {X : Type 0} (P : X → Type 0) (xs : List X) (x : X) → Each P xs → Among xs x → P x
+each-among P (y ∷ ys) x h (suc i, is) = each-among P ys x h.1 (i, is)
+each-among x0 x1 x2 x3 x4 = grind (arith, nat_tests, of-some)
+
+none-pass : {X : Type 0} (P : X → Type 0) (q : X → Bool) (xs : List X) → Each P xs → ((x : X) → P x → q x ≡ false) → times q xs ≡ 0
+none-pass P q xs all h = sum-zero (λ x. one (q x)) xs (λ x among. ap one (h x (each-among P xs x all among)))
+
+-- what holds of the first numbers and past them holds of all
+by-four : (P : ℕ → Type 0) → P 0 × P 1 × P 2 × P 3 → ((n : ℕ) → 3 < n → P n) → (n : ℕ) → P n
+by-four x0 h past x3 = grind (arith, nat_tests)
+
+by-number : (k : ℕ) (f g : ℕ → Bool) → agree_below f g (suc k) ≡ true → ((n : ℕ) → k < n → f n ≡ g n) → (n : ℕ) → f n ≡ g n
+by-number k f g ok past n = elim (cases_lt k n) [ inl lt ↦ past n lt | inr le ↦ agree_below_at f g (suc k) n ok (omega arith) ]
+
+pub updated-past : {X : Type 0} (k m : ℕ) (x d : X) (f : ℕ → X) → m ≤ k → ((n : ℕ) → k < n → f n ≡ d) → (n : ℕ) → k < n → updated m x f n ≡ d
+updated-past k m x d f le past n lt = let a : (n == m) ≡ false = grind (arith, nat_tests) in rw a (past n lt)
+
+-- of the nodes up to 3, not shared, and owned by the values of these or by one who isn't the list
+abbrev pub OwnerLow : Owner → Type 0
+OwnerLow (Owner.Value n) = nat_le n.0 3 ≡ true
+OwnerLow Owner.List = ⊥
+OwnerLow owner = Unit {0}
+
+abbrev pub RowLow : HandleRow → Type 0
+RowLow h = (nat_le h.node.0 3 ≡ true) × (is_shared h.mode ≡ false) × OwnerLow h.owner
+
+abbrev pub IsLow : Core → Type 0
+IsLow w = Each RowLow w.rows
+
+module _ (rows : List HandleRow) (low : Each RowLow rows) where
+  held-past : (n : ℕ) → 3 < n → held n rows ≡ 0
+  held-past n lt = none-pass RowLow (is_at n) rows low (λ h ok. let a = ok.0 in grind (arith, nat_tests))
+
+  unshared : (n : ℕ) → sharing n rows ≡ 0
+  unshared n = none-pass RowLow (is_share n) rows low (λ h ok. let a = ok.1 in grind (arith, nat_tests))
+
+  owner-past : (n : ℕ) → 3 < n → (o : Owner) → OwnerLow o → is_owner (owner_value n) o ≡ false
+  owner-past n lt x2 ok = grind (arith, nat_tests)
+
+pub alike-self : (w : Core) → Alike w w
+alike-self w = grind (arith, nat_tests, and_parts)
+
+-- no cell without a key loses its last pin
+abbrev pub lists_none : Core → Core → (ℕ → Bool) → ℕ → Bool
+lists_none before w gone n = nat_lt 0 (pins n before.rows) && (nat_eq (pins n (fallen w gone []).rows) 0 && not (is_keyed w n))
+
+-- a value that goes owns a handle that isn't given
+abbrev pub takes_more : Core → (ℕ → Bool) → ℕ → Bool
+takes_more w given n = loses_value w.rows (is_keyed w) [] given n && nat_lt 0 (owned_outside w.rows given n)
+
+pub falls-so : (before w : Core) (given gone : ℕ → Bool) → IsLow before → nat_le w.last.handle 9 ≡ true → agree_below (lists_none before w gone) (λ n. false) 4 ≡ true
+    → IsLeast w.rows (is_keyed w) [] given gone → Falls before w given (Ok tt) (fallen w gone [])
+falls-so before w given gone low few none least =
+    let no-must : (n : ℕ) → MustList before w (fallen w gone []) n → ⊥ = λ n must.
+    let is_none = by-number 3 (lists_none before w gone) (λ n. false) none (λ n lt.
+    let a = none-pass RowLow (is_pin n) before.rows low (λ h ok. let b = ok.0 in grind (arith, nat_tests)) in rw a refl) n in
+    let a = must.pinned in let b = must.unpinned in let c = must.unkeyed in grind (arith, nat_tests) in
+    let few_left : w.last.handle ≤ 9 = grind (arith, nat_tests) in search (arith, least, no-must, alike-self)
+
+-- the given handles fall alone, if no value that goes owns another
+abbrev pub AreAlone : Core → Core → (ℕ → Bool) → Type 0
+AreAlone before w given =
+    IsLow before × IsLow w × (nat_le w.last.handle 9 ≡ true) × (agree_below (lists_none before w given) (λ n. false) 4 ≡ true) × (agree_below (takes_more w given) (λ n. false) 4 ≡ true)
+
+pub falls-alone : (before w : Core) (given : ℕ → Bool) → AreAlone before w given → Falls before w given (Ok tt) (fallen w given [])
+falls-alone before w given (low_before, low, few, none, ok) = falls-so before w given given low_before few none (record {
+  holds = within-self w.rows (is_keyed w) [] given;
+  closed = λ n goes. let a = by-number 3 (takes_more w given) (λ n. false) ok
+      (λ n lt. let none : owned_outside w.rows given n ≡ 0 = search (rules, none-pass, owner-past) in grind (arith, nat_tests, none)) n in
+      grind (arith, nat_tests);
+  least = λ t holds closed. holds;
+})
+
+-- no cell past the node 3, no load past 3, no worker past 1; and the cache knows the node 3 at most, by the kind 4 and the key 8
+abbrev pub Few : Core → Type 0
+Few w = ((n : ℕ) → 3 < n → w.cells n ≡ None) × ((l : ℕ) → 3 < l → w.loads l ≡ None) × ((v : ℕ) → 1 < v → w.workers v ≡ false)
+    × ((kind key n : ℕ) → w.cache kind key ≡ Some n → (kind ≡ 4) × (key ≡ 8) × (n ≡ 3))
+
+pub none-cached : (kind key n : ℕ) → ◌≡◌ {A = Option ℕ} None (Some n) → (kind ≡ 4) × (key ≡ 8) × (n ≡ 3)
+none-cached kind key n is = absurd (cc)
+
+-- the handles stand in the order of their numbers, which are above this one
+abbrev pub Rises : ℕ → List HandleRow → Type 0
+Rises low [] = Unit {0}
+Rises low (h ∷ hs) = (nat_lt low h.number.0 ≡ true) × Rises h.number.0 hs
+
+ordered : (low : ℕ) (rows : List HandleRow) → Rises low rows → AllPairs IsHandleBefore rows × All (λ (h : HandleRow). low < h.number.0) rows
+ordered low [] ok = (λ i j d lt within. absurd (omega arith), λ j d within. absurd (omega arith))
+ordered low (h ∷ hs) (first, more) = let rest = ordered h.number.0 hs more in (AllPairs-cons IsHandleBefore h hs rest.1 rest.0, let others = rest.1 in λ i d within. grind (arith, nat_tests))
+
+-- a handle's number was given, and its owner is there
+abbrev pub OwnerThere : Core → Owner → Type 0
+OwnerThere w (Owner.Load l) = is_some (w.loads l.0) ≡ true
+OwnerThere w (Owner.Worker v) = w.workers v.0 ≡ true
+OwnerThere w owner = Unit {0}
+
+abbrev pub RowThere : Core → HandleRow → Type 0
+RowThere w h = (nat_lt 0 h.number.0 ≡ true) × (nat_le h.number.0 w.last.handle ≡ true) × OwnerThere w h.owner
+
+abbrev pub RootFits : Core → Root → Type 0
+RootFits w (of_cell node t h) = IfSome (type_at w node.0) (λ u. u ≡ t) × IfSome (row_at w h) (λ (row : HandleRow). (row.node ≡ node) × (is_loose row.mode ≡ true))
+    × (nat_le h.0 w.last.handle ≡ true) × (nat_le node.0 w.last.node ≡ true)
+RootFits w of_key = Unit {0}
+
+abbrev pub LoadFits : Core → ℕ → OpenLoad → Type 0
+LoadFits w l load = (nat_lt 0 l ≡ true) × (nat_le l w.last.load ≡ true) × (load.owner ≡ Owner.Caller) × RootFits w load.root
+
+-- how often a value refers to a handle, and the value of the node owns it; which is the same
+abbrev pub refers : Sample → ℕ → ℕ
+refers x q = times (λ (r : ArcRef). r.handle.0 == q) (sample.references x)
+
+abbrev pub owns : Core → ℕ → ℕ → ℕ
+owns w n q = times (λ h. is_handle q h && is_owned_by (owner_value n) h) w.rows
+
+abbrev pub ValueFits : Core → ℕ → Option Sample → Type 0
+ValueFits w n None = times (is_owned_by (owner_value n)) w.rows ≡ 0
+ValueFits w n (Some x) = (type_at w n ≡ Some (sample.node_type x)) × (agree_below (λ q. nat_eq (refers x q) (owns w n q)) (λ q. true) 10 ≡ true)
+    × Each (λ (r : ArcRef). nat_le r.handle.0 9 ≡ true) (sample.references x) × (references_fault w (owner_value n) [] (sample.references x) ≡ None)
+
+-- what is asked of the node and of the load of this number
+abbrev pub NumberFits : Core → List (Option Sample) → ℕ → Type 0
+NumberFits w vs n = ((is_some (w.cells n) && not (nat_lt 0 n && nat_le n w.last.node)) ≡ false) × (is_some (w.cells n) ≡ nat_lt 0 (held n w.rows))
+    × (is_some (value_at vs n) ≡ (is_some (w.cells n) && is_here w n)) × ValueFits w n (value_at vs n) × IfSome (w.loads n) (LoadFits w n)
+
+-- it refers to nothing that is read together with it
+abbrev pub IsLoose : Sample → Type 0
+IsLoose None = Unit {0}
+IsLoose (Some r) = is_eager r.kind.0 ≡ false
+
+-- all that is asked of a pager with few of each: of its handles, of it as a whole, and of each number
+pub record Stands (w : Core) (vs : List (Option Sample)) : Type 0 where
+  pub short : nat_le (length vs) 4 ≡ true
+  pub list : w.list ≡ []
+  pub stands_open : w.closed ≡ false
+  pub room : (nat_le w.last.handle 9 ≡ true) × (nat_le w.last.node 3 ≡ true) × (nat_le w.last.load 3 ≡ true) × (nat_le (length w.rows) w.places.handles ≡ true)
+  pub workers : (w.workers 0 ≡ false) × ((w.workers 1 && not (nat_le 1 w.last.worker)) ≡ false)
+  pub loose : Each (λ (o : Option Sample). IfSome o IsLoose) vs
+  pub third : IfSome (type_at w 3) (λ t. t ≡ 1) × IfSome (w.cache 4 8) (λ n. nat_le n w.last.node ≡ true)
+
+pub record Passes (w : Core) (vs : List (Option Sample)) : Type 0 where
+  pub handles : IsLow w × Rises 0 w.rows × Each (RowThere w) w.rows
+  pub stands : Stands w vs
+  pub numbers : NumberFits w vs 0 × NumberFits w vs 1 × NumberFits w vs 2 × NumberFits w vs 3
+
+past-end : (vs : List (Option Sample)) (n : ℕ) → length vs ≤ n → value_at vs n ≡ None
+past-end (x ∷ xs) (suc n) few = past-end xs n (omega arith)
+past-end x0 x1 few = grind (arith, nat_tests)
+
+loose-at : (vs : List (Option Sample)) (n : ℕ) (x : Sample) → Each (λ (o : Option Sample). IfSome o IsLoose) vs → value_at vs n ≡ Some x → IsLoose x
+loose-at (o ∷ os) zero x (own, rest) is = of-some IsLoose own is
+loose-at (o ∷ os) (suc n) x (own, rest) is = loose-at os n x rest is
+loose-at x0 x1 x2 x3 x4 = grind (arith, nat_tests)
+
+-- so there is nothing that it would have to hold
+loose-holds : (s : PagerState Sample (Unit {0})) (event : Event Sample Blob Written) (x : Sample) → IsLoose x → EventHolds sample s event x
+loose-holds s event x loose = by event
+  where
+    nothing-eager : HoldsItsNodes sample s x
+    nothing-eager r among eager = grind (arith, nat_tests, each-among)
+
+    by : (event : Event Sample Blob Written) → EventHolds sample s event x
+    by (Event.LoadStep l) = nothing-eager
+    by (Event.WorkerStep k) = nothing-eager
+    by event = tt
+
+module _ (w : Core) (vs : List (Option Sample)) (few : Few w) (p : Passes w vs) where
+  number : (n : ℕ) → NumberFits w vs n
+  number = by-four (NumberFits w vs) p.numbers (λ n lt. grind (arith, nat_tests, past-end, held-past, none-pass, owner-past))
+
+  row : (h : HandleRow) → Among w.rows h → RowThere w h
+  row h among = each-among (RowThere w) w.rows h p.handles.2 among
+
+  low : (h : HandleRow) → Among w.rows h → RowLow h
+  low h among = each-among RowLow w.rows h p.handles.0 among
+
+  load : (l : ℕ) (load : OpenLoad) → w.loads l ≡ Some load → LoadFits w l load
+  load l x is = of-some (LoadFits w l) (number l).4 is
+
+  value : (n : ℕ) (x : Sample) → value_at vs n ≡ Some x → ValueFits w n (Some x)
+  value n x is = subst (λ o. ValueFits w n o) is (number n).3
+
+  inside : (n : ℕ) (x : Sample) (q : ℕ) → value_at vs n ≡ Some x → refers x q ≡ owns w n q
+  inside n x q is = let a = by-number 9 (λ q. nat_eq (refers x q) (owns w n q)) (λ q. true) (value n x is).1
+      (λ q lt. let refs = (value n x is).2 in let there = p.handles.2 in grind (arith, nat_tests, none-pass)) q in
+      grind (arith, nat_tests)
+
+  pub whole-so : WellFormed sample (machine w vs no_work).pager
+  whole-so =
+      let (few_handles, few_nodes, few_loads, enough) = p.stands.room in
+      record {
+        whole = record {
+          handles = record {
+            ordered = (ordered 0 w.rows p.handles.1).0;
+            numbered = λ h among. let (a, b, c) = row h among in (grind (arith, nat_tests), grind (arith, nat_tests));
+            nodes_numbered = grind (arith, nat_tests, number, and_parts);
+            within = grind (arith, nat_tests);
+            live = λ n. (number n).1;
+            uniform = λ n. inl (unshared w.rows p.handles.0 n);
+            unkeyed = λ n some. let a = unshared w.rows p.handles.0 n in absurd (omega arith);
+            places = (grind (arith, nat_tests), let e : length w.list ≡ 0 = ap length p.stands.list in omega arith);
+          };
+          owners_there = record {
+            listed = λ q. subst (λ hs. times (λ h. h.0 == q) hs ≡ times (λ h. is_handle q h && is_owned_by Owner.List h) w.rows) (sym p.stands.list) (sym (grind (arith, nat_tests, none-pass, low)));
+            waiting = λ h among is. absurd (subst (λ o. OwnerLow o) is (low h among).2);
+            loads = λ h l among is. subst (λ o. OwnerThere w o) is (row h among).2;
+            workers = λ h v among is. subst (λ o. OwnerThere w o) is (row h among).2;
+          };
+          loads = record {
+            numbered = λ l some. grind (arith, nat_tests);
+            owned = λ l x is. subst (λ o. MayOwnLoad w o) (sym (load l x is).2) tt;
+            roots = λ l x node t h is root. grind (arith, nat_tests, of-some, subst (λ r. RootFits w r) root (load l x is).3);
+          };
+          cache = λ kind key n is. let known = few.3 kind key n is in let third = p.stands.third in grind (arith, nat_tests, low);
+          workers_numbered = grind (arith, nat_tests);
+          shut = λ closed. let e = p.stands.stands_open in absurd (cc);
+        };
+        counted = λ n. refl;
+        valued = λ n. (number n).2;
+        typed = λ n x is. (value n x is).0;
+        inside = λ n x q is. inside n x q is;
+        bare = λ n is. subst (λ o. ValueFits w n o) is (number n).3;
+        references = λ n x r is among. good w (owner_value n) [] (sample.references x) (value n x is).3 r among;
+      }
+
+-- the worker is at work exactly until it has answered
+abbrev pub FitsWalking : Core → Option Walking → Type 0
+FitsWalking w None = w.workers 1 ≡ false
+FitsWalking w (Some x) = (x.table ≡ 1) × (w.workers 1 ≡ is_none x.answer)
+
+-- all that is asked of a pager with these values
+abbrev pub Good : Core → List (Option two.Sample) → Type 0
+Good w vs = Few w × Passes w vs
+
+pub same-shelf : (s : Shelf) → SameShelf s s
+same-shelf s = record { slots = λ i. refl; waits = λ v. refl }
+
+-- what a store asks; and what a step does
+abbrev CanStore : Core → Written → List ℕ → Type 0
+CanStore w written keys = (length keys ≡ length written.references) × (w.closed ≡ false) × (w.stored (digest two.sample (blob_of written.bytes keys)) ≡ None)
+
+abbrev HasKind : two.Sample → Type 0
+HasKind None = Unit {0}
+HasKind (Some r) = r.kind.0 ≡ 4
+
+abbrev Asks : Core → Shelf → List Todo → Type 0
+Asks w s (to_start r place ∷ below) = (nat_le place 0 ≡ true) × (claim_fault w r ≡ None) × (s.slots (identity_of r) ≡ None)
+Asks w s (to_pin r place ∷ below) = (row_at w r.handle ≡ Some (row_of r.handle.0 r.node Mode.LoosePinned (if_there (λ (row : HandleRow). row.owner) Owner.Caller (row_at w r.handle))))
+    × (row_at (two.cloned w r.node) (two.handle (w.last.handle + 1)) ≡ Some (row_of (w.last.handle + 1) r.node Mode.LoosePinned (owner_worker 1)))
+    × (is_here (two.cloned w r.node) r.node.0 ≡ true)
+    × (nat_le w.last.handle 6 ≡ true)
+Asks w s (to_write r place through ∷ below) = (value_at two.two_values r.node.0 ≡ Some (two.value_of r.node)) × HasKind (two.value_of r.node)
+Asks w s (to_finish o ∷ below) = CanStore w o.written o.keys
+Asks w s (to_set r through key height ∷ below) = (is_loose_kind r.kind.0 ≡ true) × (row_at w through ≡ Some (row_of through.0 r.node Mode.LoosePinned (owner_worker 1))) × AreAlone w (with_key w r.node key) nobody
+Asks w s (to_publish r key height ∷ below) = Unit {0}
+Asks w s (to_release r key height ∷ below) = AreAlone w w (is_workers_at w 1 r.node.0)
+Asks w s (to_item written keys ∷ below) = CanStore w written keys
+Asks w s todo = ⊥
+
+does-so : (w : Core) (s : Shelf) (todo : List Todo) → Asks w s todo → let a = two.next_step w s todo in
+    WalkDoes two.sample_seen 1 (record { core = w; shelf = s; todo = todo }) a.0 (record { core = a.1; shelf = a.2; todo = a.3 })
+does-so w s (to_pin r place ∷ below) (live, clone_live, here, few) =
+    let left : w.last.handle ≤ 6 = grind (arith, nat_tests) in
+    let next : IsNext (two.handle (w.last.handle + 1)) w = record { above = refl; is_left = omega arith } in
+    let cloned : CloneCall w (owner_worker 1) r.handle (Ok (two.handle (w.last.handle + 1))) (two.cloned w r.node) = search (live, next, alike-self) in
+    grind (arith, nat_tests, cloned, alike-self, same-shelf)
+does-so w s (to_set r through key height ∷ below) (loose, live, alone) = let f = falls-alone w (with_key w r.node key) nobody alone in grind (arith, nat_tests, f, same-shelf)
+does-so w s (to_release r key height ∷ below) alone = search (same-shelf, falls-alone w w (is_workers_at w 1 r.node.0) alone)
+does-so w s todo ok = grind (arith, nat_tests, alike-self, same-shelf)
+
+-- the pager has few of each after the step, and after its answer
+few-next : (w : Core) (s : Shelf) (todo : List Todo) (answer : Option WorkerAnswer) → Few w → let a = two.next_step w s todo in Few (two.ended answer a.1)
+few-next w s x2 x3 few = grind (arith, nat_tests, updated-past)
+
+writes-so : (w : Core) (s : Shelf) (work : _) (todo : List Todo) → Asks w s todo → let a = two.next_step w s todo in TookWrites two.sample (λ w. w) (two.machine w two.two_values work).pager a.0
+writes-so w s work (to_write r place through ∷ below) (held, kind) = record { x = two.value_of r.node; held = held; form = form-of (two.value_of r.node) kind; listed = refl }
+  where
+    form-of : (x : two.Sample) → HasKind x → HasForm two.sample x (two.sample_written x)
+    form-of None ok = record { shape = _; own = _; is = refl; means = refl; form = nothing-form _ }
+    form-of (Some r) four = record { shape = _; own = _; is = refl; means = refl; form = reference-form _ 4 r four }
+writes-so w s work todo ok = tt
+
+abbrev EndsSo : Option WorkerAnswer → Core → Type 0
+EndsSo None w = Unit {0}
+EndsSo (Some answer) w = AreAlone w (without_worker w 1) (is_workers w 1)
+
+ends-so : (answer : Option WorkerAnswer) (w : Core) → EndsSo answer w → Ends answer 1 w (two.ended answer w)
+ends-so None w ok = alike-self w
+ends-so (Some answer) w alone = record { told = Ok tt; falls = falls-alone w (without_worker w 1) (is_workers w 1) alone }
+
+unfoldable pub AllAsk : ℕ → two.Working → Type 0
+AllAsk zero x = Unit {0}
+AllAsk (suc n) x =
+    let a = two.next_step x.core x.shelf x.todo in let y = two.next x in
+    (x.answer ≡ None) × Asks x.core x.shelf x.todo × (y.steps ≡ steps_after x.steps (is_counted x.todo a.0)) × EndsSo y.answer a.1 × Passes y.core two.two_values
+    × (y.core.workers 1 ≡ is_none y.answer) × AllAsk n y
+
+pub none-there : {X Y : Type 0} (found : Option Y) (x : Option X) → x ≡ None → x ≡ if_there (λ (y : Y). x) None found
+none-there x0 x is = grind (arith, nat_tests)
+
+pub again : {X : Type 0} (n : ℕ) (x y : X) (f : ℕ → X) (q : ℕ) → updated n y f q ≡ updated n y (updated n x f) q
+again n x y f q = grind (arith, nat_tests)
+
+-- what happens, what values come, and that the machine is good afterwards
+does : (s : MachineState two.Sample (Unit {0})) (event : Event two.Sample Blob Written) (reply : EventReply two.Sample Blob Written) (w : Core) (vs : List (Option two.Sample)) (shelf : Shelf)
+    (walking : Option Walking) (reading : Option Reading) → let s' = two.machine w vs (two.work_of shelf walking reading) in Happens two.sample_seen (world_of s) event reply (world_of s')
+    → ((n : ℕ) (x : two.Sample) → value_at vs n ≡ Some x → (s.pager.values n ≡ Some x) ⊎ ((s.pager.values n ≡ None) × EventBrings two.sample (world_of s) event n x))
+    → ReplyWrites two.sample_seen s.pager reply → Good w vs → FitsWalking w walking → IfSome reading (λ r. IsReadingWhole w r.load.0 r) → Does two.sample_seen s event reply s'
+does s event reply w vs shelf walking reading happens come writes (few, p) walks reads =
+    let whole : IsMachineWhole two.sample (two.machine w vs (two.work_of shelf walking reading)) =
+    record { pager = whole-so w vs few p; readings = grind (arith, nat_tests); walkings = grind (arith, nat_tests); all_there = grind (arith, nat_tests) } in
+    let holds : Moves (λ n x. EventHolds two.sample s.pager event x) s.pager (two.machine w vs (two.work_of shelf walking reading)).pager =
+    record { each = λ n x is. elim (come n x is) [ inl was ↦ inl was | inr (none, came) ↦ inr (none, loose-holds s.pager event x (loose-at vs n x p.stands.loose is)) ]; environment = refl } in
+    search (whole, holds)
+
+asked : (s : MachineState two.Sample (Unit {0})) (x : two.Happening) → KeepsOpen x.event → ((trees : ℕ → Tree) → IsWellAsked two.sample s trees x.event x.reply) → (trees : ℕ → Tree)
+    → IsPremised two.sample s trees x.event x.reply x.after
+asked s x open_still well trees = record { settled = λ n x is a b own other. other ∙ sym own; reads_settled = λ x is a b own other. other ∙ sym own; stays_open = open_still; well = well trees }
+
+-- each type of the sample is read back
+reads-types : (n : ℕ) → IsReadableType two.sample_types n
+unfolding IsReadable LiesIn
+reads-types n s is = grind (arith, nat_tests, throughout-alone)
+
+infixr 3 ◌⨾◌
+-- one moment, and those after it
+◌⨾◌ : {A B : Type 0} → A → B → A × B
+a ⨾ b = (a, b)
+
+pages : (n : ℕ) (x : two.Working) (xs : List two.Happening) → Few x.core → AllAsk n x → AreMoments two.sample_seen (two.at_work (two.walked n x)) xs × ArePremised (two.at_work (two.walked n x)) xs
+    → AreMoments two.sample_seen (two.at_work x) (two.page_out n x ++ xs) × ArePremised (two.at_work x) (two.page_out n x ++ xs)
+unfolding two.page_out two.walked AllAsk
+pages zero x xs few ok rest = rest
+pages (suc n) x xs few (works, asks, counts, ends, passes, at_work, ok) rest =
+    let a = two.next_step x.core x.shelf x.todo in let y = two.next x in let few_then = few-next x.core x.shelf x.todo y.answer few in
+    let (moments, premised) = pages n y xs few_then ok rest in (
+      does _ _ _ y.core two.two_values y.shelf (Some (two.walking y)) None
+          (let d = does-so x.core x.shelf x.todo asks in let e = ends-so _ _ ends in search (arith, d, e, works, counts, none-there, again, same-shelf)) (λ n x is. inl is)
+          (writes-so x.core x.shelf (two.work_of x.shelf (Some (two.walking x)) None) x.todo asks) (few_then, passes) (refl, at_work) tt ⨾ moments,
+      asked _ _ tt (λ trees w is. subst (λ (w : Walking). TodoAsksWell two.sample (two.at_work x).pager w.todo) (same_some _ _ is)
+          (grind (arith, nat_tests, reads-types))) ⨾ premised,
+    )
+
+pub begun-asks : AllAsk 15 two.begun
+unfolding AllAsk is_named_by find_row preimage references_fault is_in
+begun-asks = search arith
+
+pub births-good : Good two.new_core [] × Good two.child_born (None ∷ Some None ∷ []) × Good two.both_born two.two_values × Good two.begun.core two.two_values
+unfolding is_named_by find_row references_fault is_in
+births-good = (search (arith, none-cached), search (arith, none-cached), search (arith, none-cached), search (arith, none-cached))
+
+loads-good : Good two.evicted [] × Good two.loading [] × Good two.child_got [] × Good two.loaded two.last_values × Good two.key_loading two.last_values × Good two.read_back two.last_values
+unfolding two.walked is_named_by find_row preimage references_fault is_in
+loads-good = (
+  (search (arith, none-cached), search arith),
+  (search (arith, none-cached), search arith),
+  (search (arith, none-cached), search arith),
+  (search (arith, none-cached), record { handles = search arith; stands = search arith; numbers = search arith }),
+  (search (arith, none-cached), record { handles = search arith; stands = search arith; numbers = search arith }),
+  (search (arith, none-cached), record { handles = search arith; stands = search arith; numbers = search arith }),
+)
+
+same-work : (shelf : Shelf) (walking : Option Walking) (reading reading' : Option Reading) → WorkStays (two.work_of shelf walking reading) (two.work_of shelf walking reading')
+same-work shelf walking reading reading' = record { shelves = λ t. same-shelf _; last_table = refl; walkings = λ v. refl }
+
+-- the one reading goes on, or is over
+reads-on : (w : Core) (r : Reading) (before : ℕ → Option Reading) → is_some (w.loads r.load.0) ≡ true → ((l : ℕ) → (l == r.load.0) ≡ false → before l ≡ None) → (l : ℕ)
+    → two.reads (Some r) l ≡ if_there (λ (load : OpenLoad). updated r.load.0 (Some r) before l) None (w.loads l)
+reads-on w r before there other l = grind (arith, nat_tests, none-there)
+
+pub births-do : (xs : List two.Happening) → AreMoments two.sample_seen (two.at_work two.begun) xs → AreMoments two.sample_seen two.new_one (two.births ++ xs)
+unfolding find_row is_named_by is_in references_fault
+births-do xs rest = does _ _ _ two.new_core [] no_shelf None None (grind (arith, nat_tests, alike-self, same-shelf)) (λ n x is. inl is) tt births-good.0 refl tt
+    ⨾ does _ _ _ two.child_born _ no_shelf None None (grind (arith, nat_tests, alike-self, same-work, none-there)) (grind (arith, nat_tests)) tt births-good.1 refl tt
+    ⨾ does _ _ _ two.both_born _ no_shelf None None (grind (arith, nat_tests, alike-self, same-work, none-there)) (λ n x is. grind (arith, nat_tests)) tt births-good.2 refl tt
+    ⨾ does _ _ _ two.begun.core _ no_shelf (Some (two.walking two.begun)) None (grind (arith, nat_tests, alike-self, same-shelf, none-there, again)) (λ n x is. inl is) tt births-good.3 (refl, refl) tt
+    ⨾ rest
+
+-- with the parent's last pin its value goes, and with this the child
+evicts : UnpinCall two.answered.core Owner.Caller (two.handle 2) (Ok tt) two.evicted
+unfolding two.walked is_named_by find_row preimage
+evicts =
+    let w = with_mode two.answered.core (two.handle 2) Mode.LooseUnpinned in
+    let set : IsLeast w.rows (is_keyed w) [] nobody outer = record {
+      holds = refl;
+      closed = λ n goes. let a = and-false (2 == n) in omega arith;
+      least = λ t holds closed. let fallen : owned_outside w.rows t 2 ≡ 0 = closed 2 refl in omega arith;
+    } in
+    record { does = inr (row_of 2 (two.node 2) Mode.LoosePinned Owner.Caller, search arith, inr (refl, falls-so two.answered.core w nobody outer (search arith) refl refl set)) }
+
+-- the child's cell is made with its key, and nothing is read of it
+gets-child : ReadingDoes two.sample two.loading Owner.Caller two.parent_fetched None two.parent_read.frames two.child_got
+unfolding two.walked is_named_by find_row preimage grammar.read grammar.read_with answers_from
+gets-child =
+    let asked : LazyCall two.loading Owner.Caller (two.load_number 1) (record { 0 = 4 }) 8 (Ok (two.handle 8)) two.child_got = grind (arith, nat_tests, alike-self) in
+    let row = row_of 8 (two.node 3) Mode.LooseUnpinned (Owner.Load (two.load_number 1)) in
+    record { does = inr (inr (inr (inl (record { kind = record { 0 = 4 }; key = 8; k = two.handle 8; row = row; needs = refl; asked = asked; made = refl; goes = refl })))) }
+
+ends-pinned : ReadingDoes two.sample two.child_got Owner.Caller two.parent_read (Some (LoadAnswer.Pinned (two.handle 9))) [] two.loaded
+unfolding two.walked is_named_by find_row preimage references_fault is_in grammar.read grammar.read_with answers_from
+ends-pinned =
+    let i : Installs two.child_got Owner.Caller (two.load_number 1) (two.node 2) (two.handle 2) (two.handle 9) (two.to_leaf 3 8 ∷ []) two.loaded =
+    let row = row_of 2 (two.node 2) Mode.LooseUnpinned Owner.Caller in
+    record { row = row; owned = search arith; at = refl; next = search arith; falls = inl (refl, record { told = Ok tt; falls = falls-alone _ _ _ (search arith) }) } in
+    let ended : EndCall two.child_got Owner.Caller (two.load_number 1) (Some (two.to_leaf 3 8)) 0 (two.to_leaf 3 8 ∷ []) (Ok (two.handle 9)) two.loaded =
+    record { installs = (two.node 2, two.handle 2, search arith, i); refused = tt } in
+    search (arith, ended)
+
+reads-out : ReadingDoes two.sample two.key_loading Owner.Caller two.child_fetched (Some (LoadAnswer.Read None)) [] two.read_back
+unfolding two.walked is_named_by find_row preimage is_in named_fault grammar.read grammar.read_with answers_from
+reads-out = let falls = falls-alone two.key_loading (two.handed two.key_loading) (two.left_over two.key_loading 2 (is_in [])) (search arith) in search (arith, falls)
+
+pub loads-do : AreMoments two.sample_seen (two.at_work two.answered) (two.loads ++ two.counts 2)
+unfolding two.walked is_named_by find_row preimage is_in references_fault grammar.read grammar.read_with answers_from
+loads-do =
+    let done = Some (two.walking two.answered) in
+    does _ _ _ two.evicted [] _ done None (search (arith, evicts, same-work, none-there)) (λ n x is. absurd (cc)) tt loads-good.0 (refl, refl) tt
+    ⨾ does _ _ _ two.loading [] _ done None
+    (let b : BeginCall two.evicted Owner.Caller (two.handle 2) (Ok (Beginning.Load (two.load_number 1) 24)) two.loading =
+    record { begins = (row_of 2 (two.node 2) Mode.LooseUnpinned Owner.Caller, search arith, search (arith, alike-self)); refused = tt } in
+    search (arith, b, same-work, none-there)) (λ n x is. inl is) tt loads-good.1 (refl, refl) tt
+    ⨾ does _ _ _ two.loading [] _ done (Some two.parent_fetched)
+    (let d : ReadingDoes two.sample two.loading Owner.Caller (fresh (two.load_number 1) 0) None two.parent_fetched.frames two.loading = grind (arith, nat_tests, alike-self) in
+    let r = reads-on two.loading two.parent_fetched (λ l. None) refl (λ l e. refl) in search (arith, d, r, same-work)) (λ n x is. inl is) tt loads-good.1 (refl, refl) (search arith)
+    ⨾ does _ _ _ two.child_got [] _ done (Some two.parent_read)
+    (let r = reads-on two.child_got two.parent_read (two.reads (Some two.parent_fetched)) refl (λ l e. rw e refl) in search (arith, gets-child, r, same-work))
+    (λ n x is. inl is) tt loads-good.2 (refl, refl) (search arith)
+    ⨾ does _ _ _ two.loaded two.last_values _ done None
+    (let r : ReadingsAre (updated 1 None (two.reads (Some two.parent_read))) (world_of (two.afterwards two.loaded two.last_values None)) = grind (arith, nat_tests, none-there) in
+    search (arith, ends-pinned, r, same-work)) parent-comes tt loads-good.3 (refl, refl) tt
+    ⨾ does _ _ _ two.key_loading _ _ done (Some (fresh (two.load_number 2) 1)) (grind (arith, nat_tests, alike-self, same-work, reads-on)) (λ n x is. inl is) tt loads-good.4 (refl, refl)
+    (search arith)
+    ⨾ does _ _ _ two.key_loading two.last_values _ done (Some two.child_fetched)
+    (let d : ReadingDoes two.sample two.key_loading Owner.Caller (fresh (two.load_number 2) 1) None two.child_fetched.frames two.key_loading = grind (arith, nat_tests, alike-self) in
+    let r = reads-on two.key_loading two.child_fetched (two.reads (Some (fresh (two.load_number 2) 1))) refl (λ l e. rw e refl) in
+    search (arith, d, r, same-work)) (λ n x is. inl is) tt loads-good.4 (refl, refl) (search arith)
+    ⨾ does _ _ _ two.read_back two.last_values _ done None
+    (let r : ReadingsAre (updated 2 None (two.reads (Some two.child_fetched))) (world_of (two.afterwards two.read_back two.last_values None)) = grind (arith, nat_tests, none-there) in
+    search (arith, reads-out, r, same-work)) (λ n x is. inl is) tt loads-good.5 (refl, refl) tt
+    ⨾ does _ _ _ two.read_back _ _ done None
+    (let c : CountCall two.read_back (two.handle 2) (Ok 2) = record { found = (row_of 2 (two.node 2) Mode.LoosePinned Owner.Caller, refl, refl); refused = tt } in
+    search (arith, c, alike-self, same-work, none-there)) (λ n x is. inl is) tt loads-good.5 (refl, refl) tt
+    ⨾ tt
+  where
+    parent-comes : (n : ℕ) (x : two.Sample) → value_at two.last_values n ≡ Some x → (value_at [] n ≡ Some x) ⊎ ((value_at [] n ≡ None)
+        × ((r : Reading) × (reading_at (world_of (two.afterwards two.child_got [] (Some two.parent_read))) (two.load_number 1) ≡ Some r) × ReadingBrings two.sample two.child_got r n x))
+    parent-comes n x is =
+        let b : (n ≡ 2) × (x ≡ Some (two.to_leaf 3 8)) = grind (arith, nat_tests) in
+        let cell : IsCellOf two.child_got (two.load_number 1) n = record { load = _; node = _; t = _; h = _; open_load = refl; root = refl; is = sym b.0 } in
+        inr (refl, (two.parent_read, refl, inr (subst (λ y. ReadsRoot two.sample two.parent_read y) (sym b.1) (grind (arith, nat_tests)), cell)))
+
+shaped : (x : two.Sample) → (shape : shapes.Shape) × (two.sample_types.nodes (two.sample.node_type x) ≡ Some shape)
+shaped None = (shapes.nothing, refl)
+shaped (Some r) = (shapes.reference 4, refl)
+
+pub lawful : IsLawful two.sample
+unfolding references_in
+lawful = grind (arith, nat_tests, shaped)
+
+child-reads : (s : PagerState two.Sample (Unit {0})) → s.core.stored 8 ≡ Some (blob_of [] []) → ReadsAsType two.sample s 1 8
+unfolding grammar.read grammar.read_with
+child-reads s stored = record {
+  read = tree 1 meanings.none;
+  typed = refl;
+  reads = record { own = meanings.none; reads = record { blob = (blob_of [] []); stored = stored; rest = rest_of (blob_of [] []); reads = refl }; follows = none-followed };
+}
+
+takes-well : (s : PagerState two.Sample (Unit {0})) (reading : Reading)
+    → ((kind : Kind) (key : ℕ) → need_of two.sample_types reading.frames ≡ needs_lazy kind key → ReadsAsType two.sample s (type_of kind.0) key)
+    → TakesWell two.sample s reading
+takes-well s reading keys = record { types = λ frame among. reads-types frame.node_type; keys = keys }
+
+loads-asked : ArePremised (two.at_work two.answered) (two.loads ++ two.counts 2)
+unfolding two.walked preimage find_row is_named_by grammar.read grammar.read_with answers_from
+loads-asked =
+    asked _ _ tt (λ trees. tt) ⨾ asked _ _ tt (λ trees. tt)
+    ⨾ asked _ _ tt (λ trees reading is. takes-well _ reading (grind (arith, nat_tests, child-reads)))
+    ⨾ asked _ _ tt (λ trees reading is. takes-well _ reading (grind (arith, nat_tests, child-reads)))
+    ⨾ asked _ _ tt (λ trees reading is. takes-well _ reading (grind (arith, nat_tests, child-reads)))
+    ⨾ asked _ _ tt (λ trees. tt)
+    ⨾ asked _ _ tt (λ trees reading is. takes-well _ reading (grind (arith, nat_tests, child-reads)))
+    ⨾ asked _ _ tt (λ trees reading is. takes-well _ reading (grind (arith, nat_tests, child-reads)))
+    ⨾ asked _ _ tt (λ trees. tt) ⨾ tt
+
+later : (s : MachineState two.Sample (Unit {0})) (xs ys : List two.Happening) → AreMoments two.sample_seen s (xs ++ ys) → AreMoments two.sample_seen (state_after s xs) ys
+unfolding state_after
+later s [] ys all = all
+later s (x ∷ xs) ys (does, rest) = later x.after xs ys rest
+
+no-other : (n : ℕ) → AreMoments two.sample_seen two.new_one (two.moments n) → n ≡ 2
+unfolding two.walked two.page_out preimage find_row is_named_by is_in state_after
+no-other n all =
+    let worked = later (two.at_work two.begun) (two.page_out 15 two.begun) (two.loads ++ two.counts n) (later two.new_one two.births (two.page_out 15 two.begun ++ (two.loads ++ two.counts n)) all) in
+    let counted = later (two.at_work two.answered) two.loads (two.counts n) worked in
+    let (row, is, told) = counted.0.step.happens.step.does.0.found in (grind (arith, nat_tests))
+
+pub headline_met : TwoLevelsMeetTheHeadline
+headline_met =
+    let new = new_whole (Unit {0}) two.sample in let worked = pages 15 two.begun (two.loads ++ two.counts 2) births-good.3.0 begun-asks (loads-do, loads-asked) in
+    let start : StartsWell two.sample two.new_one = new.starts two.new_one (new.new _ _ tt) (new.idle _ _ tt) lawful in
+    let whole = start.whole in let idle = start.idle in let stands = start.stands in let settled = start.settled in
+    let premised : ArePremised two.new_one (two.moments 2) =
+    asked _ _ tt (λ trees. tt) ⨾ asked _ _ tt (λ trees. tt) ⨾ asked _ _ tt (λ trees. tt) ⨾ asked _ _ tt (λ trees. tt) ⨾ worked.1 in
+    assumption (
+      lawful,
+      whole,
+      idle,
+      stands,
+      settled,
+      premised,
+      headline_law (Unit {0}) two.sample_seen two.new_one (two.moments 2) whole idle (births-do _ worked.0),
+      no-other,
+    )

@@ -1,0 +1,94 @@
+-- The law of callers: whoever makes calls of a pager, and whole operations over it, has trees that each node keeps, and each pin, reading and page-out gives what the headline says.
+use Rattle.std.specs.Prelude.{Err, List, Ok, Result, ℕ, ◌≡◌}
+use Rattle.pagable_theorems.specs.PageOutLaws.{EachIsPagedOut, ItemAsksWell, LeavesPagedOut, ListAsksWell, NobodyWorks}
+use Rattle.pagable_pager_spec.specs.{Access.{AccessState, IsValueOf, ItemRun, ListRun, LoadAsksWell, PinRun, ReadRun, load-pins, load-fails, load-reads, reading-fails}, Events.{CallStep, no_shelf}, Rightness.{GivesTree, ReadIsRight}}
+use Rattle.pagable_pager_spec.specs.{Pager.{CallBrings, Moves, PagerState, Represents, SameTrees, ValueStands, WellFormed}, Basics.{Error, HandleNumber, Tree}, Runs.{AsksWell, HoldsSettled, KeepsOpen}}
+use Rattle.pagable_pager_spec.specs.{World.{IsLawful, SameShelf, Seen, Values, of_item}, declared.{pinning.Pinning.Pinning, calls.{Call.Call, Reply.Reply}, events.{Event.Event, WorkerAnswer.WorkerAnswer}}}
+use Rattle.pagable_pager_spec.specs.declared.handle_row.Owner.{Owner}
+
+-- a call of the pager's: the step that it is, and which value comes by it
+pub record IsCall {N E B W : Type 0} (m : Seen N B W) (s : PagerState N E) (call : Call N B) (reply : Reply N B) (s' : PagerState N E) : Type 0 where
+  pub step : CallStep m s.core Owner.Caller call reply s'.core
+  pub moves : Moves (CallBrings s.core call) s s'
+  pub whole : WellFormed m.values s'
+
+-- one call of the pager, or a pin, a reading, or a page-out of an item on a new table or of so many entries of the list
+pub data Operation {N E B W : Type 0} (m : Seen N B W) : PagerState N E → PagerState N E → Type 0 where
+  calls : (call : Call N B) (reply : Reply N B) (s s' : PagerState N E) → IsCall m s call reply s' → Operation m s s'
+  pins : (h : HandleNumber) (r : Result HandleNumber Error) (s s' : PagerState N E) → PinRun m.values s h r s' → Operation m s s'
+  reads-key : (key t : ℕ) (r : Result N Error) (s s' : PagerState N E) → ReadRun m.values s key t r s' → Operation m s s'
+  pages-item : (item : W) (answer : WorkerAnswer) (s s' : AccessState N E) → SameShelf no_shelf s.shelf → ItemRun m s (m.written_of item) answer s'
+      → Operation m s.pager s'.pager
+  pages-list : (i : ℕ) (answer : Result (Unit {0}) WorkerAnswer) (s s' : PagerState N E) → ListRun m i s answer s' → Operation m s s'
+
+-- one after the other
+pub data Operations {N E B W : Type 0} (m : Seen N B W) : PagerState N E → PagerState N E → Type 0 where
+  is-done : (s : PagerState N E) → Operations m s s
+  goes-on : (s mid s' : PagerState N E) → Operation m s mid → Operations m mid s' → Operations m s s'
+
+abbrev pub PinAsksWell : {N E : Type 0} {v : Values N} {s s' : PagerState N E} {h : HandleNumber} {r : Result HandleNumber Error} → PinRun v s h r s' → Type 0
+PinAsksWell (load-pins k reading mid s' starts run) = LoadAsksWell run
+PinAsksWell (load-fails e reading mid s' starts run) = LoadAsksWell run
+PinAsksWell run = Unit {0}
+
+abbrev pub ReadAsksWell : {N E : Type 0} {v : Values N} {s s' : PagerState N E} {key t : ℕ} {r : Result N Error} → ReadRun v s key t r s' → Type 0
+ReadAsksWell (load-reads x l mid s' starts run) = LoadAsksWell run
+ReadAsksWell (reading-fails e l mid s' starts run) = LoadAsksWell run
+ReadAsksWell run = Unit {0}
+
+-- what the headline asks of each, at the trees that there are before it
+abbrev pub OperationAsksWell : {N E B W : Type 0} {m : Seen N B W} {s s' : PagerState N E} → (ℕ → Tree) → Operation m s s' → Type 0
+OperationAsksWell {N} {E} {B} {W} {m = m} trees (calls call reply s s' c) = KeepsOpen {N = N} {B = B} {W = W} (Event.Call call) × AsksWell m.values s trees call reply × HoldsSettled m.values s'
+OperationAsksWell trees (pins h r s s' run) = PinAsksWell run
+OperationAsksWell trees (reads-key key t r s s' run) = ReadAsksWell run
+OperationAsksWell trees (pages-item item answer s s' new run) = ItemAsksWell run
+OperationAsksWell trees (pages-list i answer s s' run) = ListAsksWell run
+
+-- what a pin gives, and a reading by one call
+abbrev pub PinIsRight : {N E : Type 0} → Values N → PagerState N E → (ℕ → Tree) → Result HandleNumber Error → Type 0
+PinIsRight v s trees (Ok k) = GivesTree v s trees k
+PinIsRight v s trees (Err e) = Unit {0}
+
+abbrev pub ReadingIsRight : {N E : Type 0} → Values N → PagerState N E → ℕ → Result N Error → Type 0
+ReadingIsRight v s key (Ok x) = ReadIsRight v s key x
+ReadingIsRight v s key (Err e) = Unit {0}
+
+abbrev pub CallIsRight : {N E B : Type 0} → Values N → PagerState N E → (ℕ → Tree) → Call N B → Reply N B → Type 0
+CallIsRight v s trees (Call.Pin h) (Reply.Pin (Ok (Pinning.Pinned k))) = GivesTree v s trees k
+CallIsRight v s trees (Call.LoadEnd l x) (Reply.LoadEnded (Ok k)) = GivesTree v s trees k
+CallIsRight v s trees call reply = Unit {0}
+
+-- what each gives, by the trees before and after it
+abbrev pub OperationIsRight : {N E B W : Type 0} {m : Seen N B W} {s s' : PagerState N E} → (trees trees' : ℕ → Tree) → Operation m s s' → Type 0
+OperationIsRight {m = m} trees trees' (calls call reply s s' c) = CallIsRight m.values s' trees' call reply
+OperationIsRight {m = m} trees trees' (pins h r s s' run) = PinIsRight m.values s' trees' r
+OperationIsRight {m = m} trees trees' (reads-key key t r s s' run) = ReadingIsRight m.values s' key r
+OperationIsRight {m = m} trees trees' (pages-item item answer s s' new run) =
+    (key : ℕ) → answer ≡ WorkerAnswer.Key key → LeavesPagedOut m.values s'.pager s'.shelf trees' (of_item (m.written_of item)) key
+OperationIsRight trees trees' (pages-list i answer s s' run) = EachIsPagedOut run trees
+
+-- trees from one to the next, which each node keeps, as long as what each asks is so
+unfoldable pub AreRight : {N E B W : Type 0} {m : Seen N B W} {s s' : PagerState N E} → (ℕ → Tree) → Operations m s s' → Type 0
+AreRight trees (is-done s) = Unit {0}
+AreRight {m = m} trees (goes-on s mid s' one more) =
+    OperationAsksWell trees one
+    → (trees' : ℕ → Tree) × SameTrees s.core.last.node trees trees' × Represents m.values mid trees' × OperationIsRight trees trees' one × AreRight trees' more
+
+-- what the headline asks of each, whatever trees there are by then
+unfoldable pub AskWell : {N E B W : Type 0} {m : Seen N B W} {s s' : PagerState N E} → Operations m s s' → Type 0
+AskWell (is-done s) = Unit {0}
+AskWell {m = m} (goes-on s mid s' one more) = ((trees : ℕ → Tree) → Represents m.values s trees → OperationAsksWell trees one) × AskWell more
+
+-- The law of what is pinned again: what a pin gives through a handle, and another through the same handle after any operations, stand for one tree.
+abbrev pub PinnedAgainLaw : {N B W : Type 0} → (E : Type 0) → Seen N B W → Type 0
+PinnedAgainLaw {N} {B} {W} E m = (s mid later s' : PagerState N E) (trees : ℕ → Tree) (h k l : HandleNumber) (x y : N)
+    (first : PinRun m.values s h (Ok k) mid) (between : Operations m mid later) (again : PinRun m.values later h (Ok l) s')
+    → WellFormed m.values s → NobodyWorks s.core → IsLawful m.values → HoldsSettled m.values s → Represents m.values s trees
+    → PinAsksWell first → AskWell between → PinAsksWell again → IsValueOf mid k x → IsValueOf s' l y
+    → (t : Tree) × ValueStands m.values mid x t × ValueStands m.values s' y t
+
+-- The law, of any operations from a pager for which nobody works.
+abbrev pub CallerLaw : {N B W : Type 0} → (E : Type 0) → Seen N B W → Type 0
+CallerLaw {N} {B} {W} E m = (s s' : PagerState N E) (trees : ℕ → Tree) (operations : Operations m s s') → WellFormed m.values s → NobodyWorks s.core
+    → IsLawful m.values
+    → HoldsSettled m.values s → Represents m.values s trees → AreRight trees operations

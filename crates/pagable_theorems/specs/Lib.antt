@@ -1,0 +1,9 @@
+pub mod FormLaws
+pub mod SmallWorlds
+pub mod TreeSteps
+pub mod Witness
+pub mod DepthLaws
+pub mod PageOutLaws
+pub mod CallerLaws
+pub mod HeldLaws
+pub mod RefusalLaws

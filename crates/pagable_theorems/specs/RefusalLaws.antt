@@ -1,0 +1,88 @@
+-- Why pins and loads are refused, by the numbers of the causes; and what any refusal that tells of the storage says of it.
+use Rattle.std.specs.Prelude.{[], Err, None, Ok, Option, Result, Some, ℕ, ◌≡◌, ◌≢◌, ◌≤◌}
+use Rattle.{pagable_value_spec.specs.{Refusals.number_of, Stored.HasFailed}, pagable_pager_spec.specs.{Calls.PinCall, Events.Step, LoadCalls.BeginCall, Loads.ReadingDoes}}
+use Rattle.pagable_pager_spec.specs.{Basics.{Error, HandleNumber}, World.{Core, IsLawful, Reading, Seen, Values, World}, declared.{calls.Reply.Reply, handle_row.Owner.Owner}}
+use Rattle.pagable_pager_spec.specs.declared.events.{Event.Event, EventReply.EventReply, LoadAnswer.LoadAnswer, Action.Action}
+
+-- the handle isn't there, is another's or of another mode; or numbers or memory are wanting: 18 to 22
+abbrev pub IsOfPin : Error → Type 0
+IsOfPin e = (18 ≤ number_of e) × (number_of e ≤ 22)
+
+-- one of 1 to 13, 15 to 23 and 26: never that a value isn't registered, that a key is taken or that the storage was closed
+abbrev pub IsOfLoad : Error → Type 0
+IsOfLoad e = (number_of e ≢ 14) × (number_of e ≢ 24) × (number_of e ≢ 25)
+
+-- a pin at once, and the begin of a load
+abbrev pub PinsRefusedLaw : Type 0
+PinsRefusedLaw = (w : Core) (me : Owner) (h : HandleNumber) (e : Error) (w' : Core) → PinCall w me h (Err e) w' → IsOfPin e
+
+abbrev pub BeginsRefusedLaw : Type 0
+BeginsRefusedLaw = (w : Core) (me : Owner) (h : HandleNumber) (e : Error) (w' : Core) → BeginCall w me h (Err e) w' → IsOfPin e
+
+-- each step of a load by which it is refused, of a caller's load and of a worker's
+abbrev pub LoadsRefusedLaw : {N : Type 0} → Values N → Type 0
+LoadsRefusedLaw {N} v = IsLawful v → (w : Core) (me : Owner) (reading : Reading) (e : Error) (w' : Core)
+    → ReadingDoes v w me reading (Some (LoadAnswer.Refused e)) [] w' → IsOfLoad e
+
+-- What a refusal that was met in the world w tells of the storage, where the world is w' then.
+pub record TellsOfStorage (w w' : Core) (e : Error) : Type 0 where
+  -- that it failed comes only where its count of failures rose, or stood at its end
+  pub failed : (code : ℕ) → e ≡ Error.Storage code → HasFailed w.failures w'.failures
+  -- that a key has no blob comes only where none stands under it
+  pub absent : (key : ℕ) → e ≡ Error.NoData key → w.stored key ≡ None
+
+-- what a call, an event and a worker's step are refused with, if they are
+abbrev pub refusal_in : {X : Type 0} → Result X Error → Option Error
+refusal_in (Ok x) = None
+refusal_in (Err e) = Some e
+
+abbrev pub refusal_beside : {X Y : Type 0} → Result X (Error × Y) → Option Error
+refusal_beside (Ok x) = None
+refusal_beside (Err e) = Some e.0
+
+abbrev pub refusal_of_reply : {N B : Type 0} → Reply N B → Option Error
+refusal_of_reply (Reply.Made r) = refusal_beside r
+refusal_of_reply (Reply.Handle r) = refusal_in r
+refusal_of_reply (Reply.Pin r) = refusal_in r
+refusal_of_reply (Reply.Done r) = refusal_in r
+refusal_of_reply (Reply.Count r) = refusal_in r
+refusal_of_reply (Reply.KeyFound r) = refusal_in r
+refusal_of_reply (Reply.Away r) = refusal_in r
+refusal_of_reply (Reply.Node r) = refusal_in r
+refusal_of_reply (Reply.NodeType t) = None
+refusal_of_reply (Reply.Length n) = None
+refusal_of_reply (Reply.PinnedOrLoading h) = None
+refusal_of_reply (Reply.FromCache r) = refusal_in r
+refusal_of_reply (Reply.Fetched r) = refusal_in r
+refusal_of_reply (Reply.Stored r) = refusal_in r
+refusal_of_reply (Reply.Begun r) = refusal_in r
+refusal_of_reply (Reply.LoadFound r) = refusal_in r
+refusal_of_reply (Reply.LoadEnded r) = refusal_beside r
+
+abbrev pub refusal_of_end : {N : Type 0} → Option (LoadAnswer N) → Option Error
+refusal_of_end (Some (LoadAnswer.Refused e)) = Some e
+refusal_of_end ended = None
+
+abbrev pub refusal_of_step : {W : Type 0} → Action W → Option Error
+refusal_of_step (Action.Claim i r) = refusal_in r
+refusal_of_step (Action.Pin i r) = refusal_in r
+refusal_of_step (Action.Write i r) = refusal_in r
+refusal_of_step (Action.Store i r) = refusal_in r
+refusal_of_step (Action.SetKey i r) = refusal_in r
+refusal_of_step step = None
+
+abbrev pub refusal_of : {N B W : Type 0} → EventReply N B W → Option Error
+refusal_of (EventReply.CallReply reply) = refusal_of_reply reply
+refusal_of (EventReply.Started r) = refusal_in r
+refusal_of (EventReply.LoadMoved (Ok reply)) = refusal_of_end reply.ended
+refusal_of (EventReply.LoadMoved (Err e)) = Some e
+refusal_of (EventReply.TableMade r) = refusal_in r
+refusal_of (EventReply.WorkerMade r) = refusal_in r
+refusal_of (EventReply.WorkerMoved (Ok reply)) = refusal_of_step reply.action
+refusal_of (EventReply.WorkerMoved (Err e)) = Some e
+
+-- so it is with every event, in any world
+abbrev pub StorageIsTold : {N B W : Type 0} → Seen N B W → Type 0
+StorageIsTold {N} {B} {W} m = IsLawful m.values → (u : World) (event : Event N B W) (reply : EventReply N B W) (u' : World) (e : Error)
+    → Step m u event reply u' → refusal_of reply ≡ Some e
+    → TellsOfStorage u.core u'.core e

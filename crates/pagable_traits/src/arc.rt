@@ -1,0 +1,365 @@
+//! References that hold their shared value.
+
+ghost use Rattle.std.specs.{Arc.arc_value, Prelude.{IfErr, IfOk, IfSome, nat_eq, ◌≡◌, ◌≢◌}};
+ghost use Rattle.pagable_value_spec.specs.Shape.{reference as reference_shape};
+ghost use Rattle.pagable_traits.specs.{HeldValues.holding_beside, Erased.IsToldAt, Meanings.exactly, References.{holding, holding_kind, holding_means, reads_unlent, reference_has_one_form, unlent}};
+
+use crate::raw_ref::{read_reference, write_reference};
+use crate::storage::{FirstHandle, has_gone};
+use crate::{
+    Canonical, Carried, OneMeaning, PagableArc, PagableDeserialize, PagableSerialize, Storage,
+};
+use pagable_codec::{
+    ArcRef, Env, HandleNumber, Kind, NodeNumber, OfNode, PagableDeserializer, PagableSerializer,
+};
+use pagable_flavors::{Error, Reason};
+use pagable_value_spec::OptionalDataKey;
+use std::alloc::Global;
+use std::ops::Deref;
+use std::sync::{Arc as Shared, Wait};
+
+/// A reference that holds its shared value, so that looking at the value takes no lock. Where values of type `T` have the
+/// number `t`, its kind is `3t + 2` if it pins, and else `3t`. Two are equal where their values are, whichever nodes these
+/// stand in.
+#[derive(Drop)]
+#[derive_where(PartialEq, Eq; T)]
+pub struct HoldingArc<T, const PINS: bool> {
+    #[derive_where(skip)]
+    node: NodeNumber,
+    #[derive_where(skip)]
+    handle: HandleNumber,
+    value: Shared<T>,
+}
+
+/// A shared reference: the value stays in memory as long as its node, and has no key of its own.
+pub type Arc<T> = HoldingArc<T, false>;
+
+/// A pin: the value stays in memory as long as its cell is pinned, and may be paged out then.
+pub type PinnedPagableArc<T> = HoldingArc<T, true>;
+
+/// The kind of references that hold values of type `T`, of pins or of shared ones.
+pub fn holding_kind_of<E: Env, T: OfNode<E>>(pins: bool) -> Kind
+    ensures { result.0 ≡ holding_kind T.TYPE pins }
+{
+    if pins {
+        Kind(3 * T::TYPE + 2)
+    } else {
+        Kind(3 * T::TYPE)
+    }
+}
+
+impl<T, const PINS: bool> HoldingArc<T, PINS> {
+    /// The reference as values hold it.
+    pub fn reference<E: Env>(&self) -> ArcRef
+    where
+        T: OfNode<E>,
+        ensures { result ≡ holding T.TYPE PINS self.now }
+    {
+        ArcRef {
+            kind: holding_kind_of::<E, T>(PINS),
+            node: self.node,
+            handle: self.handle,
+        }
+    }
+
+    /// The reference, which has to be of this kind, with its shared value. A value that comes with one of another kind is
+    /// given back.
+    pub fn from_reference<E: Env>(
+        reference: ArcRef,
+        value: Shared<T>,
+    ) -> Result<HoldingArc<T, PINS>, Shared<T>>
+    where
+        T: OfNode<E>,
+        ensures ok { IfOk result (λ a. (holding T.TYPE PINS a ≡ reference) × (arc_value a.value ≡ arc_value value)) }
+        ensures back { IfErr result (λ v. (reference.kind.0 ≢ holding_kind T.TYPE PINS) × (arc_value v ≡ arc_value value)) }
+    {
+        if reference.kind != holding_kind_of::<E, T>(PINS) {
+            return Err(value);
+        }
+        Ok(HoldingArc {
+            node: reference.node,
+            handle: reference.handle,
+            value,
+        })
+    }
+
+    /// The shared value.
+    pub fn get(&self) -> &T
+        ensures { result.now ≡ arc_value self.now.value }
+    {
+        self.value.as_ref()
+    }
+
+    /// Whether both refer to the same node. It looks at no value.
+    pub fn ptr_eq(left: &HoldingArc<T, PINS>, right: &HoldingArc<T, PINS>) -> bool
+        ensures { result ≡ nat_eq left.now.node.0 right.now.node.0 }
+    {
+        left.node.0 == right.node.0
+    }
+
+    /// Inserts the value into the storage as a new node, and answers its first handle, which holds it.
+    ///
+    /// # Errors
+    /// - as `Storage::insert`, and OutOfMemory where the value can't be shared once more. The value comes back.
+    pub fn new<E: Env, R: Wait, S: Storage<E>>(
+        rt: &R,
+        alloc: Global,
+        value: Shared<T>,
+        storage: &S,
+    ) -> Result<HoldingArc<T, PINS>, (Error, Shared<T>)>
+    where
+        T: OfNode<E> + Drop,
+        ensures holds { IfOk result (λ a. arc_value a.value ≡ arc_value value) }
+        ensures told { IfOk result (λ a. IsToldAt T.held (S.told storage.now) a.handle.0 (arc_value value)) }
+        ensures back { IfErr result (λ r. arc_value r.1 ≡ arc_value value) }
+    {
+        let inserted = match Shared::try_clone(&value) {
+            Ok(shared) => storage.insert(rt, alloc, T::into_node(shared), first_handle(PINS)),
+            Err(e) => Err(e.into()),
+        };
+        match inserted {
+            Ok((node, handle)) => Ok(HoldingArc {
+                node,
+                handle,
+                value,
+            }),
+            Err(e) => Err((e, value)),
+        }
+    }
+
+    /// Makes one more of the same mode, which holds the same value.
+    ///
+    /// # Errors
+    /// - as `Storage::clone_handle`, and OutOfMemory where the value can't be shared once more.
+    pub fn clone<E: Env, R: Wait, S: Storage<E>>(
+        &self,
+        rt: &R,
+        storage: &S,
+    ) -> Result<HoldingArc<T, PINS>, Error>
+    where
+        T: Drop,
+        ensures value { IfOk result (λ a. arc_value a.value ≡ arc_value self.now.value) }
+        ensures told { IfOk result (λ a. IfSome (S.told storage.now) (λ at. at a.handle.0 ≡ at self.now.handle.0)) }
+        ensures node { IfOk result (λ a. a.node ≡ self.now.node) }
+    {
+        let value = Shared::try_clone(&self.value)?;
+        let handle = storage.clone_handle(rt, self.handle)?;
+        Ok(HoldingArc {
+            node: self.node,
+            handle,
+            value,
+        })
+    }
+
+    /// Gives it up.
+    ///
+    /// # Errors
+    /// - as `Storage::release`. It comes back, but where it was given up all the same.
+    pub fn release<E: Env, R: Wait, S: Storage<E>>(
+        self,
+        rt: &R,
+        storage: &S,
+    ) -> Result<(), (Error, Option<HoldingArc<T, PINS>>)>
+    where
+        T: Drop,
+        ensures back { IfErr result (λ r. IfSome r.1 (λ a. a ≡ self)) }
+    {
+        match storage.release(rt, self.handle) {
+            Ok(()) => Ok(()),
+            Err(e) if has_gone(&e) => Err((e, None)),
+            Err(e) => Err((e, Some(self))),
+        }
+    }
+
+    /// Counts the handles that pin its node.
+    ///
+    /// # Errors
+    /// - NoSuchHandle: it was given up by its number.
+    pub fn count<E: Env, R: Wait, S: Storage<E>>(&self, rt: &R, storage: &S) -> Result<u64, Error> {
+        storage.count(rt, self.handle)
+    }
+
+    /// Answers the key of its cell, if it has one.
+    ///
+    /// # Errors
+    /// - NoSuchHandle: it was given up by its number.
+    pub fn key<E: Env, R: Wait, S: Storage<E>>(
+        &self,
+        rt: &R,
+        storage: &S,
+    ) -> Result<OptionalDataKey, Error> {
+        storage.key(rt, self.handle)
+    }
+
+    /// Tells whether its cell has its value in the storage alone.
+    ///
+    /// # Errors
+    /// - NoSuchHandle: it was given up by its number.
+    pub fn is_paged_out<E: Env, R: Wait, S: Storage<E>>(
+        &self,
+        rt: &R,
+        storage: &S,
+    ) -> Result<bool, Error> {
+        storage.is_paged_out(rt, self.handle)
+    }
+}
+
+// How a new node is held by the first reference of this sort.
+fn first_handle(is_pin: bool) -> FirstHandle {
+    if is_pin {
+        FirstHandle::Pinned
+    } else {
+        FirstHandle::Shared
+    }
+}
+
+impl<T> HoldingArc<T, true> {
+    /// Joins the numbers of a new pin and the value that it holds.
+    pub(crate) fn of(
+        node: NodeNumber,
+        handle: HandleNumber,
+        value: Shared<T>,
+    ) -> PinnedPagableArc<T>
+        ensures numbers { (result.node ≡ node) × (result.handle ≡ handle) }
+        ensures value { result.value ≡ value }
+    {
+        HoldingArc {
+            node,
+            handle,
+            value,
+        }
+    }
+
+    /// Makes the pin a loose reference with the same number, which pins.
+    ///
+    /// # Errors
+    /// - as `Storage::into_pagable`. The pin comes back.
+    pub fn into_pagable<E: Env, R: Wait, S: Storage<E>>(
+        self,
+        rt: &R,
+        storage: &S,
+    ) -> Result<PagableArc<T>, (Error, PinnedPagableArc<T>)>
+    where
+        T: Drop,
+        ensures numbers { IfOk result (λ a. (a.node ≡ self.node) × (a.handle ≡ self.handle)) }
+        ensures back { IfErr result (λ r. r.1 ≡ self) }
+    {
+        match storage.into_pagable(rt, self.handle) {
+            Ok(()) => Ok(PagableArc::of(self.node, self.handle)),
+            Err(e) => Err((e, self)),
+        }
+    }
+
+    /// The pin, borrowed.
+    pub fn borrow(pin: &PinnedPagableArc<T>) -> PinnedPagableArcBorrow<'_, T>
+        ensures { result.pin.now ≡ pin.now }
+    {
+        PinnedPagableArcBorrow { pin }
+    }
+}
+
+impl<T, const PINS: bool> Deref for HoldingArc<T, PINS> {
+    type Target = T;
+
+    ghost deref_gives = { λ a x. x ≡ arc_value a.value };
+
+    fn deref(&self) -> &T {
+        self.get()
+    }
+}
+
+/// A pin that is borrowed: its value stays in memory as long as the borrow.
+#[derive_where(Clone, Copy)]
+pub struct PinnedPagableArcBorrow<'a, T> {
+    pub pin: &'a PinnedPagableArc<T>,
+}
+
+impl<'a, T> PinnedPagableArcBorrow<'a, T> {
+    /// The shared value.
+    pub fn get(self) -> &'a T
+        ensures { result.now ≡ arc_value self.entry.pin.now.value }
+    {
+        let pin = self.pin;
+        pin.get()
+    }
+
+    /// Makes a pin of its own, which holds the same value.
+    ///
+    /// # Errors
+    /// - as `PinnedPagableArc::clone`.
+    pub fn clone_arc<E: Env, R: Wait, S: Storage<E>>(
+        self,
+        rt: &R,
+        storage: &S,
+    ) -> Result<PinnedPagableArc<T>, Error>
+    where
+        T: Drop,
+        ensures value { IfOk result (λ a. arc_value a.value ≡ arc_value self.entry.pin.now.value) }
+        ensures node { IfOk result (λ a. a.node ≡ self.entry.pin.now.node) }
+    {
+        let pin = self.pin;
+        pin.clone(rt, storage)
+    }
+}
+
+impl<'a, T> Deref for PinnedPagableArcBorrow<'a, T> {
+    type Target = T;
+
+    ghost deref_gives = { λ b x. x ≡ arc_value b.pin.now.value };
+
+    fn deref(&self) -> &T {
+        let pin = self.pin;
+        pin.get()
+    }
+}
+
+impl<E: Env, T: OfNode<E>, const PINS: bool> Carried<E> for HoldingArc<T, PINS> {
+    ghost shape = { λ e. reference_shape (holding_kind T.TYPE PINS) };
+
+    ghost means = { exactly (holding_means T.TYPE PINS) };
+
+    ghost beside = { holding_beside T.TYPE PINS T.held };
+}
+
+impl<E: Env, T: OfNode<E>, const PINS: bool> OneMeaning<E> for HoldingArc<T, PINS> {
+    ghost single = { λ a m is. is };
+}
+
+impl<E: Env, T: OfNode<E>, const PINS: bool> Canonical<E> for HoldingArc<T, PINS> {
+    ghost one_form = { λ e. reference_has_one_form (E.parts e) (holding_kind T.TYPE PINS) };
+}
+
+impl<E: Env, T: OfNode<E>, const PINS: bool> PagableSerialize<E> for HoldingArc<T, PINS> {
+    fn pagable_serialize<S: PagableSerializer<E>>(&self, serializer: &mut S) -> Result<(), Error> {
+        write_reference(self.reference::<E>(), serializer)
+    }
+}
+
+fn unlent_refusal() -> Error
+    ensures { unlent result }
+{
+    Error::Custom(Reason::new("no value of the reference's type is lent"))
+}
+
+impl<'de, E: Env, T: OfNode<E> + Drop, const PINS: bool> PagableDeserialize<'de, E>
+    for HoldingArc<T, PINS> {
+    ghost read_causes = { reads_unlent };
+
+    /// Reads the next reference, of this sort, and takes the value that it is lent. Beside what the reference itself is
+    /// refused by, it is refused for want of memory, and with Custom where no value of the type is lent.
+    #[tactic(auto, using(crate::proofs::Lent::taken_holds))]
+    fn pagable_deserialize<D: PagableDeserializer<E>>(
+        alloc: Global,
+        deserializer: &mut D,
+    ) -> Result<Self, Error> {
+        let reference = read_reference(holding_kind_of::<E, T>(PINS), deserializer)?;
+        match deserializer.shared::<T>(alloc, reference)? {
+            None => Err(unlent_refusal()),
+            Some(value) => Ok(HoldingArc {
+                node: reference.node,
+                handle: reference.handle,
+                value,
+            }),
+        }
+    }
+}

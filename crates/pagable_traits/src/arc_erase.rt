@@ -1,0 +1,453 @@
+//! What the three sorts of references have in common, whatever the type of their values.
+
+ghost use Rattle.std.specs.{Arc.arc_value, Prelude.{Bool, IfErr, IfOk, List, Option, Some, codes, false, option_map, refl, true, ℕ, ◌≡◌}};
+ghost use Rattle.pagable_value_spec.specs.{Outcomes.memory, Reading.{read, read_typed}, References.references_in, Cursor.HoldsLent};
+ghost use Rattle.{pagable_value_spec.specs.declared.numbers.ArcRef.ArcRef as Reference, pagable_traits.specs.{Clauses.{Reads, Wrote}, References.{holding, holding_kind, holding_name, loose, loose_kind}}};
+ghost use Rattle.pagable_traits.specs.Erased.{IsToldAt, NeedsPagingOut, SetsKey, any_cause, inner, inner_causes};
+
+use crate::arc::{HoldingArc, holding_kind_of};
+use crate::pagable_arc::{PagableArc, loose_kind_of};
+use crate::{PagableDeserialize, PagableSerialize, Refers, Storage, references_of};
+use pagable_codec::{
+    ArcRef, Env, Identity, Kind, NodeSet, OfNode, PagableDeserializer, PagableSerializer,
+};
+use pagable_flavors::Error;
+use pagable_value_spec::{DataKey, OptionalDataKey};
+use std::alloc::Global;
+use std::marker::PhantomData;
+use std::sync::{Arc as Shared, Wait};
+
+/// A sort of references: `Arc`, `PagableArc` or `PinnedPagableArc`, with the type of their values.
+pub trait ArcErase<E: Env>: Sized {
+    /// The type of the values that these references refer to.
+    type Value: OfNode<E>;
+
+    ghost KIND: { ℕ };
+
+    ghost referred: { Self → Reference };
+
+    // whether these references name cells, which have keys of their own
+    ghost is_paged: { Bool };
+
+    // a value that the reference refers to, by what its storage tells of handles
+    ghost refers_to: { Self → Option (ℕ → Option E.Node) → Self.Value → Type 0 };
+
+    /// The kind of these references.
+    fn kind() -> Kind
+        ensures { result.0 ≡ KIND };
+
+    /// The reference, with its kind.
+    fn as_reference(&self) -> ArcRef
+        ensures { result ≡ referred self.now };
+
+    ghost of_kind: { (a : Self) → (referred a).kind.0 ≡ KIND };
+
+    /// What page-out counts it as: its node, by this kind.
+    fn identity(&self) -> Identity
+        ensures { result ≡ record { kind = record { 0 = KIND }; node = (referred self.now).node } }
+    {
+        Identity {
+            kind: Self::kind(),
+            node: self.as_reference().node,
+        }
+    }
+
+    /// What tells its sort without the type of its values.
+    fn erase_type() -> StdArcEraseType<Self> {
+        StdArcEraseType::new()
+    }
+
+    /// The node that holds the value.
+    fn into_node(value: Shared<Self::Value>) -> E::Node
+        ensures { Self.Value.held result ≡ Some (arc_value value) };
+
+    /// The value that the node holds, or None where the node is of another type.
+    ///
+    /// # Errors
+    /// - OutOfMemory: the value can't be shared once more.
+    fn from_node(alloc: Global, node: &E::Node) -> Result<Option<Shared<Self::Value>>, Error>
+        ensures value { IfOk result (λ found. option_map arc_value found ≡ Self.Value.held node.now) }
+        ensures only { IfErr result memory };
+
+    /// Lists the references in the value that it refers to, in the order in which each form lists them. A loose
+    /// reference is followed for it, which leaves handles and counts as they were.
+    ///
+    /// # Errors
+    /// - as `PagableArc::follow`, of a loose reference.
+    /// - OutOfMemory.
+    fn refs<R: Wait, S: Storage<E>>(
+        &self,
+        rt: &R,
+        alloc: Global,
+        storage: &S,
+    ) -> Result<Vec<ArcRef>, Error>
+    where
+        Self::Value: Refers<E> + Drop,
+        ensures ok { IfOk result (λ list. (x : Self.Value) × refers_to self.now (S.told storage.now) x × (list.items ≡ references_in (Self.Value.Carried.means.meaning x))) }
+        ensures only { IfErr result (inner_causes is_paged memory) };
+
+    /// Sets the key of its cell, as `Storage::set_data_key`. A reference that isn't loose has none, and does nothing.
+    ///
+    /// # Errors
+    /// - as `Storage::set_data_key`, of a loose reference.
+    fn set_data_key<R: Wait, S: Storage<E>>(
+        &self,
+        rt: &R,
+        key: DataKey,
+        storage: &S,
+    ) -> Result<(), Error>
+        ensures { SetsKey is_paged (S.sets storage.now (referred self.now).handle key) result };
+
+    /// Tells whether its value has still to be written to the storage: true only of a loose reference, whose cell has
+    /// no key.
+    ///
+    /// # Errors
+    /// - as `Storage::key`, of a loose reference.
+    fn needs_paging_out<R: Wait, S: Storage<E>>(&self, rt: &R, storage: &S) -> Result<bool, Error>
+        ensures { NeedsPagingOut is_paged (S.keys storage.now (referred self.now).handle) result };
+
+    /// Writes the value that it refers to, as the value's type does. A loose reference is followed for it, which leaves
+    /// handles and counts as they were.
+    ///
+    /// # Errors
+    /// - as `PagableArc::follow`, of a loose reference: nothing was written.
+    /// - as the value's `pagable_serialize`. What stood before still stands.
+    fn serialize_inner<R: Wait, S: Storage<E>, W: PagableSerializer<E>>(
+        &self,
+        rt: &R,
+        alloc: Global,
+        storage: &S,
+        serializer: &mut W,
+    ) -> Result<(), Error>
+    where
+        Self::Value: PagableSerialize<E> + Drop,
+        ensures { Wrote E.Env W.PagableSerializer
+            (inner is_paged (refers_to self.now (S.told storage.now)) Self.Value.Carried.means.of
+            (Self.Value.Carried.shape (W.environment serializer.old)))
+            (inner_causes is_paged Self.Value.PagableSerialize.write_causes.are) serializer.old serializer.new result };
+}
+
+/// A sort of references without the type of its values.
+pub trait ArcEraseType {
+    ghost name: { List ℕ };
+
+    /// `Arc`, `PagableArc` or `PinnedPagableArc`.
+    fn type_name(&self) -> &'static str
+        ensures { result.now ≡ name };
+}
+
+/// The sort of the references `A`.
+#[derive(Drop)]
+pub struct StdArcEraseType<A> {
+    sort: PhantomData<A>,
+}
+
+impl<A> StdArcEraseType<A> {
+    /// It holds nothing.
+    pub fn new() -> StdArcEraseType<A> {
+        StdArcEraseType { sort: PhantomData }
+    }
+
+    /// As `new`.
+    pub fn default() -> StdArcEraseType<A> {
+        StdArcEraseType::new()
+    }
+}
+
+impl<T> ArcEraseType for StdArcEraseType<PagableArc<T>> {
+    ghost name = { codes "PagableArc" };
+
+    fn type_name(&self) -> &'static str {
+        "PagableArc"
+    }
+}
+
+impl<T, const PINS: bool> ArcEraseType for StdArcEraseType<HoldingArc<T, PINS>> {
+    ghost name = { holding_name PINS };
+
+    fn type_name(&self) -> &'static str {
+        if PINS { "PinnedPagableArc" } else { "Arc" }
+    }
+}
+
+impl<E: Env, T: OfNode<E>> ArcErase<E> for PagableArc<T> {
+    type Value = T;
+
+    ghost KIND = { loose_kind T.TYPE };
+
+    ghost referred = { loose T.TYPE };
+
+    ghost is_paged = { true };
+
+    ghost refers_to = { λ a told x. IsToldAt T.held told a.handle.0 x };
+
+    ghost of_kind = { λ a. refl };
+
+    fn kind() -> Kind {
+        loose_kind_of::<E, T>()
+    }
+
+    fn as_reference(&self) -> ArcRef {
+        self.reference::<E>()
+    }
+
+    fn into_node(value: Shared<T>) -> E::Node
+        ensures { T.held result ≡ Some (arc_value value) }
+    {
+        T::into_node(value)
+    }
+
+    fn from_node(alloc: Global, node: &E::Node) -> Result<Option<Shared<T>>, Error>
+        ensures value { IfOk result (λ found. option_map arc_value found ≡ T.held node.now) }
+        ensures only { IfErr result memory }
+    {
+        T::from_node(alloc, node)
+    }
+
+    fn refs<R: Wait, S: Storage<E>>(
+        &self,
+        rt: &R,
+        alloc: Global,
+        storage: &S,
+    ) -> Result<Vec<ArcRef>, Error>
+    where
+        T: Refers<E> + Drop,
+        ensures ok { IfOk result (λ list. (x : T) × IsToldAt T.held (S.told storage.now) self.now.handle.0 x × (list.items ≡ references_in (T.Carried.means.meaning x))) }
+        ensures only { IfErr result (inner_causes true memory) }
+    {
+        match self.follow(rt, alloc, storage) {
+            Ok(pin) => {
+                let references = references_of(alloc, pin.get());
+                let _told = pin.release(rt, storage);
+                references
+            }
+            Err(e) => Err(e),
+        }
+    }
+
+    fn set_data_key<R: Wait, S: Storage<E>>(
+        &self,
+        rt: &R,
+        key: DataKey,
+        storage: &S,
+    ) -> Result<(), Error> {
+        self.set_key(rt, key, storage)
+    }
+
+    fn needs_paging_out<R: Wait, S: Storage<E>>(&self, rt: &R, storage: &S) -> Result<bool, Error> {
+        match self.key(rt, storage) {
+            Ok(OptionalDataKey::None) => Ok(true),
+            Ok(OptionalDataKey::Some(_)) => Ok(false),
+            Err(e) => Err(e),
+        }
+    }
+
+    fn serialize_inner<R: Wait, S: Storage<E>, W: PagableSerializer<E>>(
+        &self,
+        rt: &R,
+        alloc: Global,
+        storage: &S,
+        serializer: &mut W,
+    ) -> Result<(), Error>
+    where
+        T: PagableSerialize<E> + Drop,
+        ensures { Wrote E.Env W.PagableSerializer
+            (inner true (λ x. IsToldAt T.held (S.told storage.now) self.now.handle.0 x) T.Carried.means.of
+            (T.Carried.shape (W.environment serializer.old)))
+            (inner_causes true T.PagableSerialize.write_causes.are) serializer.old serializer.new result }
+    {
+        match self.follow(rt, alloc, storage) {
+            Ok(pin) => {
+                let written = pin.get().pagable_serialize(serializer);
+                let _told = pin.release(rt, storage);
+                written
+            }
+            Err(e) => Err(e),
+        }
+    }
+}
+
+impl<E: Env, T: OfNode<E>, const PINS: bool> ArcErase<E> for HoldingArc<T, PINS> {
+    type Value = T;
+
+    ghost KIND = { holding_kind T.TYPE PINS };
+
+    ghost referred = { holding T.TYPE PINS };
+
+    ghost is_paged = { false };
+
+    ghost refers_to = { λ a told x. x ≡ arc_value a.value };
+
+    ghost of_kind = { λ a. refl };
+
+    fn kind() -> Kind {
+        holding_kind_of::<E, T>(PINS)
+    }
+
+    fn as_reference(&self) -> ArcRef {
+        self.reference::<E>()
+    }
+
+    fn into_node(value: Shared<T>) -> E::Node
+        ensures { T.held result ≡ Some (arc_value value) }
+    {
+        T::into_node(value)
+    }
+
+    fn from_node(alloc: Global, node: &E::Node) -> Result<Option<Shared<T>>, Error>
+        ensures value { IfOk result (λ found. option_map arc_value found ≡ T.held node.now) }
+        ensures only { IfErr result memory }
+    {
+        T::from_node(alloc, node)
+    }
+
+    fn refs<R: Wait, S: Storage<E>>(
+        &self,
+        _rt: &R,
+        alloc: Global,
+        _storage: &S,
+    ) -> Result<Vec<ArcRef>, Error>
+    where
+        T: Refers<E> + Drop,
+        ensures ok { IfOk result (λ list. (x : T) × (x ≡ arc_value self.now.value) × (list.items ≡ references_in (T.Carried.means.meaning x))) }
+        ensures only { IfErr result (inner_causes false memory) }
+    {
+        references_of(alloc, self.get())
+    }
+
+    fn set_data_key<R: Wait, S: Storage<E>>(
+        &self,
+        _rt: &R,
+        _key: DataKey,
+        _storage: &S,
+    ) -> Result<(), Error> {
+        Ok(())
+    }
+
+    fn needs_paging_out<R: Wait, S: Storage<E>>(
+        &self,
+        _rt: &R,
+        _storage: &S,
+    ) -> Result<bool, Error> {
+        Ok(false)
+    }
+
+    fn serialize_inner<R: Wait, S: Storage<E>, W: PagableSerializer<E>>(
+        &self,
+        _rt: &R,
+        _alloc: Global,
+        _storage: &S,
+        serializer: &mut W,
+    ) -> Result<(), Error>
+    where
+        T: PagableSerialize<E> + Drop,
+        ensures { Wrote E.Env W.PagableSerializer
+            (inner false (λ x. x ≡ arc_value self.now.value) T.Carried.means.of
+            (T.Carried.shape (W.environment serializer.old)))
+            (inner_causes false T.PagableSerialize.write_causes.are) serializer.old serializer.new result }
+    {
+        self.get().pagable_serialize(serializer)
+    }
+}
+
+// Reads a node of the type, and takes its value.
+fn read_held<E: Env<Node: NodeSet<E>>, T: OfNode<E> + Drop, D: PagableDeserializer<E>>(
+    alloc: Global,
+    deserializer: &mut D,
+) -> Result<Shared<T>, Error>
+    ensures { Reads E.Env D.PagableDeserializer any_cause (λ v m. (n : E.Node) × (T.held n ≡ Some (arc_value v)) × E.Node.means n m)
+        (λ c. read_typed c (E.Node.shape_of (D.environment deserializer.old) T.TYPE))
+        deserializer.old deserializer.new result }
+{
+    let node = match E::Node::read(T::TYPE, alloc, deserializer) {
+        Ok(node) => node,
+        Err(e) => return Err(e),
+    };
+    match T::from_node(alloc, &node) {
+        Ok(Some(value)) => Ok(value),
+        Ok(None) => Err(Error::WrongKind),
+        Err(e) => Err(e),
+    }
+}
+
+// What a trait's method can't have is a bound on the environment's nodes, so that each sort has this call by itself.
+
+impl<T> PagableArc<T> {
+    /// Reads a value, as a node of its type is read, inserts it into the storage as a new node, and answers the first
+    /// reference to it.
+    ///
+    /// # Errors
+    /// - as `NodeSet::read`, and OutOfMemory where the value can't be shared.
+    /// - as `Storage::insert`. The value goes; the handles in it are the caller's.
+    pub fn deserialize_inner<
+        E: Env<Node: NodeSet<E>>,
+        R: Wait,
+        S: Storage<E>,
+        D: PagableDeserializer<E>,
+    >(rt: &R, alloc: Global, storage: &S, deserializer: &mut D) -> Result<PagableArc<T>, Error>
+    where
+        T: OfNode<E> + Drop,
+        ensures { Reads E.Env D.PagableDeserializer any_cause
+            (λ a m. (x : T) × IsToldAt T.held (S.told storage.now) a.handle.0 x × ((n : E.Node) × (T.held n ≡ Some x) × E.Node.means n m))
+            (λ c. read_typed c (E.Node.shape_of (D.environment deserializer.old) T.TYPE))
+            deserializer.old deserializer.new result }
+    {
+        let value = match read_held::<E, T, D>(alloc, deserializer) {
+            Ok(value) => value,
+            Err(e) => return Err(e),
+        };
+        match PagableArc::new(rt, alloc, value, storage) {
+            Ok(reference) => Ok(reference),
+            Err((e, _value)) => Err(e),
+        }
+    }
+}
+
+impl<T, const PINS: bool> HoldingArc<T, PINS> {
+    /// Reads a value, as a node of its type is read, inserts it into the storage as a new node, and answers the first
+    /// reference to it.
+    ///
+    /// # Errors
+    /// - as `NodeSet::read`, and OutOfMemory where the value can't be shared.
+    /// - as `Storage::insert`. The value goes; the handles in it are the caller's.
+    pub fn deserialize_inner<
+        E: Env<Node: NodeSet<E>>,
+        R: Wait,
+        S: Storage<E>,
+        D: PagableDeserializer<E>,
+    >(
+        rt: &R,
+        alloc: Global,
+        storage: &S,
+        deserializer: &mut D,
+    ) -> Result<HoldingArc<T, PINS>, Error>
+    where
+        T: OfNode<E> + Drop,
+        ensures { Reads E.Env D.PagableDeserializer any_cause
+            (λ a m. (x : T) × (x ≡ arc_value a.value) × ((n : E.Node) × (T.held n ≡ Some x) × E.Node.means n m))
+            (λ c. read_typed c (E.Node.shape_of (D.environment deserializer.old) T.TYPE))
+            deserializer.old deserializer.new result }
+    {
+        let value = match read_held::<E, T, D>(alloc, deserializer) {
+            Ok(value) => value,
+            Err(e) => return Err(e),
+        };
+        match HoldingArc::new(rt, alloc, value, storage) {
+            Ok(reference) => Ok(reference),
+            Err((e, _value)) => Err(e),
+        }
+    }
+}
+
+/// Reads the next reference as one of this sort, as its type's `pagable_deserialize` does.
+pub fn deserialize_arc<
+    'de,
+    E: Env,
+    A: ArcErase<E> + PagableDeserialize<'de, E>,
+    D: PagableDeserializer<E>,
+>(alloc: Global, deserializer: &mut D) -> Result<A, Error>
+    ensures reads { Reads E.Env D.PagableDeserializer A.read_causes.are A.means.of (λ c. read c (A.shape (D.environment deserializer.old))) deserializer.old deserializer.new result }
+    ensures holds { IfOk result (HoldsLent (D.standing deserializer.old) A.beside) }
+{
+    A::pagable_deserialize(alloc, deserializer)
+}

@@ -1,0 +1,128 @@
+//! Pins that wait without a thread: they are polled, as a task's other waits are.
+
+ghost use Rattle.std.specs.Prelude.{Err, IfOk, ◌≡◌};
+ghost use Rattle.futures.specs.{Poll.{IfReady, OnPending}, Task.{IsArmed, Keeps}};
+
+use crate::arc::PinnedPagableArc;
+use crate::storage::NewPin;
+use futures::task::{Context, Poll};
+use pagable_codec::{Env, HandleNumber, NodeNumber, OfNode};
+use pagable_flavors::Error;
+use std::alloc::Global;
+use std::marker::PhantomData;
+use std::sync::Wait;
+
+/// Where a polled pin stands between two polls.
+#[derive(Clone, Copy, Debug, PartialEq)]
+pub enum PinStage {
+    /// It hasn't been polled.
+    Begin,
+    /// Its load is open, and the fetch of its root's blob is polled next.
+    Fetch,
+    /// It has answered, or was given up.
+    Ended,
+}
+
+/// A pin of a loose handle that is polled. A storage has one such type (`Storage::Pin`). One that is dropped before it
+/// has ended leaves its load open, with all that the load owns.
+pub trait Polls<E: Env>: Sized {
+    ghost use Rattle.pagable_traits.specs.declared.pin_future.PinStage.{PinStage};
+
+    ghost stage: { Self → PinStage };
+
+    /// Polls it: begins it, polls the fetch of its root's blob, and once that is ready reads the value and pins the
+    /// cell. Nested blobs come by the blocking fetch. It is pending only where the storage's fetch is, which has left
+    /// a waker in `cx`.
+    ///
+    /// # Errors
+    /// - as `Storage::pin`, and what is refused leaves handles and counts as they were.
+    /// - NoSuchHandle: it has ended before.
+    fn poll<R: Wait>(
+        &mut self,
+        rt: &R,
+        alloc: Global,
+        cx: &mut Context<'_>,
+    ) -> Poll<Result<NewPin<E::Node>, Error>>
+        ensures pending { OnPending result ((stage self.new ≡ PinStage.Fetch) × IsArmed cx.new) }
+        ensures answered { IfReady result (λ r. stage self.new ≡ PinStage.Ended) }
+        ensures again { stage self.old ≡ PinStage.Ended → result ≡ Poll.Ready (Err Error.NoSuchHandle) }
+        ensures kept { Keeps cx.old cx.new };
+
+    /// Takes a pin that it answered back: handles and counts are as before it.
+    fn take_back<R: Wait>(&self, rt: &R, pinned: HandleNumber, was_unpinned: bool);
+
+    /// Gives it up, and its load with all that the load owns. What has ended stays so.
+    fn cancel<R: Wait>(&mut self, rt: &R)
+        ensures { stage self.new ≡ PinStage.Ended };
+}
+
+/// A pin of a `PagableArc` that is polled. One that is dropped without `cancel` leaves its load open, with all that the
+/// load owns.
+#[derive(Drop)]
+pub struct PinFuture<T, P> {
+    node: NodeNumber,
+    pin: P,
+    value: PhantomData<T>,
+}
+
+impl<T, P> PinFuture<T, P> {
+    /// Makes the pin of this node's cell.
+    pub(crate) fn new(node: NodeNumber, pin: P) -> PinFuture<T, P>
+        ensures { (result.node ≡ node) × (result.pin ≡ pin) }
+    {
+        PinFuture {
+            node,
+            pin,
+            value: PhantomData,
+        }
+    }
+
+    /// Polls it. It is pending only where the storage's fetch of the cell's blob is, which has left a waker in `cx`; the
+    /// next poll goes on from there. Between two polls it holds no lock.
+    ///
+    /// # Errors
+    /// - as `PagableArc::pin_sync`: handles and counts are as they were.
+    /// - NoSuchHandle: it has answered before.
+    pub fn poll<E: Env, R: Wait>(
+        &mut self,
+        rt: &R,
+        alloc: Global,
+        cx: &mut Context<'_>,
+    ) -> Poll<Result<PinnedPagableArc<T>, Error>>
+    where
+        P: Polls<E>,
+        T: OfNode<E> + Drop,
+        ensures pending { OnPending result ((P.stage self.new.pin ≡ PinStage.Fetch) × IsArmed cx.new) }
+        ensures answered { IfReady result (λ r. P.stage self.new.pin ≡ PinStage.Ended) }
+        ensures again { P.stage self.old.pin ≡ PinStage.Ended → result ≡ Poll.Ready (Err Error.NoSuchHandle) }
+        ensures node { IfReady result (λ r. IfOk r (λ pin. pin.node ≡ self.old.node)) }
+        ensures kept { Keeps cx.old cx.new }
+    {
+        let NewPin {
+            handle,
+            value: node,
+            was_unpinned,
+        } = match self.pin.poll(rt, alloc, cx) {
+            Poll::Ready(Ok(pin)) => pin,
+            Poll::Ready(Err(e)) => return Poll::Ready(Err(e)),
+            Poll::Pending => return Poll::Pending,
+        };
+        let refused = match T::from_node(alloc, node.as_ref()) {
+            Ok(Some(value)) => {
+                return Poll::Ready(Ok(PinnedPagableArc::of(self.node, handle, value)));
+            }
+            Ok(None) => Error::WrongKind,
+            Err(e) => e,
+        };
+        self.pin.take_back(rt, handle, was_unpinned);
+        Poll::Ready(Err(refused))
+    }
+
+    /// Gives it up, and its load with all that the load owns. Nothing refuses it.
+    pub fn cancel<E: Env, R: Wait>(mut self, rt: &R)
+    where
+        P: Polls<E> + Drop,
+    {
+        self.pin.cancel(rt);
+    }
+}

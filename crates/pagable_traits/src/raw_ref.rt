@@ -1,0 +1,106 @@
+//! Plain references: a reference by its kind alone, whatever the type of the value that it refers to is called.
+
+ghost use Rattle.std.specs.Prelude.{IfNone, IfOk, IfSome, Some, ◌≡◌, ◌≢◌};
+ghost use Rattle.pagable_value_spec.specs.{Outcomes.{memory, never}, Meaning.reference as meaning_of, Reading.read, Shape.reference as reference_shape, Cursor.{Is, IsLent}};
+ghost use Rattle.pagable_traits.specs.{Clauses.{Reads, Wrote, value as form}, Meanings.exactly, References.{plain, plain_means, reference_has_one_form}};
+
+use crate::{Canonical, Carried, OneMeaning, PagableDeserialize, PagableSerialize};
+use pagable_codec::{
+    ArcRef, Env, HandleNumber, Kind, NodeNumber, PagableDeserializer, PagableSerializer,
+};
+use pagable_flavors::Error;
+use std::alloc::Global;
+
+/// Writes a reference: no byte, and the reference at the end of the list. Refused by want of memory alone.
+#[tactic(auto, using(pagable_codec::proofs::Writing::parts, pagable_codec::proofs::Writing::references))]
+pub fn write_reference<E: Env, S: PagableSerializer<E>>(
+    reference: ArcRef,
+    serializer: &mut S,
+) -> Result<(), Error>
+    ensures { Wrote E.Env S.PagableSerializer (form (Is meaning_of reference) (reference_shape reference.kind.0)) memory serializer.old serializer.new result }
+{
+    serializer.serialize_arc(reference)
+}
+
+/// Reads the next reference, of this kind. It takes the next key, also where the reference is refused: NoMoreKeys where
+/// none is left, or what the reference itself is refused by.
+#[tactic(auto, unfolding(pagable_value_spec::specs::Reading::read, pagable_value_spec::specs::Reading::read_with), using(pagable_codec::proofs::Reading::parts))]
+pub fn read_reference<E: Env, D: PagableDeserializer<E>>(
+    kind: Kind,
+    deserializer: &mut D,
+) -> Result<ArcRef, Error>
+    ensures of_kind { IfOk result (λ r. r.kind ≡ kind) }
+    ensures lent { IfOk result (λ r. (y : E.Node) → D.lends deserializer.new r ≡ Some y → IsLent (D.standing deserializer.old) r y) }
+    ensures reads { Reads E.Env D.PagableDeserializer never (Is meaning_of) (λ c. read c (reference_shape kind.0)) deserializer.old deserializer.new result }
+{
+    let reference = deserializer.deserialize_arc(kind)?;
+    Ok(reference)
+}
+
+/// A plain reference of the kind `KIND`: what a type holds that knows the kind by its number, its own kind among them.
+#[derive(Clone, Copy, Debug, PartialEq, Eq)]
+pub struct RawRef<const KIND: u32> {
+    node: NodeNumber,
+    handle: HandleNumber,
+}
+
+impl<const KIND: u32> RawRef<KIND> {
+    /// The reference as one of this kind, or None where it is of another.
+    pub fn from_reference(reference: ArcRef) -> Option<RawRef<KIND>>
+        ensures some { IfSome result (λ a. plain KIND a ≡ reference) }
+        ensures none { IfNone result (reference.kind.0 ≢ KIND) }
+    {
+        if reference.kind.0 != KIND {
+            return None;
+        }
+        Some(RawRef {
+            node: reference.node,
+            handle: reference.handle,
+        })
+    }
+
+    /// The reference, with its kind.
+    pub fn reference(&self) -> ArcRef
+        ensures { result ≡ plain KIND self.now }
+    {
+        ArcRef {
+            kind: Kind(KIND),
+            node: self.node,
+            handle: self.handle,
+        }
+    }
+}
+
+impl<E: Env, const KIND: u32> Carried<E> for RawRef<KIND> {
+    ghost shape = { λ e. reference_shape KIND };
+
+    ghost means = { exactly (plain_means KIND) };
+}
+
+impl<E: Env, const KIND: u32> OneMeaning<E> for RawRef<KIND> {
+    ghost single = { λ a m is. is };
+}
+
+impl<E: Env, const KIND: u32> Canonical<E> for RawRef<KIND> {
+    ghost one_form = { λ e. reference_has_one_form (E.parts e) KIND };
+}
+
+impl<E: Env, const KIND: u32> PagableSerialize<E> for RawRef<KIND> {
+    fn pagable_serialize<S: PagableSerializer<E>>(&self, serializer: &mut S) -> Result<(), Error> {
+        write_reference(self.reference(), serializer)
+    }
+}
+
+impl<'de, E: Env, const KIND: u32> PagableDeserialize<'de, E> for RawRef<KIND> {
+    #[tactic(auto, using(crate::proofs::Listed::gave_held))]
+    fn pagable_deserialize<D: PagableDeserializer<E>>(
+        _alloc: Global,
+        deserializer: &mut D,
+    ) -> Result<Self, Error> {
+        let reference = read_reference(Kind(KIND), deserializer)?;
+        Ok(RawRef {
+            node: reference.node,
+            handle: reference.handle,
+        })
+    }
+}

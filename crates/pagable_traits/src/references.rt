@@ -1,0 +1,158 @@
+//! The references in a value, listed.
+#![tactic(auto, using(crate::proofs::Listed::parts), unfolding(pagable_value_spec::specs::References::references_in))]
+
+ghost use Rattle.std.specs.Prelude.{IfErr, IfOk, OnOk, [], map, ◌++◌, ◌∷◌, ◌≡◌};
+ghost use Rattle.{pagable_value_spec.specs.{Outcomes.memory, Meaning.sequence, References.references_in, Shape.both}, pagable_traits.specs.ReadBack.AreRead};
+ghost use Rattle.pagable_traits.specs.{References.{holding_kind, loose_kind}, Refers.{ListsInOrder, both_in_order, list_in_order, optional_in_order, outcome_in_order, reference_in_order}};
+
+use crate::arc::HoldingArc;
+use crate::pagable_arc::PagableArc;
+use crate::raw_ref::RawRef;
+use crate::{Carried, OneMeaning};
+use pagable_codec::{ArcRef, Env, OfNode};
+use pagable_flavors::Error;
+use std::alloc::Global;
+
+/// A type whose values tell their references. A type with a hash map in it is none, since its entries are written in any
+/// order.
+pub trait Refers<E: Env>: OneMeaning<E> {
+    /// Appends the references in the value, in the order in which they are written. Refused by want of memory alone; then
+    /// some of them were appended.
+    fn list_references(&self, list: &mut Vec<ArcRef>) -> Result<(), Error>
+        ensures ok { OnOk result (list.new.items ≡ list.old.items ++ references_in (Self.Carried.means.meaning self.now)) }
+        ensures only { IfErr result memory };
+
+    // Each form lists them so.
+    ghost in_order: { (e : E) → ListsInOrder (E.parts e) (Self.Carried.shape e) };
+}
+
+impl<E: Env, T: OfNode<E>> Refers<E> for PagableArc<T> {
+    fn list_references(&self, list: &mut Vec<ArcRef>) -> Result<(), Error> {
+        Ok(list.push(self.reference::<E>())?)
+    }
+
+    ghost in_order = { λ e. reference_in_order (E.parts e) (loose_kind T.TYPE) };
+}
+
+impl<E: Env, T: OfNode<E>, const PINS: bool> Refers<E> for HoldingArc<T, PINS> {
+    fn list_references(&self, list: &mut Vec<ArcRef>) -> Result<(), Error> {
+        Ok(list.push(self.reference::<E>())?)
+    }
+
+    ghost in_order = { λ e. reference_in_order (E.parts e) (holding_kind T.TYPE PINS) };
+}
+
+impl<E: Env, const KIND: u32> Refers<E> for RawRef<KIND> {
+    fn list_references(&self, list: &mut Vec<ArcRef>) -> Result<(), Error> {
+        Ok(list.push(self.reference())?)
+    }
+
+    ghost in_order = { λ e. reference_in_order (E.parts e) KIND };
+}
+
+impl<'a, E: Env, T: Refers<E>> Refers<E> for &'a T {
+    fn list_references(&self, list: &mut Vec<ArcRef>) -> Result<(), Error> {
+        T::list_references(*self, list)
+    }
+
+    ghost in_order = { T.in_order };
+}
+
+impl<E: Env, T: Refers<E>> Refers<E> for Option<T> {
+    fn list_references(&self, list: &mut Vec<ArcRef>) -> Result<(), Error> {
+        match self {
+            None => Ok(()),
+            Some(value) => value.list_references(list),
+        }
+    }
+
+    ghost in_order = { λ e. optional_in_order (E.parts e) (T.Carried.shape e) (T.in_order e) };
+}
+
+impl<E: Env, A: Refers<E>, B: Refers<E>> Refers<E> for (A, B) {
+    #[tactic(auto, using(crate::proofs::Listed::pair_listed))]
+    fn list_references(&self, list: &mut Vec<ArcRef>) -> Result<(), Error> {
+        self.0.list_references(list)?;
+        self.1.list_references(list)
+    }
+
+    ghost in_order = { λ e. both_in_order (E.parts e) (A.Carried.shape e) (B.Carried.shape e) (A.in_order e) (B.in_order e) };
+}
+
+/// A boxed value refers to what the value does,
+impl<E: Env, T: Refers<E>> Refers<E> for Box<T> {
+    fn list_references(&self, list: &mut Vec<ArcRef>) -> Result<(), Error> {
+        T::list_references(&**self, list)
+    }
+
+    ghost in_order = { T.in_order };
+}
+
+/// an outcome to what is in it,
+impl<E: Env, T: Refers<E>, X: Refers<E>> Refers<E> for Result<T, X> {
+    fn list_references(&self, list: &mut Vec<ArcRef>) -> Result<(), Error> {
+        match self {
+            Ok(value) => value.list_references(list),
+            Err(failure) => failure.list_references(list),
+        }
+    }
+
+    ghost in_order = { λ e. outcome_in_order (E.parts e) (T.Carried.shape e) (X.Carried.shape e) (T.in_order e) (X.in_order e) };
+}
+
+/// and a longer tuple to what a pair of its first value and the others does.
+impl<E: Env, A: Refers<E>, B: Refers<E>, C: Refers<E>> Refers<E> for (A, B, C) {
+    #[tactic(auto, using(crate::proofs::Listed::pair_listed))]
+    fn list_references(&self, list: &mut Vec<ArcRef>) -> Result<(), Error> {
+        let (first, second, third) = self;
+        Refers::<E>::list_references(&(first, (second, third)), list)
+    }
+
+    ghost in_order = { λ e. both_in_order (E.parts e) (A.Carried.shape e) (both (B.Carried.shape e) (C.Carried.shape e)) (A.in_order e) (both_in_order (E.parts e) (B.Carried.shape e) (C.Carried.shape e) (B.in_order e) (C.in_order e)) };
+}
+
+impl<E: Env, A: Refers<E>, B: Refers<E>, C: Refers<E>, D: Refers<E>> Refers<E> for (A, B, C, D) {
+    #[tactic(auto, using(crate::proofs::Listed::pair_listed))]
+    fn list_references(&self, list: &mut Vec<ArcRef>) -> Result<(), Error> {
+        let (first, second, third, fourth) = self;
+        Refers::<E>::list_references(&(first, (second, (third, fourth))), list)
+    }
+
+    ghost in_order = { λ e. both_in_order (E.parts e) (A.Carried.shape e) (both (B.Carried.shape e) (both (C.Carried.shape e) (D.Carried.shape e))) (A.in_order e)
+        (both_in_order (E.parts e) (B.Carried.shape e) (both (C.Carried.shape e) (D.Carried.shape e)) (B.in_order e) (both_in_order (E.parts e) (C.Carried.shape e) (D.Carried.shape e) (C.in_order e) (D.in_order e))) };
+}
+
+/// The references in a value, in the order in which they are written. Refused by want of memory alone.
+pub fn references_of<E: Env, T: Refers<E>>(alloc: Global, value: &T) -> Result<Vec<ArcRef>, Error>
+    ensures ok { IfOk result (λ list. list.items ≡ references_in (T.Carried.means.meaning value.now)) }
+    ensures only { IfErr result memory }
+{
+    let mut list = Vec::new(alloc);
+    value.list_references(&mut list)?;
+    Ok(list)
+}
+
+/// Appends the references of the items, one item after another.
+fn list_each<E: Env, T: Refers<E>>(items: &[T], list: &mut Vec<ArcRef>) -> Result<(), Error>
+    ensures ok { OnOk result (list.new.items ≡ list.old.items ++ references_in (sequence (map T.Carried.means.meaning items.now))) }
+    ensures only { IfErr result memory }
+{
+    for item in items {
+        item.list_references(list)?;
+    }
+    Ok(())
+}
+
+impl<E: Env, T: Refers<E>> Refers<E> for Vec<T> {
+    fn list_references(&self, list: &mut Vec<ArcRef>) -> Result<(), Error> {
+        list_each(self.as_slice(), list)
+    }
+
+    ghost in_order = { λ e. list_in_order (E.parts e) (T.Carried.shape e) (T.in_order e) };
+}
+
+/// References are read throughout, as `carried_types_are_read` of `pagable_traits` says it of other types.
+#[tactic(auto, using(crate::specs::References::reference_is_read))]
+pub fn references_are_read<E: Env, T: OfNode<E>, const PINS: bool, const KIND: u32>()
+    ensures { (e : E) → AreRead (E.parts e) (⟦<HoldingArc<T, PINS> as Carried<E>>⟧.shape e ∷ ⟦<PagableArc<T> as Carried<E>>⟧.shape e ∷ ⟦<RawRef<KIND> as Carried<E>>⟧.shape e ∷ []) }
+{}

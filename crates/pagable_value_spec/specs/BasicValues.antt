@@ -1,0 +1,73 @@
+-- Flags, lengths, texts, byte arrays, characters and durations as bytes: postcard's bool, seq, string, byte array and char, and serde's Duration.
+use Rattle.std.specs.{Prelude.{ℕ, zero, suc, ◌+◌, ◌/◌, ◌%◌, ◌^◌, List, [], ◌∷◌, ◌++◌, length, take, drop, Bool, true, false, Ok, Err, nat_lt, nat_le, if◌then◌else◌}, Int.{w32, w64}, Char.encode_utf8}
+use Rattle.std.specs.Str.{is_utf8, chars}
+use Rattle.pagable_value_spec.specs.{declared.error.Error.Error, ReadSteps.◌>>=◌, Numbers.{Read, unsigned_form, unsigned_at}}
+
+-- postcard, bool
+abbrev pub bool_form : Bool → List ℕ
+bool_form false = 0 ∷ []
+bool_form true = 1 ∷ []
+
+unfoldable pub bool_at : List ℕ → Read Bool
+bool_at [] = Err Error.UnexpectedEnd
+bool_at (zero ∷ rest) = Ok (false, rest)
+bool_at (suc zero ∷ rest) = Ok (true, rest)
+bool_at (suc (suc b) ∷ rest) = Err Error.BadBool
+
+-- the greatest length of a text or a list, a limit of this port
+abbrev pub longest : ℕ
+longest = 4294967295
+
+-- a length is a `usize`, and that is 64 bits wide
+abbrev pub length_form : ℕ → List ℕ
+length_form n = unsigned_form w64 n
+
+-- a length: it is too long before the input is too short
+unfoldable pub length_at : List ℕ → Read ℕ
+length_at bytes = unsigned_at w64 bytes >>= λ n. if nat_le n.0 longest then Ok n else Err Error.TooLong
+
+-- the first n bytes
+abbrev pub bytes_at : ℕ → List ℕ → Read (List ℕ)
+bytes_at n bytes = if nat_lt (length bytes) n then Err Error.UnexpectedEnd else Ok (take n bytes, drop n bytes)
+
+-- postcard, string: the length in bytes, and the bytes
+abbrev pub text_form : List ℕ → List ℕ
+text_form t = length_form (length t) ++ t
+
+-- a text: too long, then too short, then not UTF-8
+unfoldable pub text_at : List ℕ → Read (List ℕ)
+text_at bytes = length_at bytes >>= λ n. bytes_at n.0 n.1 >>= λ t. if is_utf8 t.0 then Ok t else Err Error.BadUtf8
+
+-- postcard, byte array: the length in bytes, and the bytes
+abbrev pub byte_array_form : List ℕ → List ℕ
+byte_array_form bytes = length_form (length bytes) ++ bytes
+
+-- a byte array: too long, then too short
+unfoldable pub byte_array_at : List ℕ → Read (List ℕ)
+byte_array_at bytes = length_at bytes >>= λ n. bytes_at n.0 n.1
+
+abbrev pub char_form : ℕ → List ℕ
+char_form c = text_form (encode_utf8 c)
+
+-- the character that the text is, if it is one
+abbrev pub one_char : List ℕ → List ℕ → Read ℕ
+one_char [] rest = Err Error.BadChar
+one_char (c ∷ []) rest = Ok (c, rest)
+one_char (c ∷ d ∷ cs) rest = Err Error.BadChar
+
+-- a character is the text of that character: the faults of its text come first, and then more or less than one
+unfoldable pub char_at : List ℕ → Read ℕ
+char_at bytes = text_at bytes >>= λ t. one_char (chars t.0) t.1
+
+abbrev pub nanos_of_second : ℕ
+nanos_of_second = 1000000000
+
+abbrev pub duration_form : ℕ → ℕ → List ℕ
+duration_form seconds nanos = unsigned_form w64 seconds ++ unsigned_form w32 nanos
+
+-- seconds and nanoseconds, where whole seconds among the nanoseconds are carried over
+abbrev pub carried : ℕ → ℕ → List ℕ → Read (ℕ × ℕ)
+carried seconds nanos rest = let total = seconds + nanos / nanos_of_second in if nat_lt total (2 ^ 64) then Ok ((total, nanos % nanos_of_second), rest) else Err Error.BadDuration
+
+unfoldable pub duration_at : List ℕ → Read (ℕ × ℕ)
+duration_at bytes = unsigned_at w64 bytes >>= λ s. unsigned_at w32 s.1 >>= λ n. carried s.0 n.0 n.1

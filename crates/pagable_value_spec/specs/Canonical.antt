@@ -1,0 +1,145 @@
+-- Shapes of which no meaning has two forms, shapes that are read, and of which shapes a value is made.
+use Rattle.pagable_value_spec.specs.Meaning as meanings
+use Rattle.std.specs.{Prelude.{◌≡◌, ℕ, zero, suc, List, true, false, Some, ◌⊎◌}, Int.w8, List.AllByRecursion}
+use Rattle.pagable_value_spec.specs.Shape.{Shape, nothing, optional, outcome, list, run, array, both, sorted_map, placed_map, hash_map, sorted_set, placed_set, static_value, tagged, cases, reference}
+use Rattle.pagable_value_spec.specs.{Meaning.{Meaning, pair, variant, followed}, Shape.nested, Form.Form, Trees.{Tree, Types, type_of}}
+
+-- a shape of which no meaning has two forms, if this is so of its numbered parts
+unfoldable pub IsCanonical : Shape → Type 0
+IsCanonical (optional s) = IsCanonical s
+IsCanonical (outcome s t) = IsCanonical s × IsCanonical t
+IsCanonical (list s) = IsCanonical s
+IsCanonical (run s) = IsCanonical s
+IsCanonical (array n s) = IsCanonical s
+IsCanonical (both s t) = IsCanonical s × IsCanonical t
+IsCanonical (sorted_map order s t) = IsCanonical s × IsCanonical t
+IsCanonical (placed_map s t) = IsCanonical s × IsCanonical t
+IsCanonical (hash_map s t) = ⊥
+IsCanonical (sorted_set order s) = IsCanonical s
+IsCanonical (placed_set s) = IsCanonical s
+IsCanonical (static_value registry) = ⊥
+IsCanonical (tagged written known body) = ((tag : List ℕ) → IsCanonical (written tag)) × ((tag : List ℕ) → known tag ≡ true → IsCanonical (body tag))
+IsCanonical (cases w known part) = (n : ℕ) → known n ≡ true → IsCanonical (part n)
+IsCanonical _ = Unit {0}
+
+-- the shape of what no value is: what is written under a tag that no value has
+abbrev pub unwritten : Shape
+unwritten = cases w8 (λ n. false) (λ n. nothing)
+
+-- a shape of which nothing has a form, since it has no case
+abbrev pub HasNoCase : Shape → Type 0
+HasNoCase (cases w known part) = (n : ℕ) → known n ≡ false
+HasNoCase _ = ⊥
+
+-- a meaning in which nothing is referred to
+unfoldable pub HasNoReference : Meaning ⊥ → Type 0
+HasNoReference (pair a b) = HasNoReference a × HasNoReference b
+HasNoReference (variant n a) = HasNoReference a
+HasNoReference (meanings.reference a) = absurd a
+HasNoReference (followed kind a) = ⊥
+HasNoReference _ = Unit {0}
+
+-- A shape whose forms are read, if this is so of its numbered parts. Each tag under which anything is written has to be registered with a reader of what is written.
+unfoldable pub IsReadable : Shape → Type 0
+IsReadable (optional s) = IsReadable s
+IsReadable (outcome s t) = IsReadable s × IsReadable t
+IsReadable (list s) = IsReadable s
+IsReadable (run s) = ⊥
+IsReadable (array n s) = IsReadable s
+IsReadable (both s t) = IsReadable s × IsReadable t
+IsReadable (sorted_map order s t) = IsReadable s × IsReadable t
+IsReadable (placed_map s t) = IsReadable s × IsReadable t
+IsReadable (hash_map s t) = IsReadable s × IsReadable t
+IsReadable (sorted_set order s) = IsReadable s
+IsReadable (placed_set s) = IsReadable s
+IsReadable (static_value registry) = AllByRecursion HasNoReference registry
+IsReadable (tagged written known body) = ((tag : List ℕ) → HasNoCase (written tag) ⊎ ((known tag ≡ true) × (body tag ≡ written tag))) × ((tag : List ℕ) → known tag ≡ true → IsReadable (body tag))
+IsReadable (cases w known part) = (n : ℕ) → known n ≡ true → IsReadable (part n)
+IsReadable _ = Unit {0}
+
+-- each node type that the shape refers to is in nodes, and each numbered part that it has is in parts
+unfoldable pub LiesIn : (ℕ → Type 0) → (ℕ → Type 0) → Shape → Type 0
+LiesIn nodes parts (optional s) = LiesIn nodes parts s
+LiesIn nodes parts (outcome s t) = LiesIn nodes parts s × LiesIn nodes parts t
+LiesIn nodes parts (list s) = LiesIn nodes parts s
+LiesIn nodes parts (run s) = LiesIn nodes parts s
+LiesIn nodes parts (array n s) = LiesIn nodes parts s
+LiesIn nodes parts (both s t) = LiesIn nodes parts s × LiesIn nodes parts t
+LiesIn nodes parts (sorted_map order s t) = LiesIn nodes parts s × LiesIn nodes parts t
+LiesIn nodes parts (placed_map s t) = LiesIn nodes parts s × LiesIn nodes parts t
+LiesIn nodes parts (hash_map s t) = LiesIn nodes parts s × LiesIn nodes parts t
+LiesIn nodes parts (sorted_set order s) = LiesIn nodes parts s
+LiesIn nodes parts (placed_set s) = LiesIn nodes parts s
+LiesIn nodes parts (tagged written known body) = ((tag : List ℕ) → LiesIn nodes parts (written tag)) × ((tag : List ℕ) → known tag ≡ true → LiesIn nodes parts (body tag))
+LiesIn nodes parts (cases w known part) = (n : ℕ) → known n ≡ true → LiesIn nodes parts (part n)
+LiesIn nodes parts (reference kind) = nodes (type_of kind)
+LiesIn nodes parts (nested n) = parts n
+LiesIn nodes parts _ = Unit {0}
+
+-- P of the shape, and of each that this many steps from part to numbered part lead to
+unfoldable pub Within : (Shape → Type 0) → (ℕ → Shape) → ℕ → Shape → Type 0
+Within P parts zero s = P s
+Within P parts (suc steps) s = P s × LiesIn (λ n. Unit {0}) (λ n. Within P parts steps (parts n)) s
+
+-- P of the shape and of all parts that its values have, however deep, within one blob
+pub record Throughout (P : Shape → Type 0) (parts : ℕ → Shape) (s : Shape) : Type 0 where
+  pub within : (steps : ℕ) → Within P parts steps s
+
+-- No meaning of the shape has two forms.
+abbrev pub HasOneForm : {A : Type 0} → (A → ℕ) → (ℕ → Shape) → Shape → Type 0
+HasOneForm {A} kind_of parts s = (left : ℕ) (m : Meaning A) (b c : List ℕ) (k l : List A) → Form A kind_of parts left s m b k → Form A kind_of parts left s m c l → (b ≡ c) × (k ≡ l)
+
+-- the node type is one of an environment's whose values have no two forms
+abbrev pub IsCanonicalType : Types → ℕ → Type 0
+IsCanonicalType types n = (s : Shape) → types.nodes n ≡ Some s → Throughout IsCanonical types.parts s
+
+-- the node type is one of an environment's whose forms are read
+abbrev pub IsReadableType : Types → ℕ → Type 0
+IsReadableType types n = (s : Shape) → types.nodes n ≡ Some s → Throughout IsReadable types.parts s
+
+-- P of the value type of each reference in the tree, however far down
+unfoldable pub EachType : (ℕ → Type 0) → Meaning ⊥ → Type 0
+EachType P (pair a b) = EachType P a × EachType P b
+EachType P (variant n a) = EachType P a
+EachType P (meanings.reference a) = absurd a
+EachType P (followed kind a) = P (type_of kind) × EachType P a
+EachType P _ = Unit {0}
+
+-- the tree's own type and the types of all that it reaches are canonical, and are read
+abbrev pub IsCanonicalTree : Types → Tree → Type 0
+IsCanonicalTree types t = IsCanonicalType types t.type × EachType (IsCanonicalType types) t.meaning
+
+abbrev pub IsReadableTree : Types → Tree → Type 0
+IsReadableTree types t = IsReadableType types t.type × EachType (IsReadableType types) t.meaning
+
+-- A set of node types that no reference leads out of: in the shape of each, and in all parts of its values, references lead into the set.
+abbrev pub IsClosed : Types → (ℕ → Type 0) → Type 0
+IsClosed types nodes = (n : ℕ) (s : Shape) → nodes n → types.nodes n ≡ Some s → Throughout (LiesIn nodes (λ part. Unit {0})) types.parts s
+
+-- what lies in a set of parts lies in a greater one
+lies-along : {parts more : ℕ → Type 0} → ((n : ℕ) → parts n → more n) → (s : Shape) → LiesIn (λ n. Unit {0}) parts s → LiesIn (λ n. Unit {0}) more s
+unfolding LiesIn
+lies-along f (optional s) h = lies-along f s h
+lies-along f (outcome s t) h = (lies-along f s h.0, lies-along f t h.1)
+lies-along f (list s) h = lies-along f s h
+lies-along f (run s) h = lies-along f s h
+lies-along f (array n s) h = lies-along f s h
+lies-along f (both s t) h = (lies-along f s h.0, lies-along f t h.1)
+lies-along f (sorted_map order s t) h = (lies-along f s h.0, lies-along f t h.1)
+lies-along f (placed_map s t) h = (lies-along f s h.0, lies-along f t h.1)
+lies-along f (hash_map s t) h = (lies-along f s h.0, lies-along f t h.1)
+lies-along f (sorted_set order s) h = lies-along f s h
+lies-along f (placed_set s) h = lies-along f s h
+lies-along f (tagged written known body) h = (λ tag. lies-along f (written tag) (h.0 tag), λ tag e. lies-along f (body tag) (h.1 tag e))
+lies-along f (cases w known part) h = λ n e. lies-along f (part n) (h n e)
+lies-along f (nested n) h = f n h
+lies-along f _ h = tt
+
+-- P holds throughout a shape whose numbered parts lie in a set of parts that have P and lie in it themselves
+pub throughout-in : (P : Shape → Type 0) (parts : ℕ → Shape) (those : ℕ → Type 0) → ((n : ℕ) → those n → P (parts n) × LiesIn (λ n. Unit {0}) those (parts n)) → (s : Shape) → P s → LiesIn (λ n. Unit {0}) those s → Throughout P parts s
+unfolding Within
+throughout-in P parts those closed s p l = record { within = λ steps. steps_in steps s p l }
+  where
+    steps_in : (steps : ℕ) (t : Shape) → P t → LiesIn (λ n. Unit {0}) those t → Within P parts steps t
+    steps_in zero t q k = q
+    steps_in (suc steps) t q k = (q, lies-along (λ n i. steps_in steps (parts n) (closed n i).0 (closed n i).1) t k)

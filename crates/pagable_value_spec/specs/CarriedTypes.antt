@@ -1,0 +1,73 @@
+-- The carried types by their names: how each is spelled, and what its values mean. `()` and `PhantomData` are nothing, `usize` is spelled as `u64`, `&T` and
+-- `Box<T>` as T, and `Arc<[T]>` refers to a list.
+use Rattle.std.specs.{Prelude.{ℕ, ◌/◌, ◌%◌, List, [], ◌∷◌, Bool, false, cond, Option, Some, None, Result, Ok, Err, map}, Int.w64, Str.bytes_eq, Duration.as_nanos, declared.time.Duration.Duration}
+use Rattle.pagable_value_spec.specs.{Meaning.{Meaning, number, pair, sequence, absent, present, success, failure}, Keys.{Entry, code_order, put_all, put_sorted}, Shape.{Shape, nothing, signed}}
+use Rattle.pagable_value_spec.specs.{Shape.{text, optional, list, both, tagged}, BasicValues.nanos_of_second, declared.numbers.ArcRef.ArcRef}
+use Rattle.pagable_value_spec.specs.Meaning as meanings
+
+-- `String`, `str`, `Box<str>` and `PathText` are texts
+abbrev pub path_text : Shape
+path_text = text
+
+-- `Vec<T>`, `SmallVec<T>`, `[T]` and `Box<[T]>` are lists; a header and then a list
+abbrev pub thin : Shape → Shape → Shape
+thin header item = both header (list item)
+
+-- `AtomicI64` is spelled as `i64`, and `OnceLock<T>` as `Option<T>`
+abbrev pub atomic_i64 : Shape
+atomic_i64 = signed w64
+
+abbrev pub once_lock : Shape → Shape
+once_lock s = optional s
+
+abbrev pub triple : Shape → Shape → Shape → Shape
+triple a b c = both a (both b c)
+
+-- The last registration of a tag counts.
+abbrev pub is_registered : List (List ℕ × Shape) → List ℕ → Bool
+is_registered [] tag = false
+is_registered (r ∷ rs) tag = cond (is_registered rs tag) (is_registered rs tag) (bytes_eq tag r.0)
+
+abbrev pub body_of : List (List ℕ × Shape) → List ℕ → Shape
+body_of [] tag = nothing
+body_of (r ∷ rs) tag = cond (is_registered rs tag) (body_of rs tag) r.1
+
+-- a tagged value whose bodies are written so, with these registrations
+abbrev pub tagged_by : (List ℕ → Shape) → List (List ℕ × Shape) → Shape
+tagged_by written registrations = tagged written (is_registered registrations) (body_of registrations)
+
+abbrev pub of_option : {A T : Type 0} → (T → Meaning A) → Option T → Meaning A
+of_option meaning None = absent
+of_option meaning (Some x) = present (meaning x)
+
+abbrev pub of_result : {A T U : Type 0} → (T → Meaning A) → (U → Meaning A) → Result T U → Meaning A
+of_result ok err (Ok x) = success (ok x)
+of_result ok err (Err x) = failure (err x)
+
+abbrev pub of_list : {A T : Type 0} → (T → Meaning A) → List T → Meaning A
+of_list meaning xs = sequence (map meaning xs)
+
+abbrev pub of_duration : {A : Type 0} → ℕ → ℕ → Meaning A
+of_duration seconds nanos = pair (number seconds) (number nanos)
+
+-- the whole seconds of a duration, the nanoseconds beside them, and these two
+abbrev pub seconds_of : Duration → ℕ
+seconds_of d = as_nanos d / nanos_of_second
+
+abbrev pub nanos_of : Duration → ℕ
+nanos_of d = as_nanos d % nanos_of_second
+
+abbrev pub of_span : Duration → Meaning ArcRef
+of_span d = of_duration (seconds_of d) (nanos_of d)
+
+-- the entries of a map that has an order of its own
+abbrev pub of_entries : {A : Type 0} → List (Entry A) → Meaning A
+of_entries es = sequence (map meanings.entry es)
+
+-- a hash map, whatever the order of its entries
+abbrev pub of_hash_map : {A : Type 0} → List (Entry A) → Meaning A
+of_hash_map es = of_entries (put_all (put_sorted code_order) [] es)
+
+-- a tagged value is its tag with its body
+abbrev pub of_tagged : {A : Type 0} → List ℕ → Meaning A → Meaning A
+of_tagged tag body = pair (meanings.text tag) body

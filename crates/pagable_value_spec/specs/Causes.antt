@@ -1,0 +1,40 @@
+-- Causes that a reader has of its own are no faults of the input, and those of a writer are refusals that a writer may answer.
+use Rattle.std.{specs.Prelude.{◌≡◌, true, refl}, proofs.Common.{arith, subst, sym}}
+use Rattle.pagable_value_spec.specs.{declared.error.Error.Error, Refusals.{is_own_reading, may_refuse_writing}, Outcomes.{never, memory, memory_or, either, long_or, deep_or, json_causes}}
+
+pub never_is_own_reading : (e : Error) → never e → is_own_reading e ≡ true
+never_is_own_reading e h = absurd h
+
+pub never_may_refuse_writing : (e : Error) → never e → may_refuse_writing e ≡ true
+never_may_refuse_writing e h = absurd h
+
+pub memory_is_own_reading : (e : Error) → memory e → is_own_reading e ≡ true
+memory_is_own_reading e h = let P : Error → Type 0 = λ x. is_own_reading x ≡ true in subst P (sym h) refl
+
+pub memory_may_refuse_writing : (e : Error) → memory e → may_refuse_writing e ≡ true
+memory_may_refuse_writing e h = let P : Error → Type 0 = λ x. may_refuse_writing x ≡ true in subst P (sym h) refl
+
+pub memory_or_is_own_reading : (own : Error → Type 0) → ((e : Error) → own e → is_own_reading e ≡ true) → (e : Error) → memory_or own e → is_own_reading e ≡ true
+memory_or_is_own_reading own is e h = grind (arith, memory_is_own_reading, is)
+
+pub memory_or_may_refuse_writing : (own : Error → Type 0) → ((e : Error) → own e → may_refuse_writing e ≡ true) → (e : Error) → memory_or own e → may_refuse_writing e ≡ true
+memory_or_may_refuse_writing own is e h = grind (arith, memory_may_refuse_writing, is)
+
+pub either_is_own_reading : (first second : Error → Type 0) → ((e : Error) → first e → is_own_reading e ≡ true) → ((e : Error) → second e → is_own_reading e ≡ true) → (e : Error) → either first second e → is_own_reading e ≡ true
+either_is_own_reading first second is_first is_second e h = grind (arith, is_first, is_second)
+
+pub either_may_refuse_writing : (first second : Error → Type 0) → ((e : Error) → first e → may_refuse_writing e ≡ true) → ((e : Error) → second e → may_refuse_writing e ≡ true) → (e : Error) → either first second e → may_refuse_writing e ≡ true
+either_may_refuse_writing first second is_first is_second e h = grind (arith, is_first, is_second)
+
+pub long_or_may_refuse_writing : (part : Error → Type 0) → ((e : Error) → part e → may_refuse_writing e ≡ true) → (e : Error) → long_or part e → may_refuse_writing e ≡ true
+long_or_may_refuse_writing part may e h = grind (arith, may)
+
+pub deep_or_may_refuse_writing : (part : Error → Type 0) → ((e : Error) → part e → may_refuse_writing e ≡ true) → (e : Error) → deep_or part e → may_refuse_writing e ≡ true
+deep_or_may_refuse_writing part may e h = grind (arith, may)
+
+-- of a text
+pub text_may_refuse_writing : (e : Error) → long_or memory e → may_refuse_writing e ≡ true
+text_may_refuse_writing = long_or_may_refuse_writing memory memory_may_refuse_writing
+
+pub json_may_refuse_writing : (e : Error) → json_causes e → may_refuse_writing e ≡ true
+json_may_refuse_writing e h = grind (arith, memory_may_refuse_writing)

@@ -1,0 +1,20 @@
+-- What is kept of a text that says why something is refused.
+use Rattle.std.specs.{Prelude.{List, [], false, length, take, true, ℕ, ◌++◌, ◌<◌, ◌∷◌, ◌≡◌, ◌≤◌}, Str.IsCharBoundary}
+use Rattle.pagable_value_spec.specs.declared.reason.Reason.{Reason}
+
+-- the bytes of the text that a reason holds
+abbrev pub kept_of : Reason → List ℕ
+kept_of r = take r.length r.bytes
+
+-- Of a text that is too long: its first bytes, up to the last of its characters' boundaries that isn't behind 59 bytes, and two dots.
+pub record IsCut (text kept : List ℕ) : Type 0 where
+  pub count : ℕ
+  pub few : count ≤ 59
+  pub boundary : IsCharBoundary text count
+  pub last : (i : ℕ) → count < i → i ≤ 59 → IsCharBoundary text i → ⊥
+  pub is : kept ≡ take count text ++ (46 ∷ 46 ∷ [])
+
+-- A text of up to 61 bytes is kept whole, a longer one is cut; and the reason knows which.
+pub record IsKept (text : List ℕ) (r : Reason) : Type 0 where
+  pub whole : length text ≤ 61 → (kept_of r ≡ text) × (r.is_cut ≡ false)
+  pub cut : 61 < length text → IsCut text (kept_of r) × (r.is_cut ≡ true)

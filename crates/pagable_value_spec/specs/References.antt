@@ -1,0 +1,15 @@
+-- The references in a value.
+use Rattle.std.specs.Prelude.{◌≡◌, ◌++◌, if◌then◌else◌, Bool, List, [], ◌∷◌, sum_by}
+use Rattle.pagable_value_spec.specs.{declared.numbers.ArcRef.ArcRef, Meaning.{Meaning, pair, variant, reference, followed}}
+
+-- the references in a meaning, from the front
+unfoldable pub references_in : {A : Type 0} → Meaning A → List A
+references_in (pair a b) = references_in a ++ references_in b
+references_in (variant n a) = references_in a
+references_in (reference a) = a ∷ []
+references_in (followed kind a) = references_in a
+references_in _ = []
+
+-- The same references, each as often, in any order, since a hash map is written in an order of its own: every test of a reference holds of as many in both.
+abbrev pub SameReferences : List ArcRef → List ArcRef → Type 0
+SameReferences rs ss = (is : ArcRef → Bool) → sum_by (λ (r : ArcRef). if is r then 1 else 0) rs ≡ sum_by (λ (r : ArcRef). if is r then 1 else 0) ss

@@ -1,0 +1,148 @@
+//! Why a caller's own implementation refuses.
+
+ghost use Rattle.std.specs.{Prelude.{length, take, true, ◌+◌, ◌++◌, ◌≡◌, ◌≤◌}, Str.is_utf8};
+
+use std::fmt;
+
+/// How many bytes a reason has room for.
+pub const REASON_BYTES: usize = 61;
+
+/// What ends a reason of which a part was cut.
+const CUT_MARK: &str = "..";
+
+/// How many bytes of a text are kept where it is cut, which leaves room for the mark.
+const CUT_BYTES: usize = 59;
+
+/// Why a caller's own implementation refuses, in its words.
+///
+/// A reason takes no memory and is copied like a number. A text of up to 61 bytes is kept whole. Of a longer one the
+/// first 59 bytes are kept, up to the end of a character, and `..` shows that it was cut. `write!` writes to it.
+#[derive(Clone, Copy, PartialEq, Eq)]
+pub struct Reason {
+    bytes: [u8; REASON_BYTES],
+    length: u8,
+    is_cut: bool,
+    ghost within: { length ≤ 61 },
+    ghost whole: { is_utf8 (take length bytes) ≡ true },
+}
+
+/// Writes a text into these bytes at a place, which has room for it.
+fn put(bytes: &mut [u8], place: usize, text: &[u8])
+    requires { place + length text.now ≤ length bytes.old }
+    ensures written { take (place + length text.now) bytes.new ≡ take place bytes.old ++ text.now }
+    ensures len { length bytes.new ≡ length bytes.old }
+{
+    bytes[place..place + text.len()].copy_from_slice(text);
+}
+
+impl Reason {
+    ghost use Rattle.pagable_value_spec.specs.Reasons.{IsCut, IsKept, kept_of};
+    ghost use Rattle.std.specs.Prelude.{[], false, ◌<◌};
+
+    /// Makes the reason that is this text.
+    pub fn new(text: &str) -> Reason
+        ensures { IsKept text.now result }
+    {
+        Reason::empty().with(text)
+    }
+
+    /// The text, and `..` where it was cut.
+    pub fn as_str(&self) -> &str
+        ensures { result.now ≡ kept_of self.now }
+    {
+        match std::str::from_utf8(&self.bytes[..self.length as usize]) {
+            Ok(text) => text,
+            Err(_) => "",
+        }
+    }
+
+    /// No text yet.
+    fn empty() -> Reason
+        ensures value { kept_of result ≡ [] }
+        ensures whole { result.is_cut ≡ false }
+        ensures len { result.length ≡ 0 }
+    {
+        Reason {
+            bytes: [0; REASON_BYTES],
+            length: 0,
+            is_cut: false,
+        }
+    }
+
+    /// Adds a text to one that is whole, and cuts them where both together are too long.
+    #[tactic(auto, using(crate::proofs::Cut::kept_no_room, crate::proofs::Cut::kept_room))]
+    fn with(self, text: &str) -> Reason
+        requires { self.is_cut ≡ false }
+        ensures { IsKept (kept_of self ++ text.now) result }
+    {
+        if text.len() <= REASON_BYTES - self.length as usize {
+            return self.extended(text, false);
+        }
+        self.cut_with(text)
+    }
+
+    /// Adds a text for which there is no room.
+    fn cut_with(&self, text: &str) -> Reason
+        requires { 61 < self.now.length + length text.now }
+        ensures kept { IsCut (kept_of self.now ++ text.now) (kept_of result) }
+        ensures cut { result.is_cut ≡ true }
+    {
+        let front = self.as_str();
+        let kept = &front[..front.floor_char_boundary(CUT_BYTES)];
+        let more = &text[..text.floor_char_boundary(CUT_BYTES.saturating_sub(front.len()))];
+        let whole = Reason::empty().extended(kept, false);
+        whole.extended(more, false).extended(CUT_MARK, true)
+    }
+
+    /// Adds a text for which there is room.
+    fn extended(self, text: &str, is_cut: bool) -> Reason
+        requires { self.length + length text.now ≤ 61 }
+        ensures value { kept_of result ≡ kept_of self ++ text.now }
+        ensures cut { result.is_cut ≡ is_cut }
+        ensures len { result.length ≡ self.length + length text.now }
+    {
+        let mut bytes = self.bytes;
+        put(&mut bytes, self.length as usize, text.as_bytes());
+        let length = self.length + text.len() as u8;
+        Reason {
+            bytes,
+            length,
+            is_cut,
+        }
+    }
+}
+
+/// Adds to the text. What comes after a cut is dropped, and nothing is refused.
+impl fmt::Write for Reason {
+    ghost use Rattle.pagable_value_spec.specs.Reasons.{IsKept};
+    ghost use Rattle.std.specs.Prelude.{List, ℕ, ◌++◌};
+
+    ghost write_str_gives = { λ old text new. (all : List ℕ) → IsKept all old → IsKept (all ++ text) new };
+
+    #[tactic(auto, using(crate::proofs::Cut::kept_cut, crate::proofs::Cut::kept_whole))]
+    fn write_str(&mut self, text: &str) -> fmt::Result {
+        if !self.is_cut {
+            *self = self.with(text);
+        }
+        Ok(())
+    }
+}
+
+/// The text as it is.
+impl fmt::Display for Reason {
+    ghost use Rattle.pagable_value_spec.specs.Reasons.{kept_of};
+    ghost use Rattle.std.specs.Prelude.{Some};
+
+    ghost output = { λ reason. Some (kept_of reason) };
+
+    fn fmt<W: fmt::Write>(&self, f: &mut fmt::Formatter<W>) -> fmt::Result {
+        f.write_str(self.as_str())
+    }
+}
+
+/// The text in quotes.
+impl fmt::Debug for Reason {
+    fn fmt<W: fmt::Write>(&self, f: &mut fmt::Formatter<W>) -> fmt::Result {
+        write!(f, "{:?}", self.as_str())
+    }
+}
