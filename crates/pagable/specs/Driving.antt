@@ -7,7 +7,7 @@ use Rattle.{pagable_load.specs.declared.reading.Reading.Reading as Own, pagable_
 use Rattle.pagable_pageout.specs.{Slots.{is_same, slot_of, written_of}, Table.shelf_of, Tasks.{IsPlain, IsWay, todos}, Turns.{LeavesFit, StepsTo, answer_in, plain_took, plan}}
 use Rattle.pagable_pageout.specs.declared.{lent_table.LentTable.LentTable, tasks.{StepResult.StepResult, Task.Task, Turn.Turn}}
 use Rattle.pagable_pager_spec.specs.{Access.ReadingStep, declared.events.{Event.Event, EventReply.EventReply, LoadAnswer.LoadAnswer, LoadReply.LoadReply, TableNumber.TableNumber, WorkerReply.WorkerReply}}
-use Rattle.pagable_pager_spec.specs.{Events.{CallStep, new_walking, no_shelf, steps_after}, Rightness.Headline, Kinds.{identity_of, owner_worker}}
+use Rattle.pagable_pager_spec.specs.{Events.{CallStep, new_walking, no_shelf, steps_after}, Theorem.Headline, Kinds.{identity_of, owner_worker}}
 use Rattle.pagable_pager_spec.specs.Pager.{CallBrings, FitsRoot, IsIdle, IsMachineWhole, MachineState}
 use Rattle.pagable_pager_spec.specs.{Pager.{Moves, PagerState}, Basics.{Identity, if_there}, Runs.{AreMoments, Does, HasRun, Moment, state_after}, Workers.fresh, World.{Core, OpenLoad, Seen}}
 use Rattle.pagable_pager_spec.specs.{World.{Reading, Shelf, Slot, Values, Walking, Work, Written, of_entry, of_item, one_more, seen_as}, declared.calls.{Call.Call, Found.Found, Reply.Reply}}

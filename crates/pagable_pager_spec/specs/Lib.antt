@@ -12,5 +12,6 @@ pub mod Pager
 pub mod Runs
 pub mod Order
 pub mod Rightness
+pub mod Theorem
 pub mod WorkerClaims
 pub mod Access

@@ -1,11 +1,11 @@
--- The main theorem, a law of chains: what loads and page-outs answer and leave, by trees; and what workers and claims come to.
+-- What is right of one event, by trees: what pins, loads and page-outs answer and leave; and what is right of workers, claims and steps without trees.
 use Rattle.std.specs.Prelude.{[], Bool, false, is_some, List, Ok, Option, Some, true, ℕ, ◌&&◌, ◌*◌, ◌+◌, ◌==◌, ◌∷◌, ◌≡◌, ◌≢◌, ◌≤◌}
 use Rattle.pagable_value_spec.specs.{Canonical.IsCanonicalTree, declared.data_key.OptionalDataKey.OptionalDataKey, Merkle.{IsCanonicalItem, KeyOf, KeyOfItem, TreeForm}}
 use Rattle.pagable_pager_spec.specs.{Events.reading_at, Kinds.{identity_of, is_owned_by, owner_worker}, Order.{InOrder, is_claim_of, IsBounded, IsWithinBound, MetError, OnceEach, steps_of, Unfolds}}
-use Rattle.pagable_pager_spec.specs.{Pager.{IsIdle, IsMachineWhole, IsReadingOf, kids_of, MachineState, PagerState, StandsFor, ValueStands, world_of}, Basics.{Among, ArcRef, Blob, Call, Claim, Event}}
+use Rattle.pagable_pager_spec.specs.{Pager.{IsReadingOf, kids_of, MachineState, PagerState, ValueStands, world_of}, Basics.{Among, ArcRef, Blob, Call, Claim, Event}}
 use Rattle.pagable_pager_spec.specs.Basics.{EventReply, HandleNumber, HandleRow, Identity, if_there, is_loose_kind, LoadAnswer, one, Owner, Pinning, PinStep, ReadsTree, Reply, Shape, times, Action, Tree}
-use Rattle.pagable_pager_spec.specs.{Basics.WorkerAnswer, Refusals.IsReference, Runs.{AreMoments, events_of, Fact, HoldsSettled, Moment, replies_of, state_after, TreesAlong}}
-use Rattle.pagable_pager_spec.specs.{Workers.{is_workers_load, IsPublished}, World.{failed, IsLawful, key_at, no_result, of_entry, of_item, OpenLoad, Reading, row_at, Seen, Shelf, Slot, Task, Values}}
+use Rattle.pagable_pager_spec.specs.{Basics.WorkerAnswer, Refusals.IsReference, Runs.{Fact, Moment}}
+use Rattle.pagable_pager_spec.specs.{Workers.{is_workers_load, IsPublished}, World.{failed, key_at, no_result, of_entry, of_item, OpenLoad, Reading, row_at, Seen, Shelf, Slot, Task, Values}}
 use Rattle.pagable_pager_spec.specs.World.{Walking, World, Written}
 
 -- the node of this handle has a value in memory, which stands for the tree that the node was made with
@@ -173,18 +173,3 @@ StepIsWithin v s event reply = Unit {0}
 abbrev pub StepsAreWithin : {N E B W : Type 0} → Values N → MachineState N E → List (Moment N E B W) → Type 0
 StepsAreWithin v s [] = Unit {0}
 StepsAreWithin v s (x ∷ xs) = StepIsWithin v s x.event x.reply × StepsAreWithin v x.after xs
-
--- What holds of a chain. Each event is a step of the plain world that leaves the machine whole: so each count is the number of pinning handles, and a cell holds its value exactly while it is pinned
--- or has no key. Workers' steps are in order, each identity is claimed at most once on a table, and all is within its bounds. And where each event met what
--- is asked of it, each pin that succeeds gives the tree that its node was made with, and each page-out that answers a key leaves all that it met stored and
--- answers the key of its item or cell.
-pub record Headline {N E B W : Type 0} (m : Seen N B W) (start : MachineState N E) (moments : List (Moment N E B W)) : Type 0 where
-  pub chain : AreMoments m start moments
-  pub work : WorkIsRight m (state_after start moments) (events_of moments) (replies_of moments)
-  pub loads : StepsAreWithin m.values start moments
-  pub trees : (trees : ℕ → Tree) → StandsFor m.values start trees → IsLawful m.values → HoldsSettled m.values start.pager
-      → TreesAlong m (IsRight m.values) start trees moments
-
--- The law: it holds of every chain that begins at a whole machine for which nobody works yet, over any pager and storage.
-abbrev pub HeadlineLaw : {N B W : Type 0} → (E : Type 0) → Seen N B W → Type 0
-HeadlineLaw {N} {B} {W} E m = (start : MachineState N E) (moments : List (Moment N E B W)) → IsMachineWhole m.values start → IsIdle start → AreMoments m start moments → Headline m start moments

@@ -1,5 +1,5 @@
 -- A handle goes on to stand for its reference, as a clone does; a key that was set stays. And each event keeps trees: what it brings fits some trees afterwards, with all that its loads read.
-use Rattle.pagable_pager_spec.specs.{Rightness.{HasLetGo, HeadlineLaw, IsRight, PinGives, StepsAreWithin, WorkerIsRight, claims_made, is_on_table}, Basics.is_loose_kind}
+use Rattle.pagable_pager_spec.specs.{Rightness.{HasLetGo, IsRight, PinGives, StepsAreWithin, WorkerIsRight, claims_made, is_on_table}, Basics.is_loose_kind, Theorem.HeadlineLaw}
 use Rattle.pagable_pager_spec.specs.{Calls.{SetKeyCall, row_of, with_key}, Kinds.fits_mode, World.{SameShelf, published, to_publish, type_at}, declared.{pinning.Pinning.Pinning, events.PinStep.PinStep}}
 use Rattle.pagable_pager_spec.specs.{Kinds.is_loose, Pager.{EventBrings, IsReadingOf, StandsFor}, Runs.{Does as DoesMoment, Fact, IsPremised, TakesWell, TreesAfter, TreesAlong, events_of, replies_of}}
 use Rattle.pagable_pager_spec.specs.{Events.Ends, Order.{InOrder, OnceEach, is_claim_of, steps_of}, Refusals.Owns, Workers.{claim_fault, give_known, next_start, with_changed_slot, with_outcome}}

@@ -3,7 +3,7 @@
 use Rattle.std.specs.Prelude.{Bool, List, None, Ok, Option, Some, [], if◌then◌else◌, length, not, suc, zero, ℕ, ◌&&◌, ◌++◌, ◌+◌, ◌==◌, ◌∷◌, ◌≡◌}
 use Rattle.pagable_pager_spec.specs.declared.{calls.{Call.Call, Reply.Reply}, events.{Claim.Claim, Event.Event, EventReply.EventReply, LoadAnswer.LoadAnswer, PinStep.PinStep, Action.Action}}
 use Rattle.pagable_pager_spec.specs.declared.{events.WorkerAnswer.WorkerAnswer, handle_row.Owner.Owner, mode.Mode.Mode}
-use Rattle.pagable_pager_spec.specs.{Calls.{with_handle, with_key, with_mode, with_node}, Cascade.{fallen, nobody}, Events.{no_shelf, with_worker}, Rightness.Headline, Kinds.{identity_of, owner_value}}
+use Rattle.pagable_pager_spec.specs.{Calls.{with_handle, with_key, with_mode, with_node}, Cascade.{fallen, nobody}, Events.{no_shelf, with_worker}, Theorem.Headline, Kinds.{identity_of, owner_value}}
 use Rattle.pagable_pager_spec.specs.{Kinds.{owner_worker, pins}, LoadCalls.{adopted, is_owned_in, with_load, with_pin, without_load}, Loads.{gone_on, root_frame}, Pager.{IsIdle, IsMachineWhole}}
 use Rattle.pagable_pager_spec.specs.{Pager.{MachineState, StandsFor}, Basics.{ArcRef, Blob, HandleNumber, LoadNumber, NodeNumber, OptionalDataKey, Tree, Types, if_there, is_in, updated}, Runs.AreMoments}
 use Rattle.pagable_pager_spec.specs.{Runs.{HoldsSettled, IsPremised, Moment}, Workers.{answer_after, first_todo, fresh, give, is_workers, is_workers_at, open_node, with_changed_slot}}

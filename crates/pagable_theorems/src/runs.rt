@@ -1,7 +1,7 @@
 //! The laws of the pager's world, and of runs: what holds of every chain of moments, however loads and workers take turns. Each is a clause of a function that does nothing.
 #![tactic(auto, using(crate::proofs::Laws::world_laws))]
 
-ghost use Rattle.pagable_pager_spec.specs.{Access.{PinLaw, ReadLaw}, Rightness.HeadlineLaw, WorkerClaims.{KeyIsShallow, OneIdentityLaw}, Basics.Types, World.{Frame, Seen}};
+ghost use Rattle.pagable_pager_spec.specs.{Access.{PinLaw, ReadLaw}, Theorem.HeadlineLaw, WorkerClaims.{KeyIsShallow, OneIdentityLaw}, Basics.Types, World.{Frame, Seen}};
 ghost use Rattle.pagable_theorems.specs.DepthLaws.{ClaimIsDeep, DepthIsHeight, DepthIsTold, HoldsAlong, LoadIsDeep, LoadIsFaultless, SoundLaw};
 ghost use Rattle.pagable_theorems.specs.RefusalLaws.{BeginsRefusedLaw, LoadsRefusedLaw, PinsRefusedLaw, StorageIsTold};
 ghost use Rattle.pagable_theorems.specs.{SmallWorlds.{FallLaws, ChainsJoin, NewIsWhole, NextIsOne, ReadingFills}, HeldLaws.{HeldByCallersLaw, HeldByMomentsLaw, HeldLaw, PinnedLaw, ReadHoldsLaw}, CallerLaws.{CallerLaw, PinnedAgainLaw}, PageOutLaws.{ItemLaw, ListLaw}, Witness.TwoLevelsMeetTheHeadline};
