@@ -2,7 +2,7 @@
 -- each pin that succeeds gives the tree its handle was made with, each count is the number of pinning handles, a cell holds its
 -- value exactly while it is pinned or has no key, and each page-out that succeeds claims every node at most once and answers a
 -- canonical value's Merkle key. It is proved as the law `headline` of `pagable_theorems`, and `Machine::run` of `pagable` has it as
--- its contract. That its premises can be met is the law `two_levels` there.
+-- its contract. That its premises can be met is the law `two_levels_meet_the_headline` there.
 use Rattle.std.specs.Prelude.{List, ℕ}
 use Rattle.pagable_pager_spec.specs.{Basics.Tree, Pager.{IsIdle, IsMachineWhole, MachineState, StandsFor}, Rightness.{IsRight, StepsAreWithin, WorkIsRight}}
 use Rattle.pagable_pager_spec.specs.{Runs.{AreMoments, HoldsSettled, Moment, TreesAlong, events_of, replies_of, state_after}, World.{IsLawful, Seen}}
