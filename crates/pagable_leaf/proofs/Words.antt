@@ -37,4 +37,4 @@ pub use Rattle.pagable_pager_spec.specs.{Basics.{is_pinned_kind, is_shared_kind,
 pub use Rattle.pagable_pager_spec.specs.{Refusals.{handle_fault, load_fault, rank, reference_fault, refused_if, spent, where_so}, Workers.{is_workers, is_workers_load, without_worker}, World.{Alike, Cell}}
 pub use Rattle.pagable_pager_spec.specs.{World.{Core, HasRoom, Last, OpenLoad, Places, Root, SameCache, greatest, is_here, of_cell, of_key, row_at, type_at, usable}, declared.pinning.Beginning.Beginning}
 pub use Rattle.pagable_pager_spec.specs.declared.{pinning.Pinning.Pinning, handle_row.{HandleRow.HandleRow, Owner.Owner}, mode.Mode.Mode}
-unfoldable pub use Rattle.{pagable_tables.specs.Core.seen, pagable_pager_spec.specs.{Calls.is_named_by, Kinds.find_row, Plain.is_in, Refusals.{named_fault, references_fault}}}
+unfoldable pub use Rattle.{pagable_tables.specs.Core.seen, pagable_pager_spec.specs.{Calls.is_named_by, Kinds.find_row, Basics.is_in, Refusals.{named_fault, references_fault}}}

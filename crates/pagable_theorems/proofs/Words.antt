@@ -13,5 +13,5 @@ pub use Rattle.std.proofs.{Common.{true, zero, ℕ, ℤ, ◌&&◌, ◌*◌, ◌+
 pub use Rattle.std.{proofs.lemmas.{Bool.false_from_ne_true, List.{Sums.sum_by-cons, append-nil, length-append}, Option.slice_get_within}, specs.Prelude.{drop, filter, is_some, max, nat_eq, slice_get}}
 pub use Rattle.{pagable_theorems.specs.{FormLaws.rest, TreeSteps.{Change, FollowsTo, ReadingFeels, WorkFits, bears_known, integer-leads, nothing_felt}}, pagable_value_spec.specs.Canonical.{IsReadableType, Throughout}}
 pub use Rattle.{pagable_pager_spec.specs.declared.{events.{WorkerAnswer.WorkerAnswer, WorkerReply.WorkerReply}, handle_row.{HandleRow.HandleRow, Owner.Owner}, mode.Mode.Mode}, std.proofs.Common.{Bool, Err}}
-unfoldable pub use Rattle.pagable_pager_spec.specs.{Kinds.find_row, Pager.FramesFit, Plain.is_in, Refusals.references_fault, Runs.state_after}
+unfoldable pub use Rattle.pagable_pager_spec.specs.{Kinds.find_row, Pager.FramesFit, Basics.is_in, Refusals.references_fault, Runs.state_after}
 unfoldable pub use Rattle.{pagable_value_spec.specs.{Canonical.{IsReadable, LiesIn}, Keys.{code, put_all}, Meaning.rename, Reading.read, References.references_in}, pagable_pager_spec.specs.Calls.is_named_by}
