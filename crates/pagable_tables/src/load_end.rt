@@ -97,9 +97,9 @@ fn end_fault(
 ///   another's: nothing changes, and the caller has to close the load.
 /// - `Refused` in all other cases: the load stays open, and the tables are unchanged.
 ///   `NoSuchHandle` if no such load is open, or a handle of the references isn't live; `NotYours`
-///   if another began the load, or owns one of those handles; `WrongMode` if it is a load of a key;
-///   `WrongKind` if its cell has another type; what `references_fault` finds else; `NumbersSpent`
-///   if no handle number is left; `OutOfMemory` if the handles can't grow.
+///   if another began the load, or the load doesn't own one of those handles; `WrongMode` if it is
+///   a load of a key; `WrongKind` if its cell has another type; else what `references_fault` finds;
+///   `NumbersSpent` if no handle number is left; `OutOfMemory` if the handles can't grow.
 pub fn prepare_end(
     t: &mut Tables,
     me: Owner,

@@ -35,8 +35,8 @@ pub struct Counts {
     pub holds: u64,
     /// The next dying node, 0 for none: the cascade finishes it after this one.
     pub next: u64,
-    /// Set while the node is dying: its value is given up, but the cascade hasn't released all
-    /// handles of its references yet.
+    /// Set while the node is dying: the cascade is releasing the handles of its value's references,
+    /// and will drop the value.
     pub is_dying: bool,
     pub node_type: u32,
 }
