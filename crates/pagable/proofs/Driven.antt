@@ -1,4 +1,4 @@
--- Each event of the machine, by what the pager and what is kept of loads, tables and workers say of it.
+-- Each event of the machine, by what the pager and the machine's loads, tables and workers tell of it.
 use Rattle.pagable.specs.{Driving.{IsWalkKept, IsIn, shelf_at, IsBegun}, declared.workers.{Held.Held, Walk.Walk}, Paged.{value-is-read, node-comes-back, reading-is-refused}}
 use Rattle.pagable.specs.Driving.{IsOnTable, Given, kept_at, holding, Answer, ByNumber, Serves, plainly, plain_reply, Forgets, machine_of, IsPrepared, Kept, ReadsFor, rest_after}
 use Rattle.pagable.{specs.Driving.{IsServing, Stepped, IsTaken, Holding, Makes, KeepsOne, readings_in, IsKept}, proofs.Keeping.{Leaves, call-leaves, at-one, nothing-done, Served, as-made}}

@@ -1,4 +1,4 @@
--- A page-out of the list, by which no other worker fails.
+-- A page-out of the list fails by its own worker's error alone.
 use Rattle.pagable_pageout.specs.{PageOuts.seen_as_failure, Turns.plain, declared.tasks.PageOutError.PageOutError}
 use Rattle.pagable_pager_spec.specs.{Access.{ListRun, fails, no-more, pages, skips}, Pager.PagerState, World.{Seen, Values}, declared.events.WorkerAnswer.WorkerAnswer}
 use Rattle.std.proofs.Common.{Err, IfErr, Ok, Result, refl, ℕ, ◌≡◌}

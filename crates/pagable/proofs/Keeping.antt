@@ -1,4 +1,5 @@
--- What a machine keeps of loads and workers stays in step with its pager, whatever event happens: by what each call, each step and each begin and end leaves, and what it leaves to others' workers.
+-- A machine's loads and workers agree with its pager after each event: by what each call, step, begin and end leaves, and that it leaves other owners' handles
+-- alone.
 use Rattle.pagable.specs.Driving.{AllKept, AllOnTables, Answer, Drives, IsInStep, IsOnTable, is_done, kept_at, Forgets, Given, Holding, IsKept, IsServing, IsWalkKept, KeepsOne, Kept, Makes, holding, machine_of, plain_answer, plain_event, plainly}
 use Rattle.{pagable.specs.{Driving.{readings_in, walking_of, work_of}, declared.workers.{Held.Held, Walk.Walk}}, pagable_theorems.proofs.{CallEffects.calls-go, Effects.{Effect, Spares, listed-free}}}
 use Rattle.pagable_theorems.proofs.{Effects.{then-fell, worker-apart}, HandlesKept.{Goes, RowsGo, fell-anyhow, quiet-goes, stands-whole}, ReadingSteps.{caller-free, event-goes}, StepBounds.event-spares}

@@ -1,4 +1,4 @@
--- A worker's step, and the table that it writes in its place. And a run goes on by one event more, and the headline holds of it after whatever came before.
+-- A worker's step, and the table that it changes. And a run continues by one more event, and the headline holds of it after whatever was before.
 use Rattle.{pagable.proofs.Keeping.{Leaves, are-these, as-before, at-one, end-leaves, event-passes, kept-on, leaves-so, makes-with, not-same, one-serves, works_after}, std.specs.Prelude.slice_get}
 use Rattle.{pagable.specs.Driving.{Answer, Drives, plain_answer, plain_event, plain_moved, plainly, readings_in, shelf_at, table_view, view_of, walking_of}, std.specs.Map.lookup}
 use Rattle.pagable.specs.Driving.{Given, Holding, IsInStep, IsServing, IsWalkKept, KeepsOne, MachineView, Makes, Runs, WalksOn, claims_at, claims_of, holding, machine_in, machine_of}

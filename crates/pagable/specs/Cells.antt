@@ -1,4 +1,4 @@
--- What calls on one cell do that are made of a few of the pager's own.
+-- Calls on one cell that consist of a few calls of the pager.
 use Rattle.std.specs.Prelude.{Bool, Err, IfErr, IfOk, None, Ok, Option, Result, Some, is_some, ℕ, ◌≡◌}
 use Rattle.{either.specs.declared.Either.Either, pagable_value_spec.specs.Stored.RefusesFetch, pagable_pager.specs.View.{Calls, OnlyLess, OnlyTables, PagerView, Telling, core_in, state_in}}
 use Rattle.pagable_pager_spec.specs.{Access.PinsOver, Calls.{Asked, AwayBirthCall, BirthCall, CloneCall, RecallCall, ReleaseCall, UnpinCall}, Pager.{IsNewNode, Moves, ValueCall}}
@@ -11,7 +11,7 @@ pub record AsksWhether (w : Core) (key : ℕ) (r : Result Bool Error) (w' : Core
   pub refused : IfErr r (RefusesFetch key (w.stored key) w.failures w'.failures)
 
 module _ {N S E : Type 0} (tells : Telling S) where
-  -- a new cell of the value, by a loose handle that pins; or the value comes back
+  -- a new cell of the value, with a loose handle that pins; or the value is returned
   pub record IsBorn (v : Values N) (old : PagerView N S E) (x : N) (r : Result HandleNumber (Error × N)) (new : PagerView N S E) : Type 0 where
     pub step : BirthCall (core_in tells old) Owner.Caller x (v.node_type x) (v.references x) Mode.LoosePinned r (core_in tells new)
     pub moves : Moves (λ n y. (y ≡ x) × IsNewNode (core_in tells old) n) (state_in tells old) (state_in tells new)
@@ -29,7 +29,8 @@ module _ {N S E : Type 0} (tells : Telling S) where
   abbrev pub Pins : (E → Values N) → PagerView N S E → HandleNumber → Result (HandleNumber × N) Error → PagerView N S E → Type 0
   Pins says old h r new = PinsOver (says old.environment) (state_in tells old) h r (state_in tells new)
 
-  -- A cell without a pin. Where the value isn't refused, and its cell alone couldn't be listed, the handle comes back.
+  -- A new cell that nothing pins. If the value is inserted and its cell couldn't be listed, the handle is returned with
+  -- the error.
   pub data InsertsCell (v : Values N) (old : PagerView N S E) (x : N) : Result HandleNumber (Error × Either N HandleNumber) → PagerView N S E → Type 0 where
     birth-is-refused : (refused : Error × N) (new : PagerView N S E) → IsBorn v old x (Err refused) new
         → InsertsCell v old x (Err (refused.0, Either.Left refused.1)) new
@@ -37,7 +38,7 @@ module _ {N S E : Type 0} (tells : Telling S) where
     cell-is-unlisted : (h : HandleNumber) (e : Error) (mid new : PagerView N S E) → IsBorn v old x (Ok h) mid → Unpins mid h (Err e) new
         → InsertsCell v old x (Err (e, Either.Right h)) new
 
-  -- a handle of the cell that the cache gives under the kind of this number, or of a new one
+  -- a handle of the cell that is cached under the kind of this number, or of a new one
   pub data OpensCell (old : PagerView N S E) (number t key : ℕ) : Result HandleNumber Error → PagerView N S E → Type 0 where
     cache-refuses : (kind : Kind) (e : Error) (new : PagerView N S E) → kind.0 ≡ number → Recalls old kind key (Err e) new
         → OpensCell old number t key (Err e) new
@@ -46,7 +47,7 @@ module _ {N S E : Type 0} (tells : Telling S) where
     cell-is-new : (kind : Kind) (r : Result HandleNumber Error) (mid new : PagerView N S E) → kind.0 ≡ number → Recalls old kind key (Ok None) mid
         → Calls OnlyTables tells mid (λ w w'. AwayBirthCall w Owner.Caller t key r w') new → OpensCell old number t key r new
 
-  -- a clone of the handle is pinned, and given up
+  -- a clone of the handle is pinned, and released
   pub data Follows (says : E → Values N) (old : PagerView N S E) (h : HandleNumber) : Result (HandleNumber × N) Error → PagerView N S E → Type 0 where
     clone-is-refused : (e : Error) (new : PagerView N S E) → Calls OnlyTables tells old (λ w w'. CloneCall w Owner.Caller h (Err e) w') new
         → Follows says old h (Err e) new
@@ -54,14 +55,14 @@ module _ {N S E : Type 0} (tells : Telling S) where
         → Calls OnlyTables tells old (λ w w'. CloneCall w Owner.Caller h (Ok c) w') mid → Pins says mid c r low → Releases low c told new
         → Follows says old h r new
 
-  -- what let a pin go again that a look needed: that of the handle, and the Pinned one that came with it
+  -- a pin that a look needed is undone: the handle is unpinned, and the Pinned one released
   pub record LetsGo (old : PagerView N S E) (h k : HandleNumber) (told : Result (Unit {0}) Error) (new : PagerView N S E) : Type 0 where
     pub mid : PagerView N S E
     pub unpinned : Result (Unit {0}) Error
     pub unpins : Unpins old h unpinned mid
     pub releases : Releases mid k told new
 
-  -- the value is shown under a pin
+  -- the value is shown while a pin holds it
   pub data LooksByPin (says : E → Values N) (old : PagerView N S E) (h : HandleNumber) {Y : Type 0} (Shows : N → Y → Type 0) : Result Y Error
       → PagerView N S E → Type 0 where
     pin-is-refused : (e : Error) (new : PagerView N S E) → Pins says old h (Err e) new → LooksByPin says old h Shows (Err e) new
@@ -71,7 +72,7 @@ module _ {N S E : Type 0} (tells : Telling S) where
         → LetsGo mid h k (Err e) new
         → LooksByPin says old h Shows (Err e) new
 
-  -- A handle that pins its node lends the value; another is pinned for as long as the look.
+  -- A handle that pins its node lends the value; another one is pinned during the look.
   pub data Looks (says : E → Values N) (old : PagerView N S E) (h : HandleNumber) {Y : Type 0} (Shows : N → Y → Type 0) : Result Y Error → PagerView N S E
       → Type 0 where
     no-handle : (e : Error) → ValueCall (state_in tells old) h (Err e) → Looks says old h Shows (Err e) old

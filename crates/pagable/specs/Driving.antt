@@ -1,4 +1,5 @@
--- What a machine keeps of loads, tables and workers, as the plain world knows it, and when it is in step with its pager; what its calls, events and runs are.
+-- A machine's loads, tables and workers as the plain world knows them, and when they agree with its pager; what its
+-- calls, events and runs do.
 use Rattle.std.specs.{Arc.arc_value, HashMap.{HashMap, get}, Map.lookup, Option.option_map, Prelude.{Bool, List, None, Option, Some, is_none, is_some, length, map, nat_eq, set, slice_get, suc}}
 use Rattle.std.specs.{Prelude.{IsTrue, true, zero, ℕ, ◌++◌, ◌<◌, ◌≡◌, ◌≢◌, ◌≤◌, ◌⊎◌}, declared.{alloc.Global.Global, hash.{BuildHasherDefault.BuildHasherDefault, FoldHasher.FoldHasher}, sync.Arc.Arc}}
 use Rattle.{pagable.specs.declared.workers.{Begun.Begun, Held.Held, Walk.Walk}, pagable_core.specs.Data.blob_of, pagable_load.specs.{Frames.{IsLoadOf, is_cell, reading_of}, LoadSteps.IsSameLoad}}
@@ -28,12 +29,12 @@ module _ {X XN XH XK XV : Type 0} {g : Environments X XN XH XK XV} {gh : Hashes 
   abbrev pub walking_of : Walk X XN XH XK XV g gh go gq gp gn → Walking
   walking_of k = record { table = k.table; task = task_of k.begun; todo = plan k.turn k.path.items; steps = k.steps; answer = answer_in k.turn }
 
-  -- Its table is there, and its list is in order.
+  -- Its table exists, and its list of tasks is in order.
   pub record IsOnTable (last : ℕ) (k : Walk X XN XH XK XV g gh go gq gp gn) : Type 0 where
     pub table : (0 < k.table) × (k.table ≤ last)
     pub way : IsWay (plan k.turn k.path.items)
 
-  -- It is on its table and at work until it has answered, and its task fits.
+  -- It is on its table, it is running until it has answered, and its task fits.
   pub record IsWalkKept (w : Core) (last v : ℕ) (k : Walk X XN XH XK XV g gh go gq gp gn) : Type 0 where
     pub stands : IsOnTable last k
     pub at_work : w.workers v ≡ is_none (answer_in k.turn)
@@ -70,7 +71,7 @@ module _ {X XN XH XK XV : Type 0} {g : Environments X XN XH XK XV} {gh : Hashes 
     pub after : IsAfter k moved k'
     pub replies : reply ≡ record { action = moved.action; answer = answer_in moved.turn; steps = k'.steps }
 
-  -- there is such a table
+  -- a table has this number
   abbrev pub IsIn : ℕ → List (LentTable X XN XH XK XV g gh go gq gp gn) → Type 0
   IsIn t tables = (0 < t) × (t ≤ length tables)
 
@@ -78,7 +79,7 @@ module _ {X XN XH XK XV : Type 0} {g : Environments X XN XH XK XV} {gh : Hashes 
   abbrev pub is_done : Option (Walk X XN XH XK XV g gh go gq gp gn) → Bool
   is_done found = if_there (λ (walking : Walking). is_some walking.answer) true (option_map walking_of found)
 
--- ---- when it is in step with its pager, and what one event does to both
+-- ---- when a machine agrees with its pager, and what one event does to both
 
 -- what is kept of loads, by their numbers
 abbrev pub Kept : Type 0
@@ -90,7 +91,7 @@ pub record Holding {X XN XH XK XV : Type 0} (g : Environments X XN XH XK XV) (gh
   pub tables : List (LentTable X XN XH XK XV g gh go gq gp gn)
   pub walks : ℕ → Option (Walk X XN XH XK XV g gh go gq gp gn)
 
--- a load is read by the machine as long as it is open
+-- a load that is open and that the machine keeps
 abbrev pub readings_in : Kept → Core → ℕ → Option Reading
 readings_in kept w l = if_there (λ (load : OpenLoad). option_map reading_of (kept l)) None (w.loads l)
 
@@ -107,7 +108,7 @@ pub record ReadsFor (load : OpenLoad) (own : Own) : Type 0 where
   pub sort : is_cell load.root ≡ own.for_cell
   pub typed : FitsRoot load.root (reading_of own)
 
--- It is of a load that was begun, and reads that one as long as it is open.
+-- It is the progress of a load that was begun, and fits that load as long as it is open.
 pub record IsKept (w : Core) (l : ℕ) (own : Own) : Type 0 where
   pub number : own.load.0 ≡ l
   pub given : l ≤ w.last.load
@@ -121,38 +122,38 @@ module _ {X XN XH XK XV : Type 0} {g : Environments X XN XH XK XV} {gh : Hashes 
   pub record AllOnTables (tables : List (LentTable X XN XH XK XV g gh go gq gp gn)) (walks : ℕ → Option (Walk X XN XH XK XV g gh go gq gp gn)) : Type 0 where
     pub each : (v : ℕ) (k : Walk X XN XH XK XV g gh go gq gp gn) → walks v ≡ Some k → IsOnTable (length tables) k
 
-  -- what is true of a machine after each event, beside what is true of its pager, as long as its storage is honest
+  -- what holds of a machine after each event, beside what holds of its pager, as long as its storage is honest
   pub record IsServing (w : Core) (h : Holding g gh go gq gp gn) : Type 0 where
     pub readings : AllKept w h.readings
     pub walks : (v : ℕ) (k : Walk X XN XH XK XV g gh go gq gp gn) → h.walks v ≡ Some k → IsWalkKept w (length h.tables) v k
     pub all_there : (v : ℕ) → w.workers v ≡ true → is_some (h.walks v) ≡ true
 
-  -- One event.
+  -- One event and its reply: a step of the plain world after which the machine agrees with its pager.
   pub record Makes {N E B W : Type 0} (m : Seen N B W) (s : PagerState N E) (h : Holding g gh go gq gp gn) (event : Event N B W) (reply : EventReply N B W) (s' : PagerState N E) (h' : Holding g gh go gq gp gn) : Type 0 where
     pub does : Does m (machine_of s h) event reply (machine_of s' h')
     pub serving : IsServing s'.core h'
 
--- what is kept of an open load stays, and nothing comes
+-- what is kept of an open load stays, and nothing is added
 pub record Forgets (w : Core) (kept kept' : Kept) : Type 0 where
   pub still : (l : ℕ) (load : OpenLoad) → w.loads l ≡ Some load → kept' l ≡ kept l
   pub only : (l : ℕ) (own : Own) → kept' l ≡ Some own → kept l ≡ Some own
 
--- of this number this is kept
+-- this is kept of this number, and what is kept of others is unchanged
 pub record KeepsOne {Y : Type 0} (kept : ℕ → Option Y) (l : ℕ) (own : Option Y) (kept' : ℕ → Option Y) : Type 0 where
   pub here : kept' l ≡ own
   pub others : (q : ℕ) → q ≢ l → kept' q ≡ kept q
 
--- A load's reading: what is kept; or one of a cell of this type that hasn't made a step.
+-- A load's progress: what is kept of it, or that of a load of a cell of this type that hasn't made a step.
 pub record IsTaken (kept : Kept) (l : LoadNumber) (key : ℕ) (t : Option ℕ) (own : Own) : Type 0 where
   pub why : (kept l.0 ≡ Some own) ⊎ ((kept l.0 ≡ None) × ((type : ℕ) × (t ≡ Some type) × (reading_of own ≡ fresh l type)) × (own.key ≡ key) × (own.for_cell ≡ true))
 
--- Where a load's reading is kept now, it is what was kept of it, or one that has just begun; and where none is, nothing has changed.
+-- If a load's progress is kept now, it was kept before or has just begun; if none is kept, nothing has changed.
 pub record IsPrepared (kept : Kept) (l : LoadNumber) (key : ℕ) (t : Option ℕ) (kept' : Kept) : Type 0 where
   pub taken : (own : Own) → kept' l.0 ≡ Some own → IsTaken kept l key t own
   pub full : kept' l.0 ≡ None → (q : ℕ) → kept' q ≡ kept q
   pub others : (q : ℕ) → q ≢ l.0 → kept' q ≡ kept q
 
--- A load's reading made a step, which is counted.
+-- A load made a step, which is counted.
 pub record Stepped {N E : Type 0} (v : Values N) (me : Owner) (own : Own) (reply : LoadReply N) (new : Own) (s s' : PagerState N E) : Type 0 where
   pub does : IsLoadOf s.core me own → ReadingStep v me (reading_of own) s reply.ended (reading_of new).frames s'
   pub same : IsSameLoad own new (one_more own.steps)
@@ -165,11 +166,11 @@ rest_after (Some answer) own = None
 
 -- ---- what a call does to a pager
 
--- blobs as the pager has them, and what is written as it is
+-- blobs as the pager has them, and written values as they are
 abbrev pub plainly : {N : Type 0} → Values N → Seen N PagableData Written
 plainly v = record { values = v; blob_of = blob_of; written_of = λ w. w }
 
--- The plain world asks for one type of blobs, so a reply is seen first without where its blob lies in memory.
+-- A reply without the place of its blob in memory: the plain world has one type of blobs for calls and replies.
 abbrev pub plain_found : Found (Arc PagableData Global) → Found PagableData
 plain_found (Found.Cached k) = Found.Cached k
 plain_found (Found.Blob b) = Found.Blob (arc_value b)
@@ -194,7 +195,7 @@ plain_reply (Reply.Begun r) = Reply.Begun r
 plain_reply (Reply.LoadFound r) = Reply.LoadFound (seen_as plain_found r)
 plain_reply (Reply.LoadEnded r) = Reply.LoadEnded r
 
--- the event and its reply with what is written as plain
+-- the event and its reply with written values as the plain world has them
 abbrev pub plain_event : {N : Type 0} → Event N PagableData SerializedData → Event N PagableData Written
 plain_event (Event.Call call) = Event.Call call
 plain_event (Event.LoadStart h) = Event.LoadStart h
@@ -216,7 +217,7 @@ plain_answer (EventReply.TableMade r) = EventReply.TableMade r
 plain_answer (EventReply.WorkerMade r) = EventReply.WorkerMade r
 plain_answer (EventReply.WorkerMoved r) = EventReply.WorkerMoved (seen_as plain_moved r)
 
--- The caller's call does this step, and brings no other value than its own.
+-- The caller's call does this step, and inserts no value but its own.
 pub record Serves {N S E : Type 0} (v : Values N) (tells : Telling S) (old : PagerView N S E) (call : Call N PagableData) (r : Reply N (Arc PagableData Global)) (new : PagerView N S E) : Type 0 where
   pub step : CallStep (plainly v) (core_in tells old) Owner.Caller call (plain_reply r) (core_in tells new)
   pub moves : Moves (CallBrings (core_in tells old) call) (state_in tells old) (state_in tells new)
@@ -230,7 +231,7 @@ ByNumber Y = HashMap ℕ Y (BuildHasherDefault FoldHasher)
 abbrev pub kept_at : {Y : Type 0} → ByNumber Y → ℕ → Option Y
 kept_at kept q = get nat_eq kept q
 
--- the claims of a table, and who waits for what
+-- the claims of a table, and for what each worker waits
 pub record TableView : Type 0 where
   pub slots : List ((ℕ × ℕ) × Slot)
   pub waits : List (ℕ × Identity)
@@ -260,7 +261,7 @@ machine_in tells s = record {
   };
 }
 
--- the events that it takes, and what it answers
+-- the events and replies of a machine
 abbrev pub Given : Type 0 → Type 0
 Given N = Event N PagableData SerializedData
 
@@ -278,18 +279,19 @@ module _ {X XN XH XK XV : Type 0} {g : Environments X XN XH XK XV} {gh : Hashes 
   holding h = record { readings = kept_at h.readings; tables = h.tables.items; walks = kept_at h.walks }
 
 module _ {N S E : Type 0} {X XN XH XK XV : Type 0} {g : Environments X XN XH XK XV} {gh : Hashes XH} {go : Orders XK} {gq : Equalities XK} {gp : PartialOrders XK} {gn : Nodes XN X XN XH XK XV} where
-  -- what is true of each machine: whatever its storage answered, and as long as that is honest
+  -- what holds of each machine: whatever its storage answered, and as long as that is honest
   pub record IsInStep (is_honest : S → Bool) (tells : Telling S) (p : PagerView N S E) (h : Held X XN XH XK XV g gh go gq gp gn) : Type 0 where
     pub on_tables : AllOnTables h.tables.items (kept_at h.walks)
     pub serving : IsTrue (is_honest p.storage) → IsServing (core_in tells p) (holding h)
 
-  -- One event, as long as the storage is honest afterwards. Doubt doesn't go away.
+  -- One event, as long as the storage is honest afterwards. A storage that is honest afterwards was honest before.
   pub record Drives (is_honest : S → Bool) (v : Values N) (tells : Telling S) (old : PagerView N S E) (held : Held X XN XH XK XV g gh go gq gp gn) (event : Given N) (reply : Answer N) (new : PagerView N S E) (held' : Held X XN XH XK XV g gh go gq gp gn) : Type 0 where
     pub makes : IsTrue (is_honest new.storage) → Makes (plainly v) (state_in tells old) (holding held) (plain_event event) (plain_answer reply) (state_in tells new) (holding held')
     pub honest : IsTrue (is_honest new.storage) → IsTrue (is_honest old.storage)
     pub on_tables : AllOnTables held'.tables.items (kept_at held'.walks)
 
--- These events, with these replies, led from the old machine to the new one; and the headline holds of them after whatever led from an idle machine to the old one.
+-- These events, with these replies, lead from the old machine to the new one; and the headline holds of them after any
+-- events that led from an idle machine to the old one.
 pub record Runs {N S E : Type 0} (v : Values N) (tells : Telling S) (old : MachineView N S E) (happened : List (Given N)) (replied : List (Answer N)) (new : MachineView N S E) : Type 0 where
   pub run : HasRun (plainly v) (machine_in tells old) (map plain_event happened) (map plain_answer replied) (machine_in tells new)
   pub right : (start : MachineState N E) (before : List (Moment N E PagableData Written)) → IsMachineWhole v start → IsIdle start → AreMoments (plainly v) start before

@@ -1,4 +1,4 @@
--- The page-out of one cell: the calls by which a clone of its handle is listed, and the page-out of that entry.
+-- Page-out of one cell: the calls that list a clone of its handle, and the page-out of that entry.
 use Rattle.std.specs.Prelude.{Err, None, Ok, Option, Result, Some, length, ℕ, ◌+◌, ◌≡◌}
 use Rattle.{pagable.specs.Cells.{Releases, Unpins}, pagable_pager.specs.View.{Calls, OnlyLess, OnlyTables, PagerView, Telling, core_in, state_in}}
 use Rattle.pagable_pageout.specs.{PageOuts.PagesEntryIfThere, declared.tasks.PageOutError.PageOutError}
@@ -9,7 +9,7 @@ pub data PagesLastEntry {N E : Type 0} (v : Values N) (s : PagerState N E) : Res
   list-is-empty : length s.core.list ≡ 0 → PagesLastEntry v s (Ok None) s
   entry-is-last : (place : ℕ) (r : Result (Option ℕ) PageOutError) (s' : PagerState N E) → length s.core.list ≡ place + 1 → PagesEntryIfThere v place r s s' → PagesLastEntry v s r s'
 
--- and answers its key
+-- the same, with the key of the entry
 pub data PagesLast {N E : Type 0} (v : Values N) (s : PagerState N E) : Result ℕ PageOutError → PagerState N E → Type 0 where
   none-is-last : (s' : PagerState N E) → PagesLastEntry v s (Ok None) s' → PagesLast v s (Err (PageOutError.Failed Error.Closed)) s'
   last-has-key : (key : ℕ) (s' : PagerState N E) → PagesLastEntry v s (Ok (Some key)) s' → PagesLast v s (Ok key) s'
@@ -19,7 +19,7 @@ module _ {N S E : Type 0} (tells : Telling S) where
   abbrev pub Clones : PagerView N S E → HandleNumber → Result HandleNumber Error → PagerView N S E → Type 0
   Clones old h r new = Calls OnlyTables tells old (λ w w'. CloneCall w Owner.Caller h r w') new
 
-  -- a clone of the handle, which a Pinned one is made loose of
+  -- a clone of the handle; a Pinned clone is made loose
   pub record ClonesLoosely (old : PagerView N S E) (h c : HandleNumber) (new : PagerView N S E) : Type 0 where
     pub mid : PagerView N S E
     pub told : Result HandleNumber Error
@@ -29,7 +29,7 @@ module _ {N S E : Type 0} (tells : Telling S) where
   abbrev pub Schedules : PagerView N S E → HandleNumber → Result (Unit {0}) Error → PagerView N S E → Type 0
   Schedules old h told new = Calls OnlyLess tells old (λ w w'. ScheduleCall w Owner.Caller h told w') new
 
-  -- a clone of the handle is unpinned and listed; or it is given up
+  -- a clone of the handle is unpinned and listed; or it is released
   pub data ListsClone (old : PagerView N S E) (h : HandleNumber) : Result (Unit {0}) Error → PagerView N S E → Type 0 where
     clone-is-refused : (e : Error) (new : PagerView N S E) → Clones old h (Err e) new → ListsClone old h (Err e) new
     clone-waits : (c : HandleNumber) (mid low new : PagerView N S E) → ClonesLoosely old h c mid → Unpins tells mid c (Ok tt) low → Schedules low c (Ok tt) new
@@ -39,7 +39,7 @@ module _ {N S E : Type 0} (tells : Telling S) where
     clone-is-unlisted : (c : HandleNumber) (e : Error) (told : Result (Unit {0}) Error) (mid low late new : PagerView N S E) → ClonesLoosely old h c mid → Unpins tells mid c (Ok tt) low
         → Schedules low c (Err e) late → Releases tells late c told new → ListsClone old h (Err e) new
 
-  -- a clone is listed, and its entry, the last one, paged out; a closed storage lists nothing
+  -- a clone is listed, and its entry, the last one, is paged out; a closed storage lists nothing
   pub data PagesOutClone (says : E → Values N) (old : PagerView N S E) (h : HandleNumber) : Result ℕ PageOutError → PagerView N S E → Type 0 where
     clone-is-not-listed : (e : Error) (new : PagerView N S E) → ListsClone old h (Err e) new → PagesOutClone says old h (Err (PageOutError.Failed e)) new
     clone-is-listed : (r : Result ℕ PageOutError) (mid new : PagerView N S E) → ListsClone old h (Ok tt) mid → PagesLast (says mid.environment) (state_in tells mid) r (state_in tells new)

@@ -1,4 +1,4 @@
-//! The page-out of one cell of a lent pager.
+//! Page-out of one cell of a lent pager.
 
 ghost use Rattle.std.specs.Prelude.{IsTrue, ◌≡◌};
 ghost use Rattle.{pagable.specs.PageOuts.{ListsClone, PagesLast, PagesLastEntry, PagesOutCell, PagesOutClone}, pagable_load.specs.AccessView.values_at, pagable_pager.specs.View.{state_in, telling}};
@@ -27,7 +27,7 @@ fn entry_by<'a, E: Env<Node: NodeSet<E>>, S: PagableStorage<E>>(
     page_out_entry(lent, alloc, &mut table, place)
 }
 
-// Pages out the last entry of the list. None where the list is empty, as once the storage is closed.
+// Pages out the last entry of the list. Returns None if the list is empty, as it is after `close`.
 fn last_entry<E: Env<Node: NodeSet<E>>, S: PagableStorage<E>>(
     alloc: Global,
     pager: &mut Pager<E, S>,
@@ -44,7 +44,8 @@ fn last_entry<E: Env<Node: NodeSet<E>>, S: PagableStorage<E>>(
     entry_by(&mut lent, alloc, pending - 1)
 }
 
-// Pages it out, and answers its key.
+// Pages out the last entry of the list, and returns its key. Fails with Closed if the list is
+// empty.
 fn last_key<E: Env<Node: NodeSet<E>>, S: PagableStorage<E>>(
     alloc: Global,
     pager: &mut Pager<E, S>,
@@ -60,7 +61,7 @@ fn last_key<E: Env<Node: NodeSet<E>>, S: PagableStorage<E>>(
     }
 }
 
-// Lists an unpinned clone of the handle; where that is refused, the clone is given up.
+// Lists an unpinned clone of the handle; if that fails, releases the clone.
 fn list_clone<E: Env<Node: NodeSet<E>>, S: PagableStorage<E>>(
     pager: &mut Pager<E, S>,
     handle: HandleNumber,
@@ -101,14 +102,15 @@ fn page_out_clone<E: Env<Node: NodeSet<E>>, S: PagableStorage<E>>(
     }
 }
 
-/// Pages out the cell of a handle of any mode but Shared, listed or not, with all that it refers to, and answers its
-/// key; of a cell that has a key already, that. The value leaves memory only where nothing pins it.
+/// Pages out the cell of a handle of any mode but Shared, listed or not, with all that it refers
+/// to, and returns its key. If the cell has a key already, returns that and does nothing. The value
+/// leaves memory only if no handle pins it.
 ///
 /// # Errors
-/// - NoSuchHandle: nothing live has this number.
-/// - WrongMode: the handle is Shared.
-/// - Closed: the storage was closed.
-/// - as `page_out_pending` at this cell, which then may wait in the list.
+///
+/// - `Failed` with `NoSuchHandle` if the handle isn't live, `WrongMode` if it is Shared, or
+///   `Closed` after `close`.
+/// - As `page_out_pending` at this cell, which may wait in the list then.
 pub fn page_out<E: Env<Node: NodeSet<E>>, S: PagableStorage<E>>(
     alloc: Global,
     pager: &mut Pager<E, S>,

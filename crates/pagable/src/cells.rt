@@ -1,4 +1,4 @@
-//! Calls on one cell of a lent pager, each made of a few of the pager's own.
+//! Calls on one cell of a lent pager, each of a few calls of the pager.
 
 ghost use Rattle.std.specs.{Arc.arc_value, Fn.FnOnceReturnsAt, Prelude.{IfErr, IfOk, IsTrue, None, ◌≡◌}};
 ghost use Rattle.{pagable.specs.Cells.{AsksWhether, Follows, InsertsCell, Looks, LooksByPin, OpensCell}, pagable_load.specs.AccessView.values_at};
@@ -16,12 +16,14 @@ use pagable_value_spec::{DataKey, Error, HandleNumber};
 use std::alloc::Global;
 use std::sync::Arc;
 
-/// Inserts a value as a cell that nothing pins: it waits for page-out. Answers its loose handle.
+/// Inserts a value as a cell that nothing pins and that is listed for page-out, and returns its
+/// loose handle.
 ///
 /// # Errors
-/// - as `Pager::new_loose`: the value comes back, and nothing changes.
-/// - NumbersSpent, OutOfMemory: the cell is inserted and can't be listed for page-out. Its handle comes back, which
-///   `Pager::schedule_for_paging` lists.
+///
+/// - As `Pager::new_loose`, with the value: nothing changes.
+/// - `NumbersSpent`, `OutOfMemory` with the handle, if the cell is inserted and couldn't be listed:
+///   `Pager::schedule_for_paging` lists it.
 pub fn insert<E: Env<Node: NodeSet<E>>, S: PagableStorage<E>>(
     alloc: Global,
     pager: &mut Pager<E, S>,
@@ -39,11 +41,13 @@ pub fn insert<E: Env<Node: NodeSet<E>>, S: PagableStorage<E>>(
     }
 }
 
-/// Answers a loose handle of the cell whose value has this key and the type `T`: of the one that the cache gives, or of
-/// a new one. Reads nothing, and asks that the key reads as a value of this type.
+/// Returns a loose handle of the cell whose value has this key and the type `T`: of the cached one,
+/// or of a new one. It reads nothing; the caller makes sure that the key reads as a value of this
+/// type.
 ///
 /// # Errors
-/// - NumbersSpent, OutOfMemory: nothing changes.
+///
+/// - `NumbersSpent`, `OutOfMemory`: nothing changes.
 pub fn cell_of<T: OfNode<E>, E: Env<Node: NodeSet<E>>, S: PagableStorage<E>>(
     alloc: Global,
     pager: &mut Pager<E, S>,
@@ -58,10 +62,11 @@ pub fn cell_of<T: OfNode<E>, E: Env<Node: NodeSet<E>>, S: PagableStorage<E>>(
     }
 }
 
-/// Tells whether the storage has a blob under a key.
+/// Says whether the storage has a blob under a key.
 ///
 /// # Errors
-/// - OutOfMemory, Storage: as `Pager::fetch`.
+///
+/// - `OutOfMemory`, `Storage` as in `Pager::fetch`.
 pub fn contains<E: Env<Node: NodeSet<E>>, S: PagableStorage<E>>(
     alloc: Global,
     pager: &mut Pager<E, S>,
@@ -77,14 +82,15 @@ pub fn contains<E: Env<Node: NodeSet<E>>, S: PagableStorage<E>>(
     }
 }
 
-/// Pins the cell of a handle that stands in a value, and so is that value's: clones it, pins the clone, and gives the
-/// clone up. Answers the Pinned handle and the value, shared.
+/// Pins the cell of a handle that a value owns: clones the handle, pins the clone, and releases the
+/// clone. Returns the Pinned handle and the value, shared.
 ///
 /// # Errors
-/// - NoSuchHandle, NumbersSpent, OutOfMemory: as `Pager::clone`.
-/// - as `pin`.
 ///
-/// Each leaves handles and counts as they were.
+/// - `NoSuchHandle`, `NumbersSpent`, `OutOfMemory` as in `Pager::clone`.
+/// - The errors of `pin`.
+///
+/// After each error handles and counts are as before.
 pub fn follow<E: Env<Node: NodeSet<E>>, S: PagableStorage<E>>(
     alloc: Global,
     pager: &mut Pager<E, S>,
@@ -100,7 +106,7 @@ pub fn follow<E: Env<Node: NodeSet<E>>, S: PagableStorage<E>>(
     pinned
 }
 
-// Shows a value that is shared.
+// Calls `show` with a shared value.
 fn show_shared<N, Y, F: FnOnce(&N) -> Y>(show: F, value: &Arc<N>) -> Y
     requires { F.IsAlwaysCallable show }
     ensures { FnOnceReturnsAt F.FnOnce show (arc_value value.now) result }
@@ -108,7 +114,8 @@ fn show_shared<N, Y, F: FnOnce(&N) -> Y>(show: F, value: &Arc<N>) -> Y
     show(value.as_ref())
 }
 
-// The same for a handle that pins nothing: by a pin that is let go again.
+// Shows the value of a handle that pins nothing, as `look` does: pins it, and undoes the pin
+// afterwards.
 fn look_by_pin<E: Env<Node: NodeSet<E>>, S: PagableStorage<E>, Y: Drop, F: FnOnce(&E::Node) -> Y>(
     alloc: Global,
     pager: &mut Pager<E, S>,
@@ -131,13 +138,15 @@ where
     }
 }
 
-/// Shows the value of a handle's node, reading it where it isn't in memory, and leaves the handle in the mode that it
-/// had.
+/// Calls `show` with the value of a handle's node, which it loads if it isn't in memory, and leaves
+/// the handle in the mode that it had.
 ///
 /// # Errors
-/// - NoSuchHandle: nothing live has this number.
-/// - as `pin`, where the handle pins nothing.
-/// - NumbersSpent, OutOfMemory: the value was shown, and its cell can't be listed for page-out.
+///
+/// - `NoSuchHandle` if the handle isn't live.
+/// - The errors of `pin`, if the handle pins nothing.
+/// - `NumbersSpent`, `OutOfMemory` if the value was shown and its cell couldn't be listed for
+///   page-out.
 pub fn look<E: Env<Node: NodeSet<E>>, S: PagableStorage<E>, Y: Drop, F: FnOnce(&E::Node) -> Y>(
     alloc: Global,
     pager: &mut Pager<E, S>,

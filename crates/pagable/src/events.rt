@@ -1,4 +1,6 @@
-//! Each event of the machine: a step of the plain world that leaves the machine whole, as long as the storage is honest afterwards. A call is one of the pager's, with a reply of the call's type; a load that the caller began goes on by steps.
+//! Runs one event of a machine: a call of the pager, or a step of a load or of a worker. Each is a
+//! step of the plain world that leaves the machine whole, as long as the storage is honest
+//! afterwards.
 
 ghost use Rattle.std.specs.{Arc.arc_value, Prelude.{IfErr, IsTrue, None, OnOk, false, is_none, true, ◌*◌, ◌≡◌}};
 ghost use Rattle.pagable.specs.Driving.{Drives, Forgets, IsInStep, IsPrepared, KeepsOne, Serves, Stepped, kept_at, plain_found, rest_after};
@@ -82,7 +84,7 @@ fn make_call<E: Env<Node: NodeSet<E>>, S: PagableStorage<E>>(
     }
 }
 
-// Nothing is kept of a load that has ended by its step.
+// Forgets the load if its step has ended it.
 fn end<N: Drop>(readings: &mut IndexMap<u64, Reading>, load: u64, ended: &Option<LoadAnswer<N>>)
     ensures { KeepsOne (kept_at readings.old) load (rest_after ended.now (kept_at readings.old load)) (kept_at readings.new) }
 {
@@ -91,7 +93,8 @@ fn end<N: Drop>(readings: &mut IndexMap<u64, Reading>, load: u64, ended: &Option
     }
 }
 
-// Sees to it that an open load's reading is kept, where there is a place for it: it is, or begins now, at the first step of a load of a cell.
+// Keeps an open load's progress if it isn't kept yet: at its first step, for a load of a cell.
+// Fails with OutOfMemory if there is no place for it.
 #[tactic(auto, using(crate::proofs::Driven::unprepared))]
 fn prepare(
     readings: &mut IndexMap<u64, Reading>,
@@ -119,7 +122,8 @@ fn prepare(
     Ok(())
 }
 
-// One step of a load over a lent pager: the borrow checker takes a lent struct where its own type is asked, and not where any access is.
+// Makes one step of a load over a lent pager. (The borrow checker accepts a lent struct where a
+// function asks for its own type, and not where it asks for any access.)
 fn step_by<'a, E: Env<Node: NodeSet<E>>, S: PagableStorage<E>>(
     lent: &mut Lent<'a, E, S>,
     alloc: Global,
@@ -136,7 +140,8 @@ fn step_by<'a, E: Env<Node: NodeSet<E>>, S: PagableStorage<E>>(
     LoadReply { ended, steps }
 }
 
-// A load's next step. Refused with NoSuchHandle and NotYours; with WrongMode where a call began it as a load of a key. Then nothing changes, and no step is counted.
+// Makes a load's next step. Fails with NoSuchHandle and NotYours, and with WrongMode if a call
+// began the load as one of a key: then nothing changes, and no step is counted.
 fn load_step<E: Env<Node: NodeSet<E>>, S: PagableStorage<E>>(
     pager: &mut Pager<E, S>,
     held: &mut Held<E>,
@@ -150,7 +155,7 @@ fn load_step<E: Env<Node: NodeSet<E>>, S: PagableStorage<E>>(
     pager.is_whole();
     let (key, cell_type) = pager.load_of(load)?;
     if let Err(e) = prepare(&mut held.readings, alloc, load, key, cell_type) {
-        // It has no place for its reading, and is given up: this is its only step.
+        // There is no place for the load's progress, so the load is dropped: this is its only step.
         let _told = pager.load_drop(load);
         pager.is_whole();
         return Ok(LoadReply {
@@ -159,7 +164,7 @@ fn load_step<E: Env<Node: NodeSet<E>>, S: PagableStorage<E>>(
         });
     }
     let Some(own) = held.readings.get_mut(&load.0) else {
-        // Nobody said as what it is read.
+        // The event that began it didn't say as what type it is read.
         return Err(Error::WrongMode);
     };
     let mut lent = Lent::new(pager);
@@ -175,7 +180,7 @@ fn closed_by<N: Drop>(call: &Call<N, PagableData>) -> Option<LoadNumber> {
     }
 }
 
-// Nothing is kept of a load that is closed.
+// Forgets the load if it is closed.
 fn forget<E: Env<Node: NodeSet<E>>, S: PagableStorage<E>>(
     pager: &Pager<E, S>,
     readings: &mut IndexMap<u64, Reading>,
@@ -222,7 +227,7 @@ fn load_key<E: Env<Node: NodeSet<E>>, S: PagableStorage<E>>(
     }
 }
 
-/// Makes the event's step, and answers what it answers.
+/// Runs the event, and returns its reply.
 pub fn serve<E: Env<Node: NodeSet<E>>, S: PagableStorage<E>>(
     pager: &mut Pager<E, S>,
     held: &mut Held<E>,
@@ -242,7 +247,7 @@ pub fn serve<E: Env<Node: NodeSet<E>>, S: PagableStorage<E>>(
             forget(pager, &mut held.readings, closed);
             EventReply::CallReply(reply)
         }
-        // Nothing is kept of a load of a cell before its first step.
+        // A load of a cell is kept from its first step on.
         Event::LoadStart(handle) => {
             let begun = pager.load_begin(handle);
             pager.is_whole();

@@ -1,8 +1,10 @@
-//! Content-addressed paging of shared values: a pager that writes values to a store of blobs under the hash of their
-//! content, drops them from memory when no handle pins them, and reads them back on demand.
+//! Content-addressed paging of shared values: a pager that writes values to a store of blobs under
+//! the hash of their content, drops them from memory when no handle pins them, and reads them back
+//! on demand.
 //!
-//! All public names stand at the root, and again in modules that are called as those of the original crate. Each module
-//! names its items: to pass on a module of a crate below would have every check above read all that stands in it.
+//! The crate's root exports all public names, and modules named as in the original crate export
+//! them again. Each module lists its items one by one: a re-export of a whole module of a lower
+//! crate would make every check above read all of that module.
 #![tactic(auto)]
 
 pub mod cell_page_out;
@@ -14,7 +16,8 @@ pub mod paging;
 pub mod typed_references;
 mod workers;
 
-/// The numbers of cells and handles, the references that values hold, and what the sorts of these have in common.
+/// The numbers of cells and handles, the references that values hold, and the traits that all
+/// references have.
 pub mod arc_erase {
     pub use pagable_traits::{
         ArcErase, ArcEraseType, RawRef, Refers, StdArcEraseType, deserialize_arc, read_reference,
@@ -23,7 +26,7 @@ pub mod arc_erase {
     pub use pagable_value_spec::{ArcRef, HandleNumber, Identity, Kind, NodeNumber};
 }
 
-/// The forms in which values are written and read, with what they refer to, and the keys of blobs.
+/// The writers and readers of values with their references, and the keys of blobs.
 pub mod context {
     pub use pagable_core::{
         NoReferences, PagableDeserializerImpl, PagableKeys, PagableSerializerImpl, References,
@@ -36,7 +39,7 @@ pub mod flavors {
     pub use pagable_flavors::{PagableSlice, PagableVecFlavor};
 }
 
-/// The carried types that aren't std's or those of a crate below.
+/// The carried types that are neither std's nor those of a lower crate.
 pub mod impls {
     pub use pagable_traits::impls::maps::write_entry;
     pub use pagable_traits::{
@@ -45,7 +48,7 @@ pub mod impls {
     };
 }
 
-/// The pager, the machine that takes lists of events, and the references to shared values.
+/// The pager, the machine that runs lists of events, and the references to shared values.
 pub mod pagable_arc {
     pub use crate::machine::Machine;
     pub use pagable_pager::{ArcCell, DeserializedArcCache, Pager};
@@ -61,7 +64,8 @@ pub mod pagable_arc {
     pub use pagable_value_spec::{LoadNumber, WorkerNumber};
 }
 
-/// Nodes of environments of one value type or three, an environment of records, and values without references as bytes.
+/// Nodes of environments with one or three value types, an environment of records, and values
+/// without references as bytes.
 pub mod nodes {
     pub use pagable_nodes::bytes::{from_bytes, to_bytes};
     pub use pagable_nodes::{
@@ -69,27 +73,27 @@ pub mod nodes {
     };
 }
 
-/// The parts of which the bodies of a caller's own types are made.
+/// The parts of which a caller's own types make their encoding.
 pub mod parts {
     pub use pagable_codec::parts::{places_for, read_count, read_flag, write_count, write_flag};
 }
 
-/// Blobs, their keys, and what stores them.
+/// Blobs, their keys, and storages.
 pub mod storage {
-    /// A blob, and what its key is made of.
+    /// A blob, its key, and the hashes that keys are made with.
     pub mod data {
         pub use pagable_core::{PagableData, Sha256Key, WeighHash};
         pub use pagable_flavors::{DataKey, OptionalDataKey};
         pub use pagable_traits::KeyHash;
     }
 
-    /// The handle of a storage that threads share, and what the references to its values ask of it.
+    /// The handle of a storage that threads share, and the calls that typed references make on it.
     pub mod handle {
         pub use pagable_locked::{Gate, HandlePin, NoGate, PagableStorageHandle, PageOutReport};
         pub use pagable_traits::{Polls, Storage};
     }
 
-    /// A store in memory, and a storage over it that threads share.
+    /// A store of blobs in memory, and a storage over it that threads share.
     pub mod in_memory {
         pub use pagable_core::InMemoryBlobs;
         pub use pagable_locked::InMemoryPagableStorage;
@@ -100,8 +104,9 @@ pub mod storage {
         pub use pagable_core::SerializerForPaging;
     }
 
-    /// What a store answers, the setting that its writes and reads share; the accesses to a pager, lent and behind a lock,
-    /// and what goes over any of them; what is known of the nodes that items refer to, and why a page-out fails.
+    /// The trait of stores, and the setting that their values share; the accesses to a pager, lent
+    /// or behind a lock, and the calls over any of them; the tables of claims, and why a page-out
+    /// fails.
     pub mod traits {
         pub use pagable_core::{PagableStorage, Roots, Setting};
         pub use pagable_load::{Access, WorkerAccess, pin_over, read_over};
@@ -116,7 +121,7 @@ pub mod storage {
     }
 }
 
-/// What a value can be written to and read from, and the traits of values.
+/// The writers and readers of values, and the traits of values.
 pub mod traits {
     pub use pagable_traits::encoded_as::{DecodedAs, EncodedAs};
     pub use pagable_traits::{
@@ -136,10 +141,10 @@ pub mod typetag {
     };
 }
 
-/// What a call of this crate answers: what it gives, or why it is refused.
+/// The result of a call of this crate: its value, or the error that it fails with.
 pub type Result<O> = std::result::Result<O, Error>;
 
-// Of values, and of what they are written to and read from.
+// Values, and what writes and reads them.
 pub use pagable_flavors::{
     DataKey, Error, OptionalDataKey, PagableSlice, PagableVecFlavor, Reason,
 };
@@ -164,7 +169,7 @@ pub use pagable_value_spec::{
     ArcRef, HandleNumber, Identity, Kind, LoadNumber, NodeNumber, PagableCursor, WorkerNumber,
 };
 
-// Of pagers, and of what stores their values.
+// Pagers and storages.
 pub use machine::Machine;
 pub use pagable_core::{
     InMemoryBlobs, NoReferences, PagableData, PagableDeserializerImpl, PagableKeys,

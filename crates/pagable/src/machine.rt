@@ -1,4 +1,4 @@
-//! A pager that is driven by lists of events.
+//! A pager that runs lists of events.
 
 ghost use Rattle.std.specs.Prelude.{◌≡◌, IfOk, IfErr, IsTrue, OnErr};
 ghost use Rattle.{pagable_theorems.specs.{SmallWorlds.StartsWell, PageOutLaws.NobodyWorks}, pagable_load.specs.AccessView.values_at, pagable.specs.Driving.{Runs, machine_in}};
@@ -17,11 +17,11 @@ use std::collections::VecDeque;
 use std::marker::Model;
 use std::sync::Arc;
 
-/// A pager that takes lists of events: calls, and loads and workers of page-out by steps.
+/// A pager that runs lists of events: calls, and loads and page-out workers by steps.
 #[derive(Drop)]
 pub struct Machine<E: Env<Node: NodeSet<E>>, S: PagableStorage<E>> {
     pager: Pager<E, S>,
-    // What it keeps of loads, tables and workers.
+    // Its loads, tables and workers.
     held: Held<E>,
 }
 
@@ -39,8 +39,8 @@ impl<E: Env<Node: NodeSet<E>>, S: PagableStorage<E>> Model for Machine<E, S> {
 }
 
 impl<E: Env<Node: NodeSet<E>>, S: PagableStorage<E>> Machine<E, S> {
-    /// Makes a machine over a pager as it stands, for which no worker is at work, as `Pager::is_at_rest` tells: so it is between any two calls, since a page-out by
-    /// one call ends its workers. It takes no memory.
+    /// Makes a machine over a pager for which no worker is running (`Pager::is_at_rest`): so it is
+    /// between any two calls, since a page-out by one call ends its workers. It takes no memory.
     pub fn new(alloc: Global, pager: Pager<E, S>) -> Machine<E, S>
         requires nobody { NobodyWorks (core_in (telling S.stored S.is_closed S.failed) pager) }
         ensures pager { result.pager ≡ pager }
@@ -56,7 +56,8 @@ impl<E: Env<Node: NodeSet<E>>, S: PagableStorage<E>> Machine<E, S> {
         }
     }
 
-    /// Makes a machine over a new pager, over a storage as it stands. It takes no memory. A chain that begins at it meets what the headline asks of its start.
+    /// Makes a machine over a new pager, over a storage as it is. It takes no memory. Runs that
+    /// begin at it meet what the headline asks of their start.
     pub fn over(alloc: Global, storage: S, env: E) -> Machine<E, S>
         ensures empty { IsNew (state_in (telling S.stored S.is_closed S.failed) result.pager) }
         ensures starts { StartsWell (values_at E.Node.NodeSet E.Env E.Hash.KeyHash env) (machine_in (telling S.stored S.is_closed S.failed) result) }
@@ -66,19 +67,24 @@ impl<E: Env<Node: NodeSet<E>>, S: PagableStorage<E>> Machine<E, S> {
         Machine::new(alloc, Pager::new(alloc, storage, env))
     }
 
-    /// The pager, to look at its values between two runs.
+    /// Lends the pager, to look at its values between two runs.
     pub fn pager(&self) -> &Pager<E, S>
         ensures { result.now ≡ self.now.pager }
     {
         &self.pager
     }
 
-    /// Lets the events happen in their order, and answers one reply for each. Where there is no memory for the replies, nothing is done, and OutOfMemory comes back
-    /// with the events.
+    /// Runs the events in their order, and returns one reply for each.
     ///
-    /// Replies and machines are a run of the plain world, for which the headline holds, as of whatever led from an idle machine to this one: each event is one step
-    /// that leaves the machine whole, and where events meet what is asked of them, every node keeps its tree and each pin gives it. This holds as long as no wrong
-    /// answer of the storage was taken as true (`PagableStorage::is_honest`), which in memory is always so.
+    /// Events, replies and machines are a run of the plain world, for which the headline holds,
+    /// together with the events that led from an idle machine to this one: each event is one step
+    /// that leaves the machine whole, and if the events meet what is asked of them, every node
+    /// keeps its tree and each pin gives it. This holds as long as no wrong answer of the storage
+    /// was taken as true (`PagableStorage::is_honest`), which is always so in memory.
+    ///
+    /// # Errors
+    ///
+    /// - `OutOfMemory` with the events, if the replies can't get memory: no event has run.
     pub fn run(
         &mut self,
         alloc: Global,

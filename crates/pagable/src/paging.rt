@@ -1,4 +1,5 @@
-//! Pins, readings and page-outs of a lent pager. What they do is told as long as the storage is honest afterwards.
+//! Pins, reads and page-outs over a lent pager. Contracts tell what they do as long as the storage
+//! is honest afterwards.
 
 ghost use Rattle.std.specs.{Arc.arc_value, Prelude.{IfErr, IsTrue, ◌≡◌}};
 ghost use Rattle.{pagable.specs.Paged.{IsRefusal, PagesOutItem, PagesOutList, ReadsValue}, pagable_load.specs.AccessView.values_at, pagable_pager.specs.View.{state_in, telling}};
@@ -30,8 +31,13 @@ fn read_by<'a, E: Env<Node: NodeSet<E>>, S: PagableStorage<E>>(
     read_over(lent, alloc, key, node_type)
 }
 
-/// Reads a key as a value of this type, with all that it refers to and that is read together with it. The handles of its references are the
-/// caller's. A refusal leaves nothing of it.
+/// Reads a key as a value of this type, with all that is read together with it. The caller owns the
+/// handles of the value's references.
+///
+/// # Errors
+///
+/// - The error of a fetch or of the value's reader, `NumbersSpent` or `OutOfMemory`: nothing is
+///   left of the load.
 pub fn read<E: Env<Node: NodeSet<E>>, S: PagableStorage<E>>(
     alloc: Global,
     pager: &mut Pager<E, S>,
@@ -46,8 +52,13 @@ pub fn read<E: Env<Node: NodeSet<E>>, S: PagableStorage<E>>(
     read_by(&mut lent, alloc, key, node_type)
 }
 
-/// Reads a key as a value of the type T, as `read` does, and answers the value that its node holds. Refused as `read`; and where memory is
-/// wanting to take the value out, or the node holds none, with the node, whose references' handles are the caller's.
+/// Reads a key as a value of the type T, as `read` does, and returns the value that its node holds.
+///
+/// # Errors
+///
+/// - As `read`, without a node: nothing is left of the load.
+/// - `OutOfMemory`, `WrongKind` with the node, if the value can't be taken out of it or it holds
+///   none: the caller owns the handles of the node's references.
 #[tactic(auto, using(crate::proofs::Driven::taking))]
 pub fn deserialize_pagable_data<E: Env<Node: NodeSet<E>>, S: PagableStorage<E>, T: OfNode<E>>(
     alloc: Global,
@@ -83,8 +94,16 @@ fn page_out_item_by<'a, E: Env<Node: NodeSet<E>>, S: PagableStorage<E>>(
     page_out_item_over(lent, alloc, table, item)
 }
 
-/// Pages out what an item refers to, and then the item itself: answers its key, or why it failed. What the table knows from the items before it
-/// isn't written again. Whatever it answers, the caller owns afterwards the handles that it owned before.
+/// Pages out what an item refers to, and then the item itself, and returns its key. What the table
+/// knows from earlier items isn't written again. Afterwards the caller owns the handles that it
+/// owned before, whatever the result.
+///
+/// # Errors
+///
+/// - `Failed` with the error of beginning the worker, or of one of its steps.
+/// - `AlreadyFailed` if an earlier page-out on this table failed at what the item refers to.
+///
+/// What was stored and keys that were set stay.
 pub fn page_out_item<E: Env<Node: NodeSet<E>>, S: PagableStorage<E>>(
     alloc: Global,
     pager: &mut Pager<E, S>,
@@ -113,10 +132,15 @@ fn page_out_pending_by<'a, E: Env<Node: NodeSet<E>>, S: PagableStorage<E>>(
     page_out_pending_over(lent, alloc)
 }
 
-/// Pages out the entries that stand in the list at the call, with all that they refer to, from the last to the first, and stops at the first
-/// failure, which it answers. What is listed meanwhile waits for the next call. An entry whose cell has a key is only
-/// released; one whose page-out fails before it is pinned is listed again, at the end. No other worker is there to fail,
-/// so the failure is a refusal of its own, and never AlreadyFailed.
+/// Pages out the entries that are in the list at the call, with all that they refer to, from the
+/// last to the first, up to the first failure. Entries that are listed meanwhile wait for the next
+/// call. An entry whose cell has a key is only released.
+///
+/// # Errors
+///
+/// - `Failed` with the error of the first entry that fails: if it fails before its cell is pinned,
+///   it is listed again, at the end; those before it stay listed. `AlreadyFailed` can't happen,
+///   since there is no other worker.
 pub fn page_out_pending<E: Env<Node: NodeSet<E>>, S: PagableStorage<E>>(
     alloc: Global,
     pager: &mut Pager<E, S>,

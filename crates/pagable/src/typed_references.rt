@@ -1,5 +1,5 @@
-//! Typed references of a lent pager's handles, for values to hold: when such a value is inserted, the handle becomes
-//! the value's.
+//! Typed references made of a lent pager's handles, for values to hold: when such a value is
+//! inserted, it becomes the handle's owner.
 
 ghost use Rattle.std.specs.{Arc.arc_value, Prelude.{IfErr, IfOk, ◌≡◌, ◌⊎◌}};
 ghost use Rattle.{pagable.specs.TypedReferences.{IsAt, IsHeldBy, Refers, RefusesHolding, RefusesReference}, pagable_pager.specs.View.{core_in, state_in, telling}};
@@ -12,7 +12,8 @@ use pagable_traits::{ArcErase, HoldingArc, PagableArc};
 use pagable_value_spec::{Error, HandleNumber, NodeNumber};
 use std::alloc::Global;
 
-// The node of a handle, where it is of this type.
+// Returns the node of a handle. Fails with NoSuchHandle if the handle isn't live, and with
+// WrongKind if the node isn't of this type.
 fn node_of_type<E: Env<Node: NodeSet<E>>, S: PagableStorage<E>>(
     pager: &Pager<E, S>,
     handle: HandleNumber,
@@ -28,11 +29,12 @@ fn node_of_type<E: Env<Node: NodeSet<E>>, S: PagableStorage<E>>(
     }
 }
 
-/// Makes the loose reference of a loose handle, as a value of another type holds it.
+/// Makes a loose reference of a loose handle, for a value of another type to hold.
 ///
 /// # Errors
-/// - NoSuchHandle: nothing live has this number.
-/// - WrongKind: the handle's node is of another type.
+///
+/// - `NoSuchHandle` if the handle isn't live.
+/// - `WrongKind` if the handle's node is of another type.
 pub fn loose<T: OfNode<E>, E: Env<Node: NodeSet<E>>, S: PagableStorage<E>>(
     pager: &Pager<E, S>,
     handle: HandleNumber,
@@ -48,14 +50,15 @@ pub fn loose<T: OfNode<E>, E: Env<Node: NodeSet<E>>, S: PagableStorage<E>>(
     }
 }
 
-/// Makes the reference of a handle that pins its node, with the node's value, as a value holds it: an `Arc` of a Shared
-/// handle, or a pin of a Pinned one.
+/// Makes a reference, with the node's value, of a handle that pins its node, for another value to
+/// hold: an `Arc` of a Shared handle, or a pin of a Pinned one.
 ///
 /// # Errors
-/// - NoSuchHandle: nothing live has this number.
-/// - WrongKind: the handle's node is of another type.
-/// - WrongMode: the handle pins nothing.
-/// - OutOfMemory: the value can't be shared once more.
+///
+/// - `NoSuchHandle` if the handle isn't live.
+/// - `WrongKind` if the handle's node is of another type.
+/// - `WrongMode` if the handle pins nothing.
+/// - `OutOfMemory` if the value can't be shared once more.
 pub fn holding<
     T: OfNode<E> + Drop,
     E: Env<Node: NodeSet<E>>,

@@ -1,4 +1,5 @@
-//! What a machine keeps beside its pager; tables of page-out, workers on them, and a worker's step.
+//! What a machine keeps beside its pager: progress of loads, tables and workers; and the events
+//! that make tables and workers and step workers.
 
 ghost use Rattle.std.specs.{HashMap.spare, Prelude.{◌≡◌, ◌<◌, ◌⊎◌, ℕ, Some, IfOk, IsTrue, IfErr, OnOk, false, true, ◌∷◌, length, is_some}};
 ghost use Rattle.{pagable.specs.Driving.{Drives, IsInStep, KeepsOne, kept_at, IsBegun, IsIn, IsOnTable, WalksOn, is_done}, pagable_load.specs.AccessView.values_at};
@@ -19,16 +20,17 @@ use std::alloc::Global;
 use std::mem::replace;
 use std::sync::Arc;
 
-/// What a worker was begun for.
+/// What a worker pages out.
 #[derive(Drop)]
 pub enum Begun {
     /// An item.
     Item(Arc<SerializedData>),
-    /// An entry of the list: its handle, and the cell as a loose handle sees it.
+    /// An entry of the list: its handle, and the cell under its loose kind.
     Entry(ArcRef),
 }
 
-/// A worker: its table, counted from 1, what it was begun for and how many steps it has made; its task with the path below it, or its answer.
+/// A worker: its table (counted from 1), what it pages out, how many steps it has made, its path,
+/// and its task or its answer.
 #[derive(Drop)]
 pub struct Walk<E: Env<Node: NodeSet<E>>> {
     pub table: u64,
@@ -38,7 +40,8 @@ pub struct Walk<E: Env<Node: NodeSet<E>>> {
     pub turn: Turn<E>,
 }
 
-/// How far loads are, by their numbers; the tables in the order in which they were made; and workers by their numbers.
+/// The progress of loads by their numbers; the tables in the order in which they were made; and the
+/// workers by their numbers.
 #[derive(Drop)]
 pub struct Held<E: Env<Node: NodeSet<E>>> {
     pub readings: IndexMap<u64, Reading>,
@@ -46,7 +49,7 @@ pub struct Held<E: Env<Node: NodeSet<E>>> {
     pub walks: IndexMap<u64, Walk<E>>,
 }
 
-/// This is kept of a number from now on, where there is a place for it.
+/// Keeps a value under a number; the map has room for it.
 pub fn put<V: Drop>(kept: &mut IndexMap<u64, V>, number: u64, value: V)
     requires { 0 < spare kept.old }
     ensures { KeepsOne (kept_at kept.old) number (Some value) (kept_at kept.new) }
@@ -56,7 +59,11 @@ pub fn put<V: Drop>(kept: &mut IndexMap<u64, V>, number: u64, value: V)
     };
 }
 
-/// A new table, under the next number. Refused by want of memory alone; then nothing changes.
+/// Makes a new table, under the next number.
+///
+/// # Errors
+///
+/// - `OutOfMemory` if it can't get memory: nothing changes.
 pub fn table_new<E: Env<Node: NodeSet<E>>, S: PagableStorage<E>>(
     pager: &Pager<E, S>,
     held: &mut Held<E>,
@@ -72,7 +79,8 @@ pub fn table_new<E: Env<Node: NodeSet<E>>, S: PagableStorage<E>>(
     Ok(TableNumber(held.tables.len() as u64))
 }
 
-// A place for a worker more, on a table that there is. Refused with NoSuchHandle and OutOfMemory.
+// Makes room for one more worker on a table. Fails with NoSuchHandle if there is no such table, and
+// with OutOfMemory.
 fn ready<E: Env<Node: NodeSet<E>>>(
     walks: &mut IndexMap<u64, Walk<E>>,
     tables: &Vec<LentTable<E>>,
@@ -90,7 +98,7 @@ fn ready<E: Env<Node: NodeSet<E>>>(
     Ok(())
 }
 
-// What a worker for an item has to do. Refused by want of memory alone.
+// Makes a worker for an item, with its first task. Fails with OutOfMemory alone.
 fn item_walk<E: Env<Node: NodeSet<E>>>(
     alloc: Global,
     table: TableNumber,
@@ -128,7 +136,13 @@ fn entry_walk<E: Env<Node: NodeSet<E>>>(
     }
 }
 
-/// A worker on a table begins, for an item. Refused with NoSuchHandle where there is no such table, with NumbersSpent and OutOfMemory; then nothing changes.
+/// Begins a worker on a table, for an item.
+///
+/// # Errors
+///
+/// - `NoSuchHandle` if there is no such table.
+/// - `NumbersSpent` if no worker number is left.
+/// - `OutOfMemory`. After each error nothing has changed.
 pub fn worker_item<E: Env<Node: NodeSet<E>>, S: PagableStorage<E>>(
     pager: &mut Pager<E, S>,
     held: &mut Held<E>,
@@ -149,8 +163,14 @@ pub fn worker_item<E: Env<Node: NodeSet<E>>, S: PagableStorage<E>>(
     Ok(worker)
 }
 
-/// A worker on a table begins, for the entry at this place of the list, counted from 0. Refused with NoSuchHandle where there is no such table or no such place, with
-/// WrongKind where the cell's type is too great a number for its kinds, and with NumbersSpent and OutOfMemory; then nothing changes.
+/// Begins a worker on a table, for the entry at this index of the list, from 0 on.
+///
+/// # Errors
+///
+/// - `NoSuchHandle` if there is no such table or no such entry.
+/// - `WrongKind` if the cell's type is too great a number for its kinds.
+/// - `NumbersSpent` if no worker number is left.
+/// - `OutOfMemory`. After each error nothing has changed.
 pub fn worker_listed<E: Env<Node: NodeSet<E>>, S: PagableStorage<E>>(
     pager: &mut Pager<E, S>,
     held: &mut Held<E>,
@@ -174,7 +194,8 @@ pub fn worker_listed<E: Env<Node: NodeSet<E>>, S: PagableStorage<E>>(
     Ok(worker)
 }
 
-// One step over a lent pager: the borrow checker takes a lent struct where its own type is asked, and not where any access is.
+// Makes one step over a lent pager. (The borrow checker accepts a lent struct where a function asks
+// for its own type, and not where it asks for any access.)
 fn step_by<'a, E: Env<Node: NodeSet<E>>, S: PagableStorage<E>>(
     lent: &mut Lent<'a, E, S>,
     alloc: Global,
@@ -220,7 +241,7 @@ fn walk_on<E: Env<Node: NodeSet<E>>, S: PagableStorage<E>>(
     ensures count { length tables.new.items ≡ length tables.old.items }
     ensures on_table { IsOnTable (length tables.new.items) walk.new }
 {
-    // Whatever stands there while it makes its step is written over by what the step comes to.
+    // The step's result replaces this value, whatever it is.
     let meanwhile = Turn::Answers(WorkerAnswer::AlreadyFailed);
     let Turn::Goes(task) = replace(&mut walk.turn, meanwhile) else {
         unreachable!();
@@ -246,7 +267,11 @@ fn is_done<E: Env<Node: NodeSet<E>>>(walks: &IndexMap<u64, Walk<E>>, worker: u64
     }
 }
 
-/// A worker's next step. Refused with NoSuchHandle where there is no such worker or it has answered; then nothing changes.
+/// Makes a worker's next step.
+///
+/// # Errors
+///
+/// - `NoSuchHandle` if there is no such worker or it has answered: nothing changes.
 pub fn worker_step<E: Env<Node: NodeSet<E>>, S: PagableStorage<E>>(
     pager: &mut Pager<E, S>,
     held: &mut Held<E>,
@@ -261,7 +286,7 @@ pub fn worker_step<E: Env<Node: NodeSet<E>>, S: PagableStorage<E>>(
     if is_done(&held.walks, worker.0) {
         return Err(Error::NoSuchHandle);
     }
-    // As long as the storage is honest, a worker that hasn't answered is at work.
+    // As long as the storage is honest, a worker that hasn't answered is running.
     if !pager.has_worker(worker) {
         return Err(Error::NoSuchHandle);
     }

@@ -1,4 +1,4 @@
--- Room for the pin of a cell: what was found there is still so, and where there is none no load begins.
+-- After room is made for a pin, the cell that was found is still as it was found; and if there is no room no load begins.
 use Rattle.pagable_leaf.specs.{Leaf.IsLeaf, declared.leaf.Leaf.Leaf}
 use Rattle.pagable_tables.proofs.SameViews.{owner-self, room-alike}
 use Rattle.pagable_tables.specs.Core.{OnlyRoom}

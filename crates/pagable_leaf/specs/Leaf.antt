@@ -1,4 +1,4 @@
--- Cells that are read at once: what a load leaves that begins, gets its blob and ends, or is given up.
+-- Loads of leaves in one call: what a load by steps leaves that begins, gets its blob and ends, or is dropped.
 use Rattle.std.specs.Prelude.{Ok, Some, [], false, ℕ, ◌+◌, ◌<◌, ◌≡◌}
 use Rattle.{pagable_leaf.specs.declared.leaf.Leaf.Leaf, pagable_tables.specs.Core.ArePlaced, pagable_value_spec.specs.declared.{data_key.OptionalDataKey.OptionalDataKey, numbers.{HandleNumber.HandleNumber}}}
 use Rattle.pagable_pager_spec.specs.{Kinds.is_loose, LoadCalls.{BeginCall, Installs, LoadCloses, MayEnd}, Refusals.Owns, World.{Core, greatest, is_here, key_at, of_cell, type_at}}
@@ -8,7 +8,8 @@ use Rattle.pagable_pager_spec.specs.declared.{pinning.Beginning.Beginning, handl
 abbrev pub with_numbers : Core → Core
 with_numbers w = record w { last = record w.last { handle = w.last.handle + 1; load = w.last.load + 1 } }
 
--- the value of the cell of an own loose handle is away, and numbers are left for a load, its handle and a pin
+-- the cell of a loose handle that `me` owns has no value in memory, and numbers are left for a load, its handle and a
+-- pin
 pub record IsLeaf (w : Core) (me : Owner) (leaf : Leaf) : Type 0 where
   pub owned : Owns w me leaf.row.number is_loose leaf.row
   pub away : is_here w leaf.row.node.0 ≡ false
@@ -17,7 +18,7 @@ pub record IsLeaf (w : Core) (me : Owner) (leaf : Leaf) : Type 0 where
   pub load_left : w.last.load < greatest
   pub handles_left : w.last.handle + 1 < greatest
 
--- A load of the cell begins, and ends with a value that refers to nothing: the handle is pinned by that.
+-- A load of the cell begins, and ends with a value without references, by which the handle is pinned.
 pub record PinsLeaf (w : Core) (me : Owner) (row : HandleRow) (key type : ℕ) (k : HandleNumber) (w' : Core) : Type 0 where
   pub begun : Core
   pub begins : BeginCall w me row.number (Ok (Beginning.Load (record { 0 = w.last.load + 1 }) key)) begun
@@ -27,7 +28,7 @@ pub record PinsLeaf (w : Core) (me : Owner) (row : HandleRow) (key type : ℕ) (
   pub may : MayEnd begun me (record { 0 = w.last.load + 1 }) row.node row.number type []
   pub ends : Installs begun me (record { 0 = w.last.load + 1 }) row.node row.number k [] w'
 
--- A load of the cell begins, and is given up.
+-- A load of the cell begins, and is dropped.
 pub record DropsLeaf (w : Core) (me : Owner) (row : HandleRow) (key type : ℕ) (w' : Core) : Type 0 where
   pub begun : Core
   pub begins : BeginCall w me row.number (Ok (Beginning.Load (record { 0 = w.last.load + 1 }) key)) begun

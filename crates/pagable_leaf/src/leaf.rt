@@ -1,5 +1,5 @@
-//! Cells that are read at once, from blobs that refer to nothing: what a load leaves that begins, gets the blob and ends,
-//! without its row and its handle.
+//! Loads of leaves, cells whose blobs have no references, in one call. They leave what a load by
+//! steps leaves that begins, gets the blob and ends, without making its row and its handle.
 
 ghost use Rattle.pagable_leaf.specs.Leaf.{DropsLeaf, IsLeaf, PinsLeaf, with_numbers};
 ghost use Rattle.pagable_tables.specs.{Core.{AreLater, Does, IsWhole, OnlyRoom, core_of, plain_of}, EndingLoads.has_come, HandleTable.room};
@@ -15,7 +15,7 @@ use pagable_tables::tables::{self, Tables};
 use pagable_tables::{handle_table, nodes};
 use pagable_value_spec::{DataKey, Error, HandleNumber};
 
-/// A cell whose value is away, with the handle that is to be pinned.
+/// A cell whose value isn't in memory, with the handle that is to be pinned.
 #[derive(Clone, Copy)]
 pub struct Leaf {
     pub row: HandleRow,
@@ -23,7 +23,8 @@ pub struct Leaf {
     pub node_type: u32,
 }
 
-/// The cell of an own loose handle, if its value is away and numbers are left for a load, its handle and a pin.
+/// Returns the cell of a loose handle that `me` owns, if its value isn't in memory, and numbers are
+/// left for a load, the load's handle and a pin.
 pub fn find(t: &Tables, me: Owner, handle: HandleNumber) -> Option<Leaf>
     requires { IsWhole t.now }
     ensures leaf { (stored : ℕ → Option Blob) (closed : Bool) (failures : ℕ) → IfSome result (IsLeaf (core_of t.now stored closed failures) me) }
@@ -44,10 +45,12 @@ pub fn find(t: &Tables, me: Owner, handle: HandleNumber) -> Option<Leaf>
     })
 }
 
-/// Finds the cell of an own loose handle whose value is away, and makes room for a pin of it. None where there is none, and nothing changes.
+/// Finds the cell of a loose handle as `find` does, and makes room for a pin of it. Returns None,
+/// and changes nothing, if `find` does.
 ///
 /// # Errors
-/// - OutOfMemory: there is no room, and nothing changes.
+///
+/// - `OutOfMemory` if the handles can't grow: nothing changes.
 pub fn prepare(t: &mut Tables, me: Owner, handle: HandleNumber) -> Result<Option<Leaf>, Error>
     requires { IsWhole t.old }
     ensures leaf { (stored : ℕ → Option Blob) (closed : Bool) (failures : ℕ) → IfOk result (λ found. IfSome found (IsLeaf (core_of t.new stored closed failures) me)) }
@@ -67,7 +70,7 @@ pub fn prepare(t: &mut Tables, me: Owner, handle: HandleNumber) -> Result<Option
     }
 }
 
-/// The numbers of a load and of its handle are taken.
+/// Takes the numbers of a load and of its handle, as if both had been made and closed again.
 pub fn take_numbers(t: &mut Tables)
     requires whole { IsWhole t.old }
     requires load_left { t.old.last_load < greatest }
@@ -79,7 +82,8 @@ pub fn take_numbers(t: &mut Tables)
     t.ref_counts.last_handle += 1;
 }
 
-/// The cell is pinned, as by a load that begins and ends with a value that refers to nothing. The value itself stands among the values already.
+/// Pins the cell, as a load does that begins and ends with a value without references: returns a
+/// new Pinned handle. The caller has stored the value itself already.
 pub fn install(t: &mut Tables, me: Owner, leaf: Leaf) -> HandleNumber
     requires whole { IsWhole t.old }
     requires leaf { IsLeaf (plain_of t.old) me leaf }
@@ -97,7 +101,8 @@ pub fn install(t: &mut Tables, me: Owner, leaf: Leaf) -> HandleNumber
     handle
 }
 
-/// The cell stays away, as after a load that begins and is given up: no more is left of it than its numbers.
+/// Leaves the cell without its value, as a load does that begins and is dropped: only its numbers
+/// are taken.
 pub fn give_up(t: &mut Tables, me: Owner, leaf: Leaf)
     requires whole { IsWhole t.old }
     requires leaf { IsLeaf (plain_of t.old) me leaf }

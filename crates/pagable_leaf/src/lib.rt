@@ -1,4 +1,5 @@
-//! Cells whose blobs refer to nothing, which are read at once: what it does to the tables of a pager.
+//! Loads of leaves, cells whose blobs have no references, in one call: what such a load does to a
+//! pager's tables.
 #![tactic(auto)]
 
 pub mod leaf;

@@ -1,20 +1,21 @@
--- The answers of several workers, each of which has done the items that fall to it.
+-- The results of several workers, each of which has paged out its own items.
 use Rattle.std.specs.Prelude.{IfOk, List, Result, [], if◌then◌else◌, ℕ, ◌%◌, ◌+◌, ◌==◌, ◌∷◌}
 use Rattle.{pagable_core.specs.declared.context.writing.SerializedData.SerializedData, pagable_pageout.specs.{Results.IsOver, Slots.written_of, declared.tasks.PageOutError.PageOutError}, pagable_pager_spec.specs.World.Values}
 use Rattle.std.specs.{Arc.arc_value, declared.{alloc.Global.Global, sync.Arc.Arc}}
 
--- what falls to a worker, one of so many: of these items, the first of which has this number, each whose number leaves the worker's own
+-- the items of one of `workers` workers: of these items, of which the first has this number, each whose number mod
+-- `workers` is the worker's own
 abbrev pub items_of : {X : Type 0} → ℕ → ℕ → ℕ → List X → List X
 items_of workers worker i [] = []
 items_of workers worker i (x ∷ xs) = if i % workers == worker then x ∷ items_of workers worker (i + 1) xs else items_of workers worker (i + 1) xs
 
--- one answer for each item, in their order
+-- one result for each item, in their order
 abbrev pub AnswersEach : {X K : Type 0} → (X → K → Type 0) → List X → List K → Type 0
 AnswersEach P [] [] = Unit {0}
 AnswersEach P [] (r ∷ rs) = ⊥
 AnswersEach P (x ∷ xs) [] = ⊥
 AnswersEach P (x ∷ xs) (r ∷ rs) = P x r × AnswersEach P xs rs
 
--- a key that is answered is that of the item's bytes over the keys of results that stand below it
+-- a key is the hash of the item's bytes and of the keys of results, one for each of its references
 abbrev pub IsAnswerOf : {N E : Type 0} → (List ℕ → List ℕ) → (E → Values N) → Arc SerializedData Global → Result ℕ PageOutError → Type 0
 IsAnswerOf hash values item r = IfOk r (λ key. ∥ IsOver hash values (written_of (arc_value item)) key ∥₁)

@@ -1,4 +1,4 @@
--- What a slot and a claim tell is of their identity.
+-- The outcomes of slots and claims are those of their identities.
 use Rattle.std.specs.Prelude.{IfSome, ◌≡◌, ◌≢◌}
 use Rattle.{pagable_locked.specs.declared.table.Probe.Probe, pagable_value_spec.specs.declared.numbers.Identity.Identity}
 use Rattle.pagable_pageout.specs.declared.{lent_slot.Outcome.Outcome, results.SlotResult.SlotResult}
@@ -11,7 +11,7 @@ module _ {E EN EH EK EV : Type 0} {g : Environments E EN EH EK EV} {gh : Hashes 
   first_outcome Outcome.Open later = later
   first_outcome outcome later = outcome
 
-  -- this outcome is told so to who asks for an identity: the same result, or a failure where it is another's
+  -- the outcome that is returned for an identity: the same result, or a failure if the result is another identity's
   abbrev pub IsToldAs : Identity → Outcome E EN EH EK EV g gh go gq gp gn → Outcome E EN EH EK EV g gh go gq gp gn → Type 0
   IsToldAs i Outcome.Open Outcome.Open = Unit {0}
   IsToldAs i (Outcome.Published r) (Outcome.Published t) = (r.identity ≡ i) × (t.key ≡ r.key) × (t.height ≡ r.height)

@@ -1,4 +1,4 @@
--- Where a polled pin stands.
+-- How far a polled pin has come.
 use Rattle.{pagable_locked.specs.declared.handle_pin.PinState.PinState, pagable_traits.specs.declared.pin_future.PinStage.PinStage}
 
 abbrev pub stage_of : PinState → PinStage

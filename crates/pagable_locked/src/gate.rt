@@ -1,4 +1,4 @@
-//! What is called after each claim of a page-out on several threads.
+//! A hook that the workers of a page-out call after each claim.
 
 use crate::share::WalkShare;
 use crate::shared_claims::SharedClaims;
@@ -8,10 +8,10 @@ use pagable_value_spec::{ArcRef, Error, Identity, WorkerNumber};
 use std::sync::Wait;
 use std::sync::ledger::Ledger;
 
-/// Is called by the workers of a page-out.
+/// A hook that the workers of a page-out call.
 pub trait Gate {
-    /// Is called after each claim, while the worker holds no lock: with the worker's number, from 0 on, and the number
-    /// of its claim, from 1 on.
+    /// Is called by a worker after each identity that it claims, while it holds no lock: with the
+    /// worker's number, from 0 on, and the number of its claim, from 1 on.
     fn at(&self, worker: usize, claim_number: u64);
 }
 
@@ -23,7 +23,7 @@ impl Gate for NoGate {
     fn at(&self, _worker: usize, _claim_number: u64) {}
 }
 
-/// The claims of one worker of several, each of which passes a gate.
+/// The claims of one of several workers, which calls a gate after each of them.
 #[derive(Drop)]
 pub struct GatedClaims<'a, R: Wait, E: Env<Node: NodeSet<E>>, L: Ledger, G: Gate> {
     claims: SharedClaims<'a, R, E, L>,
@@ -47,7 +47,7 @@ impl<'a, R: Wait, E: Env<Node: NodeSet<E>>, L: Ledger, G: Gate> GatedClaims<'a, 
         }
     }
 
-    /// Gives the worker's part of the total back.
+    /// Returns the worker's part of the total of claims.
     pub fn into_share(self) -> WalkShare<L> {
         let share = self.claims.into_share();
         WalkShare { share }

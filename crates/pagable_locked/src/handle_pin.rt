@@ -1,5 +1,5 @@
-//! A pin on a storage that threads share, which is polled: its lock is free between two polls, and while its value is
-//! read.
+//! A polled pin on a storage that threads share: the lock is free between two polls, and while the
+//! value is read.
 
 ghost use Rattle.std.specs.{Arc.arc_value, Prelude.{Err, IfOk, ◌≡◌}};
 ghost use Rattle.futures.specs.{Poll.{IfReady, OnPending}, Task.{IsArmed, Keeps}};
@@ -16,16 +16,17 @@ use std::alloc::Global;
 use std::mem::replace;
 use std::sync::{Arc, Wait};
 
-/// How far a polled pin is.
+/// How far a polled pin has come.
 #[derive(Drop)]
 enum PinState {
     Begin,
-    // The fetch of the root's blob is polled next.
+    // The next poll polls the fetch of the root's blob.
     Fetch(CellReading),
     Ended,
 }
 
-/// A pin of a cell, by one of its loose handles, which is polled. Each call of the pager takes the lock for itself alone.
+/// A polled pin of a cell, by one of its loose handles. Each call of the pager takes the lock for
+/// itself alone.
 #[derive(Drop)]
 pub struct HandlePin<E: Env<Node: NodeSet<E>>, S: PagableStorage<E>> {
     storage: PagableStorageHandle<E, S>,
@@ -45,7 +46,7 @@ impl<E: Env<Node: NodeSet<E>>, S: PagableStorage<E>> HandlePin<E, S> {
         }
     }
 
-    // The reading of the cell, if it has to be read; and else the pin.
+    // Begins the load of the cell, if it has to be loaded; else pins it.
     fn begin<R: Wait>(&self, rt: &R, alloc: Global) -> Result<BegunPin, Error> {
         let mut access = self.storage.access(rt);
         begin_reading(&mut access, alloc, self.handle)
@@ -80,7 +81,7 @@ impl<E: Env<Node: NodeSet<E>>, S: PagableStorage<E>> HandlePin<E, S> {
         self.share(rt, pinned, true)
     }
 
-    // The value of a new pin, which is taken back where the value can't be shared.
+    // Returns a new pin with its value, or undoes the pin if the value can't be shared.
     fn share<R: Wait>(
         &self,
         rt: &R,
@@ -102,7 +103,7 @@ impl<E: Env<Node: NodeSet<E>>, S: PagableStorage<E>> HandlePin<E, S> {
         Err(refused)
     }
 
-    // Takes a pin back.
+    // Undoes a pin: releases the Pinned handle, and unpins the loose one if the pin had pinned it.
     fn undo<R: Wait>(&self, rt: &R, pinned: HandleNumber, was_unpinned: bool) {
         let mut access = self.storage.access(rt);
         if was_unpinned {
@@ -111,7 +112,7 @@ impl<E: Env<Node: NodeSet<E>>, S: PagableStorage<E>> HandlePin<E, S> {
         let _told = access.release(pinned);
     }
 
-    // Gives a load up.
+    // Drops a load.
     fn give_up<R: Wait>(&self, rt: &R, reading: &CellReading) {
         let _told = self.storage.access(rt).load_drop(reading.load());
     }

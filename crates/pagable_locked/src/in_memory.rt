@@ -1,4 +1,4 @@
-//! A pager that threads share over blobs in memory.
+//! A pager that threads share, over blobs in memory.
 
 use crate::storage_handle::PagableStorageHandle;
 use pagable_codec::{Env, NodeSet};
@@ -15,10 +15,11 @@ pub struct InMemoryPagableStorage<E: Env<Node: NodeSet<E>>> {
 }
 
 impl<E: Env<Node: NodeSet<E>>> InMemoryPagableStorage<E> {
-    /// Makes a storage of nothing.
+    /// Makes an empty storage.
     ///
     /// # Errors
-    /// - OutOfMemory: the environment is let go.
+    ///
+    /// - `OutOfMemory` if the pager can't get memory: the environment is dropped.
     pub fn new(alloc: Global, env: E) -> Result<InMemoryPagableStorage<E>, Error>
     where
         E: Drop,
@@ -27,10 +28,11 @@ impl<E: Env<Node: NodeSet<E>>> InMemoryPagableStorage<E> {
         Ok(InMemoryPagableStorage { handle })
     }
 
-    /// Makes a storage of nothing in the default environment.
+    /// Makes an empty storage in the default environment.
     ///
     /// # Errors
-    /// - OutOfMemory.
+    ///
+    /// - `OutOfMemory` if the pager can't get memory.
     pub fn default(alloc: Global) -> Result<InMemoryPagableStorage<E>, Error>
     where
         E: Default + Drop,
@@ -38,35 +40,37 @@ impl<E: Env<Node: NodeSet<E>>> InMemoryPagableStorage<E> {
         InMemoryPagableStorage::new(alloc, E::default())
     }
 
-    /// Makes one more handle of it.
+    /// Makes one more handle of the pager.
     ///
     /// # Errors
-    /// - OutOfMemory: it is shared too often already.
+    ///
+    /// - `OutOfMemory` if it is shared too often already.
     pub fn handle(&self) -> Result<PagableStorageHandle<E, InMemoryBlobs<E>>, Error> {
         self.handle.clone()
     }
 
-    /// Lends the context of the one session of all values that are read and written here. It takes no lock.
+    /// Lends the context of the one session of all values that this pager writes and reads. It
+    /// takes no lock.
     pub fn session_context(&self) -> &SessionOf<E> {
         self.handle.session_context()
     }
 
-    /// Counts the entries of the list, which wait for page-out.
+    /// Returns how many cells are listed for page-out.
     pub fn pending_paging_count<R: Wait>(&self, rt: &R) -> usize {
         self.handle.pending_paging_count(rt)
     }
 
-    /// Computes whether all that it keeps is in step, as the handle's call of this name.
+    /// Says whether all tables of the pager agree: see `PagableStorageHandle::is_sound`.
     pub fn is_sound<R: Wait>(&self, rt: &R) -> bool {
         self.handle.is_sound(rt)
     }
 
-    /// Pages out the list, as the handle's call of this name; refused as that.
+    /// Pages out the list: see `PagableStorageHandle::page_out_pending`, also for the errors.
     pub fn page_out_pending<R: Wait>(&self, rt: &R, alloc: Global) -> Result<(), PageOutError> {
         self.handle.page_out_pending(rt, alloc)
     }
 
-    /// Closes it, as the handle's call of this name.
+    /// Closes the storage: see `PagableStorageHandle::close`.
     pub fn close<R: Wait>(&self, rt: &R) -> Result<(), Error> {
         self.handle.close(rt)
     }

@@ -1,4 +1,4 @@
-//! A pager that threads share: behind a lock, which each call takes for itself alone, while values are decoded and
+//! A pager that threads share: each call takes its lock for itself alone; values are decoded and
 //! written with no lock held.
 #![tactic(auto)]
 

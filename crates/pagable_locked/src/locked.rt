@@ -1,5 +1,5 @@
-//! A pager behind a lock, as an access, and as that of a page-out worker. Between two calls other threads may make
-//! theirs, so it tells nothing.
+//! Access to a pager behind a lock, for a caller or a page-out worker. Other threads may make calls
+//! between any two of these, so contracts tell nothing of the pager's state.
 
 use crate::lock::lock_briefly;
 use either::Either;
@@ -15,9 +15,10 @@ use pagable_value_spec::{
 use std::alloc::Global;
 use std::sync::{Arc, Mutex, Wait};
 
-/// The access of one thread to a pager behind a lock, for the caller or for a worker of this thread. Each call takes
-/// the lock, makes one call of the pager for its owner, and lets the lock go; environment and session stand outside
-/// it. A call for a worker that isn't at work is refused with NotYours.
+/// The access of one thread to a pager behind a lock, for the caller or for a worker of this
+/// thread. Each call takes the lock, makes one call of the pager for its owner, and releases the
+/// lock; environment and session are outside the lock. A call for a worker that isn't running fails
+/// with NotYours.
 #[derive(Drop)]
 pub struct Locked<'a, R: Wait, E: Env<Node: NodeSet<E>>, S: PagableStorage<E>> {
     rt: &'a R,
@@ -30,7 +31,7 @@ impl<'a, R: Wait, E: Env<Node: NodeSet<E>>, S: PagableStorage<E>> Locked<'a, R, 
     ghost use Rattle.std.specs.Prelude.{◌≡◌};
     ghost use Rattle.pagable_pager_spec.specs.declared.handle_row.Owner.{Owner};
 
-    /// Makes the caller's access to a pager whose setting is this one.
+    /// Makes the caller's access to a pager that has this setting.
     pub fn new(
         rt: &'a R,
         pager: &'a Mutex<Pager<E, S>>,

@@ -1,4 +1,4 @@
-//! The page-out of many items by several workers, each on a thread of its own.
+//! Page-out of many items by several workers, each on a thread of its own.
 
 ghost use Rattle.std.specs.Prelude.{IfOk, length, slice_index_or, vec_len, ℕ, ◌+◌, ◌<◌, ◌^◌, ◌≡◌};
 ghost use Rattle.{pagable_load.specs.AccessView.values_at, pagable_locked.specs.Answers.{AnswersEach, IsAnswerOf, items_of}};
@@ -20,22 +20,22 @@ use std::sync::{Arc, Wait};
 use std::thread;
 use std::thread::Threads;
 
-/// What a page-out of items answers: the key of each item, or what its page-out was refused by, in the order of the
-/// items; and how many claims all workers made.
+/// The report of a page-out of items: for each item, in their order, its key or why its page-out
+/// failed; and how many claims all workers made.
 #[derive(Drop)]
 pub struct PageOutReport {
     pub keys: Vec<Result<DataKey, PageOutError>>,
     pub claims: u64,
 }
 
-// What a worker begins with.
+// What a worker gets at its beginning.
 #[derive(Drop)]
 struct Job<L: Ledger> {
     worker: usize,
     share: WalkShare<L>,
 }
 
-// What a worker ends with: the answers of its items, and its share with its claims.
+// What a worker returns at its end: the results of its items, and its share with its claims.
 #[derive(Drop)]
 struct JobEnd<L: Ledger> {
     keys: VecDeque<Result<DataKey, PageOutError>>,
@@ -68,7 +68,7 @@ fn page_out_one<'a, R: Wait, E: Env<Node: NodeSet<E>>, S: PagableStorage<E>, L: 
     page_out_item_over(&mut access, alloc, claims, shared)
 }
 
-// Pages out the items of one worker, one after the other.
+// Pages out the items of one worker, one after the other. Fails with OutOfMemory alone.
 fn page_out_each<'a, R: Wait, E: Env<Node: NodeSet<E>>, S: PagableStorage<E>, L: Ledger, G: Gate>(
     rt: &R,
     alloc: Global,
@@ -111,7 +111,7 @@ fn work<'a, R: Wait, E: Env<Node: NodeSet<E>>, S: PagableStorage<E>, L: Ledger, 
     Ok(JobEnd { keys, share })
 }
 
-// One job for each worker, with a part of the share.
+// Makes one job for each worker, with a part of the share.
 fn jobs<L: Ledger>(
     alloc: Global,
     workers: usize,
@@ -130,7 +130,7 @@ fn jobs<L: Ledger>(
     Ok(jobs)
 }
 
-// The lists of the workers in their order, and all parts of the share.
+// Returns the workers' lists in their order, and merges all their shares. Fails if a worker did.
 fn gather<E: Env<Node: NodeSet<E>>, L: Ledger>(
     alloc: Global,
     items: &[Arc<SerializedData>],
@@ -154,7 +154,7 @@ fn gather<E: Env<Node: NodeSet<E>>, L: Ledger>(
     Ok(lists)
 }
 
-// The answers of all lists, in the order of the items.
+// Returns the results of all lists, in the order of the items.
 fn in_order<E: Env<Node: NodeSet<E>>>(
     alloc: Global,
     items: &[Arc<SerializedData>],
@@ -176,7 +176,7 @@ fn in_order<E: Env<Node: NodeSet<E>>>(
     Ok(keys)
 }
 
-// The report of these answers, with the claims of the whole share.
+// Makes the report of these results, with the claims of the whole share.
 fn report<R: Wait, E: Env<Node: NodeSet<E>>, L: Ledger>(
     rt: &R,
     table: &SlotTable<E, L>,
@@ -193,7 +193,7 @@ fn report<R: Wait, E: Env<Node: NodeSet<E>>, L: Ledger>(
 }
 
 impl<E: Env<Node: NodeSet<E>>, S: PagableStorage<E>> PagableStorageHandle<E, S> {
-    // Pages out all items on a table of its own.
+    // Pages out all items on a table made for this call.
     fn page_out_on<L, R, G>(
         &self,
         rt: &R,
@@ -239,15 +239,17 @@ impl<E: Env<Node: NodeSet<E>>, S: PagableStorage<E>> PagableStorageHandle<E, S> 
         Ok(report(rt, &table, all, keys))
     }
 
-    /// Pages out items, with all that they refer to, by this many workers, which claim on one table of their own: item
-    /// i by worker i mod `workers`, each on a thread of its own, or on the caller's where none starts. Answers one key,
-    /// or what its page-out was refused by, for each item, in their order: a key is that of its item's bytes over the
-    /// keys of results that stand below it, one for each of its references. The gate is called after each claim, while
-    /// the worker holds no lock. The items' handles stay the caller's, and have to live until the answer.
+    /// Pages out items, with all that they refer to, by this many workers, which claim on one table
+    /// of their own: item i by worker i mod `workers`, each on a thread of its own, or on the
+    /// caller's if a thread can't start. The report has for each item its key, or why its page-out
+    /// failed. A key is the hash of its item's bytes and of the keys of results, one for each of
+    /// the item's references. Each worker calls the gate after each claim, while it holds no lock.
+    /// The caller keeps the items' handles, and must keep them until the call returns.
     ///
     /// # Errors
-    /// - OutOfMemory: the table, the report, or a worker or its list couldn't be made. What was stored, and keys that
-    ///   were set, stay.
+    ///
+    /// - `OutOfMemory` if the table, the report, a worker or its list can't get memory: what was
+    ///   stored and keys that were set stay.
     pub fn page_out_all<R, G>(
         &self,
         rt: &R,
@@ -268,7 +270,7 @@ impl<E: Env<Node: NodeSet<E>>, S: PagableStorage<E>> PagableStorageHandle<E, S> 
         requires { 0 < workers }
         ensures { IfOk result (λ r. AnswersEach (IsAnswerOf E.Hash.digest (values_at E.Node.NodeSet E.Env E.Hash.KeyHash)) items.now r.keys.items) }
     {
-        // A worker beyond the items would have none.
+        // More workers than items would have nothing to do.
         let workers = workers.min(items.len().max(1));
         let parts = Blank::new(workers as u64 + 1);
         self.page_out_on::<Brand, R, G>(rt, alloc, items, workers, gate, parts)

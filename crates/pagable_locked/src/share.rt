@@ -4,8 +4,8 @@ ghost use Rattle.std.specs.Prelude.{◌+◌, ◌<◌, ◌≡◌, ◌≤◌};
 
 use std::sync::ledger::{Ledger, Share};
 
-/// A worker's part of the total of claims on the table that `L` names: how many it has made. It can be cut into as many
-/// as it has parts, and joined again.
+/// A worker's part of the total of claims on the table that `L` names: how many claims it has made.
+/// It can be split into as many shares as it has parts, and merged again.
 #[derive(Drop)]
 pub struct ClaimShare<L: Ledger> {
     pub(crate) share: Share<L>,
@@ -13,7 +13,7 @@ pub struct ClaimShare<L: Ledger> {
 }
 
 impl<L: Ledger> ClaimShare<L> {
-    /// Makes a claims' share of the ledger's.
+    /// Makes a share of claims of a ledger's share.
     pub(crate) fn of(share: Share<L>) -> ClaimShare<L>
         requires { 0 < share.parts }
         ensures { result.share ≡ share }
@@ -21,7 +21,7 @@ impl<L: Ledger> ClaimShare<L> {
         ClaimShare { share }
     }
 
-    /// Splits one part off, which has no claims.
+    /// Splits off one part, which counts no claims.
     pub fn split_off(&mut self) -> ClaimShare<L>
         requires { 1 < self.old.share.parts }
         ensures part { (result.share.parts ≡ 1) × (self.new.share.parts + 1 ≡ self.old.share.parts) }
@@ -30,7 +30,7 @@ impl<L: Ledger> ClaimShare<L> {
         ClaimShare::of(self.share.split_off(1, 0))
     }
 
-    /// Joins another's parts and claims to this.
+    /// Merges another share's parts and claims into this one.
     pub fn merge(&mut self, other: ClaimShare<L>)
         ensures parts { self.new.share.parts ≡ self.old.share.parts + other.share.parts }
         ensures amount { self.new.share.amount ≡ self.old.share.amount + other.share.amount }
@@ -41,7 +41,7 @@ impl<L: Ledger> ClaimShare<L> {
     }
 }
 
-/// One part, as a worker's walk owns it.
+/// One part, which a worker's walk owns.
 #[derive(Drop)]
 pub struct WalkShare<L: Ledger> {
     pub share: ClaimShare<L>,

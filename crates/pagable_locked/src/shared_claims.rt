@@ -1,4 +1,4 @@
-//! The claims of a table that threads share, for the walks of one worker.
+//! The claims that a worker makes on a table that threads share.
 
 ghost use Rattle.std.specs.Prelude.{IfOk, IfSome, ◌≡◌, ◌≤◌};
 ghost use Rattle.pagable_pageout.specs.{Joint.IsNear, Table.IsFoundOf};
@@ -14,8 +14,9 @@ use std::mem::replace;
 use std::sync::Wait;
 use std::sync::ledger::Ledger;
 
-/// A worker's claims on a table that threads share: its part of the total, and the slots that it has claimed and not
-/// yet published, the last one last. A claim that another worker has waits for that one's outcome.
+/// A worker's claims on a table that threads share: its part of the total, and the slots that it
+/// has claimed and not published yet, the last one last. If another worker has claimed an identity,
+/// a claim of it waits for that worker's outcome.
 #[derive(Drop)]
 pub struct SharedClaims<'a, R: Wait, E: Env<Node: NodeSet<E>>, L: Ledger> {
     rt: &'a R,
@@ -26,7 +27,7 @@ pub struct SharedClaims<'a, R: Wait, E: Env<Node: NodeSet<E>>, L: Ledger> {
 }
 
 impl<'a, R: Wait, E: Env<Node: NodeSet<E>>, L: Ledger> SharedClaims<'a, R, E, L> {
-    /// Makes the claims of a worker that has none yet. It takes no memory.
+    /// Makes the claims of a worker, which has none yet. It takes no memory.
     pub fn new(
         rt: &'a R,
         alloc: Global,
@@ -42,7 +43,7 @@ impl<'a, R: Wait, E: Env<Node: NodeSet<E>>, L: Ledger> SharedClaims<'a, R, E, L>
         }
     }
 
-    /// Gives the worker's part of the total back.
+    /// Returns the worker's part of the total of claims.
     pub fn into_share(self) -> ClaimShare<L>
         ensures { result.share.parts ≡ 1 }
     {
@@ -51,7 +52,8 @@ impl<'a, R: Wait, E: Env<Node: NodeSet<E>>, L: Ledger> SharedClaims<'a, R, E, L>
     }
 }
 
-// What a claim at this place on a path finds of an identity that has an outcome.
+// Returns what a claim at this place on a path finds of an identity that has an outcome. Fails with
+// TooDeep if the place and the result's height together are above 128.
 fn found<E: Env<Node: NodeSet<E>>>(
     outcome: Option<SlotResult<E>>,
     identity: Identity,
@@ -85,7 +87,8 @@ impl<'a, R: Wait, E: Env<Node: NodeSet<E>>, L: Ledger> Claims<E> for SharedClaim
         if place > 128 {
             return Err(Error::TooDeep);
         }
-        // A claim that is made finds room here, and so is published or failed.
+        // The room is made before the claim, so each claim is kept here and will be published or
+        // failed.
         self.open.reserve(1)?;
         let probe = self
             .share
@@ -100,13 +103,13 @@ impl<'a, R: Wait, E: Env<Node: NodeSet<E>>, L: Ledger> Claims<E> for SharedClaim
         }
     }
 
-    // A worker waits only within a claim.
+    // Does nothing: a worker waits only within a claim.
     fn forget_wait(&mut self, _worker: WorkerNumber) {}
 
-    // Others ask for the outcome alone.
+    // Does nothing: other workers ask for the outcome alone.
     fn note_written(&mut self, _identity: Identity, _references: Vec<ArcRef>) {}
 
-    // A walk publishes first what it claimed last.
+    // Publishes the last open slot: a walk publishes first what it claimed last.
     fn publish(&mut self, found: &SlotResult<E>) {
         if let Some(slot) = self.open.pop() {
             slot.set_success(self.rt, found.again());

@@ -1,4 +1,5 @@
-//! The slot of an identity, behind a lock of its own: its first outcome stays, and who waits for it is woken.
+//! The slot of an identity, behind a lock of its own: its first outcome stays, and threads that
+//! wait for it are woken.
 
 ghost use Rattle.std.specs.Prelude.{IfOk, IfSome, ◌≡◌};
 ghost use Rattle.pagable_locked.specs.Slots.{IsOutcomeOf, IsToldAs, first_outcome};
@@ -9,14 +10,14 @@ use pagable_value_spec::{Error, Identity};
 use std::alloc::Global;
 use std::sync::{Arc, Condvar, Mutex, Wait};
 
-/// A slot's outcome, as it stands under the slot's lock.
+/// A slot's outcome, which the slot's lock protects.
 #[derive(Drop)]
 pub struct SlotState<E: Env<Node: NodeSet<E>>> {
     pub outcome: Outcome<E>,
 }
 
 impl<E: Env<Node: NodeSet<E>>> SlotState<E> {
-    /// Sets the outcome, where none stands. It takes no memory.
+    /// Sets the outcome if there is none yet. It takes no memory.
     pub fn set(&mut self, outcome: Outcome<E>)
         ensures { self.new.outcome ≡ first_outcome self.old.outcome outcome }
     {
@@ -25,7 +26,7 @@ impl<E: Env<Node: NodeSet<E>>> SlotState<E> {
         }
     }
 
-    /// Tells the outcome to who asks for this identity: a result of another one counts as a failure.
+    /// Returns the outcome for this identity: a result of another identity counts as a failure.
     pub fn outcome_for(&self, identity: Identity) -> Outcome<E>
         ensures told { IsToldAs identity self.now.outcome result }
         ensures own { IsOutcomeOf identity result }
@@ -57,7 +58,8 @@ impl<E: Env<Node: NodeSet<E>>> ArcSerSlot<E> {
     /// Makes a slot without an outcome.
     ///
     /// # Errors
-    /// - OutOfMemory: no slot is made.
+    ///
+    /// - `OutOfMemory` if the slot can't get memory.
     pub fn new(alloc: Global, identity: Identity) -> Result<ArcSerSlot<E>, Error>
         ensures { IfOk result (λ s. s.identity ≡ identity) }
     {
@@ -72,10 +74,11 @@ impl<E: Env<Node: NodeSet<E>>> ArcSerSlot<E> {
         Ok(ArcSerSlot { identity, shared })
     }
 
-    /// Shares the same slot once more.
+    /// Makes one more handle of the same slot.
     ///
     /// # Errors
-    /// - OutOfMemory: it is shared too often already.
+    ///
+    /// - `OutOfMemory` if the slot is shared too often already.
     pub fn clone(&self) -> Result<ArcSerSlot<E>, Error>
         ensures { IfOk result (λ s. s.identity ≡ self.now.identity) }
     {
@@ -90,25 +93,26 @@ impl<E: Env<Node: NodeSet<E>>> ArcSerSlot<E> {
         self.shared.ended.notify_all();
     }
 
-    /// Publishes a result, where no outcome stands, and wakes who waits. It takes no memory, and nothing refuses it.
-    /// A result of another identity fails the slot.
+    /// Publishes a result if there is no outcome yet, and wakes the threads that wait. It takes no
+    /// memory and can't fail. A result of another identity makes the slot a failed one.
     pub fn set_success<R: Wait>(&self, rt: &R, found: SlotResult<E>) {
         self.set(rt, Outcome::Published(found));
     }
 
-    /// Fails the slot, where no outcome stands, and wakes who waits. It takes no memory, and nothing refuses it.
+    /// Marks the slot as failed if there is no outcome yet, and wakes the threads that wait. It
+    /// takes no memory and can't fail.
     pub fn set_failed<R: Wait>(&self, rt: &R) {
         self.set(rt, Outcome::Failed);
     }
 
-    /// Tells the outcome as it stands, and waits for none.
+    /// Returns the present outcome, without waiting.
     pub fn outcome<R: Wait>(&self, rt: &R) -> Outcome<E>
         ensures { IsOutcomeOf self.now.identity result }
     {
         self.shared.state.lock(rt).outcome_for(self.identity)
     }
 
-    /// Waits for the outcome, and answers the result, or `None` where the slot failed.
+    /// Waits for the outcome, and returns the result, None if the slot failed.
     pub fn wait<R: Wait>(&self, rt: &R) -> Option<SlotResult<E>>
         ensures { IfSome result (λ r. r.identity ≡ self.now.identity) }
     {

@@ -1,4 +1,5 @@
-//! A handle of a storage that threads share: a pager behind a lock, with its environment and session outside it.
+//! A handle of a storage that threads share: a pager behind a lock, with environment and session
+//! outside of it.
 
 ghost use Rattle.std.specs.{Arc.arc_value, Prelude.{IfOk, ◌<◌, ◌≡◌}};
 ghost use Rattle.{pagable_core.specs.Data.blob_of, pagable_load.specs.AccessView.values_at, pagable_value_spec.specs.Blob.key_of};
@@ -25,18 +26,19 @@ pub(crate) struct Inner<E: Env<Node: NodeSet<E>>, S: PagableStorage<E>> {
     setting: Arc<Setting<E>>,
 }
 
-/// One of any number of handles of a pager, for any number of threads. Each call takes the pager's lock for one step
-/// at a time; values are decoded and written with no lock held.
+/// One of any number of handles of a pager, for any number of threads. Each call takes the pager's
+/// lock for one step at a time; values are decoded and written with no lock held.
 #[derive(Drop)]
 pub struct PagableStorageHandle<E: Env<Node: NodeSet<E>>, S: PagableStorage<E>> {
     pub(crate) inner: Arc<Inner<E, S>>,
 }
 
 impl<E: Env<Node: NodeSet<E>>, S: PagableStorage<E>> PagableStorageHandle<E, S> {
-    /// Makes a pager of nothing over a storage, and its first handle.
+    /// Makes an empty pager over a storage, and its first handle.
     ///
     /// # Errors
-    /// - OutOfMemory: storage and environment are let go.
+    ///
+    /// - `OutOfMemory` if the pager can't get memory: storage and environment are dropped.
     pub fn new(alloc: Global, storage: S, env: E) -> Result<PagableStorageHandle<E, S>, Error>
     where
         E: Drop,
@@ -52,13 +54,14 @@ impl<E: Env<Node: NodeSet<E>>, S: PagableStorage<E>> PagableStorageHandle<E, S> 
     /// Makes one more handle of the same pager.
     ///
     /// # Errors
-    /// - OutOfMemory: it is shared too often already.
+    ///
+    /// - `OutOfMemory` if it is shared too often already.
     pub fn clone(&self) -> Result<PagableStorageHandle<E, S>, Error> {
         let inner = Arc::try_clone(&self.inner)?;
         Ok(PagableStorageHandle { inner })
     }
 
-    /// Lends the access of the caller on this thread: loads and page-outs go over it.
+    /// Lends the caller's access on this thread, for loads and page-outs.
     pub fn access<'a, R: Wait>(&'a self, rt: &'a R) -> Locked<'a, R, E, S>
         ensures { result.me ≡ Owner.Caller }
     {
@@ -70,18 +73,21 @@ impl<E: Env<Node: NodeSet<E>>, S: PagableStorage<E>> PagableStorageHandle<E, S> 
         &self.inner.setting.env
     }
 
-    /// Lends the context of the one session of all values that are read and written here. It takes no lock.
+    /// Lends the context of the one session of all values that this pager writes and reads. It
+    /// takes no lock.
     pub fn session_context(&self) -> &SessionOf<E> {
         &self.inner.setting.session
     }
 
-    /// Reads a key as a value of the type T, with all that it refers to and that is read together with it. The handles
-    /// of its references are the caller's.
+    /// Reads a key as a value of the type T, with all that is read together with it. The caller
+    /// owns the handles of the value's references.
     ///
     /// # Errors
-    /// - what a fetch or the value's reader is refused by, NumbersSpent and OutOfMemory: nothing is left of it.
-    /// - with the node: the value couldn't be taken out of it (OutOfMemory), or is of another type (WrongKind). The
-    ///   handles of its references are the caller's.
+    ///
+    /// - The error of a fetch or of the value's reader, or `NumbersSpent`, `OutOfMemory`, without a
+    ///   node: nothing is left of the load.
+    /// - `OutOfMemory`, `WrongKind` with the node, if the value can't be taken out of it or has
+    ///   another type: the caller owns the handles of the node's references.
     pub fn deserialize_pagable_data<R: Wait, T: OfNode<E>>(
         &self,
         rt: &R,
@@ -99,10 +105,15 @@ impl<E: Env<Node: NodeSet<E>>, S: PagableStorage<E>> PagableStorageHandle<E, S> 
         }
     }
 
-    /// Moves a loose handle of the caller's that pins nothing to the list's end. After `close` it is released.
+    /// Moves a loose handle of the caller's that pins nothing to the end of the list, which owns it
+    /// from then on. After `close` the handle is released instead.
     ///
     /// # Errors
-    /// - NoSuchHandle, NotYours, WrongMode, OutOfMemory: nothing changes.
+    ///
+    /// - `NoSuchHandle` if the handle isn't live.
+    /// - `NotYours` if the caller doesn't own it.
+    /// - `WrongMode` if it isn't loose and unpinned.
+    /// - `OutOfMemory` if the list can't grow. After each error nothing has changed.
     pub fn schedule_for_paging<R: Wait>(&self, rt: &R, handle: HandleNumber) -> Result<(), Error> {
         self.inner.pager.lock(rt).schedule_for_paging(handle)
     }
@@ -110,7 +121,9 @@ impl<E: Env<Node: NodeSet<E>>, S: PagableStorage<E>> PagableStorageHandle<E, S> 
     /// Fetches the blob under a key.
     ///
     /// # Errors
-    /// - NoData, OutOfMemory, Storage: as the storage refuses it. After `close` it is always NoData.
+    ///
+    /// - `NoData` if there is none, and always after `close`.
+    /// - `OutOfMemory`, `Storage` as the storage fails.
     pub fn fetch_data_blocking<R: Wait>(
         &self,
         rt: &R,
@@ -122,12 +135,13 @@ impl<E: Env<Node: NodeSet<E>>, S: PagableStorage<E>> PagableStorageHandle<E, S> 
         self.inner.pager.lock(rt).fetch(alloc, key)
     }
 
-    /// Answers a new handle of the node that the cache knows under a kind and a key, as a reference of the caller's; or
-    /// else the blob.
+    /// Returns a reference of the caller's to the node that is cached under a kind and a key, with
+    /// a new handle; or the blob, if no usable node is cached there.
     ///
     /// # Errors
-    /// - NumbersSpent, OutOfMemory: no handle can be made.
-    /// - NoData, OutOfMemory, Storage: as the storage refuses the blob.
+    ///
+    /// - `NumbersSpent`, `OutOfMemory` if the handle can't be made.
+    /// - `NoData`, `OutOfMemory`, `Storage` as the storage fails to fetch the blob.
     pub fn fetch_arc_or_data_blocking<R: Wait>(
         &self,
         rt: &R,
@@ -145,11 +159,16 @@ impl<E: Env<Node: NodeSet<E>>, S: PagableStorage<E>> PagableStorageHandle<E, S> 
         }
     }
 
-    /// Has the cache learn the node of a handle of the caller's under a kind and a key. Where it knows another there, a
-    /// new handle of that one is answered; after `close` the handle itself, which stays the caller's.
+    /// Caches the node of a handle of the caller's under a kind and a key, and returns None. If a
+    /// usable node is cached there already, releases `handle` and returns a new handle of that
+    /// node. After `close`, returns `handle`, which stays the caller's.
     ///
     /// # Errors
-    /// - NoSuchHandle, NotYours, WrongMode, WrongKind, NumbersSpent, OutOfMemory: nothing changes.
+    ///
+    /// - `NoSuchHandle`, `NotYours`, `WrongMode`, `WrongKind` if the handle isn't live, isn't the
+    ///   caller's or doesn't fit the kind.
+    /// - `NumbersSpent`, `OutOfMemory` if the new handle or the cache entry can't be made. After
+    ///   each error nothing has changed.
     pub fn on_arc_deserialized<R: Wait>(
         &self,
         rt: &R,
@@ -163,10 +182,12 @@ impl<E: Env<Node: NodeSet<E>>, S: PagableStorage<E>> PagableStorageHandle<E, S> 
             .on_arc_deserialized(kind, key, handle)
     }
 
-    /// Stores a blob, and answers its key.
+    /// Stores a blob, and returns its key.
     ///
     /// # Errors
-    /// - OutOfMemory, Storage, KeyTaken, Closed: as the storage refuses it.
+    ///
+    /// - `Closed` after `close`.
+    /// - `KeyTaken`, `OutOfMemory`, `Storage` as the storage fails.
     pub fn store_data<R: Wait>(
         &self,
         rt: &R,
@@ -179,18 +200,21 @@ impl<E: Env<Node: NodeSet<E>>, S: PagableStorage<E>> PagableStorageHandle<E, S> 
         self.inner.pager.lock(rt).store_keyed(alloc, key, blob)
     }
 
-    /// Has the storage write what it has held back.
+    /// Makes the storage write what it has held back.
     ///
     /// # Errors
-    /// - OutOfMemory, Storage: as the storage refuses it.
+    ///
+    /// - `OutOfMemory`, `Storage` as the storage fails.
     pub fn flush<R: Wait>(&self, rt: &R) -> Result<(), Error> {
         self.inner.pager.lock(rt).flush()
     }
 
-    /// Answers a new handle of the node that the cache knows under a kind and a key, if it knows one.
+    /// Returns a new handle of the node that is cached under a kind and a key, None if no usable
+    /// node is cached there.
     ///
     /// # Errors
-    /// - NumbersSpent, OutOfMemory: nothing changes.
+    ///
+    /// - `NumbersSpent`, `OutOfMemory` if the handle can't be made: nothing changes.
     pub fn cache_get<R: Wait>(
         &self,
         rt: &R,
@@ -200,34 +224,41 @@ impl<E: Env<Node: NodeSet<E>>, S: PagableStorage<E>> PagableStorageHandle<E, S> 
         self.inner.pager.lock(rt).cache_get(kind, key)
     }
 
-    /// Has the cache forget all that it knows.
+    /// Empties the cache.
     ///
     /// # Errors
-    /// - NumbersSpent, OutOfMemory: a cell couldn't be listed; the cache is empty all the same.
+    ///
+    /// - `NumbersSpent`, `OutOfMemory` if a cell couldn't be listed: the cache is empty all the
+    ///   same.
     pub fn cache_clear<R: Wait>(&self, rt: &R) -> Result<(), Error> {
         self.inner.pager.lock(rt).cache_clear()
     }
 
-    /// Counts the entries of the list, which wait for page-out.
+    /// Returns how many cells are listed for page-out.
     pub fn pending_paging_count<R: Wait>(&self, rt: &R) -> usize {
         self.inner.pager.lock(rt).pending()
     }
 
-    /// Computes whether all that the pager keeps is in step, for tests to ask once threads have run, as
-    /// `Pager::is_sound`. It holds the lock meanwhile, and takes time for each pair of a node and a handle.
+    /// Says whether all tables of the pager agree, as `Pager::is_sound` does, for tests to check
+    /// after threads have run. It holds the lock meanwhile, and takes time for each pair of a node
+    /// and a handle.
     pub fn is_sound<R: Wait>(&self, rt: &R) -> bool {
         self.inner.pager.lock(rt).is_sound()
     }
 
-    /// Pages out what an item refers to, and then the item itself, on a table that others may page out on too: answers
-    /// its key, which is that of its bytes over the keys of results that stand below it, one for each of its references.
-    /// What another thread is paging out is waited for. The item's handles stay the caller's, and have to live until
-    /// the answer. The share needs a part to spare, which comes back with the claims that were made.
+    /// Pages out what an item refers to, and then the item itself, on a table that others may use
+    /// too, and returns the item's key: the hash of its bytes and of the keys of results, one for
+    /// each of its references. It waits for what another thread is paging out. The caller keeps the
+    /// item's handles, and must keep them until the call returns. The call needs a part of the
+    /// share to spare, and merges it back with the claims that it made.
     ///
     /// # Errors
-    /// - Failed: a step was refused, or the claim would have closed a ring of waiting workers (TooDeep). What was
-    ///   stored, and keys that were set, stay; no claim is left without an outcome.
-    /// - AlreadyFailed: another page-out on this table failed at what the item refers to.
+    ///
+    /// - `Failed` with the error of beginning the worker, or of one of its steps; with `TooDeep` if
+    ///   workers would wait for each other in a ring.
+    /// - `AlreadyFailed` if another page-out on this table failed at what the item refers to.
+    ///
+    /// What was stored and keys that were set stay; the call leaves no claim without an outcome.
     pub fn page_out_item<R: Wait, L: Ledger>(
         &self,
         rt: &R,
@@ -248,20 +279,22 @@ impl<E: Env<Node: NodeSet<E>>, S: PagableStorage<E>> PagableStorageHandle<E, S> 
         answer
     }
 
-    /// Pages out the entries that stand in the list at the call, with all that they refer to, from the last to the
-    /// first, up to the first failure, which it answers. What is listed meanwhile waits for the next call; what another
-    /// thread takes meanwhile is passed over.
+    /// Pages out the entries that are in the list at the call, with all that they refer to, from
+    /// the last to the first, up to the first failure. Entries that are listed meanwhile wait for
+    /// the next call; an entry that another thread takes meanwhile is skipped.
     ///
     /// # Errors
-    /// - Failed: a step was refused. The entry whose page-out failed is listed again, at the end, and those before it
-    ///   stay listed.
+    ///
+    /// - `Failed` with the error of the first entry that fails: it is listed again, at the end, and
+    ///   those before it stay listed.
     pub fn page_out_pending<R: Wait>(&self, rt: &R, alloc: Global) -> Result<(), PageOutError> {
         let mut access = self.access(rt);
         page_out_pending_over(&mut access, alloc)
     }
 
-    /// Closes the storage: blobs, cache and list are empty from then on. Every fetch is NoData, storing is Closed, and
-    /// nothing is cached or listed. Nothing refuses it.
+    /// Closes the storage: blobs, cache and list are empty from then on. Each fetch fails with
+    /// `NoData`, storing fails with `Closed`, and nothing is cached or listed any more. It can't
+    /// fail.
     pub fn close<R: Wait>(&self, rt: &R) -> Result<(), Error> {
         self.inner.pager.lock(rt).close()
     }

@@ -1,4 +1,5 @@
-//! The table of slots that threads share. Its lock is held only to look up, make or claim a slot; each slot has its own.
+//! The table of slots that threads share. A call holds its lock only to look up, make or claim a
+//! slot; each slot has a lock of its own.
 
 ghost use Rattle.std.specs.{BTreeSet.btree_set_len, Prelude.{IfOk, OnErr, if◌then◌else◌, ◌+◌, ◌<◌, ◌≡◌}};
 ghost use Rattle.pagable_locked.specs.Slots.{IsProbeOf};
@@ -18,11 +19,11 @@ use std::sync::{Mutex, MutexGuard, Wait};
 /// What a worker's claim finds.
 #[derive(Drop)]
 pub enum Probe<E: Env<Node: NodeSet<E>>> {
-    /// The identity was free and is the worker's. Its slot.
+    /// The identity was free, and the worker has claimed it: its slot.
     Claimed(ArcSerSlot<E>),
-    /// Another has it, and the worker is noted as one that waits for this slot's outcome.
+    /// Another worker has claimed it; this one is noted as waiting for the outcome of this slot.
     Waits(ArcSerSlot<E>),
-    /// Its result, or None where it failed.
+    /// Its result, None if it failed.
     Ended(Option<SlotResult<E>>),
 }
 
@@ -33,8 +34,9 @@ struct Row<E: Env<Node: NodeSet<E>>> {
     worker: Option<WorkerNumber>,
 }
 
-/// What the table's lock keeps: the slots, which of them are claimed, for whose outcome each worker waited last, and the
-/// book of claims, whose total is their number. None but the table's own calls reach it.
+/// What the table's lock protects: the slots, which of them are claimed, the identity for whose
+/// outcome each worker waited last, and the book of claims, whose total is their number. Only the
+/// table's own calls reach it.
 #[derive(Drop)]
 pub struct Slots<E: Env<Node: NodeSet<E>>, L: Ledger> {
     rows: IndexMap<(u32, u64), Row<E>>,
@@ -66,7 +68,7 @@ impl<E: Env<Node: NodeSet<E>>, L: Ledger> Slots<E, L> {
         (slots, ClaimShare::of(share))
     }
 
-    // The slot of an identity, made where there is none.
+    // Returns the slot of an identity, and makes one if there is none.
     fn slot(&mut self, alloc: Global, identity: Identity) -> Result<ArcSerSlot<E>, Error>
         ensures { IfOk result (λ s. s.identity ≡ identity) }
     {
@@ -85,7 +87,7 @@ impl<E: Env<Node: NodeSet<E>>, L: Ledger> Slots<E, L> {
         Ok(slot)
     }
 
-    // Claims a free identity, and counts the claim.
+    // Claims an identity if it is free, counts the claim, and says whether it was free.
     fn try_claim(&mut self, identity: Identity, share: &mut ClaimShare<L>) -> Result<bool, Error>
         ensures amount { IfOk result (λ b. share.new.share.amount ≡ share.old.share.amount + (if b then 1 else 0)) }
         ensures parts { share.new.share.parts ≡ share.old.share.parts }
@@ -100,7 +102,7 @@ impl<E: Env<Node: NodeSet<E>>, L: Ledger> Slots<E, L> {
         Ok(is_free)
     }
 
-    // The number of claims, which the whole share has.
+    // Returns the number of claims, all of which the whole share counts.
     fn claims(&mut self, all: &mut ClaimShare<L>) -> u64
         requires { all.old.share.parts ≡ L.parts }
         ensures claims { (result ≡ all.old.share.amount) × (all.new.share.amount ≡ all.old.share.amount) }
@@ -112,7 +114,7 @@ impl<E: Env<Node: NodeSet<E>>, L: Ledger> Slots<E, L> {
         claimed.len() as u64
     }
 
-    // The worker whose walk has claimed an identity, as long as that has no outcome.
+    // Returns the worker whose walk has claimed an identity that has no outcome yet.
     fn open_claimer<R: Wait>(&self, rt: &R, identity: Identity) -> Option<WorkerNumber> {
         let row = self.rows.get(&key_of(identity))?;
         match row.slot.outcome(rt) {
@@ -121,8 +123,9 @@ impl<E: Env<Node: NodeSet<E>>, L: Ledger> Slots<E, L> {
         }
     }
 
-    // Whether the worker that has an identity is `asker`, or waits for one that is, and so on. A wait whose slot has
-    // an outcome has ended, also where its worker hasn't come to know; and no chain is longer than there are waits.
+    // Says whether the worker that has claimed an identity is `asker`, or waits for it, directly or
+    // through others. A wait for a slot that has an outcome is over, even if its worker doesn't
+    // know it yet; no chain is longer than the number of waits.
     fn leads_to<R: Wait>(&self, rt: &R, asker: WorkerNumber, identity: Identity) -> bool {
         let mut claimed = identity;
         for _ in 0..=self.waits.len() {
@@ -140,8 +143,9 @@ impl<E: Env<Node: NodeSet<E>>, L: Ledger> Slots<E, L> {
         false
     }
 
-    // Claims an identity for a worker's walk, or finds what its slot says. Where that is nothing yet, the worker waits
-    // from now on, unless workers would wait in a ring.
+    // Claims an identity for a worker's walk, or returns its outcome. If it is claimed and has no
+    // outcome yet, notes that the worker waits for it. Fails with TooDeep if workers would wait in
+    // a ring, and with OutOfMemory.
     fn probe<R: Wait>(
         &mut self,
         rt: &R,
@@ -174,18 +178,19 @@ impl<E: Env<Node: NodeSet<E>>, L: Ledger> Slots<E, L> {
     }
 }
 
-/// The table of slots for any number of threads, each of which has a share of its claims.
+/// The table of slots for any number of threads, each of which has a share of the count of claims.
 #[derive(Drop)]
 pub struct SlotTable<E: Env<Node: NodeSet<E>>, L: Ledger> {
     slots: Mutex<Slots<E, L>>,
 }
 
-/// The table's lock, as long as this lives. It lends nothing.
+/// A guard that holds the table's lock as long as it lives. It gives no access to the table.
 pub type TableGuard<'a, E, L> = MutexGuard<'a, Slots<E, L>>;
 
 impl<E: Env<Node: NodeSet<E>>, L: Ledger> SlotTable<E, L> {
-    /// Makes a table without slots, and its one whole share, which has no claims. It takes no memory. Two parts or
-    /// more are asked: one for the table's user to keep, and one for each page-out that is going on.
+    /// Makes a table without slots, and its one whole share, which counts no claims. It takes no
+    /// memory. The share has two parts or more: the table's user keeps one, and each running
+    /// page-out takes one.
     pub fn new(alloc: Global, parts: Blank) -> (SlotTable<E, L>, ClaimShare<L>)
         requires name { parts.name ≡ L.name }
         requires parts { parts.parts ≡ L.parts }
@@ -198,10 +203,11 @@ impl<E: Env<Node: NodeSet<E>>, L: Ledger> SlotTable<E, L> {
         (SlotTable { slots }, share)
     }
 
-    /// Answers the slot of an identity, made where there is none.
+    /// Returns the slot of an identity, and makes one if there is none.
     ///
     /// # Errors
-    /// - OutOfMemory: no slot could be made or shared.
+    ///
+    /// - `OutOfMemory` if the slot can't be made or shared.
     pub fn slot<R: Wait>(
         &self,
         rt: &R,
@@ -213,10 +219,11 @@ impl<E: Env<Node: NodeSet<E>>, L: Ledger> SlotTable<E, L> {
         self.slots.lock(rt).slot(alloc, identity)
     }
 
-    /// Claims a free identity, counts that to the share, and tells whether it was free.
+    /// Claims an identity if it is free, counts that to the share, and says whether it was free.
     ///
     /// # Errors
-    /// - OutOfMemory: it isn't claimed.
+    ///
+    /// - `OutOfMemory` if the table can't grow: the identity isn't claimed.
     pub fn try_claim<R: Wait>(
         &self,
         rt: &R,
@@ -230,7 +237,8 @@ impl<E: Env<Node: NodeSet<E>>, L: Ledger> SlotTable<E, L> {
         self.slots.lock(rt).try_claim(identity, share)
     }
 
-    /// Counts the claimed identities, once all shares are merged: as many as the whole share has.
+    /// Returns the number of claimed identities, once all shares are merged: the count of the whole
+    /// share.
     pub fn claims<R: Wait>(&self, rt: &R, all: &mut ClaimShare<L>) -> u64
         requires { all.old.share.parts ≡ L.parts }
         ensures claims { (result ≡ all.old.share.amount) × (all.new.share.amount ≡ all.old.share.amount) }
@@ -239,19 +247,21 @@ impl<E: Env<Node: NodeSet<E>>, L: Ledger> SlotTable<E, L> {
         self.slots.lock(rt).claims(all)
     }
 
-    /// Holds the table's lock as long as the guard lives. Slots that others have stay usable: each has a lock of its own.
+    /// Holds the table's lock as long as the guard lives. Slots that threads have got already stay
+    /// usable, since each has a lock of its own.
     pub fn hold<R: Wait>(&self, rt: &R) -> TableGuard<'_, E, L> {
         self.slots.lock(rt)
     }
 }
 
 impl<L: Ledger> WalkShare<L> {
-    /// Claims an identity for a worker's walk, or finds what its slot says; where that is nothing yet, the worker is
-    /// noted as one that waits.
+    /// Claims an identity for a worker's walk, or returns its outcome; if it is claimed and has no
+    /// outcome yet, notes that the worker waits for it.
     ///
     /// # Errors
-    /// - TooDeep: workers would wait in a ring.
-    /// - OutOfMemory: no slot could be made, nothing claimed, or no wait noted.
+    ///
+    /// - `TooDeep` if workers would wait in a ring.
+    /// - `OutOfMemory` if the table can't grow: the identity isn't claimed, and no wait is noted.
     pub(crate) fn probe<R: Wait, E: Env<Node: NodeSet<E>>>(
         &mut self,
         rt: &R,

@@ -1,4 +1,4 @@
-//! The calls of typed handles on a storage that threads share.
+//! The calls that typed handles make on a storage that threads share.
 
 use crate::handle_pin::HandlePin;
 use crate::lock::lock_briefly;

@@ -1,4 +1,4 @@
--- An item stays at the end of what a worker has to do.
+-- An item stays the last of what a worker has to do.
 use Rattle.pagable_value_spec.specs.declared.numbers.{ArcRef.ArcRef, HandleNumber.HandleNumber}
 use Rattle.pagable_load.specs.AccessView.{values_at}
 use Rattle.pagable_pageout.specs.{PageOuts.answer_of, Results.IsOver, Tasks.{Ends, EndsWith, Gives, IfKey, IfKeyOf, fails, fault_of, todos, waits_as}}

@@ -1,4 +1,4 @@
--- A path that leads to what is done next goes on so, and each step leaves less to do.
+-- After each step the path still waits for what is done next, and less is left to do.
 use Rattle.{pagable_theorems.proofs.Trees.same_some, pagable_value_spec.specs.declared.numbers.{ArcRef.ArcRef, HandleNumber.HandleNumber}, pagable_pageout.specs.{Slots.ids_of, Tasks.{IfGoes, LeadsOn, due, far}}}
 use Rattle.pagable_pageout.specs.{Tasks.{Awaits, AwaitsLow, Gives, IsWay, TakesNext, back_of, raised, todo_of, todos, waiting_todo, waits_as}, declared.results.SlotResult.SlotResult}
 use Rattle.{pagable_pageout.specs.declared.{tasks.{Node.Node, Task.Task, Turn.Turn, Waiting.Waiting}}, pagable_pager_spec.specs.{Kinds.identity_of, Basics.{above, if_there, is_eager}}}

@@ -1,4 +1,4 @@
--- A worker's turns, each from what its calls did: they are its steps, and its steps are a run.
+-- Each task of a worker, by what its calls did, is a step of the worker, and its steps are a run.
 use Rattle.{pagable_core.specs.declared.context.writing.SerializedData.SerializedData, pagable_theorems.proofs.{Chains.{claimed-stands, clone-stands, may-claim}, ReadingSteps.walk-goes, Trees.same_some}}
 use Rattle.pagable_theorems.proofs.HandlesKept.{Goes, PinOf, clone-call, end-call, low-handle, low-whole, not-loose, pin-call, pins-by}
 use Rattle.{pagable_theorems.specs.TreeSteps.{Change, StandsAt}, pagable_load.{proofs.LoadSteps.{acts_all, acts_map, acts_on, goes_open, moves_then, none_comes, tells_map}, specs.Frames.IsLoadOf}}

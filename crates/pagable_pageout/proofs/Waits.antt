@@ -1,4 +1,4 @@
--- Whom a worker waits for, that waits come to an end, and the slots of a table after each change.
+-- For whom a worker waits, why chains of waits end, and the slots of a table after each change.
 use Rattle.pagable_pager_spec.specs.{Basics.{Identity, updated, SameAt, if_there}, World.{Shelf, no_result, is_identity, Slot, Outcome, SameShelf}, Workers.{works, is_open_slot, may-go-on, with_slot}}
 use Rattle.{pagable_pager_spec.specs.Workers.{IsOpenSlot, waits-back, is_open_outcome, with_outcome, ComesToEnd, with_wait, waits-on}, std.specs.{Option.option_map, Prelude.{OnErr, Err, Result, Ok, OnOk}}}
 use Rattle.std.{specs.Map.{values_of, lookup}, proofs.Common.{true, ℕ, inr, ◌&&◌, Some, ◌⊎◌, None, suc, if◌then◌else◌, ap, cond, sym, slice_get, ◌∷◌, List, ◌<◌, [], Option, ◌≤◌, length, Bool, false}}

@@ -1,4 +1,4 @@
--- What is told of an access and of a table together; and what is known of a claim wherever it was made.
+-- The states of an access and a table together, and what holds of each claim, on any table.
 use Rattle.std.specs.Prelude.{Option, Some, None, ◌≡◌, ◌+◌, ◌≤◌, ℕ}
 use Rattle.{pagable_load.specs.AccessView.Acting, pagable_pager_spec.specs.Access.Told}
 use Rattle.pagable_pager_spec.specs.Basics.{longest_path}

@@ -3,21 +3,21 @@ use Rattle.std.specs.Prelude.{ℕ, ◌≡◌, ◌≤◌, ◌<◌, ◌+◌, lengt
 use Rattle.pagable_pager_spec.specs.{Access.{AllHaveResults, EntryRun, ListRun, PagesOutItemOver}, Pager.{PagerState, WellFormed}, World.{Shelf, Values, Written, answer_of_fault}}
 use Rattle.{pagable_pager_spec.specs.declared.events.WorkerAnswer.WorkerAnswer, pagable_pageout.specs.{Tasks.fault_of, Turns.plain, declared.tasks.PageOutError.PageOutError}}
 
--- the answer of a worker that came to this key, or to this failure
+-- a worker's answer, for the result of a page-out
 abbrev pub answer_of : Result ℕ PageOutError → WorkerAnswer
 answer_of (Ok key) = WorkerAnswer.Key key
 answer_of (Err e) = answer_of_fault (fault_of e)
 
--- and of the list's page-out
+-- the same for a page-out of the list
 abbrev pub seen_as_failure : Result (Unit {0}) PageOutError → Result (Unit {0}) WorkerAnswer
 seen_as_failure (Ok u) = Ok u
 seen_as_failure (Err e) = Err (answer_of_fault (fault_of e))
 
--- where the pager is whole and each claim of the table has a result, the item is paged out
+-- if the pager is whole and each claim of the table has a result, the item is paged out
 pub record PagesItem {N E : Type 0} (v : Values N) (shelf : Shelf) (item : Written) (shelf' : Shelf) (answer : WorkerAnswer) (s t : PagerState N E) : Type 0 where
   pub over : WellFormed v s → AllHaveResults shelf → PagesOutItemOver (plain v) (record { pager = s; shelf = shelf }) item answer (record { pager = t; shelf = shelf' })
 
--- where the pager is whole, the entries that stand in the list at the call are paged out
+-- if the pager is whole, the entries that are in the list at the call are paged out
 pub record PagesList {N E : Type 0} (v : Values N) (answer : Result (Unit {0}) PageOutError) (s t : PagerState N E) : Type 0 where
   pub over : WellFormed v s → ListRun (plain v) (length s.core.list) s (seen_as_failure answer) t
 
@@ -43,7 +43,7 @@ PagesEntryIfThere v place (Ok None) s t = length s.core.list ≤ place
 PagesEntryIfThere v place (Ok (Some key)) s t = PagesEntry v place (WorkerAnswer.Key key) s t
 PagesEntryIfThere v place (Err why) s t = PagesEntry v place (answer_of (Err why)) s t
 
--- a run of the entries below this place goes on from here as one from this place, or it ends here with a failure
+-- a run of the entries below this place continues from here as one from this place, or it ends here with a failure
 pub record PlaceDone {N E : Type 0} (v : Values N) (s : PagerState N E) (place : ℕ) (result : Result (Unit {0}) PageOutError) (t : PagerState N E) : Type 0 where
   pub whole : WellFormed v t
   pub long : place ≤ length t.core.list
@@ -53,7 +53,7 @@ pub record PlaceDone {N E : Type 0} (v : Values N) (s : PagerState N E) (place :
 pub record PagesAt {N E : Type 0} (v : Values N) (place : ℕ) (result : Result (Unit {0}) PageOutError) (s t : PagerState N E) : Type 0 where
   pub done : WellFormed v s → place < length s.core.list → PlaceDone v s place result t
 
--- entries so far: a run of those that are left is one of all
+-- after some entries, a run of those that are left is a run of all
 pub record HasPaged {N E : Type 0} (v : Values N) (left : ℕ) (s t : PagerState N E) : Type 0 where
   pub whole : WellFormed v s → WellFormed v t
   pub long : WellFormed v s → left ≤ length t.core.list

@@ -1,8 +1,9 @@
--- Finite trees of results. Each value was written in some environment of the caller's type: a table of claims doesn't name one.
+-- Finite trees of results. Each value was written in some environment of the caller's type, since a table of claims
+-- names none.
 use Rattle.std.specs.Prelude.{List, [], ℕ, ◌∷◌, ◌≡◌}
 use Rattle.{pagable_value_spec.specs.{Blob.key_of, Merkle.blob_of}, pagable_pager_spec.specs.{Kinds.identity_of, Basics.{ArcRef, Identity, type_of}, World.{HasForm, Values, Written}}}
 
--- some value of the identity's type has this form in some environment: these bytes, with these references in their order
+-- some value of the identity's type has this form in some environment: these bytes and these references, in their order
 pub record HasFormOf {N E : Type 0} (values : E → Values N) (i : Identity) (written : Written) : Type 0 where
   pub environment : E
   pub x : N
@@ -10,8 +11,9 @@ pub record HasFormOf {N E : Type 0} (values : E → Values N) (i : Identity) (wr
   pub form : HasForm (values environment) x written
 
 mutual
-  -- Below the identity with this key stands a finite tree of results: some value of the identity's type has a form, and the key is that of the form over the keys of
-  -- one result for each of its references. So a table keeps no value in memory.
+  -- A finite tree of results stands below the identity and its key: some value of the identity's type has a form, and
+  -- the key is that of the form over the keys of one result for each of its references. So a table needs no value in
+  -- memory.
   pub data ResultStands {N E : Type 0} (hash : List ℕ → List ℕ) (values : E → Values N) : Identity → ℕ → Type 0 where
     stands-over : (i : Identity) (written : Written) (keys : List ℕ) → HasFormOf values i written → ResultsStand hash values written.references keys → ResultStands hash values i (key_of hash (blob_of written.bytes keys))
 
@@ -20,7 +22,7 @@ mutual
     no-results : ResultsStand hash values [] []
     more-results : (r : ArcRef) (key : ℕ) (references : List ArcRef) (keys : List ℕ) → ResultStands hash values (identity_of r) key → ResultsStand hash values references keys → ResultsStand hash values (r ∷ references) (key ∷ keys)
 
--- A key that is that of this data over the keys of such results, one for each of its references, of its identity.
+-- The key is that of this data over the keys of results, one for each of its references.
 pub record IsOver {N E : Type 0} (hash : List ℕ → List ℕ) (values : E → Values N) (item : Written) (key : ℕ) : Type 0 where
   pub keys : List ℕ
   pub below : ResultsStand hash values item.references keys

@@ -1,4 +1,4 @@
--- The plain claims that a lent table tells; whom each waiting worker waits for; and what a claim finds.
+-- The plain claims that a lent table stands for; for whom each waiting worker waits; and what a claim finds.
 use Rattle.std.specs.Prelude.{◌≤◌, ◌⊎◌}
 use Rattle.std.specs.{Option.option_map, Prelude.{Bool, IfErr, IfOk, List, None, Option, Result, Some, [], false, if◌then◌else◌, map, nat_eq, suc, true, zero, ℕ, ◌&&◌, ◌+◌, ◌∷◌, ◌≡◌}}
 use Rattle.pagable_pager_spec.specs.{Workers.{ComesBack, ComesToEnd, IsOpenSlot, IsPublished, IsTooDeep, is_open_outcome, with_outcome, with_slot, with_wait}, World.{SameShelf, Shelf, Slot, Written}}
@@ -12,7 +12,7 @@ use Rattle.std.specs.declared.cmp.{Ord.Ghosts as Orders, PartialEq.Ghosts as Equ
 abbrev pub is_same : ℕ × ℕ → ℕ × ℕ → Bool
 is_same x y = nat_eq x.0 y.0 && nat_eq x.1 y.1
 
--- what was written, without where it lies in memory
+-- what was written, without its place in memory
 abbrev pub written_of : SerializedData → Written
 written_of d = record { bytes = d.bytes.items; references = d.arcs.items }
 
@@ -22,11 +22,11 @@ keys_of xs = map (λ r. r.key) xs
 abbrev pub ids_of : {E EN EH EK EV : Type 0} {g : Environments E EN EH EK EV} {gh : Hashes EH} {go : Orders EK} {gq : Equalities EK} {gp : PartialOrders EK} {gn : Nodes EN E EN EH EK EV} → List (SlotResult E EN EH EK EV g gh go gq gp gn) → List Identity
 ids_of xs = map (λ r. r.identity) xs
 
--- a slot of whose node these references were written
+-- a slot whose node was written with these references
 abbrev pub with_references : List ArcRef → Slot → Slot
 with_references references slot = record slot { references = Some references }
 
--- a slot after the worker v has failed; the same of what there is
+-- a slot after the worker v has failed; and the slot at an identity, if there is one
 abbrev pub failed_by : ℕ → Slot → Slot
 failed_by v slot = if nat_eq slot.worker v then with_outcome failed slot else slot
 
@@ -45,7 +45,7 @@ module _ {E EN EH EK EV : Type 0} {g : Environments E EN EH EK EV} {gh : Hashes 
   abbrev pub slot_of : LentSlot E EN EH EK EV g gh go gq gp gn → Slot
   slot_of s = record { worker = s.worker.0; references = option_map (λ rs. rs.items) s.references; outcome = outcome_of s.outcome }
 
-  -- a result that stands is of this identity, by its numbers
+  -- if the slot has a result, it is that of this identity, by its numbers
   abbrev pub IsNamed : Identity → LentSlot E EN EH EK EV g gh go gq gp gn → Type 0
   IsNamed i s = (r : SlotResult E EN EH EK EV g gh go gq gp gn) → s.outcome ≡ Outcome.Published r → (r.identity.kind.0 ≡ i.kind.0) × (r.identity.node.0 ≡ i.node.0)
 
@@ -65,7 +65,7 @@ module _ {E EN EH EK EV : Type 0} {g : Environments E EN EH EK EV} {gh : Hashes 
     pub slot : slot_of new.1 ≡ failed_by v (slot_of old.1)
     pub own : (i : Identity) → IsNamed i old.1 → IsNamed i new.1
 
-  -- so many of the first rows are failed so
+  -- the first n rows are those after the worker has failed
   abbrev pub FailedTo : ℕ → ℕ → List ((ℕ × ℕ) × LentSlot E EN EH EK EV g gh go gq gp gn) → List ((ℕ × ℕ) × LentSlot E EN EH EK EV g gh go gq gp gn) → Type 0
   FailedTo v zero old new = new ≡ old
   FailedTo v (suc n) [] new = new ≡ []
@@ -80,7 +80,7 @@ SlotIs old i slot new = (j : Identity) → new j ≡ (if is_identity i j then sl
 abbrev pub open_worker : Option Slot → Option ℕ
 open_worker slot = if_there (λ (s : Slot). if is_open_outcome s.outcome then Some s.worker else None) None slot
 
--- a slot that is there is changed so
+-- the slot at the identity is changed by f, if there is one
 abbrev pub Changes : (Slot → Slot) → (Identity → Option Slot) → Identity → (Identity → Option Slot) → Type 0
 Changes f old i new = SlotIs old i (if_there (λ (s : Slot). Some (f s)) None (old i)) new
 
@@ -88,7 +88,7 @@ Changes f old i new = SlotIs old i (if_there (λ (s : Slot). Some (f s)) None (o
 abbrev pub waits_for : Shelf → ℕ → Option ℕ
 waits_for s u = if_there (λ i. open_worker (s.slots i)) None (s.waits u)
 
--- who waits for one that waits, and so on, comes to an end
+-- the chain of workers that u waits for, each for the next, ends
 pub data Ends (s : Shelf) : ℕ → Type 0 where
   ends-at : (u : ℕ) → ((w : ℕ) → waits_for s u ≡ Some w → Ends s w) → Ends s u
 
@@ -96,7 +96,7 @@ pub data Ends (s : Shelf) : ℕ → Type 0 where
 abbrev pub EachEnds : Shelf → Type 0
 EachEnds s = (u : ℕ) → ∥ Ends s u ∥₁
 
--- whether the wait of u leads to v, as is told
+-- whether u is v or waits for v, directly or through others
 abbrev pub Leads : Shelf → ℕ → ℕ → Bool → Type 0
 Leads s v u true = ComesBack s v u
 Leads s v u false = ComesToEnd s v u
@@ -108,13 +108,13 @@ Would v s i place (Claim.Known key height) = (place + height ≤ longest_path) �
 Would v s i place Claim.Waiting = (place ≤ longest_path) × ((slot : Slot) × IsOpenSlot s i slot × ComesToEnd s v slot.worker)
 Would v s i place Claim.AlreadyFailed = (place ≤ longest_path) × ((slot : Slot) × (s.slots i ≡ Some slot) × (slot.outcome ≡ failed))
 
--- the table after it; that a worker waits is forgotten as soon as a claim answers something else
+-- the table after a claim; the worker's wait is forgotten unless the claim has to wait
 abbrev pub claimed_shelf : ℕ → Shelf → Identity → Claim → Shelf
 claimed_shelf v s i Claim.Claimed = with_slot (with_wait s v None) i (Some (claimed_by v))
 claimed_shelf v s i Claim.Waiting = with_wait s v (Some i)
 claimed_shelf v s i _ = with_wait s v None
 
--- why a claim is refused
+-- why a claim fails
 abbrev pub RefusesClaim : ℕ → Shelf → Identity → ℕ → Error → Type 0
 RefusesClaim v s i place e = ((e ≡ Error.TooDeep) × IsTooDeep s v i place) ⊎ (e ≡ Error.OutOfMemory)
 

@@ -1,4 +1,4 @@
--- Steps of a worker that are made together: each is a turn, and all but the last lead to a task.
+-- Steps of a worker that are made together: each performs one task, and all but the last lead to another task.
 use Rattle.std.specs.Prelude.{Err, IfErr, IfOk, List, None, Ok, Option, Result, Some, [], if◌then◌else◌, ℕ, ◌≡◌, ◌⊎◌}
 use Rattle.{pagable_load.specs.{WorkerCalls.ClosesNode, declared.access.WorkerNode.WorkerNode}, pagable_value_spec.specs.declared.{error.Error.Error, numbers.HandleNumber.HandleNumber}}
 use Rattle.pagable_pageout.specs.Tasks.{Gives, IsPlain}
@@ -11,17 +11,18 @@ use Rattle.std.specs.declared.cmp.{Ord.Ghosts as Orders, PartialEq.Ghosts as Equ
 abbrev pub loose_of : Node → Option HandleNumber
 loose_of n = if is_loose_kind n.reference.kind.0 then Some n.through else None
 
--- where a worker has handles of a written node
+-- the node of a written node's reference, where the worker has handles
 abbrev pub worker_node : ℕ → Node → WorkerNode
 worker_node v n = record { worker = record { 0 = v }; node = n.reference.node; loose = loose_of n }
 
--- The blob of a written node is stored, its key set, and the worker's handles of it are given up. What is refused ends it.
+-- The blob of a written node is stored, its key set, and the worker's handles of it are released; the first of these
+-- calls that fails is the last.
 pub record LeavesNode {N E : Type 0} (v : Values N) (me : Owner) (n : ℕ) (node : Node) (s : PagerState N E) (blob : Blob) (r : Result ℕ Error) (t : PagerState N E) : Type 0 where
   pub stores : IfOk r (λ key. (mid : PagerState N E) × Stores v s blob (Ok key) mid × ClosesNode v me (worker_node n node) key (Ok tt) mid t)
   pub refused : IfErr r (λ e. Stores v s blob (Err e) t ⊎ ((key : ℕ) × (mid : PagerState N E) × Stores v s blob (Ok key) mid × ClosesNode v me (worker_node n node) key (Err e) mid t))
 
 module _ {X XN XH XK XV : Type 0} {g : Environments X XN XH XK XV} {gh : Hashes XH} {go : Orders XK} {gq : Equalities XK} {gp : PartialOrders XK} {gn : Nodes XN X XN XH XK XV} where
-  -- Turns from a task on, of which the last comes to this.
+  -- Steps from a task on, of which the last leads to this.
   pub record ComesTo {N E : Type 0} (v : Values N) (me : Owner) (n : ℕ) (shelf : Shelf) (task : Task X XN XH XK XV g gh go gq gp gn) (below : List Todo) (shelf' : Shelf) (turn : Turn X XN XH XK XV g gh go gq gp gn) (after : List Todo) (s t : PagerState N E) : Type 0 where
     pub now_shelf : Shelf
     pub now : Task X XN XH XK XV g gh go gq gp gn
@@ -32,7 +33,8 @@ module _ {X XN XH XK XV : Type 0} {g : Environments X XN XH XK XV} {gh : Hashes 
     pub last : TurnsTo v me n now_shelf now now_below shelf' moved after mid t
     pub comes : moved.turn ≡ turn
 
-  -- The result of a node that is done goes to what waits for it, and that goes on; where nothing waits, its key is answered.
+  -- The result of a node that is done is given to the first entry of the list; or its key is answered, if the list is
+  -- empty.
   abbrev pub HandsOn : Done X XN XH XK XV g gh go gq gp gn → List Todo → Turn X XN XH XK XV g gh go gq gp gn → List Todo → Type 0
   HandsOn d below (Turn.Goes task) after = Gives d.reference d.found.key d.found.height below after × IsPlain task
   HandsOn d below (Turn.Answers answer) after = (answer ≡ WorkerAnswer.Key d.found.key) × (below ≡ []) × (after ≡ [])

@@ -1,4 +1,4 @@
--- What a lent table tells.
+-- The plain claims that a lent table stands for, and what a claim found in it.
 use Rattle.std.specs.Prelude.{◌≡◌, Result, Ok, Err}
 use Rattle.{pagable_pager_spec.specs.{Basics.{Error, Identity}, World.Shelf, declared.events.Claim.Claim}, pagable_pageout.specs.Slots.shelf_in}
 use Rattle.pagable_pageout.specs.declared.{claims.ClaimResult.ClaimResult, lent_table.LentTable.LentTable}
@@ -19,7 +19,7 @@ module _ {E EN EH EK EV : Type 0} {g : Environments E EN EH EK EV} {gh : Hashes 
   found_as (Ok c) = Ok (claim_of c)
   found_as (Err e) = Err e
 
-  -- a result that is known is of this identity
+  -- a known result is that of this identity
   abbrev pub IsFoundOf : Identity → ClaimResult E EN EH EK EV g gh go gq gp gn → Type 0
   IsFoundOf i (ClaimResult.Known r) = r.identity ≡ i
   IsFoundOf i found = Unit {0}

@@ -1,4 +1,4 @@
--- A worker's task at hand and its path as plain data: what it has to do, what comes next first.
+-- A worker's task at hand and its path as plain data: a list of what it has to do, the next first.
 use Rattle.std.specs.{Prelude.{ℕ, ◌≡◌, ◌≤◌, ◌<◌, ◌+◌, ◌*◌, ◌^◌, List, [], ◌∷◌, length, map, max, reverse, Option, None, Some, slice_get}, Arc.arc_value}
 use Rattle.{pagable_value_spec.specs.declared.numbers.{ArcRef.ArcRef, HandleNumber.HandleNumber}, pagable_load.specs.{LoadEnd.to_do, Frames.reading_of, AccessView.values_at}}
 use Rattle.pagable_pager_spec.specs.{World.{Todo, to_start, to_pin, to_load, to_write, to_finish, to_item, to_set, to_publish, to_release, to_fail, Fault, was_refused, was_failed, Written}, Basics.above}
@@ -12,7 +12,7 @@ abbrev pub fault_of : PageOutError → Fault
 fault_of (PageOutError.Failed e) = was_refused e
 fault_of PageOutError.AlreadyFailed = was_failed
 
--- a walk that fails; the entry goes back where nothing waits
+-- a walk that fails: its entry is put back if the path is empty
 abbrev pub back_of : Option HandleNumber → List Todo → Option HandleNumber
 back_of entry [] = entry
 back_of entry (x ∷ below) = None
@@ -25,7 +25,7 @@ abbrev pub waits_as : Option Node → Written → List ℕ → Todo
 waits_as None written keys = to_item written keys
 waits_as (Some n) written keys = to_finish (record { reference = n.reference; place = n.place; through = n.through; written = written; keys = keys; height = n.height })
 
--- with the height by a reference of this kind too
+-- a node with its height raised by a reference of this kind
 abbrev pub raised : ℕ → ℕ → Option Node → Option Node
 raised kind height None = None
 raised kind height (Some n) = Some (record n { height = max n.height (above kind height) })
@@ -52,11 +52,12 @@ module _ {E EN EH EK EV : Type 0} {g : Environments E EN EH EK EV} {gh : Hashes 
   IsPlain (Task.Write r place through pin) = ⊥
   IsPlain task = Unit {0}
 
-  -- what waits on a path, the last first
+  -- the nodes that wait on a path, the last first
   unfoldable pub todos : List (Waiting E EN EH EK EV g gh go gq gp gn) → List Todo
   todos ws = map waiting_todo (reverse ws)
 
--- The list waits for this reference, at this place on the path: it is the next of what stands in front, which was itself waited for so.
+-- The list waits for this reference at this place: it is the next one of the first node on the list, which the rest of
+-- the list waits for in the same way.
 unfoldable pub Awaits : List Todo → ArcRef → ℕ → Type 0
 Awaits [] r place = place ≡ 0
 Awaits (to_finish o ∷ below) r place =
@@ -64,11 +65,11 @@ Awaits (to_finish o ∷ below) r place =
 Awaits (to_item written keys ∷ below) r place = (slice_get written.references (length keys) ≡ Some r) × (place ≡ place_below 0 r.kind.0) × (below ≡ [])
 Awaits (_ ∷ below) r place = ⊥
 
--- The list waits for a reference with a height that fits.
+-- The list waits for a reference, and its place and this height are at most the longest path.
 abbrev pub AwaitsLow : List Todo → ArcRef → ℕ → Type 0
 AwaitsLow below r height = (place : ℕ) × Awaits below r place × (place + height ≤ longest_path)
 
--- Each entry is the next of what stands below it, and all references of what is finished are done.
+-- Each entry is what the list below it waits for, and what is to be finished has all references done.
 abbrev pub IsWay : List Todo → Type 0
 IsWay [] = Unit {0}
 IsWay (to_start r place ∷ below) = Awaits below r place
@@ -82,7 +83,7 @@ IsWay (to_publish r key height ∷ below) = AwaitsLow below r height
 IsWay (to_release r key height ∷ below) = AwaitsLow below r height
 IsWay (to_fail fault back ∷ below) = below ≡ []
 
--- the reference is the next of what waits, and the height by it fits
+-- the reference is the next one of the waiting node, whose height with it fits
 pub record TakesNext (node : Option Node) (written : Written) (keys : List ℕ) (r : ArcRef) (height : ℕ) : Type 0 where
   pub next : slice_get written.references (length keys) ≡ Some r
   pub near : (n : Node) → node ≡ Some n → n.place + max n.height (above r.kind.0 height) ≤ longest_path
@@ -106,14 +107,14 @@ EndsWith w (to_set r through key height ∷ below) = EndsWith w below
 EndsWith w (to_publish r key height ∷ below) = EndsWith w below
 EndsWith w (to_release r key height ∷ below) = EndsWith w below
 
--- what stands in front gets the result of its next reference, and goes on
+-- the first entry of the list gets the result of its next reference
 pub record Gives (r : ArcRef) (key height : ℕ) (old new : List Todo) : Type 0 where
   pub x : Todo
   pub rest : List Todo
   pub was : old ≡ x ∷ rest
   pub is : new ≡ give r key height (x ∷ rest)
 
--- ---- why a walk comes to an end, whatever it meets: up to the next claim each step leaves less to do
+-- ---- why a walk ends, whatever its steps find: each step up to the next claim leaves less to do
 
 -- how much there is at most before a load has begun
 abbrev pub most : ℕ
@@ -153,17 +154,17 @@ module _ {X XN XH XK XV : Type 0} {g : Environments X XN XH XK XV} {gh : Hashes 
   abbrev pub LeadsOn : List Todo → Turn X XN XH XK XV g gh go gq gp gn → List Todo → Type 0
   LeadsOn todo turn after = IfGoes turn (Leads todo after)
 
-  -- the answer is a key of which P holds, or none
+  -- if the answer is a key, P holds of it
   abbrev pub IfKey : Turn X XN XH XK XV g gh go gq gp gn → (ℕ → Type 0) → Type 0
   IfKey (Turn.Answers a) P = IfKeyOf a P
   IfKey (Turn.Goes t) P = Unit {0}
 
-  -- An item stays at the list's end; a key that is answered is over its references' results.
+  -- The list still ends with the item; and a key that is answered is that of the item over its references' results.
   pub record Ends (todo : List Todo) (turn : Turn X XN XH XK XV g gh go gq gp gn) (after : List Todo) : Type 0 where
     pub stays : (w : Written) → EndsWith w todo → IfGoes turn (EndsWith w after)
     pub over : (w : Written) → EndsWith w todo → IfKey turn (λ key. ∥ IsOver gh.digest (values_at gn g gh) w key ∥₁)
 
-  -- the list is in order, and less is left to do
+  -- each entry is still what the list below it waits for, and less is left to do
   pub record GoesOn (todo : List Todo) (turn : Turn X XN XH XK XV g gh go gq gp gn) (after : List Todo) : Type 0 where
     pub way : IsWay after
     pub leads : LeadsOn todo turn after

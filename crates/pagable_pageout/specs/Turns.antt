@@ -1,4 +1,5 @@
--- A worker's turn over the pager's plain state and its table: what it needs to hold, what it does, and what it leaves to be done.
+-- One task of a worker over the pager's plain state and its table: what the task needs, what it does, and which task
+-- follows.
 use Rattle.std.specs.{Prelude.{ℕ, ◌≡◌, ◌≤◌, ◌+◌, ◌⊎◌, Bool, false, true, List, [], ◌∷◌, MatchOption, Option, Some, None, Result, Ok, Err, IfOk, IfErr}, Arc.arc_value, declared.{alloc.Global.Global, sync.Arc.Arc}}
 use Rattle.{pagable_value_spec.specs.{Blob.key_of, Refusals.is_writing_fault, declared.{error.Error.Error, numbers.{ArcRef.ArcRef, HandleNumber.HandleNumber}}}, pagable_pager_spec.specs.Access.Called}
 use Rattle.pagable_pager_spec.specs.World.{Core, Shelf, Slot, Todo, to_start, to_pin, to_set, was_failed, of_cell, Alike, HasForm, Open, Written, Values, Seen, seen_as, row_at, type_at}
@@ -26,7 +27,7 @@ claim_todo r place below (Err e) = failing_by e (to_start r place ∷ below)
 abbrev pub plain : {N : Type 0} → Values N → Seen N Blob Written
 plain v = record { values = v; blob_of = λ b. b; written_of = λ w. w }
 
--- a step without where what it wrote lies in memory
+-- a step without the place in memory of what it wrote
 abbrev pub plain_took : Action (Arc SerializedData Global) → Action Written
 plain_took (Action.Claim i r) = Action.Claim i r
 plain_took (Action.Pin i r) = Action.Pin i r
@@ -54,7 +55,7 @@ pub record PinsAt (w : Core) (r : ArcRef) (k : HandleNumber) : Type 0 where
   pub at : row.node ≡ r.node
   pub pins : is_pinning row.mode ≡ true
 
--- and it is its owner's
+-- the handle pins the reference's node, and this owner has it
 pub record HoldsPin (w : Core) (me : Owner) (r : ArcRef) (k : HandleNumber) : Type 0 where
   pub pins : PinsAt w r k
   pub own : pins.row.owner ≡ me
@@ -90,7 +91,7 @@ module _ {X XN XH XK XV : Type 0} {g : Environments X XN XH XK XV} {gh : Hashes 
     pub whole : WellFormed v s
     pub task_fits : TaskFits n s.core task
 
-  -- what a turn comes to
+  -- what is to be done after a task
   abbrev pub plan : Turn X XN XH XK XV g gh go gq gp gn → List (Waiting X XN XH XK XV g gh go gq gp gn) → List Todo
   plan (Turn.Goes t) path = todo_of t ∷ todos path
   plan (Turn.Answers a) path = []
@@ -113,7 +114,7 @@ module _ {X XN XH XK XV : Type 0} {g : Environments X XN XH XK XV} {gh : Hashes 
     pub whole : WellFormed v t
     pub fits : LeavesFit n t.core moved.turn
 
-  -- A turn is a step of the worker, where the task fits, and is counted as one.
+  -- Performing a task is a step of the worker, if the task fits, and counts as one.
   pub record TurnsTo {N E : Type 0} (v : Values N) (me : Owner) (n : ℕ) (shelf : Shelf) (task : Task X XN XH XK XV g gh go gq gp gn) (below : List Todo) (shelf' : Shelf) (moved : StepResult X XN XH XK XV g gh go gq gp gn) (after : List Todo) (s t : PagerState N E) : Type 0 where
     pub turns : Fits v me n task s → Turned v n shelf (todo_of task ∷ below) s shelf' moved after t
     pub counts : moved.counted ≡ is_counted (todo_of task ∷ below) (plain_took moved.action)
@@ -132,7 +133,7 @@ module _ {X XN XH XK XV : Type 0} {g : Environments X XN XH XK XV} {gh : Hashes 
     pub answers : answer_after todo (plain_took moved.action) ≡ answer_in moved.turn
     pub fits : LeavesFit n t.core moved.turn
 
-  -- It is a step of the worker, where the task fits, and is counted as one.
+  -- It is a step of the worker with its end, if the task fits, and counts as one.
   pub record StepsTo {N E : Type 0} (v : Values N) (me : Owner) (n : ℕ) (shelf : Shelf) (task : Task X XN XH XK XV g gh go gq gp gn) (below : List Todo) (shelf' : Shelf) (moved : StepResult X XN XH XK XV g gh go gq gp gn) (after : List Todo) (s t : PagerState N E) : Type 0 where
     pub steps : Fits v me n task s → Stepped v n shelf (todo_of task ∷ below) s shelf' moved after t
     pub counts : moved.counted ≡ is_counted (todo_of task ∷ below) (plain_took moved.action)
@@ -163,14 +164,14 @@ module _ {X XN XH XK XV : Type 0} {g : Environments X XN XH XK XV} {gh : Hashes 
     pub alone : Fits v me n first s → IsAlone n shelf → IsAlone n now_shelf
     pub then : Fits v me n first s → IsAlone n shelf → (answer : WorkerAnswer) (u : PagerState N E) (shelf' : Shelf) → Walked v n (todo_of now ∷ now_below) t now_shelf answer u shelf' → Walked v n (todo_of first ∷ below) s shelf answer u shelf'
 
--- ---- what a worker writes of a node that it has pinned, and what its turns at what it has written do
+-- ---- what a worker writes of a node that it has pinned, and what it does at a written node
 
 -- a form of the value, with exactly its references
 pub record IsForm {N : Type 0} (v : Values N) (x : N) (written : Written) : Type 0 where
   pub form : HasForm v x written
   pub listed : written.references ≡ v.references x
 
--- by a cause of the value's type; and by a name that says that it has no form only where it has none
+-- the value's type may fail with this error; and if the error says that the value has no form, it has none
 pub record WriteRefused {N : Type 0} (v : Values N) (x : N) (e : Error) : Type 0 where
   pub cause : v.write_causes (v.node_type x) e
   pub formless : is_writing_fault e ≡ true → IsFormless v x
@@ -181,7 +182,7 @@ pub record IsPinned {N E : Type 0} (v : Values N) (s : PagerState N E) (r : ArcR
   pub kind : IsOfKind s.core r
   pub pins : PinsAt s.core r pin
 
--- a form of the value that the handle pins, or why it isn't written
+-- what was written is a form of the pinned value, or the value isn't written for this error
 pub record Forms {N E : Type 0} (v : Values N) (s : PagerState N E) (r : ArcRef) (pin : HandleNumber) (result : Result Written Error) : Type 0 where
   pub written : IsPinned v s r pin → IfOk result (λ w. IsWrittenOf v s r.node.0 w)
   pub refused : IsPinned v s r pin → IfErr result (λ e. (v.write_causes (type_of r.kind.0) e ⊎ (e ≡ Error.OutOfMemory)) × RefusesWriting v s r.node.0 e)
@@ -192,7 +193,7 @@ just_open r place through written = record { reference = r; place = place; throu
 
 -- ---- what was written
 
--- the blob is stored, or the call is refused
+-- the blob is stored, or the call fails
 pub record Stores {N E : Type 0} (v : Values N) (s : PagerState N E) (blob : Blob) (r : Result ℕ Error) (t : PagerState N E) : Type 0 where
   pub stored : StoreCall (key_of v.hash) s.core blob r t.core
   pub moves : Moves (λ n x. ⊥) s t
@@ -203,7 +204,7 @@ abbrev pub named_by : Option Node → Option Identity
 named_by None = None
 named_by (Some n) = Some (identity_of n.reference)
 
--- of a stored node the key is set next, and that of an item is answered
+-- the key of a stored node is set next; that of an item is answered
 module _ {X XN XH XK XV : Type 0} {g : Environments X XN XH XK XV} {gh : Hashes XH} {go : Orders XK} {gq : Equalities XK} {gp : PartialOrders XK} {gn : Nodes XN X XN XH XK XV} where
   abbrev pub IsStored : Option Node → ℕ → Turn X XN XH XK XV g gh go gq gp gn → Type 0
   IsStored None key turn = turn ≡ Turn.Answers (WorkerAnswer.Key key)
@@ -215,7 +216,7 @@ pub record SetsFor {N E : Type 0} (v : Values N) (me : Owner) (r : ArcRef) (thro
   pub moves : Moves (λ n x. ⊥) s t
   pub whole : WellFormed v s → WellFormed v t
 
--- an entry goes back to the list, if one is to
+-- the entry is put back on the list, if there is one
 pub record GoesBack {N E : Type 0} (v : Values N) (me : Owner) (back : Option HandleNumber) (s t : PagerState N E) : Type 0 where
   pub goes : MatchOption back (Alike s.core t.core) (λ h. (r : Result (Unit {0}) Error) × ScheduleCall s.core me h r t.core)
   pub moves : Moves (λ n x. ⊥) s t

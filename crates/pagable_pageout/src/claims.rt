@@ -1,5 +1,5 @@
-//! The claims of a table as a walk makes them: of a table that is lent, whose slots are told, or of one that
-//! threads share, which tells nothing.
+//! The calls that a walk makes on a table of claims: on a lent table, whose slots contracts tell,
+//! or on one that threads share, of which they tell nothing.
 
 ghost use Rattle.std.specs.Prelude.{IfOk, None, Option, ◌≡◌};
 ghost use Rattle.{pagable_pageout.specs.{Joint.IsNear, Slots.{ClaimsThere, with_references}, Table.{IsFoundOf, found_as}}, pagable_pager_spec.specs.Access.Told};
@@ -12,30 +12,32 @@ use pagable_value_spec::{ArcRef, Error, Identity, WorkerNumber};
 /// What a claim finds.
 #[derive(Drop)]
 pub enum ClaimResult<E: Env<Node: NodeSet<E>>> {
-    /// The identity was free and is the asker's.
+    /// The identity was free, and the worker has claimed it.
     Claimed,
-    /// Its result.
+    /// The identity has this result.
     Known(SlotResult<E>),
-    /// Another worker has it, and there is no result yet.
+    /// Another worker has claimed it, and there is no result yet.
     Waiting,
-    /// Another worker failed there.
+    /// Another worker claimed it and failed.
     AlreadyFailed,
 }
 
-/// Keeps the claims of a table for the walks of workers. Where the slots are told, each call says what it does to
-/// them.
+/// A table of claims, for the walks of workers. If contracts tell its slots, each call says what it
+/// does to them.
 pub trait Claims<E: Env<Node: NodeSet<E>>> {
     // the slots, if they are told
     ghost shelf: { Self → Option Shelf };
 
-    /// Claims an identity for a worker, at this place on its path (from 0 to 128), or tells what is known there.
+    /// Claims an identity for a worker, at this place on its path (from 0 to 128), or returns what
+    /// is known of it. If another worker has claimed it, this worker waits for it from then on.
     ///
     /// # Errors
-    /// - TooDeep: the place, or the place with the height that is known there, is above 128, or the claim would
-    ///   close a ring of workers that wait for each other.
-    /// - OutOfMemory: no slot could be made, or no wait noted.
     ///
-    /// Either leaves all slots as they were, and the worker waits for nothing.
+    /// - `TooDeep` if the place, or the place and the known height together, is above 128, or if
+    ///   workers would wait for each other in a ring.
+    /// - `OutOfMemory` if the table can't grow.
+    ///
+    /// After each error the slots are unchanged, and the worker waits for nothing.
     fn claim_for(
         &mut self,
         worker: WorkerNumber,
@@ -46,21 +48,22 @@ pub trait Claims<E: Env<Node: NodeSet<E>>> {
         ensures own { IfOk result (IsFoundOf identity) }
         ensures near { IfOk result (IsNear place) };
 
-    /// Forgets for whom a worker waits, if it does. Nothing refuses that.
+    /// Forgets for whom a worker waits, if it does. It can't fail.
     fn forget_wait(&mut self, worker: WorkerNumber)
         ensures { Told (shelf self.old) (shelf self.new) (λ s s'. SameShelf (with_wait s worker.0 None) s') };
 
-    /// Notes the references that were written of a claimed node. Nothing refuses that, and where no slot is, nothing
-    /// changes.
+    /// Notes the references that a claimed node was written with. Does nothing if the identity has
+    /// no slot. It can't fail.
     fn note_written(&mut self, identity: Identity, references: Vec<ArcRef>)
         ensures { Told (shelf self.old) (shelf self.new) (λ s s'. SameShelf (with_changed_slot s identity (with_references references.items)) s') };
 
-    /// Publishes the result of a claimed identity. Where an outcome stands there, that one stays. It takes no memory,
-    /// and nothing refuses it.
+    /// Publishes the result of a claimed identity. An outcome that is there already stays. It takes
+    /// no memory and can't fail.
     fn publish(&mut self, found: &SlotResult<E>)
         ensures { Told (shelf self.old) (shelf self.new) (λ s s'. SameShelf (with_changed_slot s found.now.identity (with_outcome (published found.now.key found.now.height))) s') };
 
-    /// Fails all claims of a worker that have no result yet. It takes no memory, and nothing refuses it.
+    /// Marks all claims of a worker that have no outcome yet as failed. It takes no memory and
+    /// can't fail.
     fn fail_claims(&mut self, worker: WorkerNumber)
         ensures { Told (shelf self.old) (shelf self.new) (λ s s'. SameShelf (with_failed s worker.0) s') };
 }

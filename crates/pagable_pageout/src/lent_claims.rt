@@ -1,4 +1,4 @@
-//! Claims of a lent table, and what is known of them.
+//! The calls of a lent table of claims.
 
 ghost use Rattle.std.specs.Prelude.{IfErr, IfOk, None, OnErr, OnOk, Some, ◌≡◌};
 ghost use Rattle.pagable_pager_spec.specs.{Workers.{with_changed_slot, with_failed, with_slot, IsOpenSlot, with_wait, ComesToEnd, with_outcome}, World.{Slot, SameShelf, published}};
@@ -12,11 +12,12 @@ use pagable_codec::{Env, NodeSet};
 use pagable_value_spec::{ArcRef, Error, Identity, WorkerNumber};
 use std::alloc::Global;
 
-/// At most so many claims are cleared away in place, since that costs what the table's memory does.
+/// A table with more slots than this is replaced by a new one instead of being cleared, which costs
+/// time for all of its memory.
 const FEW: usize = 16;
 
 impl<E: Env<Node: NodeSet<E>>> LentTable<E> {
-    // Whom a worker waits for.
+    // Returns the worker that this one waits for, if it waits.
     fn waits_for(&self, worker: u64) -> Option<u64>
         ensures { result ≡ waits_for (shelf_of self.now) worker }
     {
@@ -28,7 +29,8 @@ impl<E: Env<Node: NodeSet<E>>> LentTable<E> {
         None
     }
 
-    /// Whether the worker `start` waits for one that waits, and so on, for the worker `asker`. As no workers wait in a ring, that comes to an end.
+    /// Says whether `start` is the worker `asker`, or waits for it, directly or through others that
+    /// wait. The search ends, since workers don't wait in a ring.
     pub fn would_deadlock(&self, asker: u64, start: u64) -> bool
         ensures { Leads (shelf_of self.now) asker start result }
     {
@@ -44,7 +46,8 @@ impl<E: Env<Node: NodeSet<E>>> LentTable<E> {
         }
     }
 
-    // What a claim of an identity at this place on a path would find.
+    // Returns what a claim of an identity at this place on a path would find. Fails with TooDeep if
+    // the path is too long, or workers would wait in a ring.
     fn probe(
         &self,
         worker: WorkerNumber,
@@ -78,7 +81,7 @@ impl<E: Env<Node: NodeSet<E>>> LentTable<E> {
         }
     }
 
-    /// A worker doesn't wait any more.
+    /// Forgets for whom a worker waits, if it does.
     pub fn stop_waiting(&mut self, worker: WorkerNumber)
         ensures { SameShelf (with_wait (shelf_of self.old) worker.0 None) (shelf_of self.new) }
     {
@@ -88,7 +91,8 @@ impl<E: Env<Node: NodeSet<E>>> LentTable<E> {
         self.waits.swap_remove(&worker.0);
     }
 
-    // A worker that doesn't wait claims a free identity.
+    // Claims a free identity for a worker that doesn't wait. Fails with OutOfMemory if the table
+    // can't grow.
     fn take(&mut self, worker: WorkerNumber, identity: Identity) -> Result<(), Error>
         requires free { (shelf_of self.old).slots identity ≡ None }
         requires works { (shelf_of self.old).waits worker.0 ≡ None }
@@ -105,7 +109,8 @@ impl<E: Env<Node: NodeSet<E>>> LentTable<E> {
         Ok(())
     }
 
-    // A worker waits for the result of an identity whose worker doesn't come to wait for it.
+    // Notes that a worker waits for the result of an identity, whose worker doesn't wait for this
+    // one. Fails with OutOfMemory if the table can't grow.
     fn wait_for(&mut self, worker: WorkerNumber, identity: Identity) -> Result<(), Error>
         requires { (slot : Slot) × IsOpenSlot (shelf_of self.old) identity slot × ComesToEnd (shelf_of self.old) worker.0 slot.worker }
         ensures ok { OnOk result (SameShelf (with_wait (shelf_of self.old) worker.0 (Some identity)) (shelf_of self.new)) }
@@ -116,7 +121,7 @@ impl<E: Env<Node: NodeSet<E>>> LentTable<E> {
         Ok(())
     }
 
-    /// A table of no claims. It takes no memory.
+    /// Makes a table without claims. It takes no memory.
     pub fn new(alloc: Global) -> LentTable<E>
         ensures { SameShelf no_shelf (shelf_of result) }
     {
@@ -137,8 +142,16 @@ impl<E: Env<Node: NodeSet<E>>> LentTable<E> {
         self.waits.clear();
     }
 
-    /// A worker claims an identity at this place on a path, or learns what is known there. It waits only for a worker that doesn't come to wait for it. Refused with TooDeep where the path is too
-    /// long, also with the height that is known there, or where workers would wait in a ring; and with OutOfMemory. No claim is made then, and the worker waits for nothing.
+    /// Claims an identity for a worker at this place on its path, or returns what is known of it.
+    /// If another worker has claimed it, this one waits for it from then on.
+    ///
+    /// # Errors
+    ///
+    /// - `TooDeep` if the path is too long, also together with the known height, or if workers
+    ///   would wait in a ring.
+    /// - `OutOfMemory` if the table can't grow.
+    ///
+    /// After each error the slots are unchanged, and the worker waits for nothing.
     #[tactic(auto, using(crate::proofs::Waits::claims))]
     pub fn try_claim(
         &mut self,
@@ -164,7 +177,8 @@ impl<E: Env<Node: NodeSet<E>>> LentTable<E> {
         }
     }
 
-    /// The references that were written of a claimed node are known from now on.
+    /// Notes the references that a claimed node was written with. Does nothing if the identity has
+    /// no slot.
     pub fn set_written(&mut self, identity: Identity, references: Vec<ArcRef>)
         ensures { SameShelf (with_changed_slot (shelf_of self.old) identity (with_references references.items)) (shelf_of self.new) }
     {
@@ -173,7 +187,8 @@ impl<E: Env<Node: NodeSet<E>>> LentTable<E> {
         }
     }
 
-    /// The result of a claimed identity is put where others see it. Where one stands there, it stays. It takes no memory.
+    /// Publishes the result of a claimed identity. An outcome that is there already stays. It takes
+    /// no memory.
     pub fn set_success(&mut self, found: SlotResult<E>)
         ensures { SameShelf (with_changed_slot (shelf_of self.old) found.identity (with_outcome (published found.key found.height))) (shelf_of self.new) }
     {
@@ -183,7 +198,7 @@ impl<E: Env<Node: NodeSet<E>>> LentTable<E> {
         }
     }
 
-    /// A worker fails: its claims without a result are failed. It takes no memory.
+    /// Marks all claims of a worker that have no outcome yet as failed. It takes no memory.
     pub fn fail(&mut self, worker: WorkerNumber)
         ensures { SameShelf (with_failed (shelf_of self.old) worker.0) (shelf_of self.new) }
     {

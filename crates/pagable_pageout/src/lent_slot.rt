@@ -1,4 +1,4 @@
-//! The slot of a claimed identity in a table that is lent.
+//! The slot of a claimed identity in a lent table.
 
 ghost use Rattle.std.specs.Prelude.{◌≡◌};
 ghost use Rattle.pagable_pager_spec.specs.{Workers.with_outcome, World.{failed, published}};
@@ -9,18 +9,19 @@ use indexmap::IndexMap;
 use pagable_codec::{Env, NodeSet};
 use pagable_value_spec::{ArcRef, WorkerNumber};
 
-/// What is known of a claim.
+/// The outcome of a claim.
 #[derive(Drop)]
 pub enum Outcome<E: Env<Node: NodeSet<E>>> {
-    /// There is no result yet.
+    /// It has no result yet.
     Open,
-    /// Its key and height.
+    /// The node is stored: its key and height.
     Published(SlotResult<E>),
     /// Its worker failed.
     Failed,
 }
 
-/// A claim: the worker that made it, the references that were written of its node, and its outcome.
+/// A claim: the worker that made it, the references that its node was written with, and its
+/// outcome.
 #[derive(Drop)]
 pub struct LentSlot<E: Env<Node: NodeSet<E>>> {
     pub worker: WorkerNumber,
@@ -29,7 +30,7 @@ pub struct LentSlot<E: Env<Node: NodeSet<E>>> {
 }
 
 impl<E: Env<Node: NodeSet<E>>> LentSlot<E> {
-    /// Publishes a result, where there is none yet. It takes no memory.
+    /// Publishes a result if the claim has no outcome yet. It takes no memory.
     pub fn set_success(&mut self, found: SlotResult<E>)
         ensures slot { slot_of self.new ≡ with_outcome (published found.key found.height) (slot_of self.old) }
         ensures own { IsNamed found.identity self.old → IsNamed found.identity self.new }
@@ -39,7 +40,7 @@ impl<E: Env<Node: NodeSet<E>>> LentSlot<E> {
         }
     }
 
-    /// Marks it failed, where there is no result yet. It takes no memory.
+    /// Marks the claim as failed if it has no outcome yet. It takes no memory.
     pub fn set_failed(&mut self)
         ensures slot { slot_of self.new ≡ with_outcome failed (slot_of self.old) }
         ensures own { (i : Named) → IsNamed i self.old → IsNamed i self.new }
@@ -49,7 +50,7 @@ impl<E: Env<Node: NodeSet<E>>> LentSlot<E> {
         }
     }
 
-    // Marks it failed, if it is this worker's and has no result yet.
+    // Marks the claim as failed if it is this worker's and has no outcome yet.
     fn fail_of(&mut self, worker: u64)
         ensures slot { slot_of self.new ≡ failed_by worker (slot_of self.old) }
         ensures own { (i : Named) → IsNamed i self.old → IsNamed i self.new }
@@ -60,7 +61,7 @@ impl<E: Env<Node: NodeSet<E>>> LentSlot<E> {
     }
 }
 
-/// A worker's claims without a result are failed. It takes no memory.
+/// Marks all claims of a worker that have no outcome yet as failed. It takes no memory.
 #[tactic(auto, using(crate::proofs::Waits::failing))]
 pub fn fail_all<E: Env<Node: NodeSet<E>>>(
     slots: &mut IndexMap<(u32, u64), LentSlot<E>>,

@@ -1,4 +1,4 @@
-//! The table of claims that is lent.
+//! The table of claims that a caller lends to its workers.
 
 ghost use Rattle.pagable_pageout.specs.Slots.{AreNamed, shelf_in, EachEnds};
 
@@ -7,7 +7,8 @@ use indexmap::IndexMap;
 use pagable_codec::{Env, NodeSet};
 use pagable_value_spec::Identity;
 
-/// The claims of a table that is lent: a slot for each claimed identity, and what each waiting worker waits for.
+/// The table of claims that a caller lends to its workers: a slot for each claimed identity, and
+/// for each waiting worker the identity whose result it waits for.
 #[derive(Drop)]
 pub struct LentTable<E: Env<Node: NodeSet<E>>> {
     pub(crate) slots: IndexMap<(u32, u64), LentSlot<E>>,

@@ -1,4 +1,5 @@
-//! Page-out of what values refer to: the claims of a table, and a worker's walk over them with a stack of tasks.
+//! Page-out of values and of all that they refer to: the table of claims, and a worker's walk over
+//! the references, with a task at hand and a path of nodes that wait.
 #![tactic(auto)]
 
 pub mod claims;

@@ -1,4 +1,4 @@
-//! The refusal that a failed page-out comes down to.
+//! The error for a failed page-out.
 
 ghost use Rattle.std.specs.Prelude.{◌≡◌};
 ghost use Rattle.pagable_pageout.specs.declared.tasks.PageOutError.{PageOutError};
@@ -6,7 +6,7 @@ ghost use Rattle.pagable_pageout.specs.declared.tasks.PageOutError.{PageOutError
 use crate::tasks::PageOutError;
 use pagable_value_spec::{Error, Reason};
 
-/// A failure of its own is its refusal, and that of another worker is told in words.
+/// Returns the worker's own error; for a failure of another worker a `Custom` error that says so.
 impl From<PageOutError> for Error {
     ghost use Rattle.pagable_value_spec.specs.declared.error.Error.{Error as Refusal};
 

@@ -1,4 +1,5 @@
-//! What page-out found of a node, with a finite tree of such results below it.
+//! The result of a node's page-out, with the proof that it stands for a finite tree of such
+//! results.
 
 ghost use Rattle.std.specs.Prelude.{◌≡◌, ◌≤◌};
 ghost use Rattle.pagable_pager_spec.specs.Basics.{longest_path};
@@ -8,7 +9,7 @@ use pagable_codec::{Env, NodeSet};
 use pagable_value_spec::{DataKey, Identity};
 use std::marker::PhantomData;
 
-/// What page-out found of a node: its key, and its height, which is at most the longest path.
+/// The result of a node's page-out: its key, and its height, which is at most the longest path.
 #[derive(Drop)]
 pub struct SlotResult<E: Env<Node: NodeSet<E>>> {
     pub identity: Identity,
@@ -20,7 +21,7 @@ pub struct SlotResult<E: Env<Node: NodeSet<E>>> {
 }
 
 impl<E: Env<Node: NodeSet<E>>> SlotResult<E> {
-    /// The same again.
+    /// Copies the result.
     pub fn again(&self) -> SlotResult<E>
         ensures identity { result.identity ≡ self.now.identity }
         ensures key { result.key ≡ self.now.key }

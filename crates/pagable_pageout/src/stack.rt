@@ -1,4 +1,5 @@
-//! A worker's path: what was written and waits for the next of its references. And what a worker does first.
+//! A worker's path, the written nodes that wait for their next reference; and a worker's first
+//! task.
 
 ghost use Rattle.std.specs.{Arc.arc_value, Prelude.{IfErr, IfOk, OnErr, [], length, vec_capacity, vec_len, ◌*◌, ◌++◌, ◌+◌, ◌<◌, ◌∷◌, ◌≡◌, ◌≤◌}};
 ghost use Rattle.pagable_pageout.specs.{Slots.{keys_of, written_of}, Tasks.{AwaitsLow, Gives, IsPlain, IsWay, TakesNext, back_of, due, fails, fault_of, raised, todo_of, todos, waits_as}};
@@ -13,7 +14,8 @@ use pagable_value_spec::{ArcRef, Error, HandleNumber, Kind};
 use std::alloc::Global;
 use std::sync::Arc;
 
-/// The place of a reference of this kind on the path below a node at this place. A path ends at a reference through a loose handle.
+/// Returns the place (the depth on the path) of a child under a node at this place: 0 through a
+/// loose reference, at which a new path begins, else one more than its parent's.
 pub fn place_below(place: u64, kind: Kind) -> u64
     requires { place ≤ longest_path }
     ensures { result ≡ place_below place kind.0 }
@@ -21,7 +23,8 @@ pub fn place_below(place: u64, kind: Kind) -> u64
     if kind.0 % 3 == 1 { 0 } else { place + 1 }
 }
 
-/// What waits goes on: its next reference is started, for which it waits on a path that has room; or it is finished.
+/// Takes up a written node or item: pushes it on the path, which has room for it, and returns the
+/// task of its next reference; or the task of finishing it, if all its references are done.
 #[tactic(auto, using(crate::proofs::Stacks::settling))]
 pub fn settle<E: Env<Node: NodeSet<E>>>(path: &mut Vec<Waiting<E>>, waiting: Waiting<E>) -> Task<E>
     requires { vec_len path.old < vec_capacity path.old }
@@ -39,7 +42,8 @@ pub fn settle<E: Env<Node: NodeSet<E>>>(path: &mut Vec<Waiting<E>>, waiting: Wai
     Task::Start(next, place)
 }
 
-// A node with the height by a reference of this kind too, to what is so high.
+// Returns the node with its height raised to that by a reference of this kind to a node of height
+// `below`.
 fn raised(node: Option<Node>, kind: Kind, below: u64) -> Option<Node>
     requires { below ≤ longest_path }
     ensures { result ≡ raised kind.0 below node }
@@ -51,7 +55,7 @@ fn raised(node: Option<Node>, kind: Kind, below: u64) -> Option<Node>
     })
 }
 
-// What waits, with the result of its next reference.
+// Returns a waiting node or item with the result of its next reference.
 #[tactic(auto, using(crate::proofs::Stacks::giving))]
 fn with_result<E: Env<Node: NodeSet<E>>>(waiting: Waiting<E>, done: Done<E>) -> Waiting<E>
     requires { TakesNext waiting.node (written_of (arc_value waiting.written)) (keys_of waiting.children.items) done.reference done.found.height }
@@ -67,7 +71,8 @@ fn with_result<E: Env<Node: NodeSet<E>>>(waiting: Waiting<E>, done: Done<E>) -> 
     }
 }
 
-/// A result goes to what waits for it, and that goes on. Where nothing waits, it comes back.
+/// Gives a result to the last entry of the path, which waits for it, and takes that up as `settle`
+/// does. Returns the result back as an error if the path is empty.
 #[tactic(auto, using(crate::proofs::Stacks::giving))]
 pub fn give<E: Env<Node: NodeSet<E>>>(
     path: &mut Vec<Waiting<E>>,
@@ -86,7 +91,8 @@ pub fn give<E: Env<Node: NodeSet<E>>>(
     Ok(settle(path, with_result(waiting, done)))
 }
 
-/// The walk fails: all that waits goes. Where nothing waits, this entry goes back to the list.
+/// Fails the walk: clears the path, and returns the task of failing. If the path was empty, that
+/// task also puts `entry` back on the list.
 #[tactic(auto, using(crate::proofs::Stacks::paths))]
 pub fn fail<E: Env<Node: NodeSet<E>>>(
     path: &mut Vec<Waiting<E>>,
@@ -105,7 +111,7 @@ pub fn fail<E: Env<Node: NodeSet<E>>>(
     Task::Fail(why, None)
 }
 
-/// The walk fails by a step of its own that was refused.
+/// Fails the walk by an error of one of its own steps, as `fail` does.
 pub fn refuse<E: Env<Node: NodeSet<E>>>(
     path: &mut Vec<Waiting<E>>,
     e: &Error,
@@ -119,7 +125,11 @@ pub fn refuse<E: Env<Node: NodeSet<E>>>(
     fail(path, PageOutError::Failed(*e), entry)
 }
 
-/// The first task for an item, and a path with places for it. Refused by want of memory alone.
+/// Returns the first task for an item, and a path with room for it.
+///
+/// # Errors
+///
+/// - `OutOfMemory` if the path or the results can't get memory.
 #[tactic(auto, using(crate::proofs::Stacks::paths))]
 pub fn start_item<E: Env<Node: NodeSet<E>>>(
     alloc: Global,
@@ -140,7 +150,8 @@ pub fn start_item<E: Env<Node: NodeSet<E>>>(
     Ok((settle(&mut path, item), path))
 }
 
-/// The first task for an entry of the list, which this reference names, and an empty path. It takes no memory.
+/// Returns the first task for the list entry that this reference names, and an empty path. It takes
+/// no memory.
 #[tactic(auto, using(crate::proofs::Stacks::paths), unfolding(crate::specs::Tasks::Awaits))]
 pub fn start_entry<E: Env<Node: NodeSet<E>>>(
     alloc: Global,

@@ -1,5 +1,5 @@
-//! A worker's step: what is to be done next is done, and with its answer the worker ends. Its walk, from its first task to its answer. And page-out of an item, and of the entries of the list, over an
-//! access, each by workers of its own.
+//! A worker's step, which ends the worker when it answers; its walk, from the first task to the
+//! answer; and page-out of an item, and of the entries of the list, each by a worker of its own.
 
 ghost use Rattle.pagable_pager_spec.specs.World.{Written};
 ghost use Rattle.std.specs.{Arc.arc_value, Prelude.{IfOk, ◌∷◌, ◌≡◌}};
@@ -22,7 +22,7 @@ use pagable_value_spec::{DataKey, Error, OptionalDataKey, WorkerNumber};
 use std::alloc::Global;
 use std::sync::Arc;
 
-// Does what is to be done next: one task, by one step of the access at most.
+// Performs one task, by at most one step of the access.
 #[tactic(auto, using(crate::proofs::Turns::turning))]
 fn turn<E: Env<Node: NodeSet<E>>, A: WorkerAccess<E>, T: Claims<E>>(
     access: &mut A,
@@ -78,7 +78,7 @@ fn turn<E: Env<Node: NodeSet<E>>, A: WorkerAccess<E>, T: Claims<E>>(
     }
 }
 
-// With its answer the worker ends.
+// Ends the worker if it has answered.
 pub(crate) fn end_answered<E: Env<Node: NodeSet<E>>, A: WorkerAccess<E>>(
     access: &mut A,
     worker: WorkerNumber,
@@ -92,8 +92,9 @@ pub(crate) fn end_answered<E: Env<Node: NodeSet<E>>, A: WorkerAccess<E>>(
     access.worker_end(worker);
 }
 
-/// A worker's next step, by its task and its path, on the pager and its table: what it was, and what is to be done after it, or its answer. With its answer the worker
-/// gives up all that it still has, and the calls are the caller's again.
+/// Performs a worker's next task, on the pager and its table, and returns the step with the next
+/// task or the worker's answer. With its answer the worker ends: all its handles are released, and
+/// the access is the caller's again.
 pub fn step<E: Env<Node: NodeSet<E>>, A: WorkerAccess<E>, T: Claims<E>>(
     access: &mut A,
     alloc: Global,
@@ -113,9 +114,10 @@ pub fn step<E: Env<Node: NodeSet<E>>, A: WorkerAccess<E>, T: Claims<E>>(
     moved
 }
 
-/// Makes a worker's steps from its task and its path on, up to its answer. Where other workers have claims without a
-/// result on its table, nothing is said of it: it waits for none of them, and fails with TooDeep where it would have
-/// to. It makes at most 2^64 - 1 claims, and fails with NumbersSpent at one more.
+/// Makes a worker's steps from its task and path on, up to its answer. It never waits for another
+/// worker: it fails with `TooDeep` where it would have to, so its contract says nothing if other
+/// workers have claims without a result on the table. It makes at most 2^64 - 1 claims, and fails
+/// with `NumbersSpent` at one more.
 #[tactic(auto, using(crate::proofs::Turns::joining))]
 pub fn run<E: Env<Node: NodeSet<E>>, A: WorkerAccess<E>, T: Claims<E>>(
     access: &mut A,
@@ -142,7 +144,7 @@ pub fn run<E: Env<Node: NodeSet<E>>, A: WorkerAccess<E>, T: Claims<E>>(
 
 // ---- page-outs
 
-/// A worker's answer as that of a page-out.
+/// Returns a worker's answer as the result of a page-out.
 fn told(answer: WorkerAnswer) -> Result<DataKey, PageOutError>
     ensures { answer_of result ≡ answer }
 {
@@ -153,8 +155,15 @@ fn told(answer: WorkerAnswer) -> Result<DataKey, PageOutError>
     }
 }
 
-/// Pages an item out on a table, by a worker of its own, up to the worker's answer: the item's key, or why it fails. The access is the caller's, before and
-/// after. A failure leaves what was stored and set so far, and no claim without a result.
+/// Pages an item out on a table, by a worker of its own, and returns the item's key. The access is
+/// the caller's before and after.
+///
+/// # Errors
+///
+/// - `Failed` with the error of beginning the worker, or of one of its steps.
+/// - `AlreadyFailed` if another worker failed at an identity that this one needs.
+///
+/// What was stored and set so far stays, and the worker leaves no claim without an outcome.
 #[tactic(auto, using(crate::proofs::Pages::items))]
 pub fn page_out_item_over<E: Env<Node: NodeSet<E>>, A: WorkerAccess<E>, T: Claims<E>>(
     access: &mut A,
@@ -176,7 +185,7 @@ pub fn page_out_item_over<E: Env<Node: NodeSet<E>>, A: WorkerAccess<E>, T: Claim
     }
 }
 
-// The answer for an entry that was there.
+// Returns the result for an entry that was there.
 fn was_there(answer: Result<DataKey, PageOutError>) -> Result<Option<DataKey>, PageOutError>
     ensures { result ≡ there answer }
 {
@@ -186,8 +195,14 @@ fn was_there(answer: Result<DataKey, PageOutError>) -> Result<Option<DataKey>, P
     }
 }
 
-/// Pages out the entry at a place of the list, on the table as a new one, up to its worker's answer; or answers None where there is none any more: behind a lock
-/// another thread may have taken it.
+/// Pages out the entry at an index of the list, by a worker of its own, on the table, whose claims
+/// it forgets first; returns the cell's key. Returns None if no entry is there any more: behind a
+/// lock another thread may have taken it.
+///
+/// # Errors
+///
+/// - `Failed` with the error of beginning the worker, or of one of its steps: what was stored and
+///   set so far stays.
 #[tactic(auto, using(crate::proofs::Pages::entries))]
 pub fn page_out_entry<E: Env<Node: NodeSet<E>>, A: WorkerAccess<E>>(
     access: &mut A,
@@ -208,7 +223,7 @@ pub fn page_out_entry<E: Env<Node: NodeSet<E>>, A: WorkerAccess<E>>(
     was_there(told(run(access, alloc, table, worker, &mut path, task)))
 }
 
-// Pages out the entry at a place of the list, or releases it where its cell has a key.
+// Pages out the entry at an index of the list, or releases it if its cell has a key.
 #[tactic(auto, using(crate::proofs::Pages::places))]
 fn page_out_at<E: Env<Node: NodeSet<E>>, A: WorkerAccess<E>>(
     access: &mut A,
@@ -228,7 +243,7 @@ fn page_out_at<E: Env<Node: NodeSet<E>>, A: WorkerAccess<E>>(
             let _told = access.release(entry);
             Ok(())
         }
-        // (also where it has gone meanwhile)
+        // (or another thread has taken the entry meanwhile)
         Some(OptionalDataKey::None) => match page_out_entry(access, alloc, table, place) {
             Ok(_) => Ok(()),
             Err(why) => Err(why),
@@ -236,8 +251,13 @@ fn page_out_at<E: Env<Node: NodeSet<E>>, A: WorkerAccess<E>>(
     }
 }
 
-/// Pages out the entries that stand in the list at the call, from the last to the first, each on a table without claims, up to the first failure, which is answered. What is
-/// listed meanwhile stays. An entry whose cell has a key is only released. The access is the caller's, before and after.
+/// Pages out the entries that are in the list at the call, from the last to the first, each on an
+/// empty table. An entry whose cell has a key is only released. Entries that are listed meanwhile
+/// stay. The access is the caller's before and after.
+///
+/// # Errors
+///
+/// - `Failed` with the error of the first entry that fails: the entries before it stay in the list.
 #[tactic(auto, using(crate::proofs::Pages::listed))]
 pub fn page_out_pending_over<E: Env<Node: NodeSet<E>>, A: WorkerAccess<E>>(
     access: &mut A,

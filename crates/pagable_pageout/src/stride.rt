@@ -1,5 +1,5 @@
-//! Strides of a walk: the steps of a worker from one claim to the next, or at a node that is done, made together, so
-//! that no task is kept between them.
+//! Strides of a walk: a worker's steps from one claim to the next, or those at a node whose
+//! references are done, made together, so that no task is kept between them.
 
 ghost use Rattle.pagable_pager_spec.specs.World.{SameShelf, Shelf, published, was_refused, to_pin, to_publish, to_start, to_write};
 ghost use Rattle.pagable_pager_spec.specs.{Access.Told, Workers.{with_changed_slot, with_outcome, with_wait}};
@@ -18,7 +18,7 @@ use pagable_value_spec::{ArcRef, Error, HandleNumber, WorkerNumber};
 use std::alloc::Global;
 use std::sync::Arc;
 
-// A claim that isn't made, for this reason: the worker waits for nothing, and its walk fails.
+// Fails the walk by this error instead of making a claim: the worker waits for nothing.
 fn unclaimed<E: Env<Node: NodeSet<E>>, T: Claims<E>>(
     table: &mut T,
     worker: WorkerNumber,
@@ -35,7 +35,8 @@ fn unclaimed<E: Env<Node: NodeSet<E>>, T: Claims<E>>(
     refuse(path, &e, Some(reference.handle))
 }
 
-// Writes the value that was shared from the handle that pins it, and comes to its references.
+// Writes the value that was shared from the handle that pins it, and returns the task of its first
+// reference.
 fn enter<E: Env<Node: NodeSet<E>>, A: WorkerAccess<E>, T: Claims<E>>(
     access: &A,
     alloc: Global,
@@ -61,7 +62,7 @@ fn enter<E: Env<Node: NodeSet<E>>, A: WorkerAccess<E>, T: Claims<E>>(
     }
 }
 
-// Pins what was claimed, and writes it where its value is in memory; or begins a load of it.
+// Pins what was claimed and writes it, if its value is in memory; else begins a load of it.
 #[tactic(auto, using(std::proofs::lemmas::Bool::Decides::nat_tests))]
 fn take<E: Env<Node: NodeSet<E>>, A: WorkerAccess<E>, T: Claims<E>>(
     access: &mut A,
@@ -92,8 +93,8 @@ fn take<E: Env<Node: NodeSet<E>>, A: WorkerAccess<E>, T: Claims<E>>(
     }
 }
 
-// Claims what a reference names, and takes it where it was free. A claim that would have to wait is refused with
-// TooDeep: nobody else goes on meanwhile.
+// Claims what a reference names and, if it was free, pins and writes it as `take` does. Fails the
+// walk with TooDeep if the claim would have to wait: no other worker makes steps meanwhile.
 #[tactic(auto, using(std::proofs::lemmas::Bool::Decides::nat_tests))]
 fn start<E: Env<Node: NodeSet<E>>, A: WorkerAccess<E>, T: Claims<E>>(
     access: &mut A,
@@ -136,8 +137,8 @@ fn begin<E: Env<Node: NodeSet<E>>, A: WorkerAccess<E>, T: Claims<E>>(
     Turn::Goes(start(access, alloc, table, worker, path, reference, place))
 }
 
-// Publishes the result of a node whose key is set and whose handles are given up. Its result goes to what waits for it;
-// where nothing does, its key is answered.
+// Publishes the result of a node whose key is set and whose handles are released, and gives it to
+// the last entry of the path; if the path is empty, answers the node's key.
 #[tactic(auto, using(std::proofs::lemmas::Bool::Decides::nat_tests, crate::proofs::Stacks::ways))]
 fn publish<E: Env<Node: NodeSet<E>>, T: Claims<E>>(
     table: &mut T,
@@ -157,8 +158,8 @@ fn publish<E: Env<Node: NodeSet<E>>, T: Claims<E>>(
     }
 }
 
-// Stores the blob of a node whose references are all done, sets its key, gives up the worker's handles of it, and
-// publishes its result.
+// Stores the blob of a node whose references are all done, sets its key, releases the worker's
+// handles of it, and publishes its result.
 #[tactic(auto, using(std::proofs::lemmas::Bool::Decides::nat_tests))]
 fn leave_node<E: Env<Node: NodeSet<E>>, A: WorkerAccess<E>, T: Claims<E>>(
     access: &mut A,
@@ -200,7 +201,7 @@ fn leave_item<E: Env<Node: NodeSet<E>>, A: WorkerAccess<E>>(
     }
 }
 
-// Leaves what was written, a node or the item, once its references are all done.
+// Finishes a written node or item whose references are all done.
 fn leave<E: Env<Node: NodeSet<E>>, A: WorkerAccess<E>, T: Claims<E>>(
     access: &mut A,
     alloc: Global,
@@ -220,11 +221,12 @@ fn leave<E: Env<Node: NodeSet<E>>, A: WorkerAccess<E>, T: Claims<E>>(
     }
 }
 
-/// A worker's next steps, by its task and its path, on the pager and its table, where so many claims are left: what is
-/// to be done after them, or its answer, with which it ends as by `step`. At a claim these are the steps up to the next
-/// claim or the next blob, as far as the value is in memory and nothing is refused; at what was written, those up to
-/// the next claim, blob or answer; at any other task it is one step. Where no claim is left, a claim is refused with
-/// NumbersSpent.
+/// Makes a worker's next steps, on the pager and its table, and returns the next task or the
+/// worker's answer, with which it ends as by `step`. From the task of a claim on, it makes the
+/// steps up to the next claim or the next blob to store, as far as the value is in memory and
+/// nothing fails; from a node whose references are done on, those up to the next claim, blob or
+/// answer; at any other task one step. `left` is the number of claims that the worker may still
+/// make: at 0 a claim fails with NumbersSpent.
 #[tactic(auto, using(crate::proofs::Stacks::dues))]
 pub fn stride<E: Env<Node: NodeSet<E>>, A: WorkerAccess<E>, T: Claims<E>>(
     access: &mut A,
@@ -246,7 +248,7 @@ pub fn stride<E: Env<Node: NodeSet<E>>, A: WorkerAccess<E>, T: Claims<E>>(
             if *left == 0 {
                 return Turn::Goes(unclaimed(table, worker, path, reference, Error::NumbersSpent));
             }
-            // (by its count the path is known to be no longer than numbers go)
+            // (the count shows that the path is no longer than a u64 tells)
             let _entries = path.len();
             *left -= 1;
             begin(access, alloc, table, worker, path, reference, place)

@@ -1,4 +1,4 @@
-//! What a page-out worker has still to do: the task at hand, and the path of what waits below it.
+//! What a page-out worker has still to do: the task at hand, and the path of nodes that wait.
 
 ghost use Rattle.std.specs.{Arc.arc_value, Prelude.{Some, length, map, take, vec_capacity, ◌+◌, ◌≡◌, ◌≤◌}};
 ghost use Rattle.pagable_load.specs.AccessView.{values_at};
@@ -15,13 +15,18 @@ use std::sync::Arc;
 /// Why a page-out fails.
 #[derive(Clone, Copy, Debug, PartialEq)]
 pub enum PageOutError {
-    /// A step of its own was refused.
+    /// One of the worker's own steps failed with this error.
     Failed(Error),
-    /// Another worker failed at an identity that it needs.
+    /// Another worker failed at an identity whose result this one needs.
     AlreadyFailed,
 }
 
-/// A written node: the reference by which it was claimed, its place on the path, the worker's handle of the reference's mode, and the height by those of its references that are done.
+/// A written node.
+///
+/// - `reference`: the reference by which it was claimed.
+/// - `place`: its depth on the path.
+/// - `through`: the worker's own handle of the reference's mode.
+/// - `height`: the longest path below it, by the references done so far.
 #[derive(Clone, Copy)]
 pub struct Node {
     pub reference: ArcRef,
@@ -30,7 +35,8 @@ pub struct Node {
     pub height: u64,
 }
 
-/// What was written and waits for its references: a node, or else the item. Of the references done so far there are the results, and places for all others.
+/// A written node (or the item, without `node`) that waits for its references. `children` has the
+/// results of the references done so far, and room for all others.
 #[derive(Drop)]
 pub struct Waiting<E: Env<Node: NodeSet<E>>> {
     pub node: Option<Node>,
@@ -51,7 +57,7 @@ pub struct Done<E: Env<Node: NodeSet<E>>> {
 }
 
 impl<E: Env<Node: NodeSet<E>>> Done<E> {
-    /// The key of what the reference names.
+    /// Returns the key of what the reference names.
     pub fn key(&self) -> DataKey
         ensures { result ≡ self.now.found.key }
     {
@@ -59,39 +65,40 @@ impl<E: Env<Node: NodeSet<E>>> Done<E> {
     }
 }
 
-/// What is to be done next.
+/// A worker's next task.
 #[derive(Drop)]
 pub enum Task<E: Env<Node: NodeSet<E>>> {
     /// Claims what the reference names, at this place on the path.
     Start(ArcRef, u64),
     /// Pins what was claimed.
     Pin(ArcRef, u64),
-    /// Goes on with the load that this handle began.
+    /// Makes the next step of the load that began through this handle.
     Load(ArcRef, u64, HandleNumber, Reading),
-    /// Writes the value: the first handle has the reference's mode, the second pins it.
+    /// Writes the value. The first handle has the reference's mode, the second one pins the node.
     Write(ArcRef, u64, HandleNumber, HandleNumber),
-    /// Stores its blob, once its references are done.
+    /// Stores the blob of a node or an item whose references are all done.
     Finish(Waiting<E>),
-    /// Sets its key through this handle.
+    /// Sets the node's key through this handle.
     SetKey(Done<E>, HandleNumber),
-    /// Puts its result where others see it.
+    /// Publishes the node's result in the table.
     Publish(Done<E>),
-    /// Gives up the worker's handles of it.
+    /// Releases the worker's handles of the node.
     Release(Done<E>),
-    /// Gives all up, and this entry back to the list.
+    /// Fails the worker's claims, and puts this entry back on the list.
     Fail(PageOutError, Option<HandleNumber>),
 }
 
-/// What a turn comes to: what is to be done next, or the worker's answer.
+/// What a task leads to: the next task, or the worker's answer.
 #[derive(Drop)]
 pub enum Turn<E: Env<Node: NodeSet<E>>> {
-    /// There is more to do.
+    /// The next task.
     Goes(Task<E>),
-    /// Nothing is left.
+    /// The worker's answer: it has nothing left to do.
     Answers(WorkerAnswer),
 }
 
-/// What a step was, what it comes to, and whether it counts: all do but a claim that waits and the steps of a load.
+/// A step: its action, what it leads to, and whether it counts as a step. A claim that has to wait
+/// and the steps of a load don't count.
 #[derive(Drop)]
 pub struct StepResult<E: Env<Node: NodeSet<E>>> {
     pub action: Action<Arc<SerializedData>>,
@@ -99,7 +106,7 @@ pub struct StepResult<E: Env<Node: NodeSet<E>>> {
     pub counted: bool,
 }
 
-/// What a reference names.
+/// Returns the identity of what a reference names.
 pub fn named(reference: ArcRef) -> Identity
     ensures { result ≡ identity_of reference }
 {

@@ -1,5 +1,6 @@
-//! A worker's turns at a reference that it has come to: it claims what the reference names, pins it, by a load where it is needed, and writes its value; and at what it has written: its blob is
-//! stored, its key set and published, and its handles given up.
+//! The tasks of a worker one by one: at a reference, it claims what that names, pins it (by a load
+//! if it has to) and writes its value; at a written node whose references are done, it stores the
+//! blob, sets the key, publishes the result and releases the handles.
 
 ghost use Rattle.std.specs.{Arc.arc_value, Prelude.{IfErr, IfOk, length, List, OnOk, Some, vec_capacity, vec_len, ℕ, ◌*◌, ◌+◌, ◌<◌, ◌∷◌, ◌≡◌, ◌≤◌}};
 ghost use Rattle.{pagable_core.specs.Data.blob_of, pagable_load.specs.{Frames.reading_of, PinStart.Shares, AccessView.{Acts, values_at}, WorkerCalls.fault_in}, pagable_value_spec.specs.Blob.key_of};
@@ -20,8 +21,15 @@ use std::alloc::Global;
 use std::marker::PhantomData;
 use std::sync::Arc;
 
-/// A claim of what a reference names, at this place on the path. `checked` is why the reference itself can't be claimed. It is refused so first, and then as `try_claim`.
-/// A claim that is refused leaves the claims as they were, and the worker waits for nothing.
+/// Claims what a reference names, at this place on the path. `checked` is the check of the
+/// reference itself.
+///
+/// # Errors
+///
+/// - The error of `checked`, if it is one.
+/// - `TooDeep`, `OutOfMemory` as in `Claims::claim_for`.
+///
+/// After each error the slots are unchanged, and the worker waits for nothing.
 #[tactic(auto, using(crate::proofs::Turns::claiming))]
 pub fn claim<E: Env<Node: NodeSet<E>>, T: Claims<E>>(
     table: &mut T,
@@ -44,7 +52,8 @@ pub fn claim<E: Env<Node: NodeSet<E>>, T: Claims<E>>(
     }
 }
 
-/// What a claim found, with key and height alone of a result; and whether it counts: it does unless it waits.
+/// Returns what a claim found, of a result only key and height; and whether the claim counts as a
+/// step: it doesn't if it waits.
 pub fn found<E: Env<Node: NodeSet<E>>>(
     claim: &Result<ClaimResult<E>, Error>,
 ) -> (Result<Claim, Error>, bool)
@@ -60,7 +69,7 @@ pub fn found<E: Env<Node: NodeSet<E>>>(
     }
 }
 
-/// What is done after a claim.
+/// Returns the task that follows a claim.
 #[tactic(auto, using(crate::proofs::Stacks::ways))]
 pub fn after_claim<E: Env<Node: NodeSet<E>>>(
     path: &mut Vec<Waiting<E>>,
@@ -77,7 +86,7 @@ pub fn after_claim<E: Env<Node: NodeSet<E>>>(
 {
     match claim {
         Ok(ClaimResult::Claimed) => Task::Pin(reference, place),
-        // Where nothing waits for a result that was known already, the handle of the listed cell is released.
+        // If the path is empty, the handle of the listed cell is released.
         Ok(ClaimResult::Known(found)) => match give(path, Done { reference, found }) {
             Ok(task) => task,
             Err(done) => Task::Release(done),
@@ -172,7 +181,7 @@ pub fn load<E: Env<Node: NodeSet<E>>, A: WorkerAccess<E>>(
     }
 }
 
-// Writes a value.
+// Writes a value. Fails as the value's `write` does.
 fn written<E: Env<Node: NodeSet<E>>>(
     env: &E,
     session: &SessionOf<E>,
@@ -188,7 +197,8 @@ fn written<E: Env<Node: NodeSet<E>>>(
     Ok(SerializedData { bytes, arcs })
 }
 
-// A form of a value of this kind's type, as sharing it from the handle that pins it answered.
+// Writes the value that was shared from the handle that pins it. Fails with WrongKind if its type
+// isn't the kind's, with WrongMode if the handle pins nothing, and as `written` does.
 fn form<E: Env<Node: NodeSet<E>>>(
     env: &E,
     session: &SessionOf<E>,
@@ -211,8 +221,9 @@ fn form<E: Env<Node: NodeSet<E>>>(
     }
 }
 
-// The node whose value was shared, written, with places for the results of its references; these references, and what
-// was written of it once more; for a path that has room for it then.
+// Writes the value that was shared, and returns the node with room for the results of its
+// references; these references; and what was written, once more. It makes room on the path for the
+// node first. Fails as `form` does, or with OutOfMemory.
 #[tactic(auto, using(crate::proofs::Turns::forming))]
 pub(crate) fn prepare<E: Env<Node: NodeSet<E>>, A: WorkerAccess<E>>(
     access: &A,
@@ -256,7 +267,8 @@ pub(crate) fn prepare<E: Env<Node: NodeSet<E>>, A: WorkerAccess<E>>(
     Ok((waiting, references, told))
 }
 
-/// Writes the value that is pinned, and comes to its references.
+/// Writes the value that is pinned, notes its references in the table, and returns the task of its
+/// first reference.
 pub fn write<E: Env<Node: NodeSet<E>>, A: WorkerAccess<E>, T: Claims<E>>(
     access: &A,
     alloc: Global,
@@ -291,9 +303,10 @@ pub fn write<E: Env<Node: NodeSet<E>>, A: WorkerAccess<E>, T: Claims<E>>(
     }
 }
 
-// ---- at what was written
+// ---- at a written node or item
 
-// The blob of what was written over the results of its references. Refused by want of memory alone.
+// Makes the blob of what was written, with the keys of its references' results. Fails with
+// OutOfMemory alone.
 fn blob<E: Env<Node: NodeSet<E>>>(alloc: Global, waiting: &Waiting<E>) -> Result<PagableData, Error>
     ensures blob { IfOk result (λ blob. blob_of blob ≡ blob_over (written_of (arc_value waiting.now.written)).bytes (keys_of waiting.now.children.items)) }
     ensures only { IfErr result (λ e. e ≡ Error.OutOfMemory) }
@@ -304,7 +317,8 @@ fn blob<E: Env<Node: NodeSet<E>>>(alloc: Global, waiting: &Waiting<E>) -> Result
     Ok(PagableData { bytes, arcs })
 }
 
-// Stores the blob of what was written over the results of its references.
+// Stores the blob of what was written, with the keys of its references' results, and returns its
+// key.
 pub(crate) fn store<E: Env<Node: NodeSet<E>>, A: WorkerAccess<E>>(
     access: &mut A,
     alloc: Global,
@@ -325,7 +339,8 @@ fn named_by(node: &Option<Node>) -> Option<Identity>
     Some(named(node.reference))
 }
 
-// The handle through which a written node's cell gets its key, where its reference is a loose one.
+// Returns the handle through which a written node's cell gets its key, if its reference is a loose
+// one.
 #[tactic(auto, using(std::proofs::lemmas::Bool::Decides::nat_tests))]
 fn loose_of(node: Node) -> Option<HandleNumber>
     ensures { result ≡ loose_of node }
@@ -336,8 +351,8 @@ fn loose_of(node: Node) -> Option<HandleNumber>
     None
 }
 
-// Stores the blob of a written node over the results of its references, sets its key and gives up the worker's handles
-// of it.
+// Stores the blob of a written node, with the keys of its references' results, sets its key and
+// releases the worker's handles of it.
 pub(crate) fn store_node<E: Env<Node: NodeSet<E>>, A: WorkerAccess<E>>(
     access: &mut A,
     alloc: Global,
@@ -358,7 +373,7 @@ pub(crate) fn store_node<E: Env<Node: NodeSet<E>>, A: WorkerAccess<E>>(
     access.store_node(alloc, blob, at)
 }
 
-// A written node's reference with its result: the key of the node's blob over the results of its references.
+// Returns a written node's reference with its result, given the key of the node's blob.
 pub(crate) fn done_with<E: Env<Node: NodeSet<E>>>(
     waiting: &Waiting<E>,
     node: Node,
@@ -381,7 +396,7 @@ pub(crate) fn done_with<E: Env<Node: NodeSet<E>>>(
     Done { reference, found }
 }
 
-// The result of a node whose blob was stored is known: its key is set next. That of an item is answered.
+// Returns what follows when a blob is stored: setting the node's key; or, for an item, the answer.
 pub(crate) fn stored<E: Env<Node: NodeSet<E>>>(waiting: Waiting<E>, key: DataKey) -> Turn<E>
     requires all { length (keys_of waiting.children.items) ≡ length (written_of (arc_value waiting.written)).references }
     requires key { key ≡ key_of E.Hash.digest (blob_over (written_of (arc_value waiting.written)).bytes (keys_of waiting.children.items)) }
@@ -422,7 +437,8 @@ pub fn finish<E: Env<Node: NodeSet<E>>, A: WorkerAccess<E>>(
     }
 }
 
-// Sets the key of what a loose kind names, through the worker's handle. Through any other kind none is set, also where the reference's handle became loose meanwhile.
+// Sets the key of what a loose reference names, through the worker's handle. Does nothing for a
+// reference of another kind, even if its handle has become loose meanwhile.
 #[tactic(auto, using(crate::proofs::Turns::keys))]
 pub(crate) fn set_key_of<E: Env<Node: NodeSet<E>>, A: WorkerAccess<E>>(
     access: &mut A,
@@ -466,7 +482,8 @@ pub fn set_key<E: Env<Node: NodeSet<E>>, A: WorkerAccess<E>>(
     }
 }
 
-/// Gives up the worker's handles of a node that is done. Its result goes to what waits for it; where nothing does, its key is answered.
+/// Releases the worker's handles of a node that is done, and gives its result to the last entry of
+/// the path; if the path is empty, answers the node's key.
 #[tactic(auto, using(std::proofs::lemmas::Bool::Decides::nat_tests, crate::proofs::Stacks::ways))]
 pub fn release<E: Env<Node: NodeSet<E>>, A: WorkerAccess<E>>(
     access: &mut A,
@@ -495,7 +512,7 @@ pub fn release<E: Env<Node: NodeSet<E>>, A: WorkerAccess<E>>(
     }
 }
 
-/// An entry goes back to the list, as far as the list can take it.
+/// Puts an entry back on the list, if there is one and the list can take it.
 #[tactic(auto, using(crate::proofs::Turns::backs))]
 pub fn give_back<E: Env<Node: NodeSet<E>>, A: WorkerAccess<E>>(
     access: &mut A,
@@ -509,7 +526,7 @@ pub fn give_back<E: Env<Node: NodeSet<E>>, A: WorkerAccess<E>>(
     let _told = access.schedule_for_paging(entry);
 }
 
-/// What a failed walk answers.
+/// Returns the answer of a walk that failed.
 pub fn answer(why: PageOutError) -> WorkerAnswer
     ensures { result ≡ answer_of_fault (fault_of why) }
 {

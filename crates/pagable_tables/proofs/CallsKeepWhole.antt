@@ -1,4 +1,4 @@
--- Calls by which handles go to the list, come from it or fall keep the world whole.
+-- Calls that list handles, take them from the list or release them keep the world whole.
 use Rattle.pagable_tables.proofs.Counting.{of_list}
 use Rattle.pagable_tables.proofs.RowCounts.{IsIn, alike-rows, among-both, among-last, among-map, among-one, apart-sum, counted, found-among, found-so}
 use Rattle.pagable_tables.proofs.RowCounts.{holder-in, is-in, keeps-whole}

@@ -1,4 +1,4 @@
--- Where no node falls any more, all has gone that had to go, and no more. Values that go as nodes fall.
+-- When no node is dying any more, exactly the handles that had to be removed are, and the values of the finished nodes are dropped.
 use Rattle.pagable_tables.proofs.Counting.{and_one, entries-more, entries-none, gives-sums, kept-more, left-more, left-none, none-entered, none-listed}
 use Rattle.pagable_tables.proofs.{Counting.{of_list, one-le, ones, sum-most}, HandleTable.found-append}
 use Rattle.pagable_tables.proofs.Words.{Falls, GivesUp, HandleNumber, HandleRow, HasFallen, HasPlaces, RefCounts, NumberTable, IsApart, IsClosed, IsFalling, IsLeast, IsListRefusal, IsUnlisted, IsWithin}

@@ -1,4 +1,4 @@
--- Truth values and what they count, and rows that are left when a set of handles goes.
+-- How often a test holds, and the rows that are left after a set of handles is removed.
 use Rattle.pagable_tables.proofs.Words.{AreNewEntries, Bool, GivesUp, HandleNumber, HandleRow, Handles, RefCounts, Leaves, List, Mode, NodeNumber, None}
 use Rattle.pagable_tables.proofs.Words.{Option, Owner, Some, [], ap, append-nil, arith, entries_of, entry, false, filter, if_there, if◌then◌else◌}
 use Rattle.pagable_tables.proofs.Words.{is_handle, is_owned_by, is_owner, left_rows, length, live, nat_tests, not, one, only_handle, refl, sum_by}

@@ -1,4 +1,4 @@
--- The live rows after a place changes, and how halving finds one.
+-- The live rows after a place changes, and how a binary search finds one.
 use Rattle.pagable_tables.proofs.Counting.{left-none, ones}
 use Rattle.pagable_tables.proofs.Words.{All-push, All-set, AllPairs, AreSound, HandleRow, Handles, IsBefore, IsNext, List, None, Place, Some, [], alive}
 use Rattle.pagable_tables.proofs.Words.{all_pairs_push, ap, arith, cases_eq, changed, false, filter, find_row, get_or, get_or-set_at, get_or-set_other}

@@ -1,4 +1,4 @@
--- A load is closed or hands handles over, or a worker leaves, and what they still own is given up.
+-- A load is closed or hands handles over, or a worker ends, and what they still own is released.
 use Rattle.pagable_value_spec.specs.declared.numbers.WorkerNumber.{WorkerNumber}
 use Rattle.pagable_tables.proofs.{Counting.{and-left, of_list, there-is, times-left}, HandleTable.{at-place, found-append, le_or_lt}, Wholeness.whole-so}
 use Rattle.pagable_tables.proofs.CascadeStep.{begun, closed-is, is_owned, no-value, none-came, owned-by-none, rows-told, unmixed}

@@ -1,4 +1,4 @@
--- Rows, one by one and counted, as they come and change, and what is left as handles go.
+-- Rows, one by one and counted, as they are added and changed, and what is left as handles are removed.
 use Rattle.pagable_tables.proofs.Words.{IsWhole, IsWithin, List, LoadNumber, MayHold, MayOwnLoad, Mode, NodeNumber, None, OpenLoad, Option, OptionalDataKey, Owner, SameAt, Some, [], all_pairs_push}
 use Rattle.pagable_tables.proofs.Words.{and-true, ap, append-nil, append_assoc, arith, changed, false, filter, find_row, get_or, get_or-map, get_or_from_slice_get, greatest, has_key, held, if_there}
 use Rattle.pagable_tables.proofs.Words.{if◌then◌else◌, inl, inr, is_at, is_handle, is_loose, is_owned_by, is_share, is_shared, is_some, length, length-map, map, nat_lt, nat_tests, not, of_cell, one}

@@ -1,4 +1,4 @@
--- Two worlds that are told alike.
+-- Two worlds that agree in all that the specification tells of them.
 use Rattle.pagable_tables.proofs.Words.{Adopts, Alike, ArcRef, AreHandlesFull, Bool, Core, Err, Error, FallsAnyhow, HandleNumber, HandleRow, HasRoom, Kind, LazyCall, List, LoadNumber, Makes, Mode}
 use Rattle.pagable_tables.proofs.Words.{NodeNumber, None, Ok, OnlyRoom, OpenLoad, Option, OptionalDataKey, Owner, OwnsLoad, RecallCall, Refused, Result, SameAt, SameCache, Some, [], add-one}
 use Rattle.pagable_tables.proofs.Words.{adopt_fault, adopted, ap, arith, at_drop_more, birth_fault, closed_fault, drop, drop-cons, drop_all, earlier, early_fault, false, find_row}

@@ -1,4 +1,4 @@
--- A world that is told alike, or whose rows are changed one by one, stays whole, while rows and list are in their places.
+-- A world that agrees with a whole one, or whose rows are changed one by one, stays whole while rows and list have their places.
 use Rattle.pagable_tables.proofs.RowCounts.{at-most-sum, at-then, counted, each-changed, entries-listed, entry-is, found-among, found-so, held-some}
 use Rattle.pagable_tables.proofs.RowCounts.{holder-in, is-in, keeps-whole, keyed_in, loads-stay}
 use Rattle.pagable_tables.proofs.Words.{IsEntryWhole, IsHandleBefore, IsWhole, Last, List, Makes, MayHold, MayOwnLoad, Mode, NodeNumber, None, Ok, OpenLoad, Option, OptionalDataKey, Owner, Owns}

@@ -1,4 +1,4 @@
--- What the tables tell is in its places, since no vector is longer than its capacity: so they are whole where the world is that is in its places.
+-- No vector is longer than its capacity, so rows and list of the tables' world have their places.
 use Rattle.pagable_tables.proofs.{HandleTable.length-live-le, Words.{ArePlaced, IsFalling, Tables, [], arith, nat_tests, owns_nothing, plain_of}}
 use Rattle.pagable_tables.specs.Core.{IsWhole}
 use Rattle.pagable_pager_spec.specs.Pager as pager

@@ -1,4 +1,4 @@
--- Handles that workers own, counted at their nodes, as handles come, go and change.
+-- The handles of each node that workers own, counted, as handles are added, removed and changed.
 use Rattle.pagable_value_spec.specs.declared.numbers.WorkerNumber.{WorkerNumber}
 use Rattle.pagable_tables.specs.{CascadeInvariant.{AreAtWork, is_work, is_worker}, Nodes.work_at}
 use Rattle.pagable_tables.proofs.{Counting.{one-le, ones}, RowCounts.{at-most-sum, counted, found-among, found-so, sum-map}}

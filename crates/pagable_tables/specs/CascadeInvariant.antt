@@ -1,4 +1,4 @@
--- When handles, nodes and list fit each other, in the midst of giving handles up too.
+-- When handles, nodes and list agree, also in the midst of a cascade.
 use Rattle.pagable_value_spec.specs.declared.numbers.{ArcRef.ArcRef, NodeNumber.NodeNumber}
 use Rattle.pagable_tables.specs.{HandleTable.{AreSound, IsNext, live}, Nodes.{counts_at, falls_in, holds_in, next_in, pins_in, refs_at, work_at}}
 use Rattle.pagable_tables.specs.declared.{cascade.RefCounts.RefCounts, nodes.{Counts.Counts, NodeRow.NodeRow}, number_table.NumberTable.NumberTable}
@@ -13,7 +13,7 @@ entry q node = row_of q node Mode.LooseUnpinned Owner.List
 abbrev pub entries_of : Bool → ℕ → NodeNumber → List HandleRow
 entries_of listed q node = if listed then entry q node ∷ [] else []
 
--- the nodes that fall, from the first one on, by the numbers in their rows
+-- the dying nodes, from the first one on, by the numbers in their rows
 abbrev pub Chain : (ℕ → Option Counts) → ℕ → List ℕ → Type 0
 Chain at top [] = top ≡ 0
 Chain at top (n ∷ ns) = (top ≡ n) × Chain at (next_in (at n)) ns
@@ -22,7 +22,8 @@ abbrev pub is_bare : List ArcRef → Bool
 is_bare [] = true
 is_bare (r ∷ rs) = false
 
--- A node that falls has lost its value. Another has a handle, and refers to something only where its value is in memory.
+-- A dying node has no handle, or no pin and a key. Another node has a handle, and has references only while its value
+-- is in memory.
 abbrev pub is_right : Counts → Bool → Bool
 is_right c bare = if c.is_dying then c.holds == 0 || (c.pins == 0 && nat_lt 0 c.key) else nat_lt 0 c.holds && (nat_lt 0 c.pins || not (nat_lt 0 c.key) || bare)
 
@@ -30,21 +31,22 @@ abbrev pub Right : Option Counts → List ArcRef → Type 0
 Right None refs = refs ≡ []
 Right (Some c) refs = is_right c (is_bare refs) ≡ true
 
--- whether the handle of this row has the number and is owned by the node's value
+-- 1 if the row is that of the handle q and the value of the node n owns it, else 0
 abbrev pub owns : HandleRow → ℕ → ℕ → ℕ
 owns h n q = one (is_handle q h && is_owned_by (owner_value n) h)
 
 abbrev pub owns_nothing : ℕ → ℕ → ℕ
 owns_nothing n q = 0
 
--- how often a handle is named, and a node in a list
+-- how often references name a handle, and how often a node is in a list
 abbrev pub named : ℕ → List ArcRef → ℕ
 named q refs = times (λ (r : ArcRef). r.handle.0 == q) refs
 
 abbrev pub often : ℕ → List ℕ → ℕ
 often n ns = times (λ m. m == n) ns
 
--- Nodes by their counts and references, live handles, and what falls. Besides its references a value may own the handles that extra tells.
+-- Nodes by their counts and references, live handles, and the list of dying nodes agree. `extra` counts the handles
+-- that a value owns besides those of its references.
 pub record Fits (at : ℕ → Option Counts) (refs : ℕ → List ArcRef) (rows : List HandleRow) (top : ℕ) (stack : List ℕ) (extra : ℕ → ℕ → ℕ) : Type 0 where
   pub pinned : (n : ℕ) → pins_in (at n) ≡ pins n rows
   pub holding : (n : ℕ) → holds_in (at n) ≡ held n rows
@@ -54,7 +56,7 @@ pub record Fits (at : ℕ → Option Counts) (refs : ℕ → List ArcRef) (rows 
   pub right : (n : ℕ) → Right (at n) (refs n)
   pub from_one : at 0 ≡ None
 
--- whether a worker owns the handle, and it is one of the node
+-- whether a worker owns a handle, and it is a handle of the node
 abbrev pub is_worker : Owner → Bool
 is_worker (Owner.Worker v) = true
 is_worker o = false
@@ -62,7 +64,7 @@ is_worker o = false
 abbrev pub is_work : ℕ → HandleRow → Bool
 is_work n h = is_at n h && is_worker h.owner
 
--- workers own no more of each node's handles than it tells
+-- the bound in each node's row is at least the number of its handles that workers own
 abbrev pub AreAtWork : List HandleRow → NumberTable NodeRow → Type 0
 AreAtWork rows nodes = (n : ℕ) → times (is_work n) rows ≤ work_at nodes n
 
@@ -72,7 +74,7 @@ pub record IsFalling (t : RefCounts) (stack : List ℕ) (extra : ℕ → ℕ →
   pub fits : Fits (counts_at t.nodes) (refs_at t.nodes) (live t.handles.places.items) t.top stack extra
   pub worked : AreAtWork (live t.handles.places.items) t.nodes
 
--- how many handles values own
+-- whether a value is the owner, and how many handles values own
 abbrev pub is_valued : Owner → Bool
 is_valued (Owner.Value n) = true
 is_valued o = false

@@ -1,4 +1,5 @@
--- What has gone and what has come since handles began to be given up: before a call, in the world that it has made directly, and in the tables.
+-- What a release has removed and listed so far: from the world before the call, over the world that the call made first
+-- (w), to the tables.
 use Rattle.pagable_value_spec.specs.declared.{error.Error.Error, numbers.HandleNumber.HandleNumber}
 use Rattle.pagable_tables.specs.{HandleTable.live, Nodes.{cell_in, counts_at}, declared.cascade.RefCounts.RefCounts}
 use Rattle.pagable_pager_spec.specs.Cascade.{AreNewEntries, IsClosed, IsWithin, MustList, TellsListing, is_keyed, left_rows}
@@ -7,7 +8,7 @@ use Rattle.pagable_pager_spec.specs.declared.handle_row.{HandleRow.HandleRow, Ow
 use Rattle.std.specs.Prelude.{Bool, Err, List, None, Ok, Option, Result, Some, filter, is_some, length, map, not, true, vec_capacity, ℕ, ◌&&◌, ◌++◌, ◌+◌}
 use Rattle.std.specs.{Prelude.{◌<◌, ◌==◌, ◌||◌, ◌≡◌, ◌≢◌, ◌≤◌, ◌⊎◌}, VecDeque.deque_capacity}
 
--- ---- what has gone and what has come since handles began to be given up: before a call, in the world that it has made directly, and in the tables
+-- ---- what a release has removed and listed so far
 
 -- the world with the handles, nodes and list of the tables
 abbrev pub with_tables : Core → RefCounts → Core
@@ -19,27 +20,28 @@ with_tables w t = record w {
   places = record { handles = vec_capacity t.handles.places; entries = deque_capacity t.list };
 }
 
--- the answer, by the cause that was kept
+-- the call's result, by the first error of listing
 abbrev pub told_by : Option Error → Result (Unit {0}) Error
 told_by None = Ok tt
 told_by (Some e) = Err e
 
--- a pin of the node that isn't a Shared one
+-- whether the handle pins the node and isn't Shared
 abbrev pub is_plain_pin : ℕ → HandleRow → Bool
 is_plain_pin n h = is_pin n h && not (is_shared h.mode)
 
--- What a call has made directly of the world before it, so that handles can be given up.
+-- What a call has made of the world before it, before it releases handles.
 pub record Begins (before w : Core) (lists : Bool) : Type 0 where
   -- cells are listed while the storage is open
   pub open_storage : lists ≡ not w.closed
-  -- pins are no more, and a node's pins are Shared or not, as before
+  -- no node has more pins or Shared handles than before, and its pins are Shared or not as before
   pub fewer : (n : ℕ) → pins n w.rows ≤ pins n before.rows
   pub shared : (n : ℕ) → sharing n w.rows ≤ sharing n before.rows
   pub uniform : (n : ℕ) → (sharing n before.rows ≡ 0) ⊎ (times (is_plain_pin n) w.rows ≡ 0)
-  -- the list has no handle but its own, each at most once
+  -- the list names only handles that it owns, each at most once
   pub listed : (q : ℕ) → times (λ (h : HandleNumber). h.0 == q) w.list ≤ times (λ h. is_handle q h && is_owned_by Owner.List h) w.rows
 
--- The given handles have gone from the world w, with more that had to; the tables hold what is left and what came.
+-- From the world w, the given handles are removed, and others that had to be; the tables hold what is left and what was
+-- listed.
 pub record SoFar (before w : Core) (given : ℕ → Bool) (lists : Bool) (t : RefCounts) : Type 0 where
   pub begins : Begins before w lists
   pub gone : ℕ → Bool
@@ -51,16 +53,18 @@ pub record SoFar (before w : Core) (given : ℕ → Bool) (lists : Bool) (t : Re
   pub places : HasRoom w.places (with_tables w t).places
   pub cells : (n : ℕ) → is_some (counts_at t.nodes n) ≡ true → cell_in (counts_at t.nodes n) ≡ w.cells n
   pub holds : IsWithin w.rows given gone
-  -- each closed set that has the given handles has all that has gone, whatever entries still come where there are handles
+  -- each closed set that contains the given handles contains all that were removed, whatever entries are still added to
+  -- nodes with handles
   pub least : (s : ℕ → Bool) (final : List HandleRow) → ((n : ℕ) → held n (live t.handles.places.items) ≡ 0 → held n final ≡ 0) → IsWithin w.rows given s
       → IsClosed w.rows (is_keyed w) final s → IsWithin w.rows gone s
   pub new : AreNewEntries w.last.handle entries
   pub only : (n : ℕ) → 0 < held n entries → MustList before w (with_tables w t) n × (held n entries ≡ 1)
   pub tells : TellsListing before w entries (told_by t.unlisted) (with_tables w t)
-  -- while a node falls, rows are no more than at first
+  -- while a node is dying, there are no more rows than at first
   pub few : t.top ≢ 0 → length (live t.handles.places.items) ≤ length w.rows
 
--- A handle may go apart from the list: no entry that came has its number, and what is left of the list is the same without it.
+-- A handle can be removed beside the list: no entry that was added has its number, and what is left of the list is the
+-- same without it.
 pub record IsApart (before w : Core) (given : ℕ → Bool) (lists : Bool) (t : RefCounts) (f : SoFar before w given lists t) (q : ℕ) : Type 0 where
   pub unentered : times (is_handle q) f.entries ≡ 0
   pub kept : filter (λ (h : HandleNumber). not (f.gone h.0 || h.0 == q)) w.list ≡ filter (λ (h : HandleNumber). not (f.gone h.0)) w.list

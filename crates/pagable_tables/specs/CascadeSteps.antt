@@ -1,4 +1,4 @@
--- One step of giving handles up: a handle leaves, an entry may come, a node falls or is done.
+-- One step of the cascade: a handle is removed, an entry may be listed, a node starts dying or is finished.
 use Rattle.pagable_value_spec.specs.declared.{data_key.OptionalDataKey.OptionalDataKey, error.Error.Error, numbers.NodeNumber.NodeNumber}
 use Rattle.pagable_tables.specs.{CascadeInvariant.{IsFalling, entries_of, owns_nothing}, HandleTable.{AreSound, Becomes, IsNext, live}}
 use Rattle.pagable_tables.specs.Nodes.{cell_in, counts_at, falls_in, has_value}
@@ -9,15 +9,15 @@ use Rattle.pagable_pager_spec.specs.declared.{handle_row.HandleRow.HandleRow, mo
 use Rattle.std.specs.Prelude.{Bool, IfSome, List, None, Option, Some, [], false, if◌then◌else◌, is_some, length, nat_lt, not, sum_by, true, vec_capacity, ℕ}
 use Rattle.std.specs.{Prelude.{◌&&◌, ◌*◌, ◌++◌, ◌+◌, ◌-◌, ◌<◌, ◌==◌, ◌||◌, ◌∷◌, ◌≡◌, ◌≢◌, ◌≤◌, ◌⊎◌}, VecDeque.deque_capacity}
 
--- whether the last pin of a cell without a key goes with a handle of this mode
+-- whether a handle of this mode is the last pin of a cell without a key
 abbrev pub is_listing : Counts → Mode → Bool
 is_listing c Mode.LoosePinned = c.pins == 1 && not (nat_lt 0 c.key)
 is_listing c Mode.LooseUnpinned = false
 is_listing c Mode.Pinned = c.pins == 1 && not (nat_lt 0 c.key)
 is_listing c Mode.Shared = false
 
--- The counts after a handle has left, or stayed without its pin, and perhaps an entry came. A node falls from now on where its last handle went, or its last pin and
--- it has a key.
+-- The counts after a handle was removed, or unpinned if it `stays`, and an entry was perhaps listed. A node starts
+-- dying when it loses its last handle, or its last pin while it has a key.
 abbrev pub is_fallen_by : Counts → Bool → ℕ → ℕ → Bool
 is_fallen_by c pinning pins holds = not c.is_dying && (holds == 0 || (pinning && pins == 0 && nat_lt 0 c.key))
 
@@ -28,18 +28,18 @@ after c pinning stays listed top =
     let falls = is_fallen_by c pinning pins holds in
     record c { pins = pins; holds = holds; is_dying = c.is_dying || falls; next = if falls then top else c.next }
 
--- why no entry can come: no number is left, or no place
+-- why no entry can be listed: no handle number is left, or no place
 abbrev pub IsUnlisted : RefCounts → Error → Type 0
 IsUnlisted t Error.NumbersSpent = greatest ≤ t.last_handle
 IsUnlisted t Error.OutOfMemory = (t.last_handle < greatest) × ((vec_capacity t.handles.places ≤ length (live t.handles.places.items)) ⊎ (deque_capacity t.list ≤ length t.list.items))
 IsUnlisted t e = ⊥
 
--- places are never fewer
+-- neither the handles nor the list have less capacity
 pub record HasPlaces (old new : RefCounts) : Type 0 where
   pub handles : vec_capacity old.handles.places ≤ vec_capacity new.handles.places
   pub entries : deque_capacity old.list ≤ deque_capacity new.list
 
--- an entry for the node came to the end of handles and list, or it couldn't
+-- an entry for the node was added at the end of handles and list, or nothing was
 pub record Comes (old : RefCounts) (node : NodeNumber) (listed : Bool) (new : RefCounts) : Type 0 where
   pub sound : AreSound new.handles
   pub next : IsNext (new.last_handle + 1) new.handles.places.items
@@ -51,7 +51,8 @@ pub record Comes (old : RefCounts) (node : NodeNumber) (listed : Bool) (new : Re
   pub nodes : new.nodes ≡ old.nodes
   pub top : new.top ≡ old.top
 
--- where an entry is wanted it came, or there is a cause, of which the first is kept; where none is wanted nothing changes
+-- If an entry is wanted, it is added, or there is an error, of which the first is kept; if none is wanted nothing
+-- changes.
 pub record MayList (old : RefCounts) (node : NodeNumber) (wanted listed : Bool) (new : RefCounts) : Type 0 where
   pub comes : Comes old node listed new
   pub only : listed ≡ true → wanted ≡ true
@@ -62,7 +63,7 @@ pub record MayList (old : RefCounts) (node : NodeNumber) (wanted listed : Bool) 
 abbrev pub unpinned : HandleRow → HandleRow
 unpinned x = record x { mode = Mode.LooseUnpinned }
 
--- the handle of the row x leaves, or it stays without its pin
+-- the handle of the row x is removed, or unpinned if it `stays`
 pub record Leaves (old : Handles) (x : HandleRow) (stays : Bool) (new : Handles) : Type 0 where
   pub becomes : Becomes old (if stays then changed (is_handle x.number.0) unpinned (live old.places.items) else left_rows (only_handle x.number) (live old.places.items)) new
   pub sums : (f : HandleRow → ℕ) → sum_by f (live new.places.items) + f x ≡ sum_by f (live old.places.items) + (if stays then f (unpinned x) else 0)
@@ -72,11 +73,11 @@ pub record Leaves (old : Handles) (x : HandleRow) (stays : Bool) (new : Handles)
 abbrev pub CellsStay : (ℕ → Option Counts) → (ℕ → Option Counts) → Type 0
 CellsStay old new = (n : ℕ) → is_some (new n) ≡ true → (is_some (old n) ≡ true) × (cell_in (new n) ≡ cell_in (old n))
 
--- a node that doesn't fall afterwards didn't before, and has its value or not as before
+-- a node that isn't dying afterwards wasn't before, and has its value or not as before
 abbrev pub ValueStays : Option Counts → Option Counts → Type 0
 ValueStays old new = falls_in new ≡ false → (falls_in old ≡ false) × (has_value new ≡ has_value old)
 
--- The handle of the row x is given up, or it stays without its pin. Then an entry for its node may come.
+-- The handle of the row x is removed, or unpinned if it `stays`. Then an entry for its node may be listed.
 pub record GivesUp (old : RefCounts) (stack : List ℕ) (x : HandleRow) (stays lists : Bool) (new : RefCounts) : Type 0 where
   pub left : Handles
   pub leaves : Leaves old.handles x stays left
@@ -91,18 +92,18 @@ pub record GivesUp (old : RefCounts) (stack : List ℕ) (x : HandleRow) (stays l
   pub more : List ℕ
   pub falling : IsFalling new more owns_nothing
   pub long : length more ≤ length stack + 1
-  -- where its handle stays a node falls only if it has a key
+  -- if its handle stays, the node dies only if it has a key
   pub keyed : stays ≡ true → old.top ≡ 0 → new.top ≢ 0 → nat_lt 0 counts.key ≡ true
 
--- the counts of a node that falls no more, if it is left
+-- the counts of a node that the cascade has finished, None if it has no handle
 abbrev pub landed : Counts → Option Counts
 landed c = if c.holds == 0 then None else Some (record c { is_dying = false; next = 0 })
 
--- the value of the node has gone
+-- the value of the node is to be dropped: the node has no handle, or it has a key and no pin
 abbrev pub HasFallen : (ℕ → Option Counts) → List HandleRow → ℕ → Type 0
 HasFallen at rows n = (held n rows ≡ 0) ⊎ ((if_there (λ (c : Counts). nat_lt 0 c.key) false (at n) ≡ true) × (pins n rows ≡ 0))
 
--- a handle of the row x is given up, which the value of the node n owned, that has gone
+-- the handle of the row x is released, which the value of the dying node n owned
 pub record FallsBy (old : RefCounts) (x : HandleRow) (n : ℕ) (lists : Bool) (new : RefCounts) : Type 0 where
   pub owner : x.owner ≡ owner_value n
   pub fallen : HasFallen (counts_at old.nodes) (live old.handles.places.items) n
@@ -112,7 +113,7 @@ pub record FallsBy (old : RefCounts) (x : HandleRow) (n : ℕ) (lists : Bool) (n
   pub stack : List ℕ
   pub gives : GivesUp popped stack x false lists new
 
--- One step: a handle is given up, or the first node that falls is done, and its value goes.
+-- One step: a handle is released, or the first dying node is finished and its value may be dropped.
 pub record Steps (old : RefCounts) (stack : List ℕ) (lists : Bool) (r : Option NodeNumber) (new : RefCounts) : Type 0 where
   pub rest : List ℕ
   pub falling : IsFalling new rest owns_nothing
@@ -129,7 +130,7 @@ abbrev pub is_node : Option NodeNumber → ℕ → Bool
 is_node None n = false
 is_node (Some m) n = n == m.0
 
--- The counts of a node that gets a key: it falls if nothing pins it.
+-- The counts of a node that gets a key: it dies if nothing pins it.
 abbrev pub keyed : Counts → ℕ → ℕ → Counts
 keyed c key top = record c { key = key; is_dying = c.pins == 0; next = if c.pins == 0 then top else c.next }
 

@@ -1,4 +1,4 @@
--- The plain world that the tables tell, when they are whole, what a call of them does and keeps, and the steps that are asked of them.
+-- The plain world that whole tables stand for, what a call of the tables does and keeps, and the steps that calls make.
 use Rattle.std.specs.VecDeque.{deque_capacity}
 use Rattle.std.specs.{Option.option_map, Prelude.{Bool, IfErr, IfOk, IsSome, List, None, Option, Result, Some, [], false, get_or, if◌then◌else◌, is_some, length, not, slice_get, suc, true}}
 use Rattle.std.specs.Prelude.{vec_capacity, zero, ℕ, ◌&&◌, ◌+◌, ◌<◌, ◌==◌, ◌||◌, ◌∷◌, ◌≡◌, ◌≤◌, ◌⊎◌}
@@ -20,7 +20,7 @@ root_in LoadRoot.Key = of_key
 abbrev pub load_in : LoadRow → OpenLoad
 load_in row = record { owner = row.owner; key = row.key; root = root_in row.root }
 
--- with what is stored, whether the storage was closed, and how often it failed
+-- the world of these tables, with what is stored, whether the storage is closed, and how often it failed
 abbrev pub core_of : Tables → (ℕ → Option Blob) → Bool → ℕ → Core
 core_of t stored closed failures = record {
   rows = live t.ref_counts.handles.places.items;
@@ -36,11 +36,11 @@ core_of t stored closed failures = record {
   places = record { handles = vec_capacity t.ref_counts.handles.places; entries = deque_capacity t.ref_counts.list };
 }
 
--- the same, while nothing is stored
+-- the world of these tables with nothing stored
 abbrev pub plain_of : Tables → Core
 plain_of t = core_of t (λ key. None) false 0
 
--- Rows are in their places: handles and nodes fit, and nothing falls. And the plain world that they tell is whole, whatever is stored.
+-- The tables are whole: handles, nodes and list agree, no node is dying, and the plain world is whole.
 pub record IsWhole (t : Tables) : Type 0 where
   pub steady : IsFalling t.ref_counts [] owns_nothing
   pub core : pager.IsWhole (plain_of t)
@@ -58,21 +58,21 @@ MayHold w (Owner.Load l) = is_some (w.loads l.0) ≡ true
 MayHold w (Owner.Value n) = ⊥
 MayHold w Owner.List = ⊥
 
--- A handle of this mode may come beside those that the node has: all of them are Shared, or none is.
+-- A handle of this mode can be added to those of the node: all of them are Shared, or none is.
 pub record Suits (w : Core) (node : NodeNumber) (mode : Mode) : Type 0 where
   pub row : HandleRow
   pub there : Among w.rows row
   pub at : row.node ≡ node
   pub shared : is_shared row.mode ≡ is_shared mode
 
--- A handle of a live node is made under the next number. While numbers and places are left it succeeds.
+-- A handle of a live node is made under the next number. It succeeds while numbers and places are left.
 pub record Makes (w : Core) (node : NodeNumber) (mode : Mode) (owner : Owner) (r : Result HandleNumber Error) (w' : Core) : Type 0 where
   pub made : IfOk r (λ k. IsNext k w × Alike (with_handle w node mode owner) w')
   pub refused : IfErr r (λ e. Refused (spent w.last.handle) (spent w.last.handle) (AreHandlesFull w) w e w')
 
 -- ---- handles that are given up together, and workers that begin
 
--- whether a handle of this owner at this node is given up
+-- whether the set contains a handle of this owner at this node
 abbrev pub gives : Core → ReleaseSet → Owner → NodeNumber → Bool
 gives w (ReleaseSet.Load l) owner node = is_owner (Owner.Load l) owner
 gives w (ReleaseSet.AtNode v n) owner node = is_owner (Owner.Worker v) owner && node.0 == n.0
@@ -86,15 +86,15 @@ gives_row w giving row = gives w giving row.owner row.node
 abbrev pub passes_in : (HandleRow → Bool) → List HandleRow → ℕ → Bool
 passes_in test rows q = if_there test false (find_row q rows)
 
--- whether a handle of this number may be one of those
+-- whether the range contains a handle of this number
 abbrev pub InReach : HandleRange → ℕ → Type 0
 InReach reach q = (0 < q) × ((reach.since < q) ⊎ (q ≡ reach.beside))
 
--- the open loads of a world are these
+-- these are the open loads of a world
 abbrev pub LoadsAre : {S : Type 0} → IndexMap ℕ LoadRow S → Core → Type 0
 LoadsAre loads w = (l : ℕ) → w.loads l ≡ option_map load_in (load_at loads l)
 
--- the last live row that is given up, of a number that is asked for and not above this one, with its place
+-- the last live row of the set whose number is asked for and at most `left`, with its index
 pub record IsLast {S : Type 0} (places : List Place) (loads : IndexMap ℕ LoadRow S) (giving : ReleaseSet) (IsAsked : ℕ → Type 0) (left : ℕ) (at : HandleAt) : Type 0 where
   pub place : slice_get places at.place ≡ Some (alive at.row)
   pub found : find_row at.row.number.0 (live places) ≡ Some at.row
@@ -103,53 +103,53 @@ pub record IsLast {S : Type 0} (places : List Place) (loads : IndexMap ℕ LoadR
   pub plain : is_valued at.row.owner ≡ false
   pub last : (w : Core) (q : ℕ) → LoadsAre loads w → IsAsked q → at.row.number.0 < q → q ≤ left → passes_in (gives_row w giving) (live places) q ≡ false
 
--- the rows of loads, but for those of the worker
+-- the rows of loads without those of the worker
 abbrev pub left_load : ℕ → Option LoadRow → Option LoadRow
 left_load v None = None
 left_load v (Some row) = if is_owner (owner_worker v) row.owner then None else Some row
 
--- what was in a worker's reach still is, and so is what comes
+-- each worker's range contains what it contained before
 pub record IsNoLess {S : Type 0} (workers workers' : IndexMap ℕ HandleRange S) : Type 0 where
   pub wider : (v q : ℕ) → InReach (reach_at workers v) q → InReach (reach_at workers' v) q
   pub before : (v : ℕ) → (reach_at workers' v).since ≤ (reach_at workers v).since
 
--- one worker more is at work, or none begins
+-- a worker begins, or the call fails and nothing changes
 pub record BeginsWorker (w : Core) (r : Result WorkerNumber Error) (w' : Core) : Type 0 where
   pub begun : IfOk r (λ v. (v.0 ≡ w.last.worker + 1) × Alike (with_worker w) w')
   pub refused : IfErr r (λ e. WorkerFault w e × Alike w w')
 
--- the same, for an entry of the list, which moves to the worker
+-- a worker begins with the handle of a list entry, or the call fails and nothing changes
 pub record TakesWorker (w : Core) (place : ℕ) (r : Result WorkerNumber Error) (w' : Core) : Type 0 where
   pub taken : IfOk r (λ v. (h : HandleNumber) × (slice_get w.list place ≡ Some h) × (v.0 ≡ w.last.worker + 1) × Alike (with_worker (with_entry_taken w place h v)) w')
   pub refused : IfErr r (λ e. WorkerFault w e × Alike w w')
 
--- ---- what loads and workers own has come since they began
+-- ---- loads and workers own only handles that were made since they began
 
 pub record AreLater (t : Tables) : Type 0 where
-  -- all handles of an open load have numbers above the last one that was given before it began
+  -- all handles of an open load have numbers above the last one that was given out before it began
   pub given : (l : ℕ) (load : LoadRow) → load_at t.loads l ≡ Some load → load.since ≤ t.ref_counts.last_handle
   pub since : (l : ℕ) (load : LoadRow) (q : ℕ) → load_at t.loads l ≡ Some load → is_owned_in (plain_of t) (Owner.Load (record { 0 = l })) q ≡ true → load.since < q
-  -- all handles of a worker are in its reach, and its loads began after it
+  -- a worker's range contains all its handles, and its loads began after it
   pub begun : (v : ℕ) → (reach_at t.workers v).since ≤ t.ref_counts.last_handle
   pub reach : (v q : ℕ) → is_owned_in (plain_of t) (owner_worker v) q ≡ true → InReach (reach_at t.workers v) q
   pub loads : (v l : ℕ) (load : LoadRow) → load_at t.loads l ≡ Some load → is_owner (owner_worker v) load.owner ≡ true → (reach_at t.workers v).since ≤ load.since
-  -- of the handles up to a number each open load's row tells the last one that it owns
+  -- each open load's row tells the last handle that it owns among those up to `noted`
   pub noted : t.noted ≤ t.ref_counts.last_handle
   pub until : (l : ℕ) (load : LoadRow) (q : ℕ) → load_at t.loads l ≡ Some load → is_owned_in (plain_of t) (Owner.Load (record { 0 = l })) q ≡ true → q ≤ t.noted → q ≤ load.last
 
--- all handles that a load owns have numbers up to this one; and above one
+-- all handles that a load owns have numbers up to this one; and above this one
 abbrev pub IsOwnedUpTo : Tables → LoadNumber → ℕ → Type 0
 IsOwnedUpTo t l until = (q : ℕ) → is_owned_in (plain_of t) (Owner.Load l) q ≡ true → q ≤ until
 
 abbrev pub IsOwnedAbove : Tables → LoadNumber → ℕ → Type 0
 IsOwnedAbove t l since = (q : ℕ) → is_owned_in (plain_of t) (Owner.Load l) q ≡ true → since < q
 
--- of the handles above a number, in so many places, the rows of the loads tell the last that each owns
+-- each load's row tells the last handle that it owns among those above a number at the first `count` places
 abbrev pub AreTold : {S : Type 0} → IndexMap ℕ LoadRow S → List Place → (number count : ℕ) → Type 0
 AreTold loads places number count = (l : LoadNumber) (row : LoadRow) (k : ℕ) (d : Place) → load_at loads l.0 ≡ Some row → k < count → number < (get_or places k d).row.number.0
     → (get_or places k d).row.owner ≡ Owner.Load l → (get_or places k d).row.number.0 ≤ row.last
 
--- the row of a load tells of the same load, and perhaps of a greater last handle
+-- the new row is of the same load, with the same last handle or a greater one
 abbrev pub Raised : Option LoadRow → Option LoadRow → Type 0
 Raised None None = Unit {0}
 Raised None (Some new) = ⊥
@@ -159,7 +159,7 @@ Raised (Some old) (Some new) = (new ≡ record old { last = new.last }) × (old.
 abbrev pub AreRaised : {S : Type 0} → IndexMap ℕ LoadRow S → IndexMap ℕ LoadRow S → Type 0
 AreRaised old new = (l : ℕ) → Raised (load_at old l) (load_at new l)
 
--- the rows of loads tell more, and all else is as it was
+-- the rows of loads took note of more handles, and nothing else changed
 pub record Notes (old new : Tables) : Type 0 where
   pub same : new ≡ record old { loads = new.loads; noted = new.noted }
   pub rows : AreRaised old.loads new.loads
@@ -168,22 +168,25 @@ pub record Notes (old new : Tables) : Type 0 where
 
 -- ---- what a call of the tables does: its step in the plain world, and what it keeps
 
--- The plain world makes the step, whatever is stored. The tables are whole, and what loads and workers own has come since they began, if it had.
+-- The plain world makes the step, whatever is stored; the tables stay whole; and loads and workers own only handles
+-- made since they began, if that was so.
 pub record Does (old : Tables) (step : Core → Core → Type 0) (new : Tables) : Type 0 where
   pub does : (stored : ℕ → Option Blob) (closed : Bool) (failures : ℕ) → step (core_of old stored closed failures) (core_of new stored closed failures)
   pub whole : IsWhole new
   pub later : AreLater old → AreLater new
 
--- The same, where cells are listed while the storage is open; and values go with their nodes.
+-- The same, where `lists` is set exactly while the storage is open; and the value of each node is dropped when it has
+-- to be.
 pub record DoesShed {X : Type 0} (lists : Bool) (old : Tables) (values : NumberTable X) (step : Core → Core → Type 0) (new : Tables) (values' : NumberTable X) : Type 0 where
   pub does : (stored : ℕ → Option Blob) (closed : Bool) (failures : ℕ) → lists ≡ not closed → step (core_of old stored closed failures) (core_of new stored closed failures)
   pub whole : IsWhole new
   pub later : AreLater old → AreLater new
   pub sheds : Sheds (counts_at old.ref_counts.nodes) (row_by values) (counts_at new.ref_counts.nodes) (row_by values')
 
--- ---- handles that come to another owner, one after the other where they are named, or are pinned
+-- ---- handles that get another owner, one after the other as they are named, or are pinned
 
--- A Pinned handle of the row's node is made, and the row's handle pins too. While numbers and places are left it succeeds.
+-- A Pinned handle of the row's node is made, and the row's handle is pinned too. It succeeds while numbers and places
+-- are left.
 pub record PinsHere (w : Core) (me : Owner) (row : HandleRow) (r : Result HandleNumber Error) (w' : Core) : Type 0 where
   pub pinned : IfOk r (λ k. IsNext k w × Alike (with_handle (with_mode w row.number Mode.LoosePinned) row.node Mode.Pinned me) w')
   pub refused : IfErr r (λ e. Refused (spent w.last.handle) (spent w.last.handle) (AreHandlesFull w) w e w')
@@ -197,7 +200,7 @@ unfoldable pub seen : List HandleNumber → ℕ → List ℕ
 seen hs zero = []
 seen hs (suc place) = named_at hs place ∷ seen hs place
 
--- ---- nodes that come
+-- ---- nodes that are inserted
 
 -- numbers are left for a node and a handle, and there is room for both
 pub record IsReady (t : Tables) : Type 0 where
@@ -206,12 +209,12 @@ pub record IsReady (t : Tables) : Type 0 where
   pub handle_room : 0 < room t.ref_counts.handles
   pub node_room : IsSome (place_at t.ref_counts.nodes (t.last_node + 1))
 
--- the second is the first, with more room
+-- the second world is the first one with at least as much room
 pub record OnlyRoom (w w' : Core) : Type 0 where
   pub same : w' ≡ record w { places = w'.places }
   pub more : HasRoom w.places w'.places
 
--- A new node of this type with this key, 0 for none, whose value has these references, which are known to be right, and one handle of it.
+-- A node of this type is inserted with this key (0 for none), with references that were checked, and one handle of it.
 pub record Bears (w : Core) (me : Owner) (node_type key : ℕ) (references : List ArcRef) (mode : Mode) (k : HandleNumber) (w' : Core) : Type 0 where
   pub next : IsNext k w
   pub leaves : Alike (with_handle (with_node w node_type (key_in key) references) (next_node w) mode me) w'

@@ -7,7 +7,8 @@ use Rattle.pagable_pager_spec.specs.{Calls.Recalls, Kinds.{any_mode, is_loose}, 
 use Rattle.pagable_pager_spec.specs.{Refusals.{OwnsLoad, Refused, earlier, handle_fault, load_fault, references_fault, refused_if}, World.{Core, OpenLoad, greatest, is_here}, declared.calls.Want.Want}
 use Rattle.pagable_pager_spec.specs.declared.handle_row.Owner.{Owner}
 
--- The load of a reference gets a handle of the node that the cache gives; or None where it gives none, and the storage has to be asked.
+-- The load gets a handle of the node that is cached for a reference; or None if none is, and the storage has to be
+-- asked.
 pub record AsksKnown (w : Core) (me : Owner) (l : LoadNumber) (kind : Kind) (key : ℕ) (r : Result (Option HandleNumber) Error) (w' : Core) : Type 0 where
   pub gives : IfOk r (λ found. (load : OpenLoad) × OwnsLoad w me l load × Recalls w (Owner.Load l) kind key found w')
   pub refused : IfErr r (λ e. Refused (ask_fault w me l (Want.Nested kind key)) (ask_fault w me l (Want.Nested kind key)) ((is_known w (Want.Nested kind key) ≡ true) × AreHandlesFull w) w e w')
@@ -44,10 +45,10 @@ abbrev pub Unends : Core → Owner → LoadNumber → ℕ → List ArcRef → Un
 Unends w me l node_type references (Unended.Refused e) w' = Refused (end_fault w me l node_type references) (load_fault w me l) (Unit {0}) w e w'
 Unends w me l node_type references (Unended.InVain e) w' = IsVain w me l node_type references e × (w' ≡ w)
 
--- whether the node is there and has its value, where this one has got one
+-- whether a node has its value, where this node has just got one
 abbrev pub has_come : (ℕ → Option Counts) → NodeNumber → ℕ → Bool
 has_come at node n = if n == node.0 then true else has_value (at n)
 
--- values go with their nodes, where each was kept at first, and one at this node
+-- the value of each node is dropped when it has to be, if each node had its value before, this one its new value
 pub record ShedsBeside {X : Type 0} (node : NodeNumber) (at : ℕ → Option Counts) (old : ℕ → Option X) (at' : ℕ → Option Counts) (new : ℕ → Option X) : Type 0 where
   pub left : ((n : ℕ) → is_some (old n) ≡ has_come at node n) → AreLeft at' old new

@@ -21,7 +21,7 @@ kind_in Owner.List = OwnerKind.List
 kind_in (Owner.Load l) = OwnerKind.Load
 kind_in (Owner.Worker v) = OwnerKind.Worker
 
--- 0 where it has none
+-- the number of an owner, 0 if it has none
 abbrev pub number_in : Owner → ℕ
 number_in Owner.Caller = 0
 number_in (Owner.Value n) = n.0
@@ -29,7 +29,7 @@ number_in Owner.List = 0
 number_in (Owner.Load l) = l.0
 number_in (Owner.Worker v) = v.0
 
--- nothing is lost by that
+-- an owner is its kind and its number again
 pub owner-again : (o : Owner) → owner_in (kind_in o) (number_in o) ≡ o
 owner-again Owner.Caller = refl
 owner-again (Owner.Value n) = refl

@@ -17,7 +17,7 @@ is_live_place p = p.is_live
 abbrev pub IsBefore : Place → Place → Type 0
 IsBefore a b = a.row.number.0 < b.row.number.0
 
--- the number is above all that are there
+-- the number is above all that are in the table
 abbrev pub IsNext : ℕ → List Place → Type 0
 IsNext q places = All (λ p. p.row.number.0 < q) places
 
@@ -26,26 +26,26 @@ pub record AreCounted (h : Handles) : Type 0 where
   pub ordered : AllPairs IsBefore h.places.items
   pub counted : length (live h.places.items) + h.dead ≡ length h.places.items
 
--- So they are, and no more rows are dead than live: rows take at most twice the places of what lives.
+-- So they are, and at most half of the rows are dead: the table takes at most twice the places of its live rows.
 pub record AreSound (h : Handles) : Type 0 where
   pub ordered : AllPairs IsBefore h.places.items
   pub counted : length (live h.places.items) + h.dead ≡ length h.places.items
   pub few : h.dead ≤ length (live h.places.items)
 
--- how many rows can come without memory
+-- how many rows can be added without a request for memory
 abbrev pub room : Handles → ℕ
 room h = vec_capacity h.places - (vec_len h.places - h.dead)
 
--- ---- what handles become as a call changes them, in order and counted as they were. What a value refers to comes to its node with its handles, where the node has no value
+-- ---- what a call makes of the table, which stays in order and counted
 
--- these rows are live
+-- the table holds these live rows
 pub record Becomes (old : Handles) (are : List HandleRow) (new : Handles) : Type 0 where
   pub sound : AreSound new
   pub rows : live new.places.items ≡ are
   pub capacity : vec_capacity new.places ≡ vec_capacity old.places
   pub next : (q : ℕ) → IsNext q old.places.items → IsNext q new.places.items
 
--- the same rows are, with no less room
+-- the table holds the same live rows, with no less room
 pub record Widens (old new : Handles) : Type 0 where
   pub sound : AreSound new
   pub rows : live new.places.items ≡ live old.places.items

@@ -1,10 +1,10 @@
--- Loads and workers by their numbers, and what the cache knows under a kind and a key.
+-- Loads and workers by their numbers, and cached nodes by kind and key.
 use Rattle.indexmap.specs.IndexMap.{IndexMap, get}
 use Rattle.pagable_value_spec.specs.declared.numbers.NodeNumber.{NodeNumber}
 use Rattle.pagable_tables.specs.declared.{load_table.LoadRow.LoadRow, tables.HandleRange.HandleRange}
 use Rattle.std.specs.{Option.option_map_or, Prelude.{Bool, Option, nat_eq, ℕ, ◌&&◌}}
 
--- ---- nodes, loads and what the cache knows, as functions of numbers and keys
+-- ---- loads, workers and the cache as functions of numbers and keys
 
 -- whether kind and key are the same
 abbrev pub is_same : ℕ × ℕ → ℕ × ℕ → Bool
@@ -20,6 +20,6 @@ module _ {S : Type 0} where
   abbrev pub worker_at : IndexMap ℕ HandleRange S → ℕ → Option HandleRange
   worker_at workers v = get nat_eq workers v
 
-  -- any handle may be the worker's where nothing else is known
+  -- an unknown worker may own any handle
   abbrev pub reach_at : IndexMap ℕ HandleRange S → ℕ → HandleRange
   reach_at workers v = option_map_or (λ reach. reach) (worker_at workers v) (record { since = 0; beside = 0 })

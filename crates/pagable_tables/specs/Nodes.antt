@@ -1,4 +1,4 @@
--- Nodes by their numbers: what is counted of each, what its value refers to, and whether it has one.
+-- Nodes by their numbers: the counts of each, the references of its value, and whether it has one.
 use Rattle.pagable_value_spec.specs.declared.{data_key.OptionalDataKey.OptionalDataKey, numbers.{ArcRef.ArcRef, NodeNumber.NodeNumber}}
 use Rattle.pagable_tables.specs.{NumberTable.row_by, declared.{nodes.{Counts.Counts, NodeRow.NodeRow}, number_table.NumberTable.NumberTable}}
 use Rattle.pagable_pager_spec.specs.World.{Cell}
@@ -16,15 +16,15 @@ abbrev pub living : (ℕ → Option Counts) → Option NodeNumber → Option Nod
 living at None = None
 living at (Some n) = if is_some (at n.0) then Some n else None
 
--- how many handles of the node workers own, at most
+-- at least the number of the node's handles that workers own
 abbrev pub work_at : NumberTable NodeRow → ℕ → ℕ
 work_at nodes n = option_map_or (λ (r : NodeRow). r.at_work) (row_by nodes n) 0
 
--- the references that come
+-- the references, if they are to be added
 abbrev pub coming : Bool → List ArcRef → List ArcRef
 coming comes refs = if comes then refs else []
 
--- ---- handles, nodes and list in the midst of giving handles up
+-- ---- the counts of a node, in the midst of a cascade too
 
 abbrev pub pins_in : Option Counts → ℕ
 pins_in None = 0
@@ -52,7 +52,7 @@ abbrev pub cell_in : Option Counts → Option Cell
 cell_in None = None
 cell_in (Some c) = Some (record { node_type = c.node_type; key = key_in c.key })
 
--- whether the value of a node that doesn't fall is in memory: something pins it, or it has no key
+-- whether the value of a node that isn't dying is in memory: a handle pins the node, or it has no key
 abbrev pub has_value : Option Counts → Bool
 has_value None = false
 has_value (Some c) = nat_lt 0 c.pins || not (nat_lt 0 c.key)

@@ -2,7 +2,7 @@
 use Rattle.std.specs.{Option.option_and_then, Prelude.{List, Option, slice_get, ℕ, ◌%◌, ◌/◌}}
 use Rattle.pagable_tables.specs.declared.number_table.NumberTable.{NumberTable}
 
--- what stands at a number's place, if the place is there
+-- what is at a number's place, if the place exists
 unfoldable pub place_at : {T : Type 0} → NumberTable T → ℕ → Option (Option T)
 place_at t n = option_and_then (λ rows. slice_get rows.items (n % 256)) (slice_get t.chunks.items (n / 256))
 

@@ -1,11 +1,11 @@
--- Whether handles, nodes, list, cache, loads and workers are in step, and values with them, as it is computed from them.
+-- Whether handles, nodes, list, cache, loads, workers and values agree, as `soundness.rt` computes it.
 use Rattle.std.specs.{List.list_all, Prelude.{Bool, List, None, Option, Some, count_by, false, is_some, nat_le, not, suc, true, zero, ℕ, ◌&&◌, ◌==◌, ◌||◌}}
 use Rattle.pagable_value_spec.specs.declared.numbers.{ArcRef.ArcRef, HandleNumber.HandleNumber, NodeNumber.NodeNumber}
 use Rattle.pagable_tables.specs.{Indexes.{load_at, worker_at}, Nodes.{counts_at, refs_at}, NumberTable.row_by}
 use Rattle.pagable_tables.specs.declared.{nodes.Counts.Counts, number_table.NumberTable.NumberTable, place.Place.Place, tables.Tables.Tables}
 use Rattle.pagable_pager_spec.specs.{Kinds.{is_at, is_handle, is_owned_by, is_pin, is_share, is_unpinned, owner_value}, Basics.{is_shared_kind, type_of}, declared.{handle_row.{HandleRow.HandleRow, Owner.Owner}}}
 
--- live places: of a node, that pin it, that are Shared ones of it; and of a handle that this one owns
+-- whether a place is live and of a node; pins it; is a Shared one of it; and is of a handle that this owner has
 abbrev pub at_node : ℕ → Place → Bool
 at_node n p = p.is_live && is_at n p.row
 
@@ -22,7 +22,8 @@ owned_at q owner p = p.is_live && (is_handle q p.row && is_owned_by owner p.row)
 abbrev pub is_owned_once : List Place → Owner → ℕ → Bool
 is_owned_once places owner q = count_by (owned_at q owner) places == 1
 
--- who owns the handle has it once: a value among its references, the list among its entries; and a load is open, a worker at work
+-- the owner of the handle has it: a value names it once in its references, the list once in its entries; a load is
+-- open, a worker runs
 abbrev pub is_had : Tables → HandleRow → Owner → Bool
 is_had t h Owner.Caller = true
 is_had t h (Owner.Value n) = count_by (λ (r : ArcRef). r.handle.0 == h.number.0) (refs_at t.ref_counts.nodes n.0) == 1
@@ -30,7 +31,7 @@ is_had t h Owner.List = is_unpinned h.mode && (count_by (λ (q : HandleNumber). 
 is_had t h (Owner.Load l) = is_some (load_at t.loads l.0)
 is_had t h (Owner.Worker v) = is_some (worker_at t.workers v.0)
 
--- a live handle has a number that was given and a node that is there, and its owner has it
+-- a live handle has a number that was given out and a node that exists, and its owner has it
 abbrev pub is_row_sound : Tables → HandleRow → Bool
 is_row_sound t h = (nat_le 1 h.number.0 && nat_le h.number.0 t.ref_counts.last_handle) && (is_some (counts_at t.ref_counts.nodes h.node.0) && is_had t h h.owner)
 
@@ -42,18 +43,18 @@ abbrev pub agree : Bool → Bool → Bool
 agree true b = b
 agree false b = not b
 
--- A node counts its handles, those that pin it among them, and has one; its value is in memory exactly while one pins it or it has no key; and where one is
--- Shared, all are, and it has no key.
+-- A node counts its handles and its pins, has a handle and isn't dying; its value is in memory exactly if a handle pins
+-- it or it has no key; and if one handle is Shared, all are, and it has no key.
 unfoldable pub are_counts_sound : List Place → ℕ → Bool → Counts → Bool
 are_counts_sound places n here c =
     ((c.pins == count_by (pins_node n) places && c.holds == count_by (at_node n) places) && (nat_le 1 c.holds && not c.is_dying))
     && (agree here (nat_le 1 c.pins || c.key == 0) && (count_by (shares_node n) places == 0 || (count_by (shares_node n) places == c.holds && c.key == 0)))
 
--- its value owns each handle by which it refers
+-- its value owns each handle that its references name
 unfoldable pub are_references_owned : Tables → ℕ → Bool
 are_references_owned t n = list_all (λ (r : ArcRef). is_owned_once t.ref_counts.handles.places.items (owner_value n) r.handle.0) (refs_at t.ref_counts.nodes n)
 
--- both; what isn't there has no value
+-- both; a node that doesn't exist has no value
 abbrev pub is_node_sound : Tables → ℕ → Bool → Option Counts → Bool
 is_node_sound t n here (Some c) = are_counts_sound t.ref_counts.handles.places.items n here c && are_references_owned t n
 is_node_sound t n here None = not here
@@ -63,8 +64,8 @@ unfoldable pub are_nodes_sound : {X : Type 0} → Tables → NumberTable X → �
 are_nodes_sound t values zero = true
 are_nodes_sound t values (suc n) = is_node_sound t (suc n) (is_some (row_by values (suc n))) (counts_at t.ref_counts.nodes (suc n)) && are_nodes_sound t values n
 
--- What the cache knows under a kind is a node that was given, and while it lives it has the kind's type, and Shared handles exactly if the kind is that of
--- shared nodes.
+-- A node that is cached under a kind has a number that was given out; while it lives it has the kind's type, and Shared
+-- handles exactly if the kind is that of shared nodes.
 abbrev pub is_known_soundly : Tables → ℕ → ℕ → Option Counts → Bool
 is_known_soundly t kind n None = nat_le n t.last_node
 is_known_soundly t kind n (Some c) = nat_le n t.last_node
@@ -86,6 +87,6 @@ is_list_sound t = list_all (λ (q : HandleNumber). is_owned_once t.ref_counts.ha
 unfoldable pub is_cache_sound : Tables → Bool
 is_cache_sound t = list_all (is_entry_sound t) t.cache.entries
 
--- all of them, and nothing is still to be given up
+-- all of them, and no node is dying
 unfoldable pub is_sound : {X : Type 0} → Tables → NumberTable X → Bool
 is_sound t values = (are_handles_sound t && (is_list_sound t && is_cache_sound t)) && (t.ref_counts.top == 0 && are_nodes_sound t values t.last_node)

@@ -1,4 +1,4 @@
-//! Which node is known under a kind and a key.
+//! The cache: the node that is known under a kind and a key.
 
 ghost use Rattle.indexmap.specs.IndexMap.{get, spare};
 ghost use Rattle.pagable_value_spec.specs.declared.numbers.NodeNumber.{NodeNumber};
@@ -25,7 +25,12 @@ use pagable_pager_spec::handle_row::{HandleRow, Owner};
 use pagable_value_spec::{DataKey, Error, HandleNumber, Kind, NodeNumber};
 use std::alloc::AllocError;
 
-/// A node is known under a kind and a key from now on. With room to spare it succeeds.
+/// Caches a node under a kind and a key, instead of the one that was cached there.
+///
+/// # Errors
+///
+/// - `AllocError` if the map can't grow: the cache is unchanged. With room to spare this doesn't
+///   happen.
 pub fn put(cache: &mut Cache, kind: Kind, key: DataKey, node: NodeNumber) -> Result<(), AllocError>
     ensures here { OnOk result (known_at cache.new kind.0 key ≡ Some node) }
     ensures others { OnOk result ((k q : ℕ) → (k ≢ kind.0) ⊎ (q ≢ key) → known_at cache.new k q ≡ known_at cache.old k q) }
@@ -36,7 +41,7 @@ pub fn put(cache: &mut Cache, kind: Kind, key: DataKey, node: NodeNumber) -> Res
     Ok(())
 }
 
-/// The same, if it is to be, where there is room.
+/// Caches a node under a kind and a key if `learns`. The caller has made room for the entry.
 pub fn learn_if(cache: &mut Cache, learns: bool, kind: Kind, key: DataKey, node: NodeNumber)
     requires { 0 < spare cache.old }
     ensures here { learns ≡ true → known_at cache.new kind.0 key ≡ Some node }
@@ -48,10 +53,11 @@ pub fn learn_if(cache: &mut Cache, learns: bool, kind: Kind, key: DataKey, node:
     }
 }
 
-/// How many entries the cache may have before it is looked through again, beside twice those that were left.
+/// How many entries the cache may have before `forget_gone` looks through it, beside twice those
+/// that were left the last time.
 const FEW_ENTRIES: usize = 64;
 
-/// The cache forgets its entries of nodes that are gone.
+/// Removes the cache entries of nodes that are gone.
 fn keep_living(cache: &mut Cache, nodes: &Nodes)
     ensures { (kind key : ℕ) → known_at cache.new kind key ≡ living (counts_at nodes.now) (known_at cache.old kind key) }
 {
@@ -63,9 +69,9 @@ fn keep_living(cache: &mut Cache, nodes: &Nodes)
     );
 }
 
-/// Forgets the cache's entries of nodes that are gone, where it has more than its limit, which becomes twice what is
-/// left and some. So an insertion looks at an entry or two besides, and the cache never has more than twice the entries
-/// whose nodes lived when it was last looked through, and some.
+/// Removes the cache entries of nodes that are gone if the cache has more entries than its limit,
+/// and sets the limit to twice what is left and 64. So each insertion pays for a look at one or two
+/// entries, and the cache has at most twice the entries whose nodes lived at the last look, and 64.
 pub fn forget_gone(t: &mut Tables)
     requires { IsWhole t.old }
     ensures does { Does t.old Alike t.new }
@@ -80,7 +86,8 @@ pub fn forget_gone(t: &mut Tables)
     t.cache_limit = t.cache.len().saturating_mul(2).saturating_add(FEW_ENTRIES);
 }
 
-/// The node that the cache gives for a kind and a key. An entry counts only while its node lives and, as a pin, has its value.
+/// Returns the node that is cached under a kind and a key. It ignores an entry whose node is gone
+/// or, for the kind of a pin, whose node has no value in memory.
 pub fn usable_of(t: &Tables, kind: Kind, key: DataKey) -> Option<NodeNumber>
     requires { IsWhole t.now }
     ensures { (stored : ℕ → Option Blob) (closed : Bool) (failures : ℕ) → option_map (λ (n : NodeNumber). n.0) result ≡ usable (core_of t.now stored closed failures) kind.0 key }
@@ -91,7 +98,13 @@ pub fn usable_of(t: &Tables, kind: Kind, key: DataKey) -> Option<NodeNumber>
     (!is_gone).then_some(node)
 }
 
-/// A handle of the node that the cache gives for a kind and a key, in the kind's mode; or None where it gives none. It is refused as `make` is.
+/// Makes a handle of the node that is cached under a kind and a key, in the kind's mode. Returns
+/// None, and changes nothing, if no usable node is cached there.
+///
+/// # Errors
+///
+/// - `NumbersSpent` if no handle number is left: nothing changes.
+/// - `OutOfMemory` if the handles can't grow: nothing changes.
 pub fn cache_get(
     t: &mut Tables,
     me: Owner,
@@ -109,7 +122,14 @@ pub fn cache_get(
     Ok(Some(make(t, node, mode_of(kind), me)?))
 }
 
-/// The row of an own handle that may stand under this kind.
+/// Returns the row of a handle that `me` owns and that may be cached under this kind.
+///
+/// # Errors
+///
+/// - `NoSuchHandle` if the handle isn't live.
+/// - `NotYours` if another owns it.
+/// - `WrongMode` if its mode isn't the kind's.
+/// - `WrongKind` if its node's type isn't the kind's.
 pub fn offered(t: &Tables, me: Owner, kind: Kind, handle: HandleNumber) -> Result<HandleRow, Error>
     requires { IsWhole t.now }
     ensures owns { IfOk result (λ row. Owns (plain_of t.now) me handle (fits_mode kind.0) row) }
@@ -126,8 +146,16 @@ pub fn offered(t: &Tables, me: Owner, kind: Kind, handle: HandleNumber) -> Resul
     Ok(at.row)
 }
 
-/// The cache learns a handle's node, while cells are listed. Where it gives a node already, a handle of that is answered, and the one that was offered is given up. While none are listed the handle
-/// itself is answered. It is refused where it isn't an own handle that may stand under the kind, no number is left, or no place or memory.
+/// Caches the handle's node under a kind and a key, and returns None. If a usable node is cached
+/// there already, releases `handle` and returns a new handle of that node, in the kind's mode.
+/// While no cells are listed (the storage is closed), returns `handle` and changes nothing.
+///
+/// # Errors
+///
+/// - `NoSuchHandle`, `NotYours`, `WrongMode`, `WrongKind` as in `offered`.
+/// - `NumbersSpent` if no number is left for the new handle.
+/// - `OutOfMemory` if the cache or the handles can't grow. After each error the tables are
+///   unchanged.
 #[tactic(auto, using(std::proofs::lemmas::Bool::Decides::nat_tests))]
 pub fn offer<N: Drop>(
     t: &mut Tables,

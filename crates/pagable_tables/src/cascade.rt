@@ -1,5 +1,7 @@
-//! Releases a handle with all that goes with it: values that nobody pins, and what they refer to. Cells whose last pin
-//! goes are pushed to the pending list.
+//! Releases a handle and runs the cascade: a node that loses its last handle, or its last pin while
+//! it has a key, is dying: the cascade releases the handles that its value owns, which may let
+//! other nodes die, and drops its value. A cell without a key is listed for page-out when it loses
+//! its last pin.
 
 ghost use Rattle.pagable_value_spec.specs.declared.numbers.NodeNumber.{NodeNumber};
 ghost use Rattle.pagable_tables.specs.CascadeInvariant.{IsFalling, is_valued, is_worker, owns, owns_nothing};
@@ -24,21 +26,23 @@ use pagable_pager_spec::handle_row::{HandleRow, Owner};
 use pagable_value_spec::{Error, HandleNumber, NodeNumber};
 use std::collections::VecDeque;
 
-/// Handles, nodes and list, with no fact that is true of them all.
+/// The handles, the nodes and the pending list, with the state of a cascade. The type itself
+/// guarantees nothing of them: contracts ask for `IsFalling`.
 #[derive(Drop)]
 pub struct RefCounts {
     pub handles: Handles,
     pub nodes: Nodes,
-    /// The cells that wait for page-out, by the handles that the list owns.
+    /// The pending list: the cells that wait for page-out, by handles that the list owns.
     pub list: VecDeque<HandleNumber>,
-    /// The first node that falls, 0 where none does.
+    /// The first dying node, 0 for none.
     pub top: u64,
-    /// Why a cell couldn't be listed since handles began to be given up, the first cause.
+    /// The first error by which a cell couldn't be listed since this release began.
     pub unlisted: Option<Error>,
     pub last_handle: u64,
 }
 
-/// A new entry of the list for this node's cell. NumbersSpent or OutOfMemory where it can't come.
+/// Lists this node's cell by a new handle. Fails with NumbersSpent if no handle number is left, and
+/// with OutOfMemory if the handles or the list can't grow.
 fn push_pending(t: &mut RefCounts, node: NodeNumber) -> Result<(), Error>
     requires sound { AreSound t.old.handles }
     requires next { IsNext (t.old.last_handle + 1) t.old.handles.places.items }
@@ -63,7 +67,8 @@ fn push_pending(t: &mut RefCounts, node: NodeNumber) -> Result<(), Error>
     Ok(())
 }
 
-/// The same where one is wanted; and whether it came. A cause is kept where it is the first.
+/// Calls `push_pending` if `wanted`, and says whether an entry was added. The first error is kept
+/// in `unlisted`.
 fn push_pending_if(t: &mut RefCounts, node: NodeNumber, wanted: bool) -> bool
     requires sound { AreSound t.old.handles }
     requires next { IsNext (t.old.last_handle + 1) t.old.handles.places.items }
@@ -79,14 +84,15 @@ fn push_pending_if(t: &mut RefCounts, node: NodeNumber, wanted: bool) -> bool
     false
 }
 
-/// Whether the last pin of a cell without a key goes with a handle of this mode, where cells are listed.
+/// Says whether a handle of this mode is the last pin of a cell without a key, and no Shared one,
+/// while cells are listed: the cell must be listed when that pin is given up.
 fn wants_entry(counts: Counts, mode: Mode, lists: bool) -> bool
     ensures { result ≡ (lists && is_listing counts mode) }
 {
     lists && counts.pins == 1 && counts.key == 0 && matches!(mode, Mode::LoosePinned | Mode::Pinned)
 }
 
-/// The handle at this place leaves, or it stays without its pin.
+/// Removes the handle, or only its pin if it `stays`.
 #[tactic(auto, using(crate::proofs::CascadeStep::counting))]
 fn remove_or_unpin(handles: &mut Handles, at: HandleAt, stays: bool)
     requires sound { AreSound handles.old }
@@ -102,7 +108,9 @@ fn remove_or_unpin(handles: &mut Handles, at: HandleAt, stays: bool)
     }
 }
 
-/// The counts of a node after a handle has left, or stayed without its pin, and perhaps an entry came.
+/// Returns a node's counts after one of its handles was removed, or unpinned if it `stays`, and
+/// perhaps an entry was `listed`. The node is put before `top` in the list of dying nodes if it
+/// dies by that.
 fn counts_after(counts: Counts, pinning: bool, stays: bool, listed: bool, top: u64) -> Counts
     requires pins { one pinning ≤ counts.pins }
     requires holds { 1 ≤ counts.holds }
@@ -119,7 +127,8 @@ fn counts_after(counts: Counts, pinning: bool, stays: bool, listed: bool, top: u
     left
 }
 
-/// The handle of this row has left, unless it stays.
+/// Subtracts one from the node's bound of handles that workers own, if a worker owned this handle
+/// and it doesn't stay.
 fn leave_work(nodes: &mut Nodes, row: HandleRow, stays: bool)
     requires { IsSome (counts_at nodes.old row.node.0) }
     ensures here { work_at nodes.old row.node.0 ≤ work_at nodes.new row.node.0 + (if stays then 0 else one (is_worker row.owner)) }
@@ -134,14 +143,17 @@ fn leave_work(nodes: &mut Nodes, row: HandleRow, stays: bool)
     }
 }
 
-/// The first node that falls after that.
+/// Returns the first dying node after that: this one if it is dying now and wasn't before, else
+/// `top`.
 pub fn top_after(before: bool, falls: bool, node: u64, top: u64) -> u64
     ensures { result ≡ (if falls && not before then node else top) }
 {
     if falls && !before { node } else { top }
 }
 
-/// Gives up the handle at this place, or only its pin where it stays. Where cells are listed, one without a key is, if that was its last pin.
+/// Removes the handle, or only its pin if it `stays`, without a step of the cascade. Where `lists`
+/// is set, lists the node's cell if that was its last pin and it has no key; why it couldn't is
+/// kept in `unlisted`.
 #[tactic(auto, using(crate::proofs::CascadeStep::counting))]
 pub fn give_up(t: &mut RefCounts, at: HandleAt, stays: bool, lists: bool)
     requires falling { (stack : List ℕ) × IsFalling t.old stack (owns at.row) }
@@ -161,7 +173,8 @@ pub fn give_up(t: &mut RefCounts, at: HandleAt, stays: bool, lists: bool)
     t.top = top_after(counts.is_dying, left.is_dying, node, t.top);
 }
 
-/// A node that fell has nothing any more. It is gone if it has no handle.
+/// Ends the dying of a node whose references are all released: removes it if it has no handle, else
+/// marks it as not dying.
 #[tactic(auto, using(crate::proofs::CascadeStep::landing))]
 fn finish_node(nodes: &mut Nodes, node: u64, counts: Counts)
     requires is { counts_at nodes.old node ≡ Some counts }
@@ -182,7 +195,9 @@ fn finish_node(nodes: &mut Nodes, node: u64, counts: Counts)
     }
 }
 
-/// One step of what follows when handles are given up: the first node that falls gives up a handle, or it is done, its value has gone, and it is answered.
+/// Makes one step of the cascade: the first dying node releases one handle of its references; or it
+/// has none left, and the call finishes it and returns its number, so that its value can be
+/// dropped.
 pub fn step(t: &mut RefCounts, lists: bool) -> Option<NodeNumber>
     requires falling { (stack : List ℕ) × IsFalling t.old stack owns_nothing }
     requires some { t.old.top ≢ 0 }
@@ -206,7 +221,7 @@ pub fn step(t: &mut RefCounts, lists: bool) -> Option<NodeNumber>
     }
 }
 
-/// The value of a node that fell goes.
+/// Drops the value of this node, if there is one.
 fn drop_value<N: Drop>(values: &mut Arcs<N>, done: Option<NodeNumber>)
     ensures { (n : ℕ) → row_by values.new n ≡ (if is_node done n then None else row_by values.old n) }
 {
@@ -215,7 +230,8 @@ fn drop_value<N: Drop>(values: &mut Arcs<N>, done: Option<NodeNumber>)
     }
 }
 
-/// Gives up all that fallen values referred to, and so on, to the end, and lets the values go. It takes no memory but for entries of the list.
+/// Runs the cascade to its end: releases the handles of each dying node's references, and drops its
+/// value. It takes no memory but for list entries.
 #[tactic(auto, using(crate::proofs::CascadeEnd::falls))]
 pub fn cascade<N: Drop>(t: &mut RefCounts, values: &mut Arcs<N>, lists: bool)
     requires falling { (stack : List ℕ) × IsFalling t.old stack owns_nothing × (length stack ≤ 1) }
@@ -226,7 +242,7 @@ pub fn cascade<N: Drop>(t: &mut RefCounts, values: &mut Arcs<N>, lists: bool)
     ensures falls { (before w : Core) (given : ℕ → Bool) → SoFar before w given lists t.old → Falls before w given (told_by t.new.unlisted) (with_tables w t.new) }
     ensures sheds { Sheds (counts_at t.old.nodes) (row_by values.old) (counts_at t.new.nodes) (row_by values.new) }
 {
-    // twice the number of live handles, and one: so many steps are enough once a handle was given up
+    // a bound on the steps: twice the number of live handles, and one
     let mut left = 2 * (t.handles.places.len() - t.handles.dead) + 1;
     'fall: while t.top != 0 {
         left -= 1;
@@ -235,7 +251,7 @@ pub fn cascade<N: Drop>(t: &mut RefCounts, values: &mut Arcs<N>, lists: bool)
     }
 }
 
-/// The handle at this place is given up, with all that goes with it.
+/// Releases the handle and runs the cascade. The first error of listing is kept in `unlisted`.
 pub fn release_at<N: Drop>(t: &mut RefCounts, values: &mut Arcs<N>, at: HandleAt, lists: bool)
     requires steady { IsFalling t.old [] owns_nothing }
     requires place { slice_get t.old.handles.places.items at.place ≡ Some (alive at.row) }
@@ -251,7 +267,12 @@ pub fn release_at<N: Drop>(t: &mut RefCounts, values: &mut Arcs<N>, at: HandleAt
     cascade(t, values, lists);
 }
 
-/// The same, and then what came of the listing: NumbersSpent or OutOfMemory where a cell that had to be listed isn't.
+/// Runs the cascade, and then returns the first error by which a cell couldn't be listed.
+///
+/// # Errors
+///
+/// - `NumbersSpent`, `OutOfMemory` if a cell that must be listed couldn't be: the cascade is
+///   complete all the same.
 pub fn fall<N: Drop>(t: &mut RefCounts, values: &mut Arcs<N>, lists: bool) -> Result<(), Error>
     requires falling { (stack : List ℕ) × IsFalling t.old stack owns_nothing × (length stack ≤ 1) }
     ensures steady { IsFalling t.new [] owns_nothing }

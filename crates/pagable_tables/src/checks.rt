@@ -1,4 +1,4 @@
-//! Why a call is refused for its handles, references or load. Nothing changes by that.
+//! The checks of a call's handles, references and load. They change nothing.
 
 ghost use Rattle.pagable_value_spec.specs.declared.numbers.LoadNumber.{LoadNumber};
 ghost use Rattle.pagable_tables.specs.Core.{IsWhole, core_of, load_in, plain_of, seen};
@@ -24,7 +24,12 @@ use crate::{handle_table, load_table, nodes};
 use pagable_pager_spec::handle_row::{HandleRow, Owner};
 use pagable_value_spec::{ArcRef, Error, HandleNumber, LoadNumber};
 
-/// The own handle of this number, with its place.
+/// Returns the handle of this number, with its index, if `me` owns it.
+///
+/// # Errors
+///
+/// - `NoSuchHandle` if the handle isn't live.
+/// - `NotYours` if another owns it.
 pub fn own(t: &Tables, me: Owner, handle: HandleNumber) -> Result<HandleAt, Error>
     requires { IsWhole t.now }
     ensures place { IfOk result (λ at. slice_get t.now.ref_counts.handles.places.items at.place ≡ Some (alive at.row)) }
@@ -40,8 +45,9 @@ pub fn own(t: &Tables, me: Owner, handle: HandleNumber) -> Result<HandleAt, Erro
     Ok(at)
 }
 
-/// Whether one of these references names the handle, where those that they name are numbers from the lowest to the
-/// highest. So references in the order of their handles, from either end, cost a look each.
+/// Says whether one of these references names the handle. All numbers that they name are from
+/// `lowest` to `highest`, so a handle outside of these bounds takes no look at the references: this
+/// makes the check of references in the order of their handles, from either end, linear.
 #[tactic(auto, using(crate::proofs::SameViews::naming))]
 fn is_named(references: &[ArcRef], lowest: u64, highest: u64, handle: HandleNumber) -> bool
     requires below { (q : ℕ) → q < lowest → is_named_by references.now q ≡ false }
@@ -59,7 +65,8 @@ fn is_named(references: &[ArcRef], lowest: u64, highest: u64, handle: HandleNumb
     false
 }
 
-/// Why a reference is refused whose handle has this row, where another may have to be asked first.
+/// Returns why a reference whose handle has this row is refused, if it is. `is_anothers` says that
+/// the caller may not use the handle.
 fn row_fault(t: &Tables, row: HandleRow, reference: ArcRef, is_anothers: bool) -> Option<Error>
     ensures { result ≡ row_fault (plain_of t.now) reference (refused_if is_anothers errors.NotYours) row }
 {
@@ -76,7 +83,8 @@ fn row_fault(t: &Tables, row: HandleRow, reference: ArcRef, is_anothers: bool) -
     (!is_of(counts, reference.kind)).then_some(Error::WrongKind)
 }
 
-/// Why a reference of a value is refused, where its handle was named before or wasn't.
+/// Returns why a reference of a value is refused, if it is. `is_seen` says that an earlier
+/// reference named the same handle.
 fn fault_of(t: &Tables, me: Owner, reference: ArcRef, is_seen: bool) -> Option<Error>
     requires { IsWhole t.now }
     ensures { (stored : ℕ → Option Blob) (closed : Bool) (failures : ℕ) (seen : List ℕ) → is_in seen reference.handle.0 ≡ is_seen → result ≡ reference_fault (core_of t.now stored closed failures) me seen reference }
@@ -87,7 +95,7 @@ fn fault_of(t: &Tables, me: Owner, reference: ArcRef, is_seen: bool) -> Option<E
     row_fault(t, at.row, reference, !is_owner(me, at.row.owner) | is_seen)
 }
 
-/// Why what a reference names can't be claimed for page-out, whoever owns its handle.
+/// Returns why a worker can't claim what a reference names, if it can't, whoever owns the handle.
 pub fn claim_fault(t: &Tables, reference: ArcRef) -> Option<Error>
     requires { IsWhole t.now }
     ensures { (stored : ℕ → Option Blob) (closed : Bool) (failures : ℕ) → result ≡ claim_fault (core_of t.now stored closed failures) reference }
@@ -98,7 +106,10 @@ pub fn claim_fault(t: &Tables, reference: ArcRef) -> Option<Error>
     }
 }
 
-/// Why the references of a value that is handed in are refused: the cause of the first that has one.
+/// Returns why the references of a value are refused: the error of the first reference that has
+/// one. `NoSuchHandle` if its handle isn't live or is of another node; `NotYours` if another than
+/// `me` owns it, or an earlier reference names it; `WrongMode` if its mode isn't the kind's;
+/// `WrongKind` if its node's type isn't the kind's.
 #[tactic(auto, using(crate::proofs::SameViews::naming))]
 pub fn references_fault(t: &Tables, me: Owner, references: &[ArcRef]) -> Option<Error>
     requires { IsWhole t.now }
@@ -118,7 +129,8 @@ pub fn references_fault(t: &Tables, me: Owner, references: &[ArcRef]) -> Option<
     None
 }
 
-/// Why the load of this row can't be used by this owner, if it can't: there is none, or another began it.
+/// Returns why this owner can't use the load of this row, if it can't: `NoSuchHandle` if there is
+/// none, `NotYours` if another began it.
 pub fn load_fault(row: Option<LoadRow>, me: Owner) -> Option<Error>
     ensures { result ≡ if_there (λ (load : OpenLoad). refused_if (not (is_owner me load.owner)) errors.NotYours) (Some errors.NoSuchHandle) (option_map load_in row) }
 {
@@ -128,14 +140,16 @@ pub fn load_fault(row: Option<LoadRow>, me: Owner) -> Option<Error>
     }
 }
 
-/// Why the load of this row can't hand handles over, if it can't: it is of a cell.
+/// Returns `WrongMode` if the load of this row is of a cell: only a load of a key hands handles
+/// over.
 pub fn cell_fault(row: Option<LoadRow>) -> Option<Error>
     ensures { result ≡ if_there (λ (load : OpenLoad). cell_fault load.root) None (option_map load_in row) }
 {
     matches!(row?.root, LoadRoot::Cell(_, _, _)).then_some(Error::WrongMode)
 }
 
-/// Whether the number stands before this place, where those that stand there are numbers from the lowest to the highest.
+/// Says whether the number is among the first `place` ones, which are all from `lowest` to
+/// `highest`.
 #[tactic(auto, using(crate::proofs::SameViews::handing))]
 fn is_before(named: &[HandleNumber], place: usize, lowest: u64, highest: u64, number: u64) -> bool
     requires within { place ≤ length named.now }
@@ -154,7 +168,8 @@ fn is_before(named: &[HandleNumber], place: usize, lowest: u64, highest: u64, nu
     false
 }
 
-/// Why a handle that was named before or wasn't can't be handed over by this owner, if it can't.
+/// Returns why this owner can't hand the handle over, if it can't. `is_seen` says that the handle
+/// was named before.
 fn hand_fault(handles: &Handles, owner: Owner, handle: HandleNumber, is_seen: bool) -> Option<Error>
     requires { AreSound handles.now }
     ensures { result ≡ if_there (λ (row : HandleRow). refused_if (not (is_owner owner row.owner) || is_seen) errors.NotYours) (Some errors.NoSuchHandle) (find_row handle.0 (live handles.now.places.items)) }
@@ -165,7 +180,8 @@ fn hand_fault(handles: &Handles, owner: Owner, handle: HandleNumber, is_seen: bo
     (!is_owner(owner, at.row.owner) | is_seen).then_some(Error::NotYours)
 }
 
-/// Why the handles that are named can't all be handed over by this owner: one isn't live, or one is another's or is named twice.
+/// Returns why this owner can't hand over all handles that are named, the first error in the order
+/// of reports: `NoSuchHandle` if one isn't live, `NotYours` if one is another's or is named twice.
 #[tactic(auto, using(crate::proofs::SameViews::handing))]
 pub fn named_fault(handles: &Handles, owner: Owner, named: &[HandleNumber]) -> Option<Error>
     requires { AreSound handles.now }
@@ -184,7 +200,7 @@ pub fn named_fault(handles: &Handles, owner: Owner, named: &[HandleNumber]) -> O
     fault
 }
 
-/// Why a load of a key can't hand over the handles that are named, if it can't.
+/// Returns why a load of a key can't hand over the handles that are named, if it can't.
 pub(crate) fn hand_over_fault(
     t: &Tables,
     me: Owner,
@@ -200,7 +216,12 @@ pub(crate) fn hand_over_fault(
     earlier(first, earlier(cell, owned))
 }
 
-/// The own open load of this number. NoSuchHandle where none is open, NotYours where another began it.
+/// Returns the row of an open load that `me` began.
+///
+/// # Errors
+///
+/// - `NoSuchHandle` if no such load is open.
+/// - `NotYours` if another began it.
 pub fn load_row(t: &Tables, me: Owner, load: LoadNumber) -> Result<LoadRow, Error>
     ensures row { IfOk result (λ row. load_at t.now.loads load.0 ≡ Some row) }
     ensures own { IfOk result (λ row. (stored : ℕ → Option Blob) (closed : Bool) (failures : ℕ) → OwnsLoad (core_of t.now stored closed failures) me load (load_in row)) }

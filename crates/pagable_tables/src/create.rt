@@ -1,4 +1,4 @@
-//! Makes nodes, handles of live ones, and pins.
+//! Makes nodes, handles of live nodes, and pins.
 
 ghost use Rattle.indexmap.specs.IndexMap.{get, spare};
 ghost use Rattle.pagable_value_spec.specs.declared.numbers.NodeNumber.{NodeNumber};
@@ -26,7 +26,12 @@ use pagable_pager_spec::{Mode, Pinning};
 use pagable_value_spec::{ArcRef, DataKey, Error, HandleNumber, NodeNumber};
 use std::alloc::Global;
 
-/// Makes room for a handle, a node and what the cache may learn of it, and changes nothing else. NumbersSpent where no number is left for one of them, OutOfMemory where there is no room.
+/// Makes room for a handle, a node and a cache entry, and changes nothing else.
+///
+/// # Errors
+///
+/// - `NumbersSpent` if no number of a node or a handle is left.
+/// - `OutOfMemory` if a table can't grow: at most some have more room.
 pub fn make_ready_to_learn(t: &mut Tables) -> Result<(), Error>
     requires { IsWhole t.old }
     ensures ready { OnOk result (IsReady t.new) }
@@ -46,7 +51,12 @@ pub fn make_ready_to_learn(t: &mut Tables) -> Result<(), Error>
     Ok(())
 }
 
-/// A handle of a live node comes under the next number. NumbersSpent where none is left, OutOfMemory where there is no place.
+/// Makes a handle of a live node, under the next number.
+///
+/// # Errors
+///
+/// - `NumbersSpent` if no handle number is left: nothing changes.
+/// - `OutOfMemory` if the handles can't grow: nothing changes.
 #[tactic(auto, using(crate::proofs::CascadeStep::counting))]
 pub fn add(
     t: &mut RefCounts,
@@ -81,7 +91,7 @@ pub fn add(
     Ok(number)
 }
 
-/// The same, and the tables are whole again.
+/// Makes a handle of a live node, as `add` does, in whole tables. It fails as `add` does.
 pub fn make(t: &mut Tables, node: NodeNumber, mode: Mode, me: Owner) -> Result<HandleNumber, Error>
     requires whole { IsWhole t.old }
     requires suits { Suits (plain_of t.old) node mode }
@@ -93,7 +103,13 @@ pub fn make(t: &mut Tables, node: NodeNumber, mode: Mode, me: Owner) -> Result<H
     add(&mut t.ref_counts, node, mode, me)
 }
 
-/// A second handle of the same mode, of any live handle.
+/// Makes a second handle of the same node and mode, whoever owns the first.
+///
+/// # Errors
+///
+/// - `NoSuchHandle` if the handle isn't live.
+/// - `NumbersSpent` if no handle number is left.
+/// - `OutOfMemory` if the handles can't grow. After each error the tables are unchanged.
 pub fn clone(t: &mut Tables, me: Owner, handle: HandleNumber) -> Result<HandleNumber, Error>
     requires whole { IsWhole t.old }
     requires holder { MayHold (plain_of t.old) me }
@@ -105,8 +121,14 @@ pub fn clone(t: &mut Tables, me: Owner, handle: HandleNumber) -> Result<HandleNu
     make(t, at.row.node, at.row.mode, me)
 }
 
-/// All that can keep a value with these references from becoming a node, and room for it: the references are looked at, then numbers. Nothing else changes. Refused
-/// with the cause of the first reference that has one, with NumbersSpent and OutOfMemory.
+/// Checks whether a value with these references can become a node, and makes room for it: first the
+/// references, then numbers, then memory.
+///
+/// # Errors
+///
+/// - `NoSuchHandle`, `NotYours`, `WrongMode`, `WrongKind` as `references_fault` finds it.
+/// - `NumbersSpent` if no number of a node or a handle is left.
+/// - `OutOfMemory` if a table can't grow: at most some have more room.
 pub fn prepare(t: &mut Tables, me: Owner, references: &[ArcRef]) -> Result<(), Error>
     requires { IsWhole t.old }
     ensures ready { OnOk result (IsReady t.new) }
@@ -121,7 +143,9 @@ pub fn prepare(t: &mut Tables, me: Owner, references: &[ArcRef]) -> Result<(), E
     Ok(())
 }
 
-/// A new node with this key, 0 for none, whose value has these references, whose handles move to it, and one handle of it. All was made ready for it, so it isn't refused.
+/// Inserts a node with this key (0 for none), makes its value the owner of the handles that these
+/// references name, and returns one handle of it. It can't fail: `prepare` or `make_ready_to_learn`
+/// made all ready.
 pub fn insert_node(
     t: &mut Tables,
     me: Owner,
@@ -169,7 +193,12 @@ pub fn insert_node(
     number
 }
 
-/// A new cell that has a key and no value, with one unpinned handle. It is refused where a number is spent, or by memory.
+/// Inserts a cell that has a key and no value, and returns an unpinned handle of it.
+///
+/// # Errors
+///
+/// - `NumbersSpent` if no number of a node or a handle is left.
+/// - `OutOfMemory` if a table can't grow: at most some have more room.
 pub fn insert_paged_out(
     t: &mut Tables,
     alloc: Global,
@@ -186,7 +215,7 @@ pub fn insert_paged_out(
     Ok(insert_node(t, me, node_type, key.get(), Vec::new(alloc), mode))
 }
 
-/// The handle at this place is loose and pins its node from now on.
+/// Makes a handle that isn't Shared loose and pinned.
 #[tactic(auto, using(crate::proofs::CascadeStep::counting))]
 pub fn set_loose_pinned(t: &mut Tables, at: HandleAt)
     requires whole { IsWhole t.old }
@@ -206,7 +235,13 @@ pub fn set_loose_pinned(t: &mut Tables, at: HandleAt)
     nodes::set_counts(&mut t.ref_counts.nodes, at.row.node.0, pinned);
 }
 
-/// A Pinned handle becomes a loose pinned one, under its own number.
+/// Makes a Pinned handle a loose pinned one, under its own number.
+///
+/// # Errors
+///
+/// - `NoSuchHandle` if the handle isn't live.
+/// - `NotYours` if another owns it.
+/// - `WrongMode` if it isn't Pinned. After each error the tables are unchanged.
 pub fn into_pagable(t: &mut Tables, me: Owner, handle: HandleNumber) -> Result<HandleNumber, Error>
     requires { IsWhole t.old }
     ensures { Does t.old (λ w w'. LoosenCall w me handle result w') t.new }
@@ -219,7 +254,13 @@ pub fn into_pagable(t: &mut Tables, me: Owner, handle: HandleNumber) -> Result<H
     Ok(at.row.number)
 }
 
-/// A Pinned handle of this loose handle's node, and the handle pins too from now on. It is refused only where no number is left, or no place.
+/// Makes a Pinned handle of this loose handle's node, whose value is in memory, and pins the loose
+/// handle too.
+///
+/// # Errors
+///
+/// - `NumbersSpent` if no handle number is left: nothing changes.
+/// - `OutOfMemory` if the handles can't grow: nothing changes.
 pub fn pin_here(t: &mut Tables, me: Owner, row: HandleRow) -> Result<HandleNumber, Error>
     requires whole { IsWhole t.old }
     requires holder { MayHold (plain_of t.old) me }
@@ -235,7 +276,16 @@ pub fn pin_here(t: &mut Tables, me: Owner, row: HandleRow) -> Result<HandleNumbe
     Ok(handle)
 }
 
-/// A pin of a loose handle. Or its key, where the value has to be read first. It is refused where it isn't an own loose handle, no number is left, or no place.
+/// Pins a loose handle if its value is in memory: makes a Pinned handle as `pin_here` does.
+/// Otherwise returns the key of the value, which has to be loaded first.
+///
+/// # Errors
+///
+/// - `NoSuchHandle` if the handle isn't live.
+/// - `NotYours` if another owns it.
+/// - `WrongMode` if it isn't loose.
+/// - `NumbersSpent` if no handle number is left.
+/// - `OutOfMemory` if the handles can't grow. After each error the tables are unchanged.
 pub fn pin(t: &mut Tables, me: Owner, handle: HandleNumber) -> Result<Pinning, Error>
     requires whole { IsWhole t.old }
     requires holder { MayHold (plain_of t.old) me }

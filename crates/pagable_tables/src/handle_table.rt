@@ -1,5 +1,5 @@
-//! Live handles in the order of their numbers, found by halving. A dead row stays in its place until none behind it
-//! lives, or more than half are dead.
+//! The live handles in the order of their numbers, found by binary search. A dead row stays in its
+//! place until no live row is behind it, or more than half of the rows are dead.
 
 ghost use Rattle.indexmap.specs.IndexMap.{get};
 ghost use Rattle.pagable_tables.specs.CascadeInvariant.{AreAtWork, IsFalling, is_valued, owns_nothing};
@@ -19,21 +19,21 @@ use pagable_pager_spec::handle_row::{HandleRow, Owner};
 use pagable_value_spec::{ArcRef, HandleNumber};
 use std::alloc::AllocError;
 
-/// A live row, and where it stands.
+/// A live row and its index in the vector.
 #[derive(Clone, Copy)]
 pub struct HandleAt {
     pub place: usize,
     pub row: HandleRow,
 }
 
-/// The handles. They are in order, and the dead are counted (`AreSound`).
+/// The handles, in the order of their numbers, with the number of dead rows (`AreSound`).
 #[derive(Drop)]
 pub struct Handles {
     pub places: Vec<Place>,
     pub dead: usize,
 }
 
-/// How many places there are up to this number, found by halving.
+/// Returns how many rows have numbers up to this one, by binary search.
 pub fn up_to(places: &[Place], number: u64) -> usize
     requires { AllPairs IsBefore places.now }
     ensures within { result ≤ length places.now }
@@ -42,8 +42,8 @@ pub fn up_to(places: &[Place], number: u64) -> usize
     places.partition_point(|place| place.number() <= number)
 }
 
-/// From which place on all numbers are greater than this one: the guess, where they are from there on, and else found by
-/// halving.
+/// Returns the index from which all rows have numbers above this one: `guess` if that row's number
+/// is above it, and else the index that a binary search finds.
 pub fn up_to_from(places: &[Place], number: u64, guess: usize) -> usize
     requires { AllPairs IsBefore places.now }
     ensures within { result ≤ length places.now }
@@ -58,7 +58,7 @@ pub fn up_to_from(places: &[Place], number: u64, guess: usize) -> usize
     guess
 }
 
-/// The live handle of this number, with its place, if it stands at this one.
+/// Returns the live handle of this number if its row is at this index.
 #[tactic(auto, using(crate::proofs::HandleTable::looks))]
 fn at(places: &[Place], place: usize, number: u64) -> Option<HandleAt>
     requires { AllPairs IsBefore places.now }
@@ -75,7 +75,8 @@ fn at(places: &[Place], place: usize, number: u64) -> Option<HandleAt>
     Some(HandleAt { place, row })
 }
 
-/// The same, if it stands where it would stand were no number missing from the first one to it, or from it to the last one.
+/// Looks for the handle at two indexes: where its row is if no number before it is missing, and
+/// where it is if none behind it is.
 fn at_once(places: &[Place], number: u64) -> Option<HandleAt>
     requires { AllPairs IsBefore places.now }
     ensures place { IfSome result (λ at. slice_get places.now at.place ≡ Some (alive at.row)) }
@@ -91,7 +92,8 @@ fn at_once(places: &[Place], number: u64) -> Option<HandleAt>
     at(places, end.saturating_sub(back), number)
 }
 
-/// The live handle of this number, with its place. It costs a look where numbers before it are dense or those behind it, and else the logarithm of their count.
+/// Returns the live handle of this number, with its index. It takes one or two looks if no number
+/// before it or none behind it is missing, and else the logarithm of the number of rows.
 #[tactic(auto, using(crate::proofs::HandleTable::looks))]
 pub fn look(handles: &Handles, number: HandleNumber) -> Option<HandleAt>
     requires { AreSound handles.now }
@@ -107,7 +109,7 @@ pub fn look(handles: &Handles, number: HandleNumber) -> Option<HandleAt>
     at(&handles.places, last, number.0)
 }
 
-/// How many handles can still be pushed without a request for memory.
+/// Returns how many handles can still be pushed without a request for memory.
 pub fn room_of(handles: &Handles) -> usize
     requires { AreSound handles.now }
     ensures { result ≡ room handles.now }
@@ -115,7 +117,7 @@ pub fn room_of(handles: &Handles) -> usize
     handles.places.capacity() - (handles.places.len() - handles.dead)
 }
 
-/// Clears the dead rows away, in place.
+/// Removes all dead rows, in place.
 fn compact(handles: &mut Handles)
     requires { AreCounted handles.old }
     ensures becomes { Becomes handles.old (live handles.old.places.items) handles.new }
@@ -125,7 +127,8 @@ fn compact(handles: &mut Handles)
     handles.dead = 0;
 }
 
-/// Clears dead rows away: those at the end, so that who looks from there meets few of them, and all where more than half are dead.
+/// Removes the dead rows at the end, so that a search from the end meets few of them; and all dead
+/// rows if more than half are dead.
 #[tactic(auto, using(crate::proofs::HandleTable::ends))]
 fn clear(handles: &mut Handles)
     requires { AreCounted handles.old }
@@ -142,7 +145,8 @@ fn clear(handles: &mut Handles)
     }
 }
 
-/// The handle at this place dies.
+/// Marks the handle as dead, and may remove dead rows. Indexes that were got before aren't valid
+/// afterwards.
 #[tactic(auto, using(crate::proofs::HandleTable::places))]
 pub fn kill(handles: &mut Handles, at: HandleAt)
     requires sound { AreSound handles.old }
@@ -155,7 +159,7 @@ pub fn kill(handles: &mut Handles, at: HandleAt)
     clear(handles);
 }
 
-/// The handle at this place has another row from now on, of the same number.
+/// Replaces the handle's row by another one of the same number.
 #[tactic(auto, using(crate::proofs::HandleTable::places))]
 pub fn set(handles: &mut Handles, at: HandleAt, row: HandleRow)
     requires sound { AreSound handles.old }
@@ -167,7 +171,8 @@ pub fn set(handles: &mut Handles, at: HandleAt, row: HandleRow)
     handles.places[at.place] = Place::new(row, true);
 }
 
-/// Makes a place free for one more row, if it can.
+/// Makes a place free for one more row: by growing, or else by removing the dead rows. Fails with
+/// AllocError if the vector is full and can't grow.
 fn make_room(handles: &mut Handles) -> Result<(), AllocError>
     requires { AreSound handles.old }
     ensures widens { Widens handles.old handles.new }
@@ -184,7 +189,11 @@ fn make_room(handles: &mut Handles) -> Result<(), AllocError>
     Ok(())
 }
 
-/// A handle comes, with a number above all that are there. It is refused only where no place is left.
+/// Adds a handle, whose number is above all others.
+///
+/// # Errors
+///
+/// - `AllocError` if the vector is full of live rows and can't grow: the handles are unchanged.
 #[tactic(auto, using(crate::proofs::HandleTable::pushes))]
 pub fn push(handles: &mut Handles, row: HandleRow) -> Result<(), AllocError>
     requires sound { AreSound handles.old }
@@ -202,7 +211,12 @@ pub fn push(handles: &mut Handles, row: HandleRow) -> Result<(), AllocError>
     Ok(())
 }
 
-/// Makes places ready for so many more handles, if it can.
+/// Reserves places for `more` handles.
+///
+/// # Errors
+///
+/// - `AllocError` if the vector can't grow and has fewer free places: the live handles are
+///   unchanged.
 pub fn reserve(handles: &mut Handles, more: usize) -> Result<(), AllocError>
     requires { AreSound handles.old }
     ensures widens { Widens handles.old handles.new }
@@ -216,7 +230,7 @@ pub fn reserve(handles: &mut Handles, more: usize) -> Result<(), AllocError>
     Ok(())
 }
 
-/// The handle at this place has this owner from now on.
+/// Makes `owner` the handle's owner.
 pub fn hand_over(handles: &mut Handles, at: HandleAt, owner: Owner)
     requires sound { AreSound handles.old }
     requires place { slice_get handles.old.places.items at.place ≡ Some (alive at.row) }
@@ -231,7 +245,7 @@ pub fn hand_over(handles: &mut Handles, at: HandleAt, owner: Owner)
     set(handles, at, row);
 }
 
-/// The handle of this number, if it is live, has this owner from now on.
+/// Makes `owner` the owner of the handle of this number, if it is live.
 fn hand_over_live(handles: &mut Handles, handle: HandleNumber, owner: Owner)
     requires { AreSound handles.old }
     ensures { Becomes handles.old (moved (only_handle handle) owner (live handles.old.places.items)) handles.new }
@@ -241,7 +255,7 @@ fn hand_over_live(handles: &mut Handles, handle: HandleNumber, owner: Owner)
     }
 }
 
-/// The live handles that these references name have this owner from now on.
+/// Makes `owner` the owner of each live handle that these references name.
 #[tactic(auto, using(crate::proofs::SameViews::naming))]
 pub fn hand_over_all(handles: &mut Handles, references: &[ArcRef], owner: Owner)
     requires { AreSound handles.old }
@@ -252,7 +266,7 @@ pub fn hand_over_all(handles: &mut Handles, references: &[ArcRef], owner: Owner)
     }
 }
 
-/// The live handles of these numbers have this owner from now on.
+/// Makes `owner` the owner of each live handle of these numbers.
 #[tactic(auto, using(crate::proofs::SameViews::handing))]
 pub fn hand_each(handles: &mut Handles, named: &[HandleNumber], owner: Owner)
     requires { AreSound handles.old }

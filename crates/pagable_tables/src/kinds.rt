@@ -1,4 +1,4 @@
-//! Modes, owners and kinds, and which of two refusals comes first.
+//! Tests of modes, owners and kinds, and the order in which a call's errors are reported.
 
 ghost use Rattle.pagable_tables.specs.CascadeInvariant.{is_worker};
 ghost use Rattle.pagable_pager_spec.specs.Kinds.{fits_mode, is_loose, is_owner, is_pinning, is_unpinned, mode_of};
@@ -10,14 +10,14 @@ use pagable_pager_spec::Mode;
 use pagable_pager_spec::handle_row::Owner;
 use pagable_value_spec::{Error, Kind};
 
-/// Whether a handle of this mode pins its node.
+/// Says whether a handle of this mode pins its node.
 pub fn pins(mode: Mode) -> bool
     ensures { result ≡ is_pinning mode }
 {
     !matches!(mode, Mode::LooseUnpinned)
 }
 
-/// Whether it is the same owner.
+/// Says whether both are the same owner.
 pub fn is_owner(a: Owner, b: Owner) -> bool
     ensures { result ≡ is_owner a b }
 {
@@ -31,42 +31,42 @@ pub fn is_owner(a: Owner, b: Owner) -> bool
     }
 }
 
-/// Whether the owner is a worker.
+/// Says whether the owner is a worker.
 pub fn is_worker(owner: Owner) -> bool
     ensures { result ≡ is_worker owner }
 {
     matches!(owner, Owner::Worker(_))
 }
 
-/// Whether a handle of this mode can be pinned and unpinned.
+/// Says whether a handle of this mode is loose, so that it can be pinned and unpinned.
 pub fn is_loose_mode(mode: Mode) -> bool
     ensures { result ≡ is_loose mode }
 {
     matches!(mode, Mode::LoosePinned | Mode::LooseUnpinned)
 }
 
-/// Whether a handle of this mode is loose and pins nothing.
+/// Says whether a handle of this mode is loose and pins nothing.
 pub fn is_unpinned(mode: Mode) -> bool
     ensures { result ≡ is_unpinned mode }
 {
     matches!(mode, Mode::LooseUnpinned)
 }
 
-/// Whether a reference of this kind is a pin.
+/// Says whether a reference of this kind is a pin.
 pub fn is_pinned_kind(kind: Kind) -> bool
     ensures { result ≡ is_pinned_kind kind.0 }
 {
     kind.0 % 3 == 2
 }
 
-/// Whether a reference of this kind is loose.
+/// Says whether a reference of this kind is loose.
 pub fn is_loose_kind(kind: Kind) -> bool
     ensures { result ≡ is_loose_kind kind.0 }
 {
     kind.0 % 3 == 1
 }
 
-/// The mode of a handle that is made for a reference of this kind.
+/// Returns the mode of the handle that a reference of this kind gets.
 pub fn mode_of(kind: Kind) -> Mode
     ensures { result ≡ mode_of kind.0 }
 {
@@ -77,7 +77,7 @@ pub fn mode_of(kind: Kind) -> Mode
     }
 }
 
-/// Whether a handle of this mode may stand under this kind.
+/// Says whether a reference of this kind may name a handle of this mode.
 pub fn fits_mode(kind: Kind, mode: Mode) -> bool
     ensures { result ≡ fits_mode kind.0 mode }
 {
@@ -88,7 +88,8 @@ pub fn fits_mode(kind: Kind, mode: Mode) -> bool
     }
 }
 
-/// The place of a refusal in the order: nothing has the number; it is another's; its mode doesn't fit; its type doesn't; no number is left; all others.
+/// Returns the error's place in the order of reports: no such handle, another's handle, wrong mode,
+/// wrong type, no number left, all others.
 fn rank(error: &Error) -> u32
     ensures { result ≡ rank error.now }
 {
@@ -102,7 +103,7 @@ fn rank(error: &Error) -> u32
     }
 }
 
-/// Of two causes that there may be the one that comes first in the order.
+/// Returns whichever error is first in the order of reports, and `a` if both have the same place.
 pub fn earlier(a: Option<Error>, b: Option<Error>) -> Option<Error>
     ensures { result ≡ earlier a b }
 {

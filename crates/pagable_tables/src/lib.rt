@@ -1,10 +1,11 @@
-//! The tables of a pager: handles by their numbers, nodes, loads and the cache by theirs, the list of cells that wait for
-//! page-out, and the way in which handles are given up with all that goes with them. No call of it knows of values or of
-//! the storage.
+//! The tables of a pager: handles, nodes and loads by their numbers, the cache, and the pending
+//! list of cells that wait for page-out; and the cascade, which a released handle starts. No
+//! function here knows what a value holds, or asks the storage.
 //!
-//! The modules import each other in one direction, each those before it: `kinds`, `number_table`, `nodes`, `place`,
-//! `handle_table`, `cascade`, `load_table`, `tables`; `checks`, `queries`, `soundness`, which change nothing; `create`,
-//! `release`, `pending`, `workers`, `cache`; `load_handles`, `load`, `load_end`.
+//! Each module imports only those before it in this order: `kinds`, `number_table`, `nodes`,
+//! `place`, `handle_table`, `cascade`, `load_table`, `tables`; `checks`, `queries`, `soundness`,
+//! which change nothing; `create`, `release`, `pending`, `workers`, `cache`; `load_handles`,
+//! `load`, `load_end`.
 #![tactic(auto)]
 
 pub mod cache;

@@ -1,4 +1,4 @@
-//! Loads: they begin, and get handles of what they read.
+//! Loads: how they begin, and get handles of what they read.
 
 ghost use Rattle.indexmap.specs.IndexMap.{get, spare};
 ghost use Rattle.pagable_value_spec.specs.declared.numbers.{LoadNumber.LoadNumber, NodeNumber.NodeNumber};
@@ -35,8 +35,16 @@ use pagable_pager_spec::{Beginning, Mode};
 use pagable_value_spec::{ArcRef, DataKey, Error, HandleNumber, Kind, LoadNumber, NodeNumber};
 use std::alloc::Global;
 
-/// A load of a loose handle's cell, whose value has to be read first; or nothing, where it is in memory. It is refused where the handle isn't an own loose one,
-/// no number of a load or a handle is left, or memory is wanting.
+/// Begins a load of a loose handle's cell and returns its number and the key to read; or
+/// `InMemory`, if the value is in memory. The load owns an unpinned handle of the cell of its own.
+///
+/// # Errors
+///
+/// - `NoSuchHandle` if the handle isn't live.
+/// - `NotYours` if another owns it.
+/// - `WrongMode` if it isn't loose.
+/// - `NumbersSpent` if no number of a load or a handle is left.
+/// - `OutOfMemory` if a table can't grow. After each error no load is open and no handle was made.
 #[tactic(auto, using(crate::proofs::CascadeStep::counting))]
 pub fn load_begin(t: &mut Tables, me: Owner, handle: HandleNumber) -> Result<Beginning, Error>
     requires whole { IsWhole t.old }
@@ -74,8 +82,16 @@ pub fn load_begin(t: &mut Tables, me: Owner, handle: HandleNumber) -> Result<Beg
     Ok(Beginning::Load(load, key))
 }
 
-/// A handle of the load's, of the node that the cache gives for a kind and a key; or None where it gives none, and what stands under the key has to be read. It is
-/// refused where the load isn't an own open one, or where no number is left for that handle, or no place.
+/// Makes a handle, owned by the load, of the node that is cached under a kind and a key. Returns
+/// None, and changes nothing, if no usable node is cached there: the load has to read the blob of
+/// this key.
+///
+/// # Errors
+///
+/// - `NoSuchHandle` if no such load is open.
+/// - `NotYours` if another began it.
+/// - `NumbersSpent` if no handle number is left.
+/// - `OutOfMemory` if the handles can't grow. After each error the tables are unchanged.
 pub fn load_known(
     t: &mut Tables,
     me: Owner,
@@ -92,7 +108,12 @@ pub fn load_known(
     cache_get(t, Owner::Load(load), kind, key)
 }
 
-/// A load of a key.
+/// Begins a load of a key, of whose blob the caller makes what it needs.
+///
+/// # Errors
+///
+/// - `NumbersSpent` if no load number is left: nothing changes.
+/// - `OutOfMemory` if the loads' table can't grow: nothing changes.
 pub fn load_key(t: &mut Tables, me: Owner, key: DataKey) -> Result<Beginning, Error>
     requires whole { IsWhole t.old }
     requires later { AreLater t.old }
@@ -115,7 +136,8 @@ pub fn load_key(t: &mut Tables, me: Owner, key: DataKey) -> Result<Beginning, Er
     Ok(Beginning::Load(LoadNumber(load), key))
 }
 
-/// A new node with a handle of the load's, which the cache knows from now on, where it is to learn. All was made ready for it, so it isn't refused.
+/// Inserts a node, returns a handle of it that the load owns, and caches the node if `lists`. It
+/// can't fail: all was made ready.
 fn insert_known(
     t: &mut Tables,
     load: LoadNumber,
@@ -139,8 +161,7 @@ fn insert_known(
     handle
 }
 
-/// A new node with a handle of the load's, which the cache knows from now on, where it is to learn. All was made ready for it, so it isn't refused. And the cache may forget
-/// entries of nodes that are gone.
+/// Inserts a node as `insert_known` does, and lets the cache forget entries of nodes that are gone.
 fn learn_new(
     t: &mut Tables,
     load: LoadNumber,
@@ -163,8 +184,16 @@ fn learn_new(
     handle
 }
 
-/// A handle of the load's, of the cell that the cache gives for a loose kind and a key, or of a new one that has this key and no value. It is refused where the load isn't
-/// an own open one, the kind isn't a loose one, a number is spent, or memory is wanting.
+/// Makes a handle, owned by the load, of the cell that is cached under a loose kind and a key; or
+/// inserts a cell that has this key and no value, and caches it.
+///
+/// # Errors
+///
+/// - `NoSuchHandle` if no such load is open.
+/// - `NotYours` if another began it.
+/// - `WrongKind` if the kind isn't a loose one.
+/// - `NumbersSpent` if no number of a handle or a node is left.
+/// - `OutOfMemory` if a table can't grow. After each error at most some tables have more room.
 pub fn load_lazy(
     t: &mut Tables,
     me: Owner,
@@ -189,7 +218,7 @@ pub fn load_lazy(
     Ok(learn_new(t, load, kind, key, key.get(), Vec::new(alloc), lists))
 }
 
-/// Why what a load has read can't become a node, apart from numbers and memory.
+/// Returns why what a load has read can't become a node, apart from numbers and memory.
 fn adopt_fault(
     t: &Tables,
     me: Owner,
@@ -208,7 +237,7 @@ fn adopt_fault(
     earlier(own, earlier(mode, earlier(typed, fit)))
 }
 
-/// The handles that the references name are given up, with all that goes with them. The load owns them.
+/// Releases the handles that the references name, all of which the load owns, and runs the cascade.
 #[tactic(auto, using(crate::proofs::CascadeEnd::shedding))]
 fn hand_over_named<N: Drop>(
     t: &mut RefCounts,
@@ -229,8 +258,21 @@ fn hand_over_named<N: Drop>(
     let _ = fall(t, values, lists);
 }
 
-/// Where the cache gives a node already, what a load has read is dropped: the load gets a handle of that node, and the handles that the references name are given up. None where the cache gives none;
-/// nothing changes then. It is refused where the load isn't an own open one, the kind is a loose one or not the value's, a reference isn't the load's, or the handle has no number or no place.
+/// Makes a handle, owned by the load, of the node that is cached under a kind and a key, instead of
+/// what the load has read: the handles that `references` name are released. Returns None, and
+/// changes nothing, if no usable node is cached there.
+///
+/// # Errors
+///
+/// - `NoSuchHandle` if no such load is open, or a handle of the references isn't live or is of
+///   another node.
+/// - `NotYours` if another began the load, or a handle of the references isn't the load's or is
+///   named twice.
+/// - `WrongMode` if the kind is a loose one, or a handle's mode isn't its reference's.
+/// - `WrongKind` if the value's type isn't the kind's, or the type of a reference's node isn't the
+///   reference's.
+/// - `NumbersSpent` if no handle number is left.
+/// - `OutOfMemory` if the handles can't grow. After each error the tables and values are unchanged.
 pub fn adopt_if_known<N: Drop>(
     t: &mut Tables,
     values: &mut Arcs<N>,
@@ -267,8 +309,9 @@ pub fn adopt_if_known<N: Drop>(
     Ok(Some(handle))
 }
 
-/// What a load has read becomes a new node with a handle of the load's, which the cache knows from now on. `adopt_if_known` found no cause against it and no node in
-/// the cache, and `make_ready_to_learn` made all ready for it, so it isn't refused.
+/// Makes a node of what a load has read, returns a handle of it that the load owns, and caches the
+/// node if `lists`. It can't fail: `adopt_if_known` has found no error and no cached node, and
+/// `make_ready_to_learn` has made room.
 pub fn adopt(
     t: &mut Tables,
     load: LoadNumber,

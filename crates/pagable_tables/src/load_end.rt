@@ -1,4 +1,4 @@
-//! How a load ends: with a pin, by handing its handles over, or dropped with all that it owns.
+//! How a load ends: with a pin, with a hand-over of its handles, or dropped with all that it owns.
 
 ghost use Rattle.pagable_value_spec.specs.declared.numbers.{LoadNumber.LoadNumber, NodeNumber.NodeNumber};
 ghost use Rattle.pagable_tables.specs.CascadeInvariant.{AreAtWork, is_worker};
@@ -33,7 +33,8 @@ use crate::{handle_table, load_table, nodes};
 use pagable_pager_spec::handle_row::{HandleRow, Owner};
 use pagable_value_spec::{ArcRef, Error, HandleNumber, LoadNumber, NodeNumber};
 
-/// A load of a cell that can end: its row, the row of the handle by which it was begun, and whether the cell has no value.
+/// A load of a cell that can end: its row, the row of the handle by which it began, and whether the
+/// cell has no value.
 #[derive(Clone, Copy)]
 pub struct Ending {
     pub load: LoadRow,
@@ -44,13 +45,15 @@ pub struct Ending {
 /// Why a load of a cell doesn't end with a value.
 #[derive(Drop)]
 pub enum Unended {
-    /// It is refused, and the load stays open.
+    /// The call is refused, and the load stays open.
     Refused(Error),
-    /// The handle by which it was begun is gone or another's: the load has to be closed.
+    /// The handle by which the load began is gone or another's: the caller has to close the load.
     InVain(Error),
 }
 
-/// Why a load can't end with a value of this type, if it is open: it is of a key, or of a cell of another type; or no number is left, where the owner has the handle that is to be pinned.
+/// Returns why an open load can't end with a value of this type, if it can't: `WrongMode` if it is
+/// of a key; `WrongKind` if it is of a cell of another type; `NumbersSpent` if no handle number is
+/// left, while `me` owns the handle that is to be pinned.
 #[tactic(auto, using(std::proofs::lemmas::Bool::Decides::nat_tests))]
 fn root_fault(t: &Tables, me: Owner, load: LoadNumber, node_type: u32) -> Option<Error>
     requires { IsWhole t.now }
@@ -68,7 +71,7 @@ fn root_fault(t: &Tables, me: Owner, load: LoadNumber, node_type: u32) -> Option
     earlier(typed, is_spent.then_some(Error::NumbersSpent))
 }
 
-/// Why a load of a cell can't end, apart from memory.
+/// Returns why a load of a cell can't end, apart from memory.
 fn end_fault(
     t: &Tables,
     me: Owner,
@@ -85,9 +88,18 @@ fn end_fault(
     earlier(own, earlier(root, fit))
 }
 
-/// The load of a cell that can end with a value of this type and these references, with room for the handle that is made then. It is refused where none is open or a handle
-/// of the references isn't live; where another began it or owns one of those handles; where it is of a key; where it is of a cell of another type; where no number is left; or
-/// by memory. It is in vain where the handle by which it was begun is gone or another's; nothing changes then.
+/// Checks whether a load of a cell can end with a value of this type and these references, and
+/// makes room for the handle that `install` makes.
+///
+/// # Errors
+///
+/// - `InVain` with `NoSuchHandle` or `NotYours` if the handle by which the load began is gone or
+///   another's: nothing changes, and the caller has to close the load.
+/// - `Refused` in all other cases: the load stays open, and the tables are unchanged.
+///   `NoSuchHandle` if no such load is open, or a handle of the references isn't live; `NotYours`
+///   if another began the load, or the load doesn't own one of those handles; `WrongMode` if it is
+///   a load of a key; `WrongKind` if its cell has another type; else what `references_fault` finds;
+///   `NumbersSpent` if no handle number is left; `OutOfMemory` if the handles can't grow.
 pub fn prepare_end(
     t: &mut Tables,
     me: Owner,
@@ -126,7 +138,8 @@ pub fn prepare_end(
     }
 }
 
-/// What a value refers to comes to its node with its handles, if it is to. Else nothing changes.
+/// Gives the node these references, and makes its value the owner of their handles, if `comes`.
+/// Else does nothing.
 fn join(t: &mut RefCounts, node: NodeNumber, references: Vec<ArcRef>, comes: bool)
     requires sound { AreSound t.old.handles }
     requires live { IsSome (counts_at t.old.nodes node.0) }
@@ -144,7 +157,8 @@ fn join(t: &mut RefCounts, node: NodeNumber, references: Vec<ArcRef>, comes: boo
     }
 }
 
-/// A load of a cell ends as by `install`, where what it owns has numbers up to `until`.
+/// Ends a load of a cell as `install` does, given that the load's handles have numbers up to
+/// `until`.
 fn install_up_to<N: Drop>(
     t: &mut Tables,
     values: &mut Arcs<N>,
@@ -185,8 +199,9 @@ fn install_up_to<N: Drop>(
     handle
 }
 
-/// A load of a cell ends: the handle by which it was begun is pinned, a Pinned one is made, and the load gives up what it still owns. Where the cell has no value, the value's references
-/// come to it with their handles before; the value itself stands among the values already.
+/// Ends a load of a cell: pins the handle by which it began, returns a new Pinned one, and releases
+/// what the load still owns. If the cell has no value, its value becomes the owner of the handles
+/// that the references name; the caller has stored the value itself among `values` already.
 pub fn install<N: Drop>(
     t: &mut Tables,
     values: &mut Arcs<N>,
@@ -210,7 +225,8 @@ pub fn install<N: Drop>(
     )
 }
 
-/// An open load of this row is given up, with all that it owns, which has numbers up to `until`.
+/// Drops an open load of this row: releases all that it owns, given that this has numbers up to
+/// `until`. It fails as `release_owned` does.
 fn drop_up_to<N: Drop>(
     t: &mut Tables,
     values: &mut Arcs<N>,
@@ -242,7 +258,14 @@ fn drop_up_to<N: Drop>(
     )
 }
 
-/// An open load is given up, with all that it owns. NoSuchHandle where none is open, NotYours where another began it. NumbersSpent or OutOfMemory where a cell that had to be listed isn't.
+/// Drops an open load: releases all that it owns, and runs the cascade.
+///
+/// # Errors
+///
+/// - `NoSuchHandle` if no such load is open: the tables are unchanged.
+/// - `NotYours` if another began it: the tables are unchanged.
+/// - `NumbersSpent`, `OutOfMemory` if a cell that must be listed couldn't be: the load is dropped
+///   all the same.
 pub fn load_drop<N: Drop>(
     t: &mut Tables,
     values: &mut Arcs<N>,
@@ -259,7 +282,7 @@ pub fn load_drop<N: Drop>(
     drop_up_to(t, values, me, load, row, until, lists)
 }
 
-/// Workers may own each handle that this one's node has, as far as the node tells from now on.
+/// Raises the bound of handles that workers own at this handle's node to all handles of the node.
 #[tactic(auto, using(crate::proofs::CascadeStep::counting))]
 fn may_work(handles: &Handles, nodes: &mut Nodes, handle: HandleNumber)
     requires sound { AreSound handles.now }
@@ -278,7 +301,7 @@ fn may_work(handles: &Handles, nodes: &mut Nodes, handle: HandleNumber)
     }
 }
 
-/// The same for each of these handles, where they come to a worker.
+/// Does so for each of these handles, if `me` is a worker.
 fn all_may_work(handles: &Handles, nodes: &mut Nodes, named: &[HandleNumber], me: Owner)
     requires sound { AreSound handles.now }
     requires ordered { AllPairs IsHandleBefore (live handles.now.places.items) }
@@ -297,8 +320,8 @@ fn all_may_work(handles: &Handles, nodes: &mut Nodes, named: &[HandleNumber], me
     }
 }
 
-/// A load of a key, of which nothing stands against that, hands over the handles that are named, gives up the rest, which has
-/// numbers up to `until`, and is closed.
+/// Ends a load of a key, for which `hand_over_fault` found nothing: makes `me` the owner of the
+/// handles that are named, releases the rest, which has numbers up to `until`, and closes the load.
 fn take_up_to<N: Drop>(
     t: &mut Tables,
     values: &mut Arcs<N>,
@@ -333,8 +356,14 @@ fn take_up_to<N: Drop>(
     );
 }
 
-/// A load of a key hands over the handles that are named, gives up the rest and is closed. NoSuchHandle where no load is open or a named handle isn't live;
-/// NotYours where another began the load or owns a named handle, or one is named twice; WrongMode where it is a load of a cell.
+/// Ends a load of a key: makes `me` the owner of the handles that are named, releases the rest and
+/// closes the load.
+///
+/// # Errors
+///
+/// - `NoSuchHandle` if no such load is open, or a named handle isn't live.
+/// - `NotYours` if another began the load or owns a named handle, or one is named twice.
+/// - `WrongMode` if it is a load of a cell. After each error the tables are unchanged.
 pub fn load_take<N: Drop>(
     t: &mut Tables,
     values: &mut Arcs<N>,

@@ -1,4 +1,4 @@
-//! Which handles a load owns, as its row notes it.
+//! The last handle that a load owns, as its row notes it.
 
 ghost use Rattle.pagable_value_spec.specs.declared.numbers.LoadNumber.{LoadNumber};
 ghost use Rattle.pagable_tables.specs.Core.{AreLater, AreRaised, AreTold, IsOwnedUpTo, IsWhole, Notes};
@@ -14,7 +14,7 @@ use crate::{handle_table, load_table};
 use pagable_pager_spec::handle_row::{HandleRow, Owner};
 use pagable_value_spec::LoadNumber;
 
-/// The row of the load that owns this handle, if one does, tells of it.
+/// Takes note of the handle in the row of the load that owns it, if a load does.
 fn note(loads: &mut Loads, handle: HandleRow)
     ensures rows { AreRaised loads.old loads.new }
     ensures last { (l : LoadNumber) (row : LoadRow) → handle.owner ≡ Owner.Load l
@@ -28,7 +28,7 @@ fn note(loads: &mut Loads, handle: HandleRow)
     }
 }
 
-/// From which place on numbers are above this one.
+/// Returns the index from which handles have numbers above this one.
 fn place_above(handles: &Handles, number: u64) -> usize
     requires { AreSound handles.now }
     ensures { (k : ℕ) (d : Place) → k < result → (get_or handles.now.places.items k d).row.number.0 ≤ number }
@@ -36,7 +36,7 @@ fn place_above(handles: &Handles, number: u64) -> usize
     handle_table::up_to(&handles.places, number)
 }
 
-/// The rows of the loads tell of all handles above this number.
+/// Takes note of all handles of numbers above this one in the rows of the loads.
 fn note_above(loads: &mut Loads, handles: &Handles, number: u64)
     requires { AreSound handles.now }
     ensures rows { AreRaised loads.old loads.new }
@@ -49,7 +49,8 @@ fn note_above(loads: &mut Loads, handles: &Handles, number: u64)
     }
 }
 
-/// The rows of the loads tell of all handles that there are. It looks at each handle once, however often it is called.
+/// Takes note of all handles in the rows of the loads. It looks at each handle once, however often
+/// it is called.
 fn note_all(t: &mut Tables)
     requires whole { IsWhole t.old }
     requires later { AreLater t.old }
@@ -60,8 +61,9 @@ fn note_all(t: &mut Tables)
     t.noted = t.ref_counts.last_handle;
 }
 
-/// Up to which number the handles are that this load owns, which began after the handle `since`. Where many were given
-/// since then, the rows of the loads tell it, and else the last of all is near enough.
+/// Returns a number that no handle of the load exceeds, for a load that began after the handle
+/// `since`. If 16 or more handles were made since then, the rows of the loads take note of them
+/// first; else it is the last handle number given out.
 pub fn last_of(t: &mut Tables, load: LoadNumber, since: u64) -> u64
     requires whole { IsWhole t.old }
     requires later { AreLater t.old }

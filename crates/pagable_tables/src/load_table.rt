@@ -17,32 +17,38 @@ pub type Loads = IndexMap<u64, LoadRow>;
 /// What a load reads its key for.
 #[derive(Clone, Copy)]
 pub enum LoadRoot {
-    /// The value of this cell, of a type, begun by a handle.
+    /// The value of a cell: its node, its type, and the handle by which the load began.
     Cell(NodeNumber, u32, HandleNumber),
-    /// What the caller makes of it.
+    /// The caller, who makes of the blob what it needs (`load_key`).
     Key,
 }
 
-/// An open load.
+/// An open load's row.
 #[derive(Clone, Copy)]
 pub struct LoadRow {
     pub owner: Owner,
     pub key: DataKey,
     pub root: LoadRoot,
-    /// The last handle that was given before it began: all that it owns have greater numbers.
+    /// The last handle number that was given out before the load began: the load owns only handles
+    /// of greater numbers.
     pub since: u64,
-    /// Of the handles up to `Tables::noted` it owns none of a greater number.
+    /// Of the handles of numbers up to `Tables::noted`, the load owns none of a greater number than
+    /// this.
     pub last: u64,
 }
 
-/// What is kept of a load, or None where it isn't open.
+/// Returns the row of a load, None if no such load is open.
 pub fn load_of(loads: &Loads, load: u64) -> Option<LoadRow>
     ensures { result ≡ load_at loads.now load }
 {
     loads.get(&load).copied()
 }
 
-/// A row comes, under a number that is free.
+/// Adds a row under a free number.
+///
+/// # Errors
+///
+/// - `AllocError` if the map can't grow: it is unchanged.
 pub fn open<R: Copy>(rows: &mut IndexMap<u64, R>, number: u64, row: R) -> Result<(), AllocError>
     requires { get nat_eq rows.old number ≡ None }
     ensures here { OnOk result (get nat_eq rows.new number ≡ Some row) }
@@ -53,7 +59,7 @@ pub fn open<R: Copy>(rows: &mut IndexMap<u64, R>, number: u64, row: R) -> Result
     Ok(())
 }
 
-/// The row of this number goes.
+/// Removes the row of this number, if there is one.
 pub fn close<R: Copy>(rows: &mut IndexMap<u64, R>, number: u64)
     ensures gone { get nat_eq rows.new number ≡ None }
     ensures others { (q : ℕ) → q ≢ number → get nat_eq rows.new q ≡ get nat_eq rows.old q }

@@ -1,4 +1,4 @@
-//! Nodes by their numbers: what is counted of each, and what its value refers to.
+//! Nodes by their numbers: the counts of each, and the references of its value.
 
 ghost use Rattle.indexmap.specs.IndexMap.{get};
 ghost use Rattle.pagable_value_spec.specs.declared.data_key.OptionalDataKey.{OptionalDataKey};
@@ -18,29 +18,31 @@ use pagable_value_spec::{ArcRef, DataKey, Kind, OptionalDataKey};
 use std::marker::Model;
 use std::sync::Arc;
 
-/// Nodes by their numbers.
+/// The nodes by their numbers.
 pub type Nodes = NumberTable<NodeRow>;
 
-/// The values in memory, by the numbers of their nodes. They stand beside the tables.
+/// The values in memory, by the numbers of their nodes. They are kept beside `Tables`, not in it.
 pub type Arcs<N> = NumberTable<Arc<N>>;
 
-/// What is counted of a node, with its key.
+/// A node's counts, with its key and its type.
 #[derive(Clone, Copy)]
 pub struct Counts {
-    /// The number of its key, 0 where it has none.
+    /// Its key as a number, 0 for none.
     pub key: u128,
-    /// How many handles pin it.
+    /// How many of its handles pin it.
     pub pins: u64,
     /// How many handles it has.
     pub holds: u64,
-    /// The node whose value's references are given up after those of this one, 0 where it is none.
+    /// The next dying node, 0 for none: the cascade finishes it after this one.
     pub next: u64,
-    /// Whether its value has gone and what that refers to is still to be given up.
+    /// Set while the node is dying: the cascade is releasing the handles of its value's references,
+    /// and will drop the value.
     pub is_dying: bool,
     pub node_type: u32,
 }
 
-/// The counts as a row keeps them: the key is in two halves, so that a row has no gap but behind its last field.
+/// The counts as a row keeps them. The key is split in two halves, so that the row has padding
+/// behind its last field alone.
 #[derive(Drop)]
 pub struct PackedCounts {
     key_high: u64,
@@ -86,7 +88,7 @@ impl PackedCounts {
         }
     }
 
-    /// Gives the counts back.
+    /// Unpacks the counts.
     pub fn get(&self) -> Counts
         ensures { result ≡ self.now }
     {
@@ -101,24 +103,24 @@ impl PackedCounts {
     }
 }
 
-/// A node.
+/// A node's row.
 #[derive(Drop)]
 pub struct NodeRow {
     pub counts: PackedCounts,
-    /// What its value refers to, where that is in memory: the value owns the handles.
+    /// The references of its value, while that is in memory. The value owns their handles.
     pub references: Vec<ArcRef>,
-    /// How many of its handles workers own, at most.
+    /// At least the number of its handles that workers own.
     pub at_work: u64,
 }
 
-/// The counts of a node.
+/// Returns the counts of a node, None if there is no such node.
 pub fn counts_of(nodes: &Nodes, node: u64) -> Option<Counts>
     ensures { result ≡ counts_at nodes.now node }
 {
     Some(nodes.get(node)?.counts.get())
 }
 
-/// Other counts for a node.
+/// Replaces the counts of a node.
 #[tactic(auto, unfolding(crate::specs::NumberTable::place_at, crate::specs::NumberTable::row_by))]
 pub fn set_counts(nodes: &mut Nodes, node: u64, counts: Counts)
     requires { IsSome (counts_at nodes.old node) }
@@ -133,14 +135,14 @@ pub fn set_counts(nodes: &mut Nodes, node: u64, counts: Counts)
     }
 }
 
-/// How many handles of a node workers own, at most.
+/// Returns an upper bound of how many handles of the node workers own, 0 if there is no such node.
 pub fn work_of(nodes: &Nodes, node: u64) -> u64
     ensures { result ≡ work_at nodes.now node }
 {
     nodes.get(node).map_or(0, |row| row.at_work)
 }
 
-/// Other work for a node.
+/// Sets the node's upper bound of how many of its handles workers own.
 #[tactic(auto, unfolding(crate::specs::NumberTable::place_at, crate::specs::NumberTable::row_by))]
 pub fn set_work(nodes: &mut Nodes, node: u64, work: u64)
     requires { IsSome (counts_at nodes.old node) }
@@ -155,7 +157,7 @@ pub fn set_work(nodes: &mut Nodes, node: u64, work: u64)
     }
 }
 
-/// Takes the last reference of a node.
+/// Removes and returns the last reference of a node's value.
 #[tactic(auto, unfolding(crate::specs::NumberTable::place_at, crate::specs::NumberTable::row_by))]
 pub fn pop_reference(nodes: &mut Nodes, node: u64) -> Option<ArcRef>
     ensures counts { (q : ℕ) → counts_at nodes.new q ≡ counts_at nodes.old q }
@@ -171,7 +173,7 @@ pub fn pop_reference(nodes: &mut Nodes, node: u64) -> Option<ArcRef>
     }
 }
 
-/// What the value of a node refers to from now on.
+/// Replaces the references of a node's value.
 #[tactic(auto, unfolding(crate::specs::NumberTable::place_at, crate::specs::NumberTable::row_by))]
 pub fn set_references(nodes: &mut Nodes, node: u64, references: Vec<ArcRef>)
     requires { IsSome (counts_at nodes.old node) }
@@ -186,7 +188,7 @@ pub fn set_references(nodes: &mut Nodes, node: u64, references: Vec<ArcRef>)
     }
 }
 
-/// The key of a node of these counts.
+/// Returns the key of a node with these counts.
 pub fn key_in(counts: Option<Counts>) -> OptionalDataKey
     ensures { result ≡ if_there (λ (cell : Cell). cell.key) OptionalDataKey.None (cell_in counts) }
 {
@@ -196,21 +198,22 @@ pub fn key_in(counts: Option<Counts>) -> OptionalDataKey
     }
 }
 
-/// Whether a node of these counts has its value in memory.
+/// Says whether a node with these counts has its value in memory: a handle pins it, or it has no
+/// key.
 pub fn is_here(counts: Option<Counts>) -> bool
     ensures { result ≡ is_in_memory (pins_in counts) (if_there (λ (cell : Cell). cell.key) OptionalDataKey.None (cell_in counts)) }
 {
     counts.map_or(true, |c| c.pins > 0 || c.key == 0)
 }
 
-/// Whether a node of these counts has the type of this kind.
+/// Says whether a node with these counts has the type of this kind.
 pub fn is_of(counts: Option<Counts>, kind: Kind) -> bool
     ensures { result ≡ is_type (type_of kind.0) (if_there (λ (cell : Cell). Some cell.node_type) None (cell_in counts)) }
 {
     counts.map_or(false, |c| c.node_type == kind.0 / 3)
 }
 
-/// The counts after one handle more.
+/// Returns the counts with one more handle.
 pub fn counts_more(counts: Counts, pinning: bool) -> Counts
     requires pins { counts.pins < 2 ^ 63 }
     requires holds { counts.holds < 2 ^ 63 }
@@ -223,7 +226,7 @@ pub fn counts_more(counts: Counts, pinning: bool) -> Counts
     }
 }
 
-/// A handle of a live node has come to this owner.
+/// Adds one to the node's bound of handles that workers own, if `owner` is a worker.
 pub fn add_work(nodes: &mut Nodes, node: u64, owner: Owner)
     requires { IsSome (counts_at nodes.old node) }
     ensures here { (k : ℕ) → k < 2 ^ 64 → k ≤ work_at nodes.old node + one (is_worker owner) → k ≤ work_at nodes.new node }

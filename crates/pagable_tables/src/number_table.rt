@@ -1,5 +1,5 @@
-//! Rows by their numbers, for numbers that are given out in order and never again: each number has its own place, and a
-//! look-up is two steps.
+//! Rows by their numbers, for numbers that are given out in order and never again: each number has
+//! its own place, and a look-up takes two steps.
 
 ghost use Rattle.indexmap.specs.IndexMap.{get};
 ghost use Rattle.pagable_tables.specs.NumberTable.{place_at, row_by, row_in};
@@ -8,30 +8,30 @@ ghost use Rattle.std.specs.Prelude.{vec_capacity, vec_len, ℕ, ◌%◌, ◌&&�
 
 use std::alloc::{AllocError, Global};
 
-/// Rows by their numbers. Places stand in chunks for 256 numbers each. A chunk grows as its places come, loses those behind
-/// its last row, and keeps no memory without a row; beside it a vector holds 24 bytes for each 256 numbers up to the
-/// greatest that was ever reserved.
+/// Rows by their numbers, in chunks of 256 places. A chunk grows when a place is reserved, loses
+/// the places behind its last row, and keeps no memory without a row. Besides, a vector holds 24
+/// bytes for each 256 numbers up to the greatest that was ever reserved.
 #[derive(Drop)]
 pub struct NumberTable<T> {
     pub(crate) chunks: Vec<Vec<Option<T>>>,
     alloc: Global,
 }
 
-/// The chunk in which this number has its place.
+/// Returns the chunk of this number.
 pub(crate) fn chunk_of(number: u64) -> usize
     ensures { result ≡ number / 256 }
 {
     (number / 256) as usize
 }
 
-/// The place of this number in its chunk.
+/// Returns the place of this number in its chunk.
 pub(crate) fn place_of(number: u64) -> usize
     ensures { result ≡ number % 256 }
 {
     (number % 256) as usize
 }
 
-/// Makes places for so many numbers of a chunk, where there are fewer. Refused where the chunk can't grow.
+/// Grows a chunk to at least `many` places. Fails with AllocError if it can't grow.
 fn add_places<T: Drop>(rows: &mut Vec<Option<T>>, many: usize) -> Result<(), AllocError>
     ensures there { OnOk result ((p : ℕ) → p < many → IsSome (slice_get rows.new.items p)) }
     ensures rows { (p : ℕ) → row_in rows.new.items p ≡ row_in rows.old.items p }
@@ -47,7 +47,7 @@ fn add_places<T: Drop>(rows: &mut Vec<Option<T>>, many: usize) -> Result<(), All
     Ok(())
 }
 
-/// Drops the places behind the last row of a chunk, and its memory where it has no row.
+/// Removes the places behind the chunk's last row, and frees its memory if it has no row.
 fn trim<T: Drop>(rows: &mut Vec<Option<T>>)
     ensures rows { (p : ℕ) → row_in rows.new.items p ≡ row_in rows.old.items p }
     ensures freed { ((p : ℕ) → row_in rows.old.items p ≡ None) → vec_capacity rows.new ≡ 0 }
@@ -83,7 +83,8 @@ impl<T: Drop> NumberTable<T> {
         rows.get(place_of(number))?.as_ref()
     }
 
-    /// Makes so many chunks, where there are fewer. Refused where there is no room for them.
+    /// Makes chunks until there are `many`. Fails with AllocError if the vector of chunks can't
+    /// grow.
     #[tactic(auto, unfolding(crate::specs::NumberTable::place_at, crate::specs::NumberTable::row_by))]
     fn add_chunks(&mut self, many: usize) -> Result<(), AllocError>
         ensures there { OnOk result (many ≤ vec_len self.new.chunks) }
@@ -101,7 +102,11 @@ impl<T: Drop> NumberTable<T> {
         Ok(())
     }
 
-    /// Makes the place of this number ready for a row. Refused where the table can't grow. Its rows stay in any case.
+    /// Makes the place of this number ready for a row.
+    ///
+    /// # Errors
+    ///
+    /// - `AllocError` if the table can't grow: its rows are unchanged.
     #[tactic(auto, unfolding(crate::specs::NumberTable::place_at, crate::specs::NumberTable::row_by))]
     pub fn reserve(&mut self, number: u64) -> Result<(), AllocError>
         ensures ready { OnOk result (IsSome (place_at self.new number)) }
@@ -112,7 +117,7 @@ impl<T: Drop> NumberTable<T> {
         add_places(&mut self.chunks[chunk], place_of(number) + 1)
     }
 
-    /// Puts a row at the place of this number, which is ready.
+    /// Stores a row at the place of this number, which `reserve` made ready.
     #[tactic(auto, unfolding(crate::specs::NumberTable::place_at, crate::specs::NumberTable::row_by))]
     pub fn put(&mut self, number: u64, row: T)
         requires { IsSome (place_at self.old number) }
@@ -123,7 +128,7 @@ impl<T: Drop> NumberTable<T> {
         rows[place_of(number)] = Some(row);
     }
 
-    /// Takes the row of this number, if there is one, and leaves its place.
+    /// Removes and returns the row of this number, if there is one. Its place stays.
     #[tactic(auto, unfolding(crate::specs::NumberTable::place_at, crate::specs::NumberTable::row_by))]
     fn take(&mut self, number: u64) -> Option<T>
         ensures value { result ≡ row_by self.old number }
@@ -135,7 +140,8 @@ impl<T: Drop> NumberTable<T> {
         rows.get_mut(place_of(number))?.take()
     }
 
-    /// Removes the row of this number, if there is one, with the memory of its chunk where it was the last row there.
+    /// Removes and returns the row of this number, if there is one. Frees the memory of its chunk
+    /// if no row is left there.
     #[tactic(auto, unfolding(crate::specs::NumberTable::place_at, crate::specs::NumberTable::row_by))]
     pub fn remove(&mut self, number: u64) -> Option<T>
         ensures value { result ≡ row_by self.old number }

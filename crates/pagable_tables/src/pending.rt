@@ -1,4 +1,4 @@
-//! The list of cells that wait for page-out: entries are put there, and taken.
+//! The pending list of cells that wait for page-out: adding entries and taking them.
 
 ghost use Rattle.pagable_value_spec.specs.declared.numbers.LoadNumber.{LoadNumber};
 ghost use Rattle.pagable_tables.specs.Core.{AreLater, DoesShed, InReach, IsNoLess, IsWhole, MayHold, core_of};
@@ -16,8 +16,15 @@ use crate::tables::{Tables, Workers};
 use pagable_pager_spec::handle_row::Owner;
 use pagable_value_spec::{Error, HandleNumber};
 
-/// A loose unpinned handle moves to the list's end, while cells are listed; otherwise it is given up, with all that goes with it. It is refused where it isn't an
-/// own handle of that mode, or the list has no place.
+/// Moves a loose unpinned handle that `me` owns to the end of the list, which owns it from then on.
+/// While no cells are listed (the storage is closed), releases it instead and runs the cascade.
+///
+/// # Errors
+///
+/// - `NoSuchHandle` if the handle isn't live.
+/// - `NotYours` if another owns it.
+/// - `WrongMode` if it isn't loose and unpinned.
+/// - `OutOfMemory` if the list can't grow. After each error the tables are unchanged.
 pub fn schedule_for_paging<N: Drop>(
     t: &mut Tables,
     values: &mut Arcs<N>,
@@ -43,7 +50,8 @@ pub fn schedule_for_paging<N: Drop>(
     Ok(())
 }
 
-/// A worker who asks may have this handle too: beside those that came since it began, or, where it got one so before, beside all.
+/// Lets a worker own this handle, which may be older than the worker. The range of a worker has one
+/// such handle: a second one widens it to all handles. Does nothing for another owner.
 fn reach_to(workers: &mut Workers, me: Owner, handle: HandleNumber)
     ensures at_work { (v : ℕ) → is_some (worker_at workers.new v) ≡ is_some (worker_at workers.old v) }
     ensures less { IsNoLess workers.old workers.new }
@@ -60,8 +68,8 @@ fn reach_to(workers: &mut Workers, me: Owner, handle: HandleNumber)
     }
 }
 
-/// The entry at this place of the list moves to the one who asks. None past the end. It costs as many moves as entries
-/// stand before it or behind it, whichever are fewer.
+/// Removes the entry at this index of the list, makes `me` the owner of its handle and returns
+/// that. None past the end. It moves the entries before it or those behind it, whichever are fewer.
 pub fn take_pending(t: &mut Tables, me: Owner, place: usize) -> Option<HandleNumber>
     requires whole { IsWhole t.old }
     requires holder { MayHold (plain_of t.old) me }

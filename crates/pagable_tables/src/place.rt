@@ -8,7 +8,7 @@ use pagable_pager_spec::handle_row::{HandleRow, Owner};
 use pagable_value_spec::{HandleNumber, LoadNumber, NodeNumber, WorkerNumber};
 use std::marker::Model;
 
-/// Which kind of owner releases a handle.
+/// The kind of a handle's owner.
 #[derive(Clone, Copy)]
 pub enum OwnerKind {
     Caller,
@@ -18,13 +18,13 @@ pub enum OwnerKind {
     Worker,
 }
 
-/// A place in the vector of handles: a live row, or a dead one that waits to be cleared away. The owner is kept as a
-/// kind and a number, so that the place takes 32 bytes.
+/// A place in the vector of handles: a live row, or a dead one that is still to be removed. The
+/// owner is kept as a kind and a number, so that a place takes 32 bytes.
 #[derive(Clone, Copy)]
 pub struct Place {
     number: HandleNumber,
     node: NodeNumber,
-    /// The number of the node, the load or the worker that owns the handle, 0 where another does.
+    /// The number of the node, the load or the worker that owns the handle, 0 for another owner.
     owner: u64,
     kind: OwnerKind,
     mode: Mode,
@@ -47,7 +47,7 @@ impl Model for Place {
     ghost inverse_ok = { pack-unpack };
 }
 
-/// The kind of an owner.
+/// Returns the kind of an owner.
 fn kind_of(owner: Owner) -> OwnerKind
     ensures { result ≡ kind_in owner }
 {
@@ -60,7 +60,7 @@ fn kind_of(owner: Owner) -> OwnerKind
     }
 }
 
-/// The number of an owner, 0 where it has none.
+/// Returns the number of an owner, 0 if it has none.
 fn number_of(owner: Owner) -> u64
     ensures { result ≡ number_in owner }
 {
@@ -72,7 +72,7 @@ fn number_of(owner: Owner) -> u64
     }
 }
 
-/// The owner of this kind and number.
+/// Returns the owner of this kind and number.
 fn owner_of(kind: OwnerKind, number: u64) -> Owner
     ensures { result ≡ owner_in kind number }
 {
@@ -100,7 +100,7 @@ impl Place {
         }
     }
 
-    /// Gives the row back.
+    /// Unpacks the row.
     pub fn row(&self) -> HandleRow
         ensures { result ≡ self.now.row }
     {
@@ -112,14 +112,14 @@ impl Place {
         }
     }
 
-    /// Gives the number of the handle.
+    /// Returns the number of the handle.
     pub fn number(&self) -> u64
         ensures { result ≡ self.now.row.number.0 }
     {
         self.number.0
     }
 
-    /// Says whether the row lives.
+    /// Says whether the row is live.
     pub fn is_live(&self) -> bool
         ensures { result ≡ self.now.is_live }
     {

@@ -1,4 +1,4 @@
-//! What is asked of a handle or a node. Nothing changes by that.
+//! Queries of handles, nodes and the list. They change nothing.
 
 ghost use Rattle.indexmap.specs.IndexMap.{get};
 ghost use Rattle.pagable_value_spec.specs.declared.{data_key.OptionalDataKey.OptionalDataKey};
@@ -17,7 +17,11 @@ use crate::{handle_table, nodes};
 use pagable_pager_spec::handle_row::HandleRow;
 use pagable_value_spec::{Error, HandleNumber, NodeNumber, OptionalDataKey};
 
-/// The node of a handle.
+/// Returns the node of a handle, whoever owns it.
+///
+/// # Errors
+///
+/// - `NoSuchHandle` if the handle isn't live.
 pub fn node_of(t: &Tables, handle: HandleNumber) -> Result<NodeNumber, Error>
     requires { IsWhole t.now }
     ensures { (stored : ℕ → Option Blob) (closed : Bool) (failures : ℕ) → NodeCall (core_of t.now stored closed failures) handle result }
@@ -26,7 +30,11 @@ pub fn node_of(t: &Tables, handle: HandleNumber) -> Result<NodeNumber, Error>
     Ok(at.row.node)
 }
 
-/// The node of a handle that pins it, or None where it pins nothing.
+/// Returns the node of a handle that pins it, None if the handle pins nothing.
+///
+/// # Errors
+///
+/// - `NoSuchHandle` if the handle isn't live.
 pub fn pinned_node(t: &Tables, handle: HandleNumber) -> Result<Option<NodeNumber>, Error>
     requires { IsWhole t.now }
     ensures { (stored : ℕ → Option Blob) (closed : Bool) (failures : ℕ) → Looks (core_of t.now stored closed failures) handle (λ node row. node ≡ (if is_pinning row.mode then Some row.node else None)) result }
@@ -35,7 +43,11 @@ pub fn pinned_node(t: &Tables, handle: HandleNumber) -> Result<Option<NodeNumber
     Ok(pins(at.row.mode).then_some(at.row.node))
 }
 
-/// How many handles pin the node of a handle.
+/// Returns how many handles pin the node of a handle.
+///
+/// # Errors
+///
+/// - `NoSuchHandle` if the handle isn't live.
 pub fn count(t: &Tables, handle: HandleNumber) -> Result<u64, Error>
     requires { IsWhole t.now }
     ensures { (stored : ℕ → Option Blob) (closed : Bool) (failures : ℕ) → CountCall (core_of t.now stored closed failures) handle result }
@@ -45,7 +57,11 @@ pub fn count(t: &Tables, handle: HandleNumber) -> Result<u64, Error>
     Ok(counts.map_or(0, |c| c.pins))
 }
 
-/// The key of the node of a handle.
+/// Returns the key of the node of a handle.
+///
+/// # Errors
+///
+/// - `NoSuchHandle` if the handle isn't live.
 pub fn key(t: &Tables, handle: HandleNumber) -> Result<OptionalDataKey, Error>
     requires { IsWhole t.now }
     ensures { (stored : ℕ → Option Blob) (closed : Bool) (failures : ℕ) → KeyCall (core_of t.now stored closed failures) handle result }
@@ -54,7 +70,11 @@ pub fn key(t: &Tables, handle: HandleNumber) -> Result<OptionalDataKey, Error>
     Ok(key_in(nodes::counts_of(&t.ref_counts.nodes, at.row.node.0)))
 }
 
-/// Whether the value of the node of a handle has to be read first.
+/// Says whether the value of the handle's node isn't in memory, so that it has to be loaded first.
+///
+/// # Errors
+///
+/// - `NoSuchHandle` if the handle isn't live.
 pub fn is_paged_out(t: &Tables, handle: HandleNumber) -> Result<bool, Error>
     requires { IsWhole t.now }
     ensures { (stored : ℕ → Option Blob) (closed : Bool) (failures : ℕ) → AwayCall (core_of t.now stored closed failures) handle result }
@@ -63,7 +83,11 @@ pub fn is_paged_out(t: &Tables, handle: HandleNumber) -> Result<bool, Error>
     Ok(!is_here(nodes::counts_of(&t.ref_counts.nodes, at.row.node.0)))
 }
 
-/// Whether a handle is loose.
+/// Says whether a handle is loose.
+///
+/// # Errors
+///
+/// - `NoSuchHandle` if the handle isn't live.
 pub fn is_loose(t: &Tables, handle: HandleNumber) -> Result<bool, Error>
     requires { IsWhole t.now }
     ensures { (stored : ℕ → Option Blob) (closed : Bool) (failures : ℕ) → Looks (core_of t.now stored closed failures) handle (λ loose row. loose ≡ is_loose row.mode) result }
@@ -72,14 +96,15 @@ pub fn is_loose(t: &Tables, handle: HandleNumber) -> Result<bool, Error>
     Ok(is_loose_mode(at.row.mode))
 }
 
-/// The type of a node, or None where the node is gone.
+/// Returns the type of a node, None if the node is gone.
 pub fn node_live(t: &Tables, node: NodeNumber) -> Option<u32>
     ensures { TypeCall (plain_of t.now) node result }
 {
     Some(nodes::counts_of(&t.ref_counts.nodes, node.0)?.node_type)
 }
 
-/// The handle at this place of the list, with type and key of its cell. None past the end.
+/// Returns the handle's row at this index of the list, with the type and the key of its cell. None
+/// past the end.
 #[tactic(auto, using(crate::proofs::CascadeStep::counting))]
 pub fn entry(t: &Tables, place: usize) -> Option<(HandleRow, u32, OptionalDataKey)>
     requires { IsWhole t.now }
@@ -95,7 +120,7 @@ pub fn entry(t: &Tables, place: usize) -> Option<(HandleRow, u32, OptionalDataKe
     Some((at.row, counts.unwrap().node_type, key_in(counts)))
 }
 
-/// How many cells wait for page-out.
+/// Returns how many entries the pending list has.
 pub fn pending(t: &Tables) -> usize
     ensures { result ≡ length t.now.ref_counts.list.items }
 {

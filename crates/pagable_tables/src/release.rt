@@ -1,4 +1,5 @@
-//! Releases handles, one or all that a load, a worker or the list owns; unpins loose ones; sets keys.
+//! Releases handles, one or all that a load, a worker or the list owns; unpins loose ones; sets
+//! keys.
 
 ghost use Rattle.indexmap.specs.IndexMap.{get};
 ghost use Rattle.pagable_value_spec.specs.declared.numbers.{LoadNumber.LoadNumber, NodeNumber.NodeNumber};
@@ -28,7 +29,7 @@ use pagable_pager_spec::Mode;
 use pagable_pager_spec::handle_row::{HandleRow, Owner};
 use pagable_value_spec::{DataKey, Error, HandleNumber, LoadNumber, NodeNumber, WorkerNumber};
 
-/// Whose handles are given up together.
+/// The handles that are released together.
 #[derive(Clone, Copy)]
 pub enum ReleaseSet {
     /// All that this load owns.
@@ -37,11 +38,11 @@ pub enum ReleaseSet {
     AtNode(WorkerNumber, NodeNumber),
     /// All that this worker owns, or one of its loads.
     Worker(WorkerNumber),
-    /// All that the list owns, which has no entry any more.
+    /// All that the list owns, after its entries were removed.
     Listed,
 }
 
-/// Whether the handle of this row is given up.
+/// Says whether the handle of this row is in the set.
 fn gives(loads: &Loads, giving: ReleaseSet, row: HandleRow) -> bool
     ensures gives { (w : Core) → LoadsAre loads.now w → result ≡ gives_row w giving row }
     ensures plain { result ≡ true → is_valued row.owner ≡ false }
@@ -62,8 +63,8 @@ fn gives(loads: &Loads, giving: ReleaseSet, row: HandleRow) -> bool
     }
 }
 
-/// The last handle that is given up, of a number above `since` and not above `left`. It is looked for from the place
-/// `guess` down, where numbers above `left` begin there.
+/// Returns the last handle of the set with a number above `since` and at most `left`. The search
+/// starts at the index `guess` and goes down, if numbers from there on are above `left`.
 #[tactic(auto, using(crate::proofs::OwnedByLoad::places))]
 fn last(
     handles: &Handles,
@@ -92,7 +93,7 @@ fn last(
     None
 }
 
-/// Whether handles at a node are given up of which workers have none.
+/// Says whether the set is that of a worker at a node of which no worker owns a handle.
 fn is_done(nodes: &Nodes, giving: ReleaseSet) -> bool
     ensures { result ≡ true → (v : WorkerNumber) × (n : NodeNumber) × (giving ≡ ReleaseSet.AtNode v n) × (work_at nodes.now n.0 ≡ 0) }
 {
@@ -102,7 +103,7 @@ fn is_done(nodes: &Nodes, giving: ReleaseSet) -> bool
     }
 }
 
-/// The last handle in reach that is given up, of a number not above `left`.
+/// Returns the last handle of the set in this range with a number of at most `left`.
 fn last_given(
     handles: &Handles,
     nodes: &Nodes,
@@ -132,14 +133,20 @@ fn last_given(
     }
 }
 
-/// From which place on numbers are likely to be above `until`: where no number is missing behind it.
+/// Guesses the index from which handles have numbers above `until`: it is right if no number behind
+/// it is missing.
 fn first_guess(handles: &Handles, last: u64, until: u64) -> usize {
     let behind = last.saturating_sub(until) as usize;
     handles.places.len().saturating_sub(behind)
 }
 
-/// All these handles, which are in this reach and of numbers up to `until`, are given up, from the last to the first, with
-/// all that goes with them. It is refused as `fall` is.
+/// Releases all handles of the set that are in this range and have numbers up to `until`, from the
+/// last to the first, and runs the cascade after each.
+///
+/// # Errors
+///
+/// - `NumbersSpent`, `OutOfMemory` if a cell that must be listed couldn't be: the handles are
+///   released all the same.
 #[tactic(auto, using(crate::proofs::CascadeEnd::shedding))]
 pub fn release_owned<N: Drop>(
     t: &mut RefCounts,
@@ -168,7 +175,8 @@ pub fn release_owned<N: Drop>(
     fall(t, values, lists)
 }
 
-/// The storage is closed: the list gives up its entries, with all that goes with them, and the cache forgets all. No cell is listed by that. It takes no memory.
+/// Empties the list and the cache when the storage is closed: releases the handles of the list's
+/// entries and runs the cascade. No cell is listed by that. It takes no memory.
 pub fn close<N: Drop>(t: &mut Tables, values: &mut Arcs<N>)
     requires whole { IsWhole t.old }
     ensures closed { (stored : ℕ → Option Blob) (closed : Bool) (failures failures' : ℕ) → failures ≤ failures' → CloseCall (core_of t.old stored closed failures) (Ok tt) (core_of t.new (λ key. None) true failures') }
@@ -193,7 +201,7 @@ pub fn close<N: Drop>(t: &mut Tables, values: &mut Arcs<N>)
     );
 }
 
-/// The handle of this number is given up, if the load owns it, with all that goes with it.
+/// Releases the handle of this number if the load owns it, and runs the cascade.
 pub fn release_if_owned<N: Drop>(
     t: &mut RefCounts,
     values: &mut Arcs<N>,
@@ -214,7 +222,12 @@ pub fn release_if_owned<N: Drop>(
     }
 }
 
-/// The handle at this place is given up, with all that goes with it. NumbersSpent or OutOfMemory where a cell that had to be listed isn't.
+/// Releases the handle and runs the cascade.
+///
+/// # Errors
+///
+/// - `NumbersSpent`, `OutOfMemory` if a cell that must be listed couldn't be: the handle is
+///   released all the same.
 #[tactic(auto, using(crate::proofs::CascadeEnd::shedding))]
 pub fn try_release_at<N: Drop>(
     t: &mut RefCounts,
@@ -236,7 +249,14 @@ pub fn try_release_at<N: Drop>(
     fall(t, values, lists)
 }
 
-/// An own handle is given up, with all that goes with it. NumbersSpent or OutOfMemory where a cell that had to be listed isn't.
+/// Releases a handle that `me` owns, and runs the cascade.
+///
+/// # Errors
+///
+/// - `NoSuchHandle` if the handle isn't live: the tables are unchanged.
+/// - `NotYours` if another owns it: the tables are unchanged.
+/// - `NumbersSpent`, `OutOfMemory` if a cell that must be listed couldn't be: the handle is
+///   released all the same.
 pub fn release<N: Drop>(
     t: &mut Tables,
     values: &mut Arcs<N>,
@@ -253,7 +273,16 @@ pub fn release<N: Drop>(
     try_release_at(&mut t.ref_counts, values, at, lists)
 }
 
-/// An own loose handle lets its pin go, or has none. NumbersSpent or OutOfMemory where a cell that had to be listed isn't.
+/// Unpins a loose handle that `me` owns, and runs the cascade. Does nothing if it is unpinned
+/// already.
+///
+/// # Errors
+///
+/// - `NoSuchHandle` if the handle isn't live: the tables are unchanged.
+/// - `NotYours` if another owns it: the tables are unchanged.
+/// - `WrongMode` if it isn't loose: the tables are unchanged.
+/// - `NumbersSpent`, `OutOfMemory` if the cell, or another one, must be listed and couldn't be: the
+///   handle is unpinned all the same.
 pub fn unpin<N: Drop>(
     t: &mut Tables,
     values: &mut Arcs<N>,
@@ -277,8 +306,15 @@ pub fn unpin<N: Drop>(
     }
 }
 
-/// The cell of an own loose handle gets a key, and its value goes if nothing pins it. Through a handle of another mode nothing happens. NumbersSpent or
-/// OutOfMemory where a cell that had to be listed isn't.
+/// Sets the key of the cell of a loose handle that `me` owns; if nothing pins the cell, drops its
+/// value and runs the cascade. Through a handle of another mode it does nothing.
+///
+/// # Errors
+///
+/// - `NoSuchHandle` if the handle isn't live: the tables are unchanged.
+/// - `NotYours` if another owns it: the tables are unchanged.
+/// - `NumbersSpent`, `OutOfMemory` if a cell that must be listed couldn't be: the key is set all
+///   the same.
 #[tactic(auto, using(crate::proofs::CascadeStep::counting))]
 pub fn set_data_key<N: Drop>(
     t: &mut Tables,
@@ -300,7 +336,7 @@ pub fn set_data_key<N: Drop>(
     let is_dying = counts.pins == 0;
     counts.key = key.get();
     counts.is_dying = is_dying;
-    // where the node falls, what fell first up to now is done after it
+    // if the node is dying now, the cascade finishes it before the nodes that were dying already
     counts.next = top_after(false, is_dying, t.ref_counts.top, counts.next);
     nodes::set_counts(&mut t.ref_counts.nodes, node, counts);
     t.ref_counts.top = top_after(false, is_dying, node, t.ref_counts.top);

@@ -1,4 +1,4 @@
-//! Whether all tables agree, as tests ask it.
+//! A check of whether all tables agree, for tests.
 
 ghost use Rattle.indexmap.specs.IndexMap.{get};
 ghost use Rattle.pagable_value_spec.specs.declared.numbers.{ArcRef.ArcRef as Reference};
@@ -29,7 +29,7 @@ fn is_shared(mode: Mode) -> bool
     matches!(mode, Mode::Shared)
 }
 
-// How many live handles are of a node, how many of them pin it, and how many are Shared.
+// Counts the live handles of a node; those that pin it; and the Shared ones.
 fn count_handles(places: &[Place], node: u64) -> usize
     ensures { result ≡ count_by (at_node node) places.now }
 {
@@ -59,7 +59,7 @@ fn count_shares(places: &[Place], node: u64) -> usize
         .count()
 }
 
-// Whether the handle is live, once, and this one owns it.
+// Says whether the handle is live, once, and this owner has it.
 fn is_owned_once(places: &[Place], owner: Owner, handle: u64) -> bool
     ensures { result ≡ is_owned_once places.now owner handle }
 {
@@ -69,7 +69,7 @@ fn is_owned_once(places: &[Place], owner: Owner, handle: u64) -> bool
     owned.count() == 1
 }
 
-// The references of a node's value, none where it isn't in memory.
+// Returns the references of a node's value, none if it isn't in memory.
 fn references_of(nodes: &Nodes, node: u64) -> &[ArcRef]
     ensures { result.now ≡ refs_at nodes.now node }
 {
@@ -93,7 +93,8 @@ fn is_listed_once(t: &Tables, handle: u64) -> bool
     listed.count() == 1
 }
 
-// Whether who owns a handle has it.
+// Says whether the handle's owner has it: a value among its references once, the list among its
+// entries once; a load that is open; a worker that is running.
 fn is_had(t: &Tables, row: HandleRow) -> bool
     ensures { result ≡ is_had t.now row row.owner }
 {
@@ -108,7 +109,8 @@ fn is_had(t: &Tables, row: HandleRow) -> bool
     }
 }
 
-// Whether a live handle has a number that was given, a node and an owner.
+// Says whether a live handle has a number that was given out, a node that exists, and an owner that
+// has it.
 fn is_row_sound(t: &Tables, row: HandleRow) -> bool
     ensures { result ≡ is_row_sound t.now row }
 {
@@ -116,14 +118,16 @@ fn is_row_sound(t: &Tables, row: HandleRow) -> bool
     is_given && nodes::counts_of(&t.ref_counts.nodes, row.node.0).is_some() && is_had(t, row)
 }
 
-// Whether both are true, or neither.
+// Says whether both are true, or neither.
 fn agree(left: bool, right: bool) -> bool
     ensures { result ≡ agree left right }
 {
     if left { right } else { !right }
 }
 
-// Whether a node's counts are those of its handles, and its value is in memory exactly where it has to be.
+// Says whether a node's counts are right: it counts its handles and pins, has a handle and isn't
+// dying, has its value in memory exactly if a handle pins it or it has no key, and if one of its
+// handles is Shared, all are, and it has no key.
 #[tactic(auto, unfolding(crate::specs::Soundness::are_counts_sound))]
 fn are_counts_sound(places: &[Place], node: u64, is_here: bool, counts: Counts) -> bool
     ensures { result ≡ are_counts_sound places.now node is_here counts }
@@ -137,7 +141,7 @@ fn are_counts_sound(places: &[Place], node: u64, is_here: bool, counts: Counts) 
     are_counted && is_held && (agree(is_here, has_value) && is_uniform)
 }
 
-// Whether the value of a node owns each handle by which it refers.
+// Says whether the value of a node owns each handle that its references name.
 #[tactic(auto, unfolding(crate::specs::Soundness::are_references_owned))]
 fn are_references_owned(t: &Tables, node: u64) -> bool
     ensures { result ≡ are_references_owned t.now node }
@@ -149,7 +153,8 @@ fn are_references_owned(t: &Tables, node: u64) -> bool
         .all(|r| is_owned_once(places, owner, r.handle.0))
 }
 
-// Whether a node, if it is there, is in step with its handles, its value and the handles by which that refers.
+// Says whether a node's counts are right and its value owns its references' handles; or, if there
+// is no such node, whether there is no value either.
 fn is_node_sound(t: &Tables, node: u64, is_here: bool) -> bool
     ensures { result ≡ is_node_sound t.now node is_here (counts_at t.now.ref_counts.nodes node) }
 {
@@ -162,7 +167,7 @@ fn is_node_sound(t: &Tables, node: u64, is_here: bool) -> bool
     }
 }
 
-// Whether a node has its value in memory.
+// Says whether a node has its value in memory.
 fn has_value<N: Drop>(values: &Arcs<N>, node: u64) -> bool
     ensures { result ≡ is_some (row_by values.now node) }
 {
@@ -175,7 +180,7 @@ fn is_number_sound<N: Drop>(t: &Tables, values: &Arcs<N>, node: u64) -> bool
     is_node_sound(t, node, has_value(values, node))
 }
 
-// Whether the nodes of all numbers that were given are.
+// Says whether the nodes of all numbers that were given out are sound.
 #[tactic(auto, using(crate::proofs::NodesSound::stepping))]
 fn are_nodes_sound<N: Drop>(t: &Tables, values: &Arcs<N>) -> bool
     ensures { result ≡ are_nodes_sound t.now values.now t.now.last_node }
@@ -196,7 +201,7 @@ fn count_dead(places: &[Place]) -> usize
     places.iter().filter(|place| !place.is_live()).count()
 }
 
-// Whether the live handles are sound.
+// Says whether all live handles are sound.
 #[tactic(auto, unfolding(crate::specs::Soundness::are_places_sound))]
 fn are_places_sound(t: &Tables) -> bool
     ensures { result ≡ are_places_sound t.now }
@@ -207,7 +212,7 @@ fn are_places_sound(t: &Tables) -> bool
         .all(|place| !place.is_live() || is_row_sound(t, place.row()))
 }
 
-// Whether they are, and the dead ones are counted.
+// Says whether all live handles are sound, and the dead rows are counted.
 fn are_handles_sound(t: &Tables) -> bool
     ensures { result ≡ are_handles_sound t.now }
 {
@@ -215,7 +220,7 @@ fn are_handles_sound(t: &Tables) -> bool
     are_places_sound(t) && dead == t.ref_counts.handles.dead
 }
 
-// Whether each entry of the list is a handle that the list owns.
+// Says whether the list owns the handle of each of its entries.
 #[tactic(auto, unfolding(crate::specs::Soundness::is_list_sound))]
 fn is_list_sound(t: &Tables) -> bool
     ensures { result ≡ is_list_sound t.now }
@@ -227,7 +232,8 @@ fn is_list_sound(t: &Tables) -> bool
         .all(|entry| is_owned_once(places, Owner::List, entry.0))
 }
 
-// Whether what the cache knows under a kind was given, and fits the kind while it lives.
+// Says whether a cached node has a number that was given out and, while it lives, the kind's type,
+// and is Shared exactly if the kind is.
 fn is_known_soundly(t: &Tables, kind: Kind, node: NodeNumber) -> bool
     ensures { result ≡ is_known_soundly t.now kind.0 node.0 (counts_at t.now.ref_counts.nodes node.0) }
 {
@@ -250,10 +256,11 @@ fn is_cache_sound(t: &Tables) -> bool
         .all(|(known, node)| is_known_soundly(t, Kind(known.0), *node))
 }
 
-/// Computes whether handles, nodes and their counts, list, cache, loads, workers and values are in step: each live
-/// handle has a node and an owner that has it once, each node counts its handles and has its value exactly while one
-/// pins it or it has no key, each value owns the handles by which it refers, and the cache knows what was given. It takes
-/// time for each pair of a node and a handle.
+/// Says whether handles, nodes and their counts, list, cache, loads, workers and values agree: each
+/// live handle has a node, and an owner that has it once; each node counts its handles, and has its
+/// value exactly while a handle pins it or it has no key; each value owns the handles of its
+/// references; and each cached node is of its kind. It takes time for each pair of a node and a
+/// handle.
 #[tactic(auto, unfolding(crate::specs::Soundness::is_sound))]
 pub fn is_sound<N: Drop>(t: &Tables, values: &Arcs<N>) -> bool
     ensures { result ≡ is_sound t.now values.now }

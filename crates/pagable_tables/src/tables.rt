@@ -1,4 +1,4 @@
-//! All tables of a pager together, with room for handles and for entries of the list.
+//! All tables of a pager together, and the room that they have for handles and list entries.
 
 ghost use Rattle.pagable_value_spec.specs.declared.numbers.NodeNumber.{NodeNumber};
 ghost use Rattle.pagable_tables.specs.{Core.{AreLater, Does, IsWhole, plain_of}, HandleTable.room};
@@ -18,38 +18,40 @@ use pagable_value_spec::{DataKey, Error, HandleNumber, NodeNumber};
 use std::alloc::{AllocError, Global};
 use std::collections::VecDeque;
 
-/// The workers at work by their numbers, and which handles each may have.
+/// The running workers by their numbers, with the handles that each may own.
 pub type Workers = IndexMap<u64, HandleRange>;
 
-/// The nodes that the cache knows, by kinds and keys.
+/// The cached nodes, by kind and key.
 pub type Cache = IndexMap<(u32, DataKey), NodeNumber>;
 
-/// Which handles a worker may have: those of numbers above `since`, and that of number `beside`, 0 where it is none.
+/// The handles that a worker may own: those of numbers above `since`, and the one of number
+/// `beside` (0 for none).
 #[derive(Clone, Copy)]
 pub struct HandleRange {
     pub since: u64,
     pub beside: u64,
 }
 
-/// All tables of a pager, with no fact that is true of them all (`IsWhole`).
+/// All tables of a pager. The type itself guarantees nothing of them: contracts ask for `IsWhole`.
 #[derive(Drop)]
 pub struct Tables {
     pub ref_counts: RefCounts,
-    /// Which node is known under a kind and a key.
+    /// The node that is cached under a kind and a key.
     pub cache: Cache,
-    /// The cache is looked through for entries that can't be used when it has more than so many.
+    /// When the cache has more entries than this, `forget_gone` removes those that can't be used
+    /// any more.
     pub cache_limit: usize,
     pub loads: Loads,
-    /// The workers at work, and which handles each may have.
+    /// The running workers, with the handles that each may own.
     pub workers: Workers,
     pub last_node: u64,
     pub last_load: u64,
     pub last_worker: u64,
-    /// Up to which number of a handle the rows of loads tell the last one that each owns.
+    /// The rows of the loads have taken note of all handles up to this number: see `LoadRow::last`.
     pub noted: u64,
 }
 
-/// Tables without a node. They take no memory.
+/// Makes tables without a node. They take no memory.
 pub fn new(alloc: Global) -> Tables
     ensures rows { result.ref_counts.handles.places.items ≡ [] }
     ensures nodes { (n : ℕ) → counts_at result.ref_counts.nodes n ≡ None }
@@ -84,7 +86,7 @@ pub fn new(alloc: Global) -> Tables
     }
 }
 
-/// How many handles and entries of the list can still come without a request for memory.
+/// Returns how many handles and list entries can still be added without a request for memory.
 pub fn room(t: &Tables) -> usize
     requires { IsWhole t.now }
     ensures { result ≡ room_of (plain_of t.now) }
@@ -93,7 +95,8 @@ pub fn room(t: &Tables) -> usize
     handle_table::room_of(&t.ref_counts.handles).min(entries)
 }
 
-// Makes places ready for so many more entries. A refused growth is passed on where they are still too few.
+// Reserves places for `more` list entries. Fails with AllocError if the list can't grow and has
+// fewer free places.
 fn reserve_entries(list: &mut VecDeque<HandleNumber>, more: usize) -> Result<(), AllocError>
     ensures items { list.new.items ≡ list.old.items }
     ensures capacity { deque_capacity list.old ≤ deque_capacity list.new }
@@ -107,7 +110,11 @@ fn reserve_entries(list: &mut VecDeque<HandleNumber>, more: usize) -> Result<(),
     reserved
 }
 
-/// Makes places ready for so many more handles and entries. Refused with OutOfMemory where either can't grow.
+/// Reserves places for `more` handles and `more` list entries.
+///
+/// # Errors
+///
+/// - `OutOfMemory` if the handles or the list can't grow: neither table's content is changed.
 pub fn reserve(t: &mut Tables, more: usize) -> Result<(), Error>
     requires { IsWhole t.old }
     ensures { Does t.old (λ w w'. ReserveCall w more result w') t.new }
@@ -117,7 +124,7 @@ pub fn reserve(t: &mut Tables, more: usize) -> Result<(), Error>
     Ok(())
 }
 
-/// The cache forgets all.
+/// Removes all entries of the cache.
 pub fn cache_clear(t: &mut Tables) -> Result<(), Error>
     requires { IsWhole t.old }
     ensures { Does t.old (λ w w'. ClearCall w result w') t.new }

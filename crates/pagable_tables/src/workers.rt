@@ -1,4 +1,4 @@
-//! Page-out workers: they begin, release what they have at a node, and end.
+//! Page-out workers: how they begin, release their handles at a node, and end.
 
 ghost use Rattle.indexmap.specs.IndexMap.{get};
 ghost use Rattle.pagable_value_spec.specs.declared.numbers.{NodeNumber.NodeNumber, WorkerNumber.WorkerNumber};
@@ -19,7 +19,12 @@ use crate::tables::{HandleRange, Tables, Workers};
 use pagable_pager_spec::handle_row::Owner;
 use pagable_value_spec::{Error, NodeNumber, WorkerNumber};
 
-/// One worker more is at work. NumbersSpent where no number is left for it, OutOfMemory where it has no place.
+/// Begins a worker, which owns nothing yet.
+///
+/// # Errors
+///
+/// - `NumbersSpent` if no worker number is left: nothing changes.
+/// - `OutOfMemory` if the workers' table can't grow: nothing changes.
 #[tactic(auto, using(crate::proofs::OwnedByLoad::working))]
 pub fn worker_begin(t: &mut Tables) -> Result<WorkerNumber, Error>
     requires { IsWhole t.old }
@@ -39,7 +44,8 @@ pub fn worker_begin(t: &mut Tables) -> Result<WorkerNumber, Error>
     Ok(WorkerNumber(worker))
 }
 
-/// The same, for the entry at this place of the list, which moves to the worker.
+/// Begins a worker and makes it the owner of the handle at this index of the list, whose entry is
+/// removed. It fails as `worker_begin` does, and changes nothing then.
 pub fn worker_take(t: &mut Tables, place: usize) -> Result<WorkerNumber, Error>
     requires whole { IsWhole t.old }
     requires within { place < length t.old.ref_counts.list.items }
@@ -50,7 +56,7 @@ pub fn worker_take(t: &mut Tables, place: usize) -> Result<WorkerNumber, Error>
     Ok(worker)
 }
 
-/// Which handles this worker may have.
+/// Returns the handles that this worker may own: all, if the worker isn't known.
 fn reach_of(workers: &Workers, worker: WorkerNumber) -> HandleRange
     ensures { result ≡ reach_at workers.now worker.0 }
 {
@@ -59,7 +65,7 @@ fn reach_of(workers: &Workers, worker: WorkerNumber) -> HandleRange
     workers.get(&worker.0).copied().unwrap_or(nothing)
 }
 
-/// A worker gives up all handles that it has at a node, with all that goes with them.
+/// Releases all handles that a worker owns at a node, and runs the cascade.
 pub fn release_node<N: Drop>(
     t: &mut Tables,
     values: &mut Arcs<N>,
@@ -85,7 +91,7 @@ pub fn release_node<N: Drop>(
     );
 }
 
-/// The worker's loads aren't open any more.
+/// Removes the rows of the worker's loads.
 fn close_loads(loads: &mut Loads, worker: WorkerNumber)
     ensures { (l : ℕ) → load_at loads.new l ≡ left_load worker.0 (load_at loads.old l) }
 {
@@ -97,7 +103,8 @@ fn close_loads(loads: &mut Loads, worker: WorkerNumber)
     );
 }
 
-/// A worker ends: its loads are closed, and it gives up whatever it and they still have, with all that goes with it.
+/// Ends a worker: releases all handles that it and its loads own, runs the cascade, and closes its
+/// loads.
 pub fn worker_end<N: Drop>(t: &mut Tables, values: &mut Arcs<N>, worker: WorkerNumber, lists: bool)
     requires whole { IsWhole t.old }
     requires later { AreLater t.old }
