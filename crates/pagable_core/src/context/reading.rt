@@ -45,7 +45,7 @@ impl<'de, R> PagableDeserializerImpl<'de, PagableSlice<'de>, R> {
         }
     }
 
-    /// What answered for the references.
+    /// Returns what answered for the references.
     pub fn finish(self) -> R
         ensures { result ≡ self.entry.references }
     {
