@@ -1,4 +1,4 @@
--- What a node that may hold a value of a type is, by whether it holds one.
+-- What a node is, by whether it holds a value of a type.
 use Rattle.std.specs.Prelude.{◌≡◌, ◌≢◌, ℕ, Option, Some, None}
 use Rattle.pagable_value_spec.specs.{Meaning.Meaning, declared.numbers.ArcRef.ArcRef}
 
