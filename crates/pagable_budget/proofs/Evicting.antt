@@ -1,4 +1,4 @@
--- What goes from a list of pins and what comes to it, what that costs, and what it does to the pager.
+-- Which pins leave and join a list of pins, what they cost, and what that does to the pager.
 use Rattle.lru.{proofs.Pairs.{cut_end, last_of_push, lookup-lookup_entry, promoted_absent}, specs.LruCache.{LruCache, last_entry, lru_cache, promoted, put_entries}}
 use Rattle.pagable_budget.specs.Budgets.{Admits, BudgetView, Clears, Evicts, EvictsAbove, EvictsLast, Inserts, IsBounded, IsNeeded, Keeps, Kept, Stores, Trims, cell-is-kept, cell-is-new, clone-is-refused, clone-is-stored, cost_of}
 use Rattle.pagable_budget.specs.Budgets.{costs-too-much, counted, evicts-more, evicts-none, hit, last-goes, missed, more, no-cell, no-memory-is-left, none-is-kept, pin-is-kept, touched}
