@@ -20,9 +20,9 @@ pub type Copied = HashMap<DataKey, ()>;
 /// A task of the copy. It copies a blob's children before the blob itself.
 #[derive(Drop)]
 enum Visit {
-    /// Its children are due.
+    /// Plan the copy of the key's children, and then of its blob.
     Enter(DataKey),
-    /// Its children were copied, and its blob is due.
+    /// Copy the key's blob; its children were copied.
     Leave(DataKey),
 }
 
