@@ -54,10 +54,10 @@ pub trait PagableStorage<E: Env>: Sized {
         ensures open { is_closed self.new ≡ is_closed self.old }
         ensures later { failed self.old ≤ failed self.new };
 
-    /// Polls the fetch of the blob under a key. It may be ready at once; then it returns what
-    /// `fetch_data_blocking` returns. If it is pending, it has left a waker in `cx` and changed
-    /// only the count of failures: whoever ends the wait wakes that waker, and the next poll asks
-    /// for the fetch again.
+    /// Polls the fetch of the blob under a key. If it is ready, it returns what
+    /// `fetch_data_blocking` returns; a storage may be ready at every poll. If it is pending, it
+    /// has left a waker in `cx` and changed only the count of failures: whoever ends the wait wakes
+    /// that waker, and the next poll asks for the fetch again.
     ///
     /// # Errors
     ///
