@@ -13,7 +13,8 @@ pub struct Chain<const KIND: u32> {
     pub next: Option<RawRef<KIND>>,
 }
 
-/// A link by a loose reference: it is read without those that follow. The type number is 0, so the kind is 1.
+/// A link by a loose reference, which is read without the links that follow. Its type number is 0,
+/// so its kind is 1.
 pub type Link = Chain<1>;
 
 /// A link by a shared reference, which is read with all links that follow. Its type number is 1, so
