@@ -1,4 +1,4 @@
--- What goes from a list of pins and what comes to it, what that costs, and what it does to the pager.
+-- Which pins leave and join a list of pins, what they cost, and what that does to the pager.
 use Rattle.lru.{proofs.Pairs.{cut_end, last_of_push, lookup-lookup_entry, promoted_absent}, specs.LruCache.{LruCache, last_entry, lru_cache, promoted, put_entries}}
 use Rattle.pagable_budget.specs.Budgets.{Admits, BudgetView, Clears, Evicts, EvictsAbove, EvictsLast, Inserts, IsBounded, IsNeeded, Keeps, Kept, Stores, Trims, cell-is-kept, cell-is-new, clone-is-refused, clone-is-stored, cost_of}
 use Rattle.pagable_budget.specs.Budgets.{costs-too-much, counted, evicts-more, evicts-none, hit, last-goes, missed, more, no-cell, no-memory-is-left, none-is-kept, pin-is-kept, touched}
@@ -102,10 +102,10 @@ as-miss cell b is =
     let none = promoted_absent nat_eq (lru_cache b.pins 0) cell is in
     λ i. record b { pins = none.1 i; stats = counted (is i) b.stats }
 
--- ---- pins that are given up
+-- ---- pins that are evicted
 
 module _ {N S E : Type 0} (tells : Telling S) where
-  -- the last pin is given up, if there is one
+  -- the last pin is evicted, if there is one
   evict-none-of : (pins : List Kept) (p : PagerView N S E) → last_entry pins ≡ None → EvictsLast tells pins p None (take (length pins - 1) pins) p
   evict-none-of [] p none = none-is-kept refl
   evict-none-of (e ∷ es) p none = let is : e ∷ es ≡ [] = no-last (e ∷ es) none in absurd cc
@@ -171,7 +171,7 @@ module _ {N S E : Type 0} (tells : Telling S) where
   pub all-empty : {left left' : List Kept} {p q : PagerView N S E} → EvictsLast tells left p None left' q → left' ≡ []
   all-empty (none-is-kept none) = refl
 
-  -- what was given up left the storage alone
+  -- evictions leave the storage alone
   pub same-storage : {old new : PagerView N S E} {gone : List Kept} → Evicts tells old gone new → new.storage ≡ old.storage
   same-storage evicts-none = refl
   same-storage (evicts-more e later told mid new evicts releases) = releases.only.storage ∙ same-storage evicts

@@ -1,4 +1,4 @@
-//! A budget: pins that are kept up to a cost, and counts of what became of the cells that were pinned.
+//! A budget: pins kept up to a total cost, and counts of hits, misses and evictions.
 
 ghost use Rattle.std.specs.Map.{lookup};
 ghost use Rattle.std.specs.Prelude.{[], IfOk, IsTrue, None, is_some, length, nat_eq, ◌-◌, ◌≡◌, ◌≤◌};
@@ -18,22 +18,22 @@ use std::alloc::Global;
 use std::marker::Model;
 use std::sync::Arc;
 
-/// What became of the cells that were pinned by a budget, counted up to the greatest number that there is.
+/// Counts of what a budget did. Each stops at the greatest number of 64 bits.
 #[derive(Clone, Copy, Debug, PartialEq, Eq)]
 pub struct BudgetStats {
-    /// The pins of cells of which a pin was kept already.
+    /// Pins of cells of which the budget kept a pin already.
     pub hits: u64,
-    /// The pins of other cells.
+    /// Pins of other cells.
     pub misses: u64,
-    /// The kept pins that were given up since what is kept would have cost too much.
+    /// Kept pins that the budget released to stay within its bound.
     pub evictions: u64,
 }
 
-/// Pins that a program wants kept, at most so much of a cost in all. They are handles of the budget's own, and it gives
-/// up no others: the pin that was not used for longest first.
+/// Keeps pins for a program, up to a total cost. It owns its pins, which are handles of its own,
+/// and evicts the least recently used first. It releases no other handles.
 ///
-/// A budget is for one pager. Before it is dropped, `clear` gives its pins up; without that their cells stay in memory
-/// for as long as the pager.
+/// A budget is for one pager. Call `clear` before you drop it: the cells of pins that it still
+/// holds stay in memory as long as the pager.
 #[derive(Drop)]
 pub struct Budget {
     pins: KeptPins,
@@ -55,7 +55,7 @@ impl Model for Budget {
     ghost invariant = { λ b. IsBounded b.pins b.cost b.most };
 }
 
-// One hit or miss more.
+// Counts one more hit or miss.
 fn counted(stats: BudgetStats, is_hit: bool) -> BudgetStats
     ensures { result ≡ counted is_hit stats }
 {
@@ -69,11 +69,12 @@ fn counted(stats: BudgetStats, is_hit: bool) -> BudgetStats
 }
 
 impl Budget {
-    /// Makes a budget that keeps pins of at most `most` in all, in the unit of the costs that `pin` is told: cells of 1
-    /// each, or bytes. It keeps none yet.
+    /// Creates a budget that keeps no pin yet, and later keeps pins of at most `most` in total, in
+    /// the unit of the costs given to `pin`: 1 for each cell, or bytes.
     ///
     /// # Errors
-    /// - OutOfMemory.
+    ///
+    /// - `OutOfMemory`.
     pub fn new(alloc: Global, most: u64) -> Result<Budget, Error>
         ensures { IfOk result (λ b. b ≡ new_budget most) }
     {
@@ -91,14 +92,14 @@ impl Budget {
         })
     }
 
-    /// Returns what the kept pins may cost in all.
+    /// Returns the bound: the greatest total cost of the kept pins.
     pub fn most(&self) -> u64
         ensures { result ≡ self.now.most }
     {
         self.most
     }
 
-    /// Returns what the kept pins cost in all.
+    /// Returns the total cost of the kept pins.
     pub fn cost(&self) -> u64
         ensures sum { result ≡ cost_of self.now.pins }
         ensures within { result ≤ self.now.most }
@@ -113,7 +114,7 @@ impl Budget {
         self.pins.len()
     }
 
-    /// Tells whether a pin of this cell is kept.
+    /// Returns whether a pin of this cell is kept.
     pub fn keeps(&self, cell: NodeNumber) -> bool
         ensures { result ≡ is_some (lookup (nat_eq cell.0) self.now.pins) }
     {
@@ -127,14 +128,17 @@ impl Budget {
         self.stats
     }
 
-    /// Pins a loose handle's cell for the caller, as `paging::pin`, and keeps a pin of the cell beside that, as the
-    /// last used, under this cost; pins that were not used for longer are given up as far as it needs. A cell of which
-    /// a pin is kept already becomes the last used, at the cost that it has. No pin is kept of a cell that alone costs
-    /// more than the bound, nor where no handle or no memory is left for one, and the caller's pin is answered all the
-    /// same.
+    /// Pins a loose handle's cell for the caller, as `paging::pin` does, and returns the caller's
+    /// pin. Beside it the budget keeps a pin of its own at this cost, as the most recently used,
+    /// and evicts others as far as the bound requires. If it keeps a pin of the cell already, that
+    /// becomes the most recently used, at the cost that it has.
+    ///
+    /// The budget keeps no pin if the cell alone costs more than the bound, or if handle numbers or
+    /// memory run out; the caller gets its pin all the same.
     ///
     /// # Errors
-    /// - as `paging::pin`. The budget stays as it was.
+    ///
+    /// - as `paging::pin`: the budget is unchanged.
     pub fn pin<E: Env<Node: NodeSet<E>>, S: PagableStorage<E>>(
         &mut self,
         alloc: Global,
@@ -152,7 +156,8 @@ impl Budget {
         Ok(pinned)
     }
 
-    // Keeps a pin beside the caller's: that of a cell that is kept already becomes the last used.
+    // Keeps a pin of the budget's own beside the caller's. If it has one of this cell already,
+    // makes that the most recently used.
     fn keep<E: Env<Node: NodeSet<E>>, S: PagableStorage<E>>(
         &mut self,
         pager: &mut Pager<E, S>,
@@ -170,7 +175,8 @@ impl Budget {
         self.admit(pager, cell.0, pinned, cost);
     }
 
-    // Counts a hit or a miss, and makes the pin of a cell the last used; answers whether one is kept.
+    // Counts a hit or a miss, and makes the cell's pin the most recently used. Returns whether the
+    // budget keeps one.
     fn touch(&mut self, cell: u64) -> bool
         ensures kept { result ≡ is_some (lookup (nat_eq cell) self.old.pins) }
         ensures touched { self.new ≡ touched cell self.old }
@@ -180,7 +186,8 @@ impl Budget {
         is_kept
     }
 
-    // Keeps a pin of a cell of which none is kept, if it may cost so much and can be had.
+    // Keeps a pin of a cell of which none is kept, if its cost is within the bound and the pager
+    // can make the pin.
     fn admit<E: Env<Node: NodeSet<E>>, S: PagableStorage<E>>(
         &mut self,
         pager: &mut Pager<E, S>,
@@ -200,7 +207,7 @@ impl Budget {
         }
     }
 
-    // Makes room for a pin, and keeps it. Where memory is wanting, it is given up.
+    // Makes room for a pin and keeps it. If memory runs out, releases it.
     fn store<E: Env<Node: NodeSet<E>>, S: PagableStorage<E>>(
         &mut self,
         pager: &mut Pager<E, S>,
@@ -220,8 +227,8 @@ impl Budget {
         }
     }
 
-    /// Gives up pins, those that were not used for longest first and no more than it needs, until what is kept costs at
-    /// most `most`. What may be kept later stays as it was.
+    /// Evicts the least recently used pins, no more than needed, until the kept pins cost at most
+    /// `most` in total. The budget's bound stays as it was.
     pub fn trim<E: Env<Node: NodeSet<E>>, S: PagableStorage<E>>(
         &mut self,
         pager: &mut Pager<E, S>,
@@ -238,7 +245,7 @@ impl Budget {
         self.stats.evictions = evictions;
     }
 
-    /// Gives up all pins that are kept. The counts stay as they are.
+    /// Releases all kept pins. The counts stay as they are.
     pub fn clear<E: Env<Node: NodeSet<E>>, S: PagableStorage<E>>(&mut self, pager: &mut Pager<E, S>)
         ensures { Clears (telling S.stored S.is_closed S.failed) self.old pager.old self.new pager.new }
     {

@@ -1,4 +1,4 @@
-//! The pins that a budget keeps, the last used first, and how it gives up those that were not used for longest.
+//! The pins that a budget keeps, most recently used first, and their eviction.
 
 ghost use Rattle.std.specs.Map.{lookup};
 ghost use Rattle.std.specs.Prelude.{[], None, nat_eq, ◌-◌, ◌^◌, ◌≡◌, ◌≤◌};
@@ -11,19 +11,19 @@ use pagable_core::PagableStorage;
 use pagable_pager::Pager;
 use pagable_value_spec::HandleNumber;
 
-/// A pin that a budget keeps of a cell.
+/// A pin that a budget keeps.
 #[derive(Clone, Copy, Debug, PartialEq, Eq)]
 pub struct KeptPin {
     /// The budget's own Pinned handle.
     pub handle: HandleNumber,
-    /// What keeping the cell costs, in the unit of the budget's bound.
+    /// The cost of keeping the cell, in the unit of the budget's bound.
     pub cost: u64,
 }
 
-/// Pins by the numbers of their cells, the last used first.
+/// The kept pins by the numbers of their cells, most recently used first.
 pub(crate) type KeptPins = LruCache<u64, KeptPin>;
 
-// Gives up the pin that was not used for longest, and answers its cost; None where none is kept.
+// Releases the least recently used pin and returns its cost, or None if no pin is kept.
 #[tactic(auto, using(crate::proofs::Evicting::ends))]
 fn evict_last<E: Env<Node: NodeSet<E>>, S: PagableStorage<E>>(
     pins: &mut KeptPins,
@@ -38,8 +38,8 @@ fn evict_last<E: Env<Node: NodeSet<E>>, S: PagableStorage<E>>(
     Some(pin.cost)
 }
 
-/// Gives up pins, those that were not used for longest first, until what is kept costs at most `most`. Takes and
-/// answers what the pins cost in all.
+/// Evicts the least recently used pins until the kept ones cost at most `most` in total. `cost` is
+/// their total cost before; returns their total cost after.
 pub(crate) fn evict_above<E: Env<Node: NodeSet<E>>, S: PagableStorage<E>>(
     pins: &mut KeptPins,
     pager: &mut Pager<E, S>,
@@ -63,7 +63,7 @@ pub(crate) fn evict_above<E: Env<Node: NodeSet<E>>, S: PagableStorage<E>>(
     left
 }
 
-/// Gives up all pins, those that were not used for longest first.
+/// Releases all pins, the least recently used first.
 #[tactic(auto, using(crate::proofs::Evicting::gone))]
 pub(crate) fn evict_all<E: Env<Node: NodeSet<E>>, S: PagableStorage<E>>(
     pins: &mut KeptPins,
@@ -76,15 +76,15 @@ pub(crate) fn evict_all<E: Env<Node: NodeSet<E>>, S: PagableStorage<E>>(
     while let Some(_cost) = evict_last(pins, pager) {}
 }
 
-/// Keeps a pin of a cell of which none is kept, as the last used; answers false where memory is wanting, and then
-/// nothing changes.
+/// Keeps a pin of a cell of which none is kept, as the most recently used. If memory runs out,
+/// returns false and changes nothing.
 #[tactic(auto, using(crate::proofs::Evicting::inserts))]
 pub(crate) fn insert(pins: &mut KeptPins, cell: u64, pin: KeptPin) -> bool
     requires new { lookup (nat_eq cell) pins.old.entries ≡ None }
     requires wide { pins.old.cap ≡ 2 ^ 64 - 1 }
     ensures { Inserts cell pin result pins.old pins.new }
 {
-    // There are fewer pins than the cache has room for, so that it gives none up of its own accord.
+    // The cache has room for more pins than there can be, so it never evicts one by itself.
     let _kept = pins.len();
     pins.push(cell, pin).is_ok()
 }

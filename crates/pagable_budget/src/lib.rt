@@ -1,5 +1,6 @@
-//! A bound on memory for users of a lent pager: pins that a program wants kept, up to a cost, the least recently used
-//! given up first; and page-outs once more than so many cells wait.
+//! Bounds on the memory of a pager that the user holds: a budget of pins that a program wants kept,
+//! which evicts the least recently used first; and a page-out as soon as more than a number of
+//! cells wait for it.
 #![tactic(auto)]
 
 mod bound;

@@ -1,4 +1,4 @@
-//! Page-outs of what waits for them, once it is too much.
+//! Page-out of the pending list, if it is too long.
 
 ghost use Rattle.std.specs.Prelude.{IsTrue};
 ghost use Rattle.{pagable_budget.specs.Budgets.PagesOutAbove, pagable_load.specs.AccessView.values_at};
@@ -11,10 +11,12 @@ use pagable_pageout::PageOutError;
 use pagable_pager::Pager;
 use std::alloc::Global;
 
-/// Pages out all cells that wait for it, as `paging::page_out_pending`, if there are more than `most`; else does
-/// nothing. A cell without a key stays in memory however few pins it has, so that a bound on memory wants both.
+/// Pages out all cells of the pending list, as `paging::page_out_pending` does, if there are more
+/// than `most`; else does nothing. A cell without a key stays in memory even when nothing pins it,
+/// so a program that bounds its memory needs this beside a budget.
 ///
 /// # Errors
+///
 /// - as `paging::page_out_pending`.
 pub fn page_out_above<E: Env<Node: NodeSet<E>>, S: PagableStorage<E>>(
     alloc: Global,

@@ -1,4 +1,5 @@
--- Which keys cells have after a call: those that they had, but for the one that it sets; and that keys of references make a node's own.
+-- Which keys cells have after a call: those that they had, except for the one that it sets; and that the keys of its
+-- references make a node's own key.
 use Rattle.pagable_changes.specs.Changes.{AllHave, FoundKeys, HasKey, none-are-asked, one-more-has}
 use Rattle.pagable_theorems.proofs.Decoding.{among-left, among-right}
 use Rattle.pagable_theorems.specs.TreeSteps.{Bears, CallFeels, Change, CoreGoes, Sets}

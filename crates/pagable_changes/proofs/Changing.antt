@@ -1,4 +1,4 @@
--- What the calls of a page-out come to.
+-- What the calls of a page-out amount to.
 use Rattle.pagable_changes.specs.Changes.{AllHave, FoundKeys, GivesUp, GoesDown, GoesNowhere, HasKey, HasNoKey, IsFound, IsOver, IsUnset, LeaveFails, Leaves, LetsGo, PinsLoosely, SetsFor, SetsKey}
 use Rattle.pagable_changes.specs.Changes.{Stage, StoresBlob, TakesKey, Turn, TurnFails, Turned, Turns, TurnsFail, TurnsOut, Walks, WritesTaken, all-is-stored, blob-is-refused, cell-gets-key}
 use Rattle.pagable_changes.specs.Changes.{goes-down, isnt-entered, key-is-refused, key-was-found, last-is-left, none-are-asked, none-is-open, none-was-found, nothing_found, one-goes-first, one-more-has}

@@ -1,5 +1,6 @@
--- Turn by turn the pager stands for the trees that it stood for; what was written of each open node is a form of its tree; and each key that was found reads as
--- its node's tree, and is its Merkle key where those that were there are.
+-- After each turn the pager stands for the trees that it stood for; what was written of each open node is a form of its
+-- tree; and each key that was found is read as its node's tree, and is its Merkle key if the keys that cells had are
+-- Merkle keys.
 use Rattle.pagable_changes.proofs.CellKeys.{IsQuiet, KeysGo, SetsAt, all-keys, quiet-keys, set-keys}
 use Rattle.pagable_changes.specs.{Changes.{AllHave, EnterFails, Enters, FoundKeys, GivesUp, GoesNowhere, HasKey, LeaveFails, Leaves, LetsGo, PagesOutChanged, PagesOutKeyless, PinsLoosely, SetsFor, Stage, StoresBlob}, Keys.{ChangedLaw, HasMerkleKeys}}
 use Rattle.pagable_changes.specs.Changes.{TakeFails, Takes, Turn, TurnFails, Turns, Walks, all-is-stored, blob-is-refused, both-go, cell-gets-key, cell-has-key, cell-is-away}

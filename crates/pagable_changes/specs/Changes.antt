@@ -1,4 +1,4 @@
--- A page-out of what has no key: which node it comes to, what it writes and stores of it, and what it gives up, call by call of the pager.
+-- A page-out of nodes without a key: which nodes it enters, what it writes, stores and releases, as calls of the pager.
 use Rattle.std.specs.Prelude.{Err, List, None, Ok, Option, Result, Some, [], false, slice_get, true, ℕ, ◌++◌, ◌∷◌, ◌≡◌, ◌≢◌}
 use Rattle.pagable_changes.specs.declared.{keys.FoundKey.FoundKey, nodes.OpenNode.OpenNode}
 use Rattle.{pagable_core.specs.declared.context.writing.SerializedData.SerializedData, pagable_value_spec.specs.Merkle.blob_of, pagable_pager_spec.specs.Access.Called}
@@ -11,20 +11,20 @@ use Rattle.pagable_pager_spec.specs.World.{Core, HasForm, Values, Written, diges
 abbrev pub written_of : SerializedData → Written
 written_of d = record { bytes = d.bytes.items; references = d.arcs.items }
 
--- what was found of nodes in this page-out, by their numbers
+-- what this page-out found for nodes, by node number
 abbrev pub FoundKeys : Type 0
 FoundKeys = ℕ → Option FoundKey
 
 abbrev pub nothing_found : FoundKeys
 nothing_found n = None
 
--- The key of what a reference names: of a loose one that of its cell, and of any other what was found before.
+-- The key of a reference's target: for a loose reference its cell's key, for another the one that was found before.
 pub data HasKey (found : FoundKeys) (w : Core) (r : ArcRef) : ℕ → Type 0 where
   cell-has-key : (key : ℕ) → is_loose_kind r.kind.0 ≡ true → NodeCall w r.handle (Ok r.node) → KeyCall w r.handle (Ok (OptionalDataKey.Some key))
       → HasKey found w r key
   key-was-found : (k : FoundKey) → is_loose_kind r.kind.0 ≡ false → found r.node.0 ≡ Some k → HasKey found w r k.key
 
--- it has none yet
+-- the target has no key yet
 pub data HasNoKey (found : FoundKeys) (w : Core) (r : ArcRef) : Type 0 where
   cell-has-none : is_loose_kind r.kind.0 ≡ true → NodeCall w r.handle (Ok r.node) → KeyCall w r.handle (Ok OptionalDataKey.None) → HasNoKey found w r
   none-was-found : is_loose_kind r.kind.0 ≡ false → found r.node.0 ≡ None → HasNoKey found w r
@@ -33,13 +33,13 @@ abbrev pub IsFound : FoundKeys → Core → ArcRef → Option FoundKey → Type 
 IsFound found w r (Some k) = HasKey found w r k.key
 IsFound found w r None = HasNoKey found w r
 
--- each of the references has the key at its place
+-- each reference has the key at its index
 pub data AllHave (found : FoundKeys) (w : Core) : List ArcRef → List ℕ → Type 0 where
   none-are-asked : AllHave found w [] []
   one-more-has : (rs : List ArcRef) (keys : List ℕ) (r : ArcRef) (key : ℕ) → AllHave found w rs keys → HasKey found w r key
       → AllHave found w (rs ++ r ∷ []) (keys ++ key ∷ [])
 
--- the reference at this place has a key, which comes behind the others
+-- the reference at this index has a key, which is appended
 pub record TakesKey (found : FoundKeys) (w : Core) (rs : List ArcRef) (at : ℕ) (keys keys' : List ℕ) : Type 0 where
   pub r : ArcRef
   pub key : ℕ
@@ -47,18 +47,18 @@ pub record TakesKey (found : FoundKeys) (w : Core) (rs : List ArcRef) (at : ℕ)
   pub has : HasKey found w r key
   pub added : keys' ≡ keys ++ key ∷ []
 
--- the blob of a node whose references all have keys: what was written of it, over these
+-- the blob of a node whose references all have keys: what was written of it, with these keys
 pub record IsOver (found : FoundKeys) (w : Core) (o : OpenNode) (blob : Blob) : Type 0 where
   pub keys : List ℕ
   pub have : AllHave found w (written_of o.written).references keys
   pub is : blob ≡ blob_of (written_of o.written).bytes keys
 
--- a form of the value, with exactly its references
+-- a form of the value that lists exactly its references
 pub record IsFormOf {N : Type 0} (v : Values N) (x : N) (written : Written) : Type 0 where
   pub form : HasForm v x written
   pub listed : written.references ≡ v.references x
 
--- where a page-out stands: the nodes that wait for the next of their references, the node at hand, what was found, and the pager
+-- the state of a page-out: the nodes that wait on the path, the node at hand, what was found, and the pager
 pub record Stage (N E : Type 0) : Type 0 where
   pub path : List OpenNode
   pub node : OpenNode
@@ -68,7 +68,7 @@ pub record Stage (N E : Type 0) : Type 0 where
 abbrev pub stage : {N E : Type 0} → List OpenNode → OpenNode → FoundKeys → PagerState N E → Stage N E
 stage path node found s = record { path = path; node = node; found = found; pager = s }
 
--- the loose reference that the handle would be
+-- the handle as a loose reference to its cell
 pub record IsRoot (w : Core) (h : HandleNumber) (r : ArcRef) : Type 0 where
   pub handle : r.handle ≡ h
   pub at : NodeCall w h (Ok r.node)
@@ -77,7 +77,7 @@ pub record IsRoot (w : Core) (h : HandleNumber) (r : ArcRef) : Type 0 where
   pub kind : r.kind.0 ≡ loose_kind t
 
 module _ {N E : Type 0} (v : Values N) where
-  -- calls of the pager, each of which leaves it whole
+  -- calls of the pager; after each its invariant holds
   abbrev pub Clones : PagerState N E → HandleNumber → Result HandleNumber Error → PagerState N E → Type 0
   Clones s h r s' = Called v (λ w'. CloneCall s.core Owner.Caller h r w') s s'
 
@@ -96,61 +96,62 @@ module _ {N E : Type 0} (v : Values N) where
   abbrev pub StoresBlob : PagerState N E → Blob → Result ℕ Error → PagerState N E → Type 0
   StoresBlob s blob r s' = Called v (λ w'. StoreCall (digest v) s.core blob r w') s s'
 
-  -- The two handles of a node that was taken are given up. They are one where its reference isn't loose.
+  -- The two handles of a taken node are released. They are one handle if the node's reference isn't loose.
   pub data LetsGo (through pin : HandleNumber) (s : PagerState N E) : PagerState N E → Type 0 where
     both-go : (told freed : Result (Unit {0}) Error) (mid s' : PagerState N E) → Releases s pin told mid → Releases mid through freed s' → LetsGo through pin s s'
     one-goes : (told : Result (Unit {0}) Error) (s' : PagerState N E) → pin ≡ through → Releases s pin told s' → LetsGo through pin s s'
 
-  -- a cell whose value is in memory is pinned
+  -- a cell whose value is in memory is pinned by a loose handle
   pub data PinsLoosely (c : HandleNumber) (s : PagerState N E) : Result HandleNumber Error → PagerState N E → Type 0 where
     cell-is-pinned : (k : HandleNumber) (s' : PagerState N E) → Pins s c (Ok (Pinning.Pinned k)) s' → PinsLoosely c s (Ok k) s'
     cell-is-away : (key : ℕ) (s' : PagerState N E) → Pins s c (Ok (Pinning.NeedsLoad key)) s' → PinsLoosely c s (Err Error.WrongMode) s'
     cell-is-not-pinned : (e : Error) (s' : PagerState N E) → Pins s c (Err e) s' → PinsLoosely c s (Err e) s'
 
-  -- A reference's node is taken: its handle is cloned, and a loose one's cell pinned by the clone, which a Pinned one is made loose for.
+  -- The page-out takes a reference's node: it clones the handle, and for a loose reference pins the cell by the clone,
+  -- which it first makes loose if it is Pinned.
   pub data Takes (r : ArcRef) (s : PagerState N E) : HandleNumber → HandleNumber → PagerState N E → Type 0 where
     cell-is-taken : (c k : HandleNumber) (told : Result HandleNumber Error) (mid low s' : PagerState N E) → is_loose_kind r.kind.0 ≡ true
         → Clones s r.handle (Ok c) mid → Loosens mid c told low → PinsLoosely c low (Ok k) s' → Takes r s c k s'
     node-is-taken : (c : HandleNumber) (s' : PagerState N E) → is_loose_kind r.kind.0 ≡ false → Clones s r.handle (Ok c) s' → Takes r s c c s'
 
-  -- it isn't, and a clone is given up
+  -- it fails to take the node, and releases a clone that it made
   pub data TakeFails (r : ArcRef) (s : PagerState N E) : Error → PagerState N E → Type 0 where
     clone-is-refused : (e : Error) (s' : PagerState N E) → Clones s r.handle (Err e) s' → TakeFails r s e s'
     pin-is-refused : (c : HandleNumber) (told : Result HandleNumber Error) (freed : Result (Unit {0}) Error) (e : Error) (mid low late s' : PagerState N E)
         → Clones s r.handle (Ok c) mid → Loosens mid c told low → PinsLoosely c low (Err e) late → Releases late c freed s' → TakeFails r s e s'
 
-  -- the value that a handle pins is written, which is of the reference's type
+  -- the value that a handle pins is written; it is of the reference's type
   pub record Writes (s : PagerState N E) (r : ArcRef) (pin : HandleNumber) (written : Written) : Type 0 where
     pub x : N
     pub shown : ValueCall s pin (Ok (Some x))
     pub typed : v.node_type x ≡ type_of r.kind.0
     pub form : IsFormOf v x written
 
-  -- the same, where both handles are of the reference's node
+  -- the value is written, and both handles are of the reference's node
   pub record WritesTaken (s : PagerState N E) (r : ArcRef) (through pin : HandleNumber) (written : Written) : Type 0 where
     pub at : NodeCall s.core through (Ok r.node)
     pub pin_at : NodeCall s.core pin (Ok r.node)
     pub writes : Writes s r pin written
 
-  -- a reference's node is taken and written
+  -- the page-out takes a reference's node and writes it
   pub record Enters (r : ArcRef) (s : PagerState N E) (o : OpenNode) (s' : PagerState N E) : Type 0 where
     pub of : o.reference ≡ r
     pub takes : Takes r s o.through o.pin s'
     pub writes : WritesTaken s' r o.through o.pin (written_of o.written)
 
-  -- it isn't, and nothing is kept of it
+  -- it fails, and keeps nothing of the node
   pub data EnterFails (r : ArcRef) (s : PagerState N E) : Error → PagerState N E → Type 0 where
     isnt-taken : (e : Error) (s' : PagerState N E) → TakeFails r s e s' → EnterFails r s e s'
     isnt-written : (e : Error) (c k : HandleNumber) (mid s' : PagerState N E) → Takes r s c k mid → LetsGo c k mid s' → EnterFails r s e s'
 
-  -- A cell gets the key. Of a node that was come to by no loose reference it is found from now on.
+  -- A cell gets its key. For a node that the page-out didn't reach by a loose reference the key is found from now on.
   pub data SetsFor (found : FoundKeys) (o : OpenNode) (key : ℕ) (s : PagerState N E) : FoundKeys → PagerState N E → Type 0 where
     cell-gets-key : (found' : FoundKeys) (s' : PagerState N E) → is_loose_kind o.reference.kind.0 ≡ true → SetsKey s o.through key (Ok tt) s'
         → ((n : ℕ) → found' n ≡ found n) → SetsFor found o key s found' s'
     key-is-found : (k : FoundKey) (found' : FoundKeys) → is_loose_kind o.reference.kind.0 ≡ false → k.key ≡ key
         → found' o.reference.node.0 ≡ Some k → ((n : ℕ) → n ≢ o.reference.node.0 → found' n ≡ found n) → SetsFor found o key s found' s
 
-  -- A node whose references all have keys is stored over these, gets its key, and its handles are given up.
+  -- A node whose references all have keys is stored with these, gets its key, and its handles are released.
   pub record Leaves (found : FoundKeys) (s : PagerState N E) (o : OpenNode) (key : ℕ) (found' : FoundKeys) (s' : PagerState N E) : Type 0 where
     pub keys : List ℕ
     pub have : AllHave found s.core (written_of o.written).references keys
@@ -160,12 +161,12 @@ module _ {N E : Type 0} (v : Values N) where
     pub sets : SetsFor found o key mid found' low
     pub lets : LetsGo o.through o.pin low s'
 
-  -- a cell's key is refused
+  -- setting a cell's key fails
   pub record IsUnset (o : OpenNode) (key : ℕ) (s : PagerState N E) (e : Error) (s' : PagerState N E) : Type 0 where
     pub of_cell : is_loose_kind o.reference.kind.0 ≡ true
     pub refused : SetsKey s o.through key (Err e) s'
 
-  -- it isn't: nothing was done, or its blob or its key was refused
+  -- leaving a node fails: before its blob is stored, or at storing it, or at setting its key
   pub data LeaveFails (found : FoundKeys) (s : PagerState N E) (o : OpenNode) : Error → PagerState N E → Type 0 where
     nothing-is-stored : (e : Error) → LeaveFails found s o e s
     blob-is-refused : (e : Error) (keys : List ℕ) (s' : PagerState N E) → AllHave found s.core (written_of o.written).references keys
@@ -173,25 +174,25 @@ module _ {N E : Type 0} (v : Values N) where
     key-is-refused : (e : Error) (key : ℕ) (keys : List ℕ) (mid s' : PagerState N E) → AllHave found s.core (written_of o.written).references keys
         → StoresBlob s (blob_of (written_of o.written).bytes keys) (Ok key) mid → IsUnset o key mid e s' → LeaveFails found s o e s'
 
-  -- A turn: the next reference has a key; or it has none, and its node is written first, while this one waits; or all have, and the node is left for the one
-  -- that waits for it.
+  -- A turn: the next reference has a key and is passed; or it has none, its target is entered and this node waits; or
+  -- all have keys, and the node is left for the one that waits for it.
   pub data Turn (a : Stage N E) : Stage N E → Type 0 where
     has-key : (b : Stage N E) (next : ℕ) → b ≡ record a { node = record a.node { keyed = next } } → Turn a b
     goes-down : (b : Stage N E) (r : ArcRef) → Among (written_of a.node.written).references r → HasNoKey a.found a.pager.core r → b.path ≡ a.path ++ a.node ∷ []
         → b.found ≡ a.found → Enters r a.pager b.node b.pager → Turn a b
     goes-up : (b : Stage N E) (key : ℕ) → a.path ≡ b.path ++ b.node ∷ [] → Leaves a.found a.pager a.node key b.found b.pager → Turn a b
 
-  -- a turn; or the last node is left, and its key is the answer
+  -- a turn; or the last node is left, and its key is returned
   pub data Turned (a : Stage N E) : Option ℕ → Stage N E → Type 0 where
     turns-once : (b : Stage N E) → Turn a b → Turned a None b
     last-is-left : (key : ℕ) (b : Stage N E) → a.path ≡ [] → Leaves a.found a.pager a.node key b.found b.pager → Turned a (Some key) b
 
-  -- some turns, one after the other
+  -- some turns, one after another
   pub data Turns : Stage N E → Stage N E → Type 0 where
     no-turn : (a : Stage N E) → Turns a a
     one-more-turn : (a b c : Stage N E) → Turns a b → Turn b c → Turns a c
 
-  -- a reference's node is entered, and this one waits; or it isn't
+  -- a reference's target is entered and this node waits; or entering it fails
   pub record GoesDown (r : ArcRef) (path : List OpenNode) (o : OpenNode) (s : PagerState N E) (path' : List OpenNode) (o' : OpenNode) (s' : PagerState N E) : Type 0 where
     pub waits : path' ≡ path ++ o ∷ []
     pub enters : Enters r s o' s'
@@ -200,19 +201,19 @@ module _ {N E : Type 0} (v : Values N) where
     way-is-refused : (e : Error) → GoesNowhere r s e s
     node-is-refused : (e : Error) (s' : PagerState N E) → EnterFails r s e s' → GoesNowhere r s e s'
 
-  -- a turn is refused
+  -- a turn fails
   pub data TurnFails (a : Stage N E) : Error → PagerState N E → Type 0 where
     nothing-is-done : (e : Error) → TurnFails a e a.pager
     isnt-entered : (e : Error) (r : ArcRef) (s' : PagerState N E) → Among (written_of a.node.written).references r → HasNoKey a.found a.pager.core r
         → GoesNowhere r a.pager e s' → TurnFails a e s'
     isnt-left : (e : Error) (s' : PagerState N E) → LeaveFails a.found a.pager a.node e s' → TurnFails a e s'
 
-  -- the handles of these nodes are given up, from the last node to the first
+  -- the handles of these nodes are released, from the last node to the first
   pub data GivesUp : List OpenNode → PagerState N E → PagerState N E → Type 0 where
     none-is-open : (s : PagerState N E) → GivesUp [] s s
     one-goes-first : (path : List OpenNode) (o : OpenNode) (s mid s' : PagerState N E) → LetsGo o.through o.pin s mid → GivesUp path mid s' → GivesUp (path ++ o ∷ []) s s'
 
-  -- turns that led from one stage to the last node, which is left; or to a refusal, and what stood open then
+  -- turns that lead from one stage to the last node, which is left; or to an error, with the nodes that were open then
   pub record TurnsOut (a : Stage N E) (key : ℕ) (b : Stage N E) : Type 0 where
     pub last : Stage N E
     pub so : Turns a last
@@ -225,7 +226,8 @@ module _ {N E : Type 0} (v : Values N) where
     pub path_is : path ≡ last.path
     pub node_is : node ≡ last.node
 
-  -- The walk from a node that was entered: turns up to the last node, which is left; or up to a refusal, and all is given up.
+  -- The walk from an entered node: turns until the last node is left, or until an error, after which all handles are
+  -- released.
   pub data Walks (first : OpenNode) (s : PagerState N E) : Result ℕ Error → PagerState N E → Type 0 where
     all-is-stored : (a b : Stage N E) (key : ℕ) → Turns (stage [] first nothing_found s) a → a.path ≡ []
         → Leaves a.found a.pager a.node key b.found b.pager → Walks first s (Ok key) b.pager
@@ -239,7 +241,7 @@ module _ {N E : Type 0} (v : Values N) where
     root-is-walked : (r : ArcRef) (first : OpenNode) (answer : Result ℕ Error) (mid s' : PagerState N E) → IsRoot s.core h r → Enters r s first mid
         → Walks first mid answer s' → PagesOutKeyless s h answer s'
 
-  -- The page-out of a handle's cell: the key that it has, or the walk from it.
+  -- The page-out of a handle's cell: the key that the cell has, or the walk from it.
   pub data PagesOutChanged (s : PagerState N E) (h : HandleNumber) : Result ℕ Error → PagerState N E → Type 0 where
     no-handle : (e : Error) → KeyCall s.core h (Err e) → PagesOutChanged s h (Err e) s
     root-has-key : (key : ℕ) → KeyCall s.core h (Ok (OptionalDataKey.Some key)) → PagesOutChanged s h (Ok key) s

@@ -1,4 +1,4 @@
--- What calls leave of a pager.
+-- What calls leave as it was in a pager.
 use Rattle.{pagable_pager.specs.View.PagerView, std.specs.Prelude.◌≡◌}
 
 -- storage and environment are the same

@@ -1,5 +1,5 @@
--- The law of a page-out that takes the keys which are there: the trees that they read as stay, the answered key reads as the root's, and it is its Merkle key
--- where those that are there are.
+-- The law of a page-out that takes the keys of cells: nodes keep their trees, the returned key is read as the root's
+-- tree, and it is the root's Merkle key if the keys that it took are Merkle keys.
 use Rattle.std.specs.Prelude.{IfOk, Result, Some, ℕ, ◌≡◌}
 use Rattle.{pagable_changes.specs.Changes.PagesOutChanged, pagable_theorems.specs.PageOutLaws.NobodyWorks, pagable_value_spec.specs.{Canonical.IsReadableType, Merkle.KeyOf}}
 use Rattle.pagable_pager_spec.specs.Pager.{PagerState, Represents, SameTrees, WellFormed}
@@ -9,8 +9,8 @@ use Rattle.pagable_pager_spec.specs.{Basics.{Error, HandleNumber, OptionalDataKe
 abbrev pub HasMerkleKeys : {N E : Type 0} → Values N → PagerState N E → (ℕ → Tree) → Type 0
 HasMerkleKeys v s trees = (n key : ℕ) → key_at s.core n ≡ OptionalDataKey.Some key → KeyOf v.hash v.types (trees n) key
 
--- Each node keeps its tree, and the pager stands for them; the answered key reads as the tree of node n, and where each key that was there was a Merkle key, so
--- are those that are there now and the answered one.
+-- Each node keeps its tree, and the pager stands for the trees; the returned key is read as the tree of node n; and if
+-- each key was a Merkle key before, each key is one afterwards, the returned one too.
 pub record LeavesTrees {N E : Type 0} (v : Values N) (s : PagerState N E) (trees : ℕ → Tree) (n : ℕ) (r : Result ℕ Error) (s' : PagerState N E) : Type 0 where
   pub trees' : ℕ → Tree
   pub same : SameTrees s.core.last.node trees trees'
@@ -19,12 +19,12 @@ pub record LeavesTrees {N E : Type 0} (v : Values N) (s : PagerState N E) (trees
   pub keys : HasMerkleKeys v s trees → HasMerkleKeys v s' trees'
   pub is_key : HasMerkleKeys v s trees → IfOk r (λ key. KeyOf v.hash v.types (trees' n) key)
 
--- Where nobody works, no value in memory is written later, each type is read back, and the pager stands for trees, so that each key that is there reads as its
--- cell's: then so it is afterwards, by the tree of the handle's node.
+-- If nobody works, no value in memory is written later, each type is read back, and the pager stands for trees (so each
+-- key is read as its cell's tree), then the pager leaves trees as `LeavesTrees` says, for the handle's node.
 pub record KeepsTrees {N E : Type 0} (v : Values N) (s : PagerState N E) (h : HandleNumber) (r : Result ℕ Error) (s' : PagerState N E) : Type 0 where
   pub reads : NobodyWorks s.core → HoldsSettled v s → ((t : ℕ) → IsReadableType v.types t) → (row : HandleRow) (trees : ℕ → Tree) → Represents v s trees
       → row_at s.core h ≡ Some row → LeavesTrees v s trees row.node.0 r s'
 
--- each such page-out does so
+-- each such page-out keeps trees so
 abbrev pub ChangedLaw : {N : Type 0} → (E : Type 0) → Values N → Type 0
 ChangedLaw {N} E v = (s s' : PagerState N E) (h : HandleNumber) (r : Result ℕ Error) → PagesOutChanged v s h r s' → WellFormed v s → IsLawful v → KeepsTrees v s h r s'

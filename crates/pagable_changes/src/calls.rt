@@ -1,4 +1,4 @@
-//! The pager's calls that a page-out makes, each with the state of the pager that it leaves whole.
+//! The pager's calls that a page-out makes; after each the pager's invariant holds.
 
 ghost use Rattle.std.specs.Prelude.{IsTrue, Ok, true, ◌≡◌};
 ghost use Rattle.pagable_changes.specs.{Changes.LetsGo, Keeping.KeepsStorage};
@@ -15,7 +15,7 @@ use pagable_pager_spec::Pinning;
 use pagable_value_spec::{DataKey, Error, HandleNumber, NodeNumber};
 use std::alloc::Global;
 
-// Tells whether the handle is live, and of this node.
+// Returns whether the handle is live and of this node.
 pub(crate) fn is_at<E: Env<Node: NodeSet<E>>, S: PagableStorage<E>>(
     pager: &Pager<E, S>,
     handle: HandleNumber,
@@ -116,7 +116,8 @@ pub(crate) fn store<E: Env<Node: NodeSet<E>>, S: PagableStorage<E>>(
     stored
 }
 
-// Gives up the two handles of a node that was taken, which are one where its reference isn't loose.
+// Releases the two handles of a node that the page-out took. They are one handle if the node's
+// reference isn't loose.
 pub(crate) fn let_go<E: Env<Node: NodeSet<E>>, S: PagableStorage<E>>(
     pager: &mut Pager<E, S>,
     through: HandleNumber,

@@ -1,4 +1,4 @@
-//! The page-out of a root at the cost of what changed.
+//! The page-out of a root, at the cost of what changed.
 
 ghost use Rattle.std.specs.Prelude.{IfOk, IsTrue, ◌≡◌};
 ghost use Rattle.{pagable_changes.specs.{Changes.{IsRoot, PagesOutChanged, PagesOutKeyless}, Keys.KeepsTrees}, pagable_load.specs.AccessView.values_at};
@@ -12,7 +12,7 @@ use pagable_pager::Pager;
 use pagable_value_spec::{ArcRef, DataKey, Error, HandleNumber, Kind, OptionalDataKey};
 use std::alloc::Global;
 
-// The loose reference that the handle of a cell would be.
+// Returns the handle as a loose reference to its cell.
 fn root_of<E: Env<Node: NodeSet<E>>, S: PagableStorage<E>>(
     pager: &Pager<E, S>,
     handle: HandleNumber,
@@ -53,7 +53,7 @@ fn page_out_keyless<E: Env<Node: NodeSet<E>>, S: PagableStorage<E>>(
     walk(alloc, pager, first)
 }
 
-// Pages out a cell, or answers the key that it has.
+// Pages out a cell and returns its key, or returns the key that it has.
 fn page_out_root<E: Env<Node: NodeSet<E>>, S: PagableStorage<E>>(
     alloc: Global,
     pager: &mut Pager<E, S>,
@@ -74,18 +74,22 @@ fn page_out_root<E: Env<Node: NodeSet<E>>, S: PagableStorage<E>>(
     }
 }
 
-/// Pages out the cell of a handle of any mode but Shared, with what it leads to, and takes each cell that has a key by
-/// it: such a cell isn't read, nor what it leads to. Answers the cell's key; of a cell that has one already, that. What
-/// waits in the list and isn't led to isn't written. Nodes that are referred to by no loose reference are written each
-/// time.
+/// Pages out the cell of a Loose or Pinned handle with all that it reaches, and returns the cell's
+/// key. It takes the key of each cell that has one, and reads neither that cell nor what it refers
+/// to; if the root has a key, it only returns that. It doesn't write pending cells that the root
+/// doesn't reach. A node that only Pinned or Shared references refer to has no key of its own and
+/// is written each time.
 ///
 /// # Errors
-/// - NoSuchHandle: nothing live has this number.
-/// - WrongMode: the handle is Shared.
-/// - TooDeep: a path of references that are read together is longer than 128, or a cell that has no key is no older than
-///   what refers to it, as where that refers to itself.
-/// - as `Pager::clone`, `Pager::pin`, `Pager::store` and the writing of a value. What was stored by then stays, as do
-///   the keys of its cells; all handles that were taken are given up.
+///
+/// Blobs that were stored before the error stay stored, and their cells keep their keys; the call
+/// has released every handle that it took.
+///
+/// - `NoSuchHandle` if no live handle has this number.
+/// - `WrongMode` if the handle is Shared.
+/// - `TooDeep` if a path of references that are read together is longer than 128, or if a cell
+///   without a key isn't older than what refers to it (so also if it refers to itself).
+/// - as `Pager::clone`, `Pager::pin`, `Pager::store` and the writing of a value.
 pub fn page_out_changed<E: Env<Node: NodeSet<E>>, S: PagableStorage<E>>(
     alloc: Global,
     pager: &mut Pager<E, S>,

@@ -1,4 +1,4 @@
-//! The keys that references have: of a cell its own, and of any other node the one that was found in this page-out.
+//! The keys of references: a cell's own key, or the key that this page-out found for another node.
 
 ghost use Rattle.std.specs.Prelude.{[], IfOk, Ok, OnOk, slice_get, ◌++◌, ◌∷◌, ◌≡◌};
 ghost use Rattle.{pagable_changes.specs.Changes.{AllHave, IsFound, TakesKey}, pagable_pager_spec.specs.Calls.{KeyCall, NodeCall}};
@@ -13,27 +13,27 @@ use pagable_tables::number_table::NumberTable;
 use pagable_value_spec::{ArcRef, DataKey, Error, NodeNumber, OptionalDataKey};
 use std::alloc::Global;
 
-/// The greatest number of references on a path that are read together.
+/// The greatest number of references on a path whose values are read together.
 pub(crate) const LONGEST_PATH: u64 = 128;
 
-/// The key that was found of a node, and the length of the longest path below it.
+/// The key that was found for a node, and the length of the longest path below it.
 #[derive(Clone, Copy)]
 pub struct FoundKey {
     pub key: DataKey,
     pub height: u64,
 }
 
-/// What was found of nodes that have no cell of their own, by their numbers.
+/// What was found for nodes that have no cell of their own, by node number.
 pub(crate) type FoundKeys = NumberTable<FoundKey>;
 
-// Returns what was found of a node.
+// Returns what was found for a node.
 fn found_at(found: &FoundKeys, node: NodeNumber) -> Option<FoundKey>
     ensures { result ≡ row_by found.now node.0 }
 {
     found.get(node.0).copied()
 }
 
-// Returns the key that a loose reference's cell has. Refused with NoSuchHandle alone.
+// Returns the key of a loose reference's cell. Fails with `NoSuchHandle` only.
 fn cell_key<E: Env<Node: NodeSet<E>>, S: PagableStorage<E>>(
     pager: &Pager<E, S>,
     reference: ArcRef,
@@ -50,8 +50,8 @@ fn cell_key<E: Env<Node: NodeSet<E>>, S: PagableStorage<E>>(
     }
 }
 
-/// Finds the key of what a reference names: of a loose one that of its cell, and of any other what was found before.
-/// None where it has none yet. Refused with NoSuchHandle alone.
+/// Returns the key of a reference's target: for a loose reference its cell's key, else the key that
+/// was found before. Returns None if the target has no key yet. Fails with `NoSuchHandle` only.
 pub(crate) fn find<E: Env<Node: NodeSet<E>>, S: PagableStorage<E>>(
     pager: &Pager<E, S>,
     found: &FoundKeys,
@@ -72,7 +72,8 @@ pub(crate) fn find<E: Env<Node: NodeSet<E>>, S: PagableStorage<E>>(
     }
 }
 
-// What a reference of this kind adds to the height, if what it leads to is so high.
+// Returns the height that a reference of this kind gives to its holder, if its target has this
+// height.
 fn height_above(reference: ArcRef, height: u64) -> u64 {
     if reference.kind.0 % 3 == 1 {
         0
@@ -81,7 +82,7 @@ fn height_above(reference: ArcRef, height: u64) -> u64 {
     }
 }
 
-// Adds a key at the end.
+// Appends a key.
 fn add_key(keys: &mut Vec<DataKey>, key: DataKey) -> Result<(), Error>
     ensures { OnOk result (keys.new.items ≡ keys.old.items ++ key ∷ []) }
 {
@@ -89,14 +90,15 @@ fn add_key(keys: &mut Vec<DataKey>, key: DataKey) -> Result<(), Error>
     Ok(())
 }
 
-// Returns the reference at this place, if there is one.
+// Returns the reference at this index, if there is one.
 fn reference_at(references: &Vec<ArcRef>, at: usize) -> Option<ArcRef>
     ensures { result ≡ slice_get references.now.items at }
 {
     references.get(at).copied()
 }
 
-// Adds the key of the reference at this place, which has one, and answers what it adds to the height.
+// Appends the key of the reference at this index, and returns the height that it gives to its
+// holder. Fails with `TooDeep` if the reference has no key.
 fn take_key<E: Env<Node: NodeSet<E>>, S: PagableStorage<E>>(
     pager: &Pager<E, S>,
     found: &FoundKeys,
@@ -122,8 +124,8 @@ fn take_key<E: Env<Node: NodeSet<E>>, S: PagableStorage<E>>(
     }
 }
 
-/// Collects the keys of these references, each of which has one; and answers the length of the longest path from what
-/// holds them. Refused with TooDeep where one has no key yet: then what it names holds what holds it.
+/// Collects the keys of these references, and returns them with the height of their holder. Fails
+/// with `TooDeep` if a reference has no key yet: then its target holds the holder.
 pub(crate) fn collect_keys<E: Env<Node: NodeSet<E>>, S: PagableStorage<E>>(
     alloc: Global,
     pager: &Pager<E, S>,

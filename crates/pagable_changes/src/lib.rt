@@ -1,4 +1,5 @@
-//! Page-outs at the cost of what changed: a cell that has a key is taken by it, and isn't walked.
+//! Page-out at the cost of what changed: it takes the key of a cell that has one, and doesn't walk
+//! that cell.
 #![tactic(auto)]
 
 mod calls;

@@ -1,4 +1,4 @@
-//! Nodes that are being written: how they are taken, and what is written of them.
+//! Nodes that a page-out is writing: how it takes them, and what it wrote of them.
 
 ghost use Rattle.std.specs.Prelude.{IfErr, IfOk, true, ◌≡◌};
 ghost use Rattle.pagable_changes.specs.Changes.{EnterFails, Enters, IsFormOf, PinsLoosely, TakeFails, Takes, Writes, WritesTaken, written_of};
@@ -13,23 +13,26 @@ use pagable_pager_spec::Pinning;
 use pagable_value_spec::{ArcRef, Error, HandleNumber};
 use std::alloc::Global;
 
-/// A node that is being written.
+/// A node that a page-out is writing.
 #[derive(Drop)]
 pub struct OpenNode {
-    /// The reference by which it was come to.
+    /// The reference by which the page-out reached it.
     pub reference: ArcRef,
-    /// How many references lead to it on the path from the last cell, none of them loose.
+    /// Its depth: how many references, none of them loose, lead to it from the last cell on the
+    /// path.
     pub place: u64,
-    /// A handle of the reference's mode, and one that pins the node; they are one where the reference isn't loose.
+    /// The page-out's handle in the reference's mode, and its handle that pins the node. They are
+    /// one handle if the reference isn't loose.
     pub through: HandleNumber,
     pub pin: HandleNumber,
-    /// What was written of its value.
+    /// The form of its value.
     pub written: SerializedData,
-    /// How many of its references have a key, from the first on.
+    /// How many of its references, from the first on, were found to have a key.
     pub keyed: usize,
 }
 
-// Pins a cell whose value is in memory.
+// Pins a cell whose value is in memory, by a loose handle. Fails with `WrongMode` if the value
+// isn't in memory.
 fn pin_loosely<E: Env<Node: NodeSet<E>>, S: PagableStorage<E>>(
     pager: &mut Pager<E, S>,
     handle: HandleNumber,
@@ -45,7 +48,8 @@ fn pin_loosely<E: Env<Node: NodeSet<E>>, S: PagableStorage<E>>(
     }
 }
 
-// Takes a loose reference's cell: a clone of its handle, and a pin. A Pinned handle's clone is made loose.
+// Takes a loose reference's cell: clones the reference's handle (and makes the clone loose if it is
+// Pinned), and pins the cell by the clone. Returns the clone and the pin.
 fn take_loose<E: Env<Node: NodeSet<E>>, S: PagableStorage<E>>(
     pager: &mut Pager<E, S>,
     reference: ArcRef,
@@ -68,7 +72,7 @@ fn take_loose<E: Env<Node: NodeSet<E>>, S: PagableStorage<E>>(
     }
 }
 
-// Takes a reference's node. A handle that isn't loose is cloned, and so pins it.
+// Takes a reference's node. A clone of a handle that isn't loose pins the node itself.
 fn take<E: Env<Node: NodeSet<E>>, S: PagableStorage<E>>(
     pager: &mut Pager<E, S>,
     reference: ArcRef,
@@ -103,7 +107,7 @@ fn write<E: Env<Node: NodeSet<E>>>(
     Ok(SerializedData { bytes, arcs })
 }
 
-// Writes the value that a handle pins, of this reference's type.
+// Writes the value that a handle pins. Fails with `WrongKind` if it isn't of the reference's type.
 fn write_pinned<E: Env<Node: NodeSet<E>>, S: PagableStorage<E>>(
     alloc: Global,
     pager: &Pager<E, S>,
@@ -125,7 +129,8 @@ fn write_pinned<E: Env<Node: NodeSet<E>>, S: PagableStorage<E>>(
     }
 }
 
-// The same, where both handles are of the reference's node.
+// Writes the value as `write_pinned` does, after a test that both handles are of the reference's
+// node.
 fn write_taken<E: Env<Node: NodeSet<E>>, S: PagableStorage<E>>(
     alloc: Global,
     pager: &Pager<E, S>,
@@ -145,7 +150,7 @@ fn write_taken<E: Env<Node: NodeSet<E>>, S: PagableStorage<E>>(
     write_pinned(alloc, pager, reference, pin)
 }
 
-/// Takes a reference's node and writes it. What was taken is given up where it can't be written.
+/// Takes a reference's node and writes it. If the writing fails, releases what it took.
 pub(crate) fn enter<E: Env<Node: NodeSet<E>>, S: PagableStorage<E>>(
     alloc: Global,
     pager: &mut Pager<E, S>,

@@ -1,4 +1,4 @@
-//! The turns of a page-out over the nodes that have no key.
+//! The walk of a page-out over the nodes that have no key, turn by turn.
 
 ghost use Rattle.std.specs.Prelude.{[], IfErr, IfNone, IfOk, IfSome, IsSome, IsTrue, OnErr, OnOk, Some, slice_get, ◌++◌, ◌∷◌, ◌≡◌};
 ghost use Rattle.pagable_changes.specs.Changes.{GivesUp, GoesDown, GoesNowhere, IsOver, IsUnset, LeaveFails, Leaves, SetsFor, Turn, TurnFails, Turned, TurnsFail, TurnsOut, Walks, stage};
@@ -17,7 +17,8 @@ use pagable_value_spec::{ArcRef, DataKey, Error};
 use std::alloc::Global;
 use std::mem;
 
-// The blob of a node whose references all have keys, with the length of the longest path below it.
+// Makes the blob of a node whose references all have keys, and returns it with the length of the
+// longest path below the node. Fails with `TooDeep` if a path through the node is longer than 128.
 fn blob_of_node<E: Env<Node: NodeSet<E>>, S: PagableStorage<E>>(
     alloc: Global,
     pager: &Pager<E, S>,
@@ -34,7 +35,8 @@ fn blob_of_node<E: Env<Node: NodeSet<E>>, S: PagableStorage<E>>(
     Ok((PagableData { bytes, arcs }, height))
 }
 
-// Sets the key of a cell. Of a node that was come to by no loose reference it is kept for this page-out.
+// Sets the key of a cell; for a node that the page-out didn't reach by a loose reference, records
+// the key for the rest of this page-out.
 fn set_for<E: Env<Node: NodeSet<E>>, S: PagableStorage<E>>(
     pager: &mut Pager<E, S>,
     found: &mut FoundKeys,
@@ -54,7 +56,7 @@ fn set_for<E: Env<Node: NodeSet<E>>, S: PagableStorage<E>>(
     Ok(())
 }
 
-// Stores a node whose references all have keys, sets its key, and gives its handles up.
+// Stores a node whose references all have keys, sets its key, and releases its handles.
 fn leave<E: Env<Node: NodeSet<E>>, S: PagableStorage<E>>(
     alloc: Global,
     pager: &mut Pager<E, S>,
@@ -85,7 +87,8 @@ fn leave<E: Env<Node: NodeSet<E>>, S: PagableStorage<E>>(
     Ok(key)
 }
 
-// Returns the place of a node that this reference of a node leads to.
+// Returns the depth of the target of a node's reference: 0 through a loose reference, else one more
+// than the node's.
 fn place_below(node: &OpenNode, reference: ArcRef) -> u64 {
     if reference.kind.0 % 3 == 1 {
         0
@@ -94,8 +97,8 @@ fn place_below(node: &OpenNode, reference: ArcRef) -> u64 {
     }
 }
 
-// Tells whether a reference lies too deep at its place, or is a loose one to a node that isn't older: a cell that has no
-// key was there before what refers to it.
+// Returns whether a reference's target is too deep, or whether the reference is a loose one to a
+// node that isn't older: a cell without a key was made before what refers to it.
 fn is_too_deep(node: &OpenNode, reference: ArcRef, place: u64) -> bool {
     if reference.kind.0 % 3 == 1 {
         reference.node.0 >= node.reference.node.0
@@ -104,7 +107,7 @@ fn is_too_deep(node: &OpenNode, reference: ArcRef, place: u64) -> bool {
     }
 }
 
-// Comes to a reference that has no key.
+// Enters the target of a reference that has no key; the node at hand waits on the path.
 fn go_down<E: Env<Node: NodeSet<E>>, S: PagableStorage<E>>(
     alloc: Global,
     pager: &mut Pager<E, S>,
@@ -130,14 +133,14 @@ fn go_down<E: Env<Node: NodeSet<E>>, S: PagableStorage<E>>(
     Ok(())
 }
 
-// Returns the next of a node's references that wasn't found to have a key.
+// Returns the node's next reference, the first that wasn't found to have a key.
 fn next_of(node: &OpenNode) -> Option<ArcRef>
     ensures { result ≡ slice_get node.now.written.arcs.items node.now.keyed }
 {
     node.written.arcs.get(node.keyed).copied()
 }
 
-// Goes on at the next reference: past it where it has a key, and down to it where it has none.
+// Handles the node's next reference: passes it if it has a key, else enters its target.
 fn go_on<E: Env<Node: NodeSet<E>>, S: PagableStorage<E>>(
     alloc: Global,
     pager: &mut Pager<E, S>,
@@ -178,7 +181,8 @@ fn pop_node(path: &mut Vec<OpenNode>) -> Option<OpenNode>
     path.pop()
 }
 
-// Leaves a node whose references all have keys, for the one that waits for it. Answers the key of the last one.
+// Leaves a node whose references all have keys, and resumes the last node on the path. If the path
+// is empty, returns the left node's key.
 fn go_up<E: Env<Node: NodeSet<E>>, S: PagableStorage<E>>(
     alloc: Global,
     pager: &mut Pager<E, S>,
@@ -207,7 +211,8 @@ fn go_up<E: Env<Node: NodeSet<E>>, S: PagableStorage<E>>(
     }
 }
 
-// Goes on at the node: at its next reference, or back to the one that refers to it. Answers the key of the last one.
+// Makes one turn: handles the node's next reference, or leaves the node if it has none left.
+// Returns the root's key after the last turn.
 fn turn<E: Env<Node: NodeSet<E>>, S: PagableStorage<E>>(
     alloc: Global,
     pager: &mut Pager<E, S>,
@@ -232,7 +237,7 @@ fn turn<E: Env<Node: NodeSet<E>>, S: PagableStorage<E>>(
     }
 }
 
-// Makes turns up to the key of the last node, or to a refusal.
+// Makes turns until the root has its key, or until an error.
 fn make_turns<E: Env<Node: NodeSet<E>>, S: PagableStorage<E>>(
     alloc: Global,
     pager: &mut Pager<E, S>,
@@ -262,7 +267,7 @@ fn make_turns<E: Env<Node: NodeSet<E>>, S: PagableStorage<E>>(
     Err(Error::TooDeep)
 }
 
-// Gives up the handles of all nodes.
+// Releases the handles of all nodes on the path.
 fn give_up<E: Env<Node: NodeSet<E>>, S: PagableStorage<E>>(
     pager: &mut Pager<E, S>,
     path: &mut Vec<OpenNode>,
@@ -275,7 +280,7 @@ fn give_up<E: Env<Node: NodeSet<E>>, S: PagableStorage<E>>(
     }
 }
 
-/// Writes a node and all that it refers to and that has no key, and answers its key.
+/// Writes a node and all nodes without a key that it reaches, and returns its key.
 pub(crate) fn walk<E: Env<Node: NodeSet<E>>, S: PagableStorage<E>>(
     alloc: Global,
     pager: &mut Pager<E, S>,

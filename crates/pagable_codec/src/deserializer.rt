@@ -12,35 +12,42 @@ use pagable_value_spec::{ArcRef, Kind, PagableCursor};
 use std::alloc::Global;
 use std::sync::Arc;
 
-/// What values are read from: bytes, and a list of keys of references, each with what it is answered as.
+/// A deserializer: what values are read from. It holds bytes and a list of keys, and turns each key
+/// into a reference.
 pub trait PagableDeserializer<E: Env> {
     type Reader: Reader;
 
-    // All that was given, with the nodes that are lent by references, and how much of it was read.
+    // All that it was given, the nodes that references lend, and how much it has read.
     ghost standing: { Self → Standing E.Node };
 
-    // What is left to be read.
+    // What it hasn't read yet.
     ghost rest: { Self → Rest Answer };
 
-    // How many levels were entered.
+    // How many levels are entered.
     ghost levels: { Self → ℕ };
 
     ghost environment: { Self → E };
 
     ghost reader: { Self → Self.Reader };
 
-    // The nodes that it lends by the references that it read.
+    // The nodes that it lends by the references that it has read.
     ghost lends: { Self → Reference → Option E.Node };
 
     // The deserializer with another reader.
     ghost with_reader: { Self → Self.Reader → Self };
 
-    /// The reader of bytes, for basic types.
+    /// Returns the reader of bytes, which basic types use.
     fn serde(&mut self) -> &mut Self::Reader
         ensures* writes_back { sem 𝓛 (Lends Self.row Self.Reader.row self.entry result (with_reader self.old)) }
         ensures value { result.now ≡ reader self.old };
 
-    /// The next reference, of this kind. It takes the next key, and that counts as used also where the reference is refused; NoMoreKeys where none is left.
+    /// Takes the next key and returns its reference, read as this kind. The key counts as read also
+    /// if the reference fails.
+    ///
+    /// # Errors
+    ///
+    /// - `NoMoreKeys` if no key is left.
+    /// - an error of the reference itself.
     fn deserialize_arc(&mut self, kind: Kind) -> Result<ArcRef, Error>
         ensures of_kind { IfOk result (λ r. r.kind ≡ kind) }
         ensures gives { Gives never (λ r. (meaning_of r, rest self.new)) result (reference_at answer_at kind.0 (rest self.old).refs (rest self.old)) }
@@ -50,7 +57,12 @@ pub trait PagableDeserializer<E: Env> {
         ensures same_env { environment self.new ≡ environment self.old }
         ensures same_levels { levels self.new ≡ levels self.old };
 
-    /// The value of a reference that was read together with its value, shared; or None where none of this type is lent. Refused by want of memory alone.
+    /// Returns the value of a reference that was read together with its value, shared; or None if
+    /// the deserializer lends no value of this type by it.
+    ///
+    /// # Errors
+    ///
+    /// - `OutOfMemory` only.
     fn shared<T: OfNode<E>>(
         &self,
         alloc: Global,
@@ -59,19 +71,23 @@ pub trait PagableDeserializer<E: Env> {
         ensures value { IfOk result (λ found. option_map arc_value found ≡ option_and_then T.held (lends self.now reference)) }
         ensures only { IfErr result memory };
 
-    /// How many bytes and references were read.
+    /// Returns how many bytes and references it has read.
     fn position(&self) -> PagableCursor
         ensures cursor { result ≡ (standing self.now).cursor }
         ensures within { IsWithin (standing self.now).whole result };
 
-    /// Goes to a place that `position` told before.
+    /// Moves to a position that `position` returned before.
     fn seek(&mut self, cursor: PagableCursor)
         requires { IsWithin (standing self.old).whole cursor }
         ensures moved { standing self.new ≡ record (standing self.old) { cursor = cursor } }
         ensures same_env { environment self.new ≡ environment self.old }
         ensures same_levels { levels self.new ≡ levels self.old };
 
-    /// One level down: a value inside a value. At 128 levels TooDeep, and nothing changes.
+    /// Enters one level: a value inside a value.
+    ///
+    /// # Errors
+    ///
+    /// - `TooDeep` if 128 levels are entered: nothing changes.
     fn enter(&mut self) -> Result<(), Error>
         ensures ok { OnOk result ((levels self.new ≡ levels self.old + 1) × (levels self.old < deepest)) }
         ensures err { IfErr result (λ e. (e ≡ Error.TooDeep) × (deepest ≤ levels self.old) × (levels self.new ≡ levels self.old)) }
@@ -79,7 +95,7 @@ pub trait PagableDeserializer<E: Env> {
         ensures same_rest { rest self.new ≡ rest self.old }
         ensures same_env { environment self.new ≡ environment self.old };
 
-    /// One level up again.
+    /// Leaves one level.
     fn leave(&mut self)
         requires { 0 < levels self.old }
         ensures up { levels self.new ≡ levels self.old - 1 }
@@ -87,20 +103,23 @@ pub trait PagableDeserializer<E: Env> {
         ensures same_rest { rest self.new ≡ rest self.old }
         ensures same_env { environment self.new ≡ environment self.old };
 
-    /// The environment, where registries are found.
+    /// Returns the environment, which holds the registries.
     fn env(&self) -> &E
         ensures { result.now ≡ environment self.now };
 
-    /// What the values of this session of reading share. What a lock holds is no part of a value, so no clause can tell
-    /// one session from another; it is the one that the deserializer was made with.
+    /// Returns the values that this session of reading shares: the context that the deserializer
+    /// was made with. What a lock holds is no part of a value, so no clause says which session it
+    /// is.
     fn session_context(&self) -> &SessionContext<E::CtxKey, E::CtxValue>;
 
-    // What is left follows from where the deserializer stands, and its reader stands there too.
+    // What isn't read follows from the deserializer's position, and its reader is at the same
+    // position.
     ghost rest_is: { (s : Self) → rest s ≡ rest_at (standing s) };
 
     ghost bytes_are: { (s : Self) → (rest s).bytes ≡ left (Self.Reader.track (reader s)) };
 
-    // Another reader changes the bytes that are left, and one that goes on moves the deserializer on.
+    // Another reader changes only the bytes that are left; a reader that has moved on moves the
+    // deserializer on.
     ghost rest_of_with: { (s : Self) (r : Self.Reader) → rest (with_reader s r) ≡ record (rest s) { bytes = left (Self.Reader.track r) } };
 
     ghost moves_of_with: { (s : Self) (r : Self.Reader) → GoesOn (Self.Reader.track (reader s)) (Self.Reader.track r) → MovesOn (standing s) (standing (with_reader s r)) };

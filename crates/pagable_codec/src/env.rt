@@ -4,20 +4,21 @@ ghost use Rattle.{pagable_value_spec.specs.Shape.Shape, std.specs.Prelude.ℕ};
 
 use crate::hash::KeyHash;
 
-/// The types that a caller brings along. The environment's value is what readers and writers of values are lent.
+/// The types that a caller provides. The environment's value is lent to all that reads and writes
+/// values.
 pub trait Env: Sized {
-    /// One case for each value type; `NodeSet` says what it offers.
+    /// The nodes: one case for each value type, with the calls of `NodeSet`.
     type Node: Drop;
 
-    /// The hash that makes keys.
+    /// The hash by which the keys of blobs are computed.
     type Hash: KeyHash;
 
-    /// The keys of a session's values; `()` where no session is used.
+    /// The keys of a session's values; `()` if no session is used.
     type CtxKey: Ord + Drop;
 
-    /// The values of a session, whose calls ask that they are `SessionValue`s.
+    /// The values of a session; its calls require `SessionValue`.
     type CtxValue: Drop;
 
-    // How the parts of values that have numbers are spelled, each one level further down.
+    // The shapes of the value parts that have numbers. Each such part is one level deeper.
     ghost parts: { Self → ℕ → Shape };
 }

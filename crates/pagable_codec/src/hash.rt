@@ -2,23 +2,23 @@
 
 ghost use Rattle.std.specs.Prelude.{◌≡◌, List, ℕ, [], ◌++◌};
 
-/// A hash of 16 bytes. The answer is a function of the bytes that came, however they were cut.
+/// A hash of 16 bytes. Its result depends on the bytes it was given, not on how calls cut them.
 pub trait KeyHash: Sized {
-    // These bytes came so far.
+    // The hash was given these bytes.
     ghost holds: { Self → List ℕ → Type 0 };
 
     // The hash of bytes.
     ghost digest: { List ℕ → List ℕ };
 
-    /// A hash to which no bytes came.
+    /// Creates a hash that was given no bytes.
     fn new() -> Self
         ensures { holds result [] };
 
-    /// Takes the next bytes.
+    /// Adds bytes to the hash's input.
     fn update(&mut self, bytes: &[u8])
         ensures { (front : List ℕ) → holds self.old front → holds self.new (front ++ bytes.now) };
 
-    /// The hash of all the bytes that came.
+    /// Returns the hash of all bytes that it was given.
     fn finish(self) -> [u8; 16]
         ensures { (all : List ℕ) → holds self all → result ≡ digest all };
 }

@@ -1,5 +1,5 @@
-//! What values are written to and read from: the traits of environments, of their nodes, of hashes, of serializers and
-//! deserializers, what one session of reading and writing shares, and the parts that values of many types have in common.
+//! What values are written to and read from: the traits of environments, nodes, hashes, serializers
+//! and deserializers, the values that a session shares, and the flags and counts in many encodings.
 #![tactic(auto)]
 
 pub mod deserializer;

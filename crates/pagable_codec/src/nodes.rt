@@ -12,15 +12,15 @@ use pagable_flavors::Error;
 use pagable_value_spec::ArcRef;
 use std::alloc::Global;
 
-/// A type with one case for each value type of an environment.
+/// The nodes of an environment: a type with one case for each value type.
 pub trait NodeSet<E: Env>: Sized {
     // The number of the node's value type.
     ghost type_of: { Self → ℕ };
 
-    // How the values of a type are spelled, or None where there is no such type.
+    // The shape of a type's values, or None if there is no such type.
     ghost shape_of: { E → ℕ → Option Shape };
 
-    // How the node's own value is spelled.
+    // The shape of the node's own value.
     ghost own_shape: { E → Self → Shape };
 
     // What the node's value may mean.
@@ -29,25 +29,37 @@ pub trait NodeSet<E: Env>: Sized {
     // The references in the value, in the order in which they are written.
     ghost refs_of: { Self → List Reference };
 
-    // What the value holds beside the reference, wherever it refers by it, is the value of this node. A value that holds nothing beside a reference says nothing.
+    // Says that, wherever the value refers by this reference and holds what it refers to, it holds
+    // the value of this node. By default it says nothing, which fits values that hold only
+    // references.
     ghost beside: { Self → Reference → E.Node → Type 0 } = { λ n r y. Unit {0} };
 
-    // All refusals of a value type's writing, and those of its reading beside the faults of the input and of references.
+    // All errors of writing a type's values, and all errors of reading them other than faults of
+    // the input and errors of references.
     ghost write_causes: { ℕ → Refusal → Type 0 };
 
     ghost read_causes: { ℕ → Refusal → Type 0 };
 
-    /// The number of the node's value type, below 2^30.
+    /// Returns the number of the node's value type, below 2^30.
     fn node_type(&self) -> u32
         ensures value { result ≡ type_of self.now }
         ensures small { result < 2 ^ 30 };
 
-    /// The references in the value, in the order in which they are written. Refused by want of memory alone.
+    /// Returns the references in the value, in the order in which `write` appends them.
+    ///
+    /// # Errors
+    ///
+    /// - `OutOfMemory` only.
     fn refs(&self, alloc: Global) -> Result<Vec<ArcRef>, Error>
         ensures ok { IfOk result (λ v. v.items ≡ refs_of self.now) }
         ensures only { IfErr result (λ e. e ≡ Error.OutOfMemory) };
 
     /// Writes the value as its type's `pagable_serialize` does.
+    ///
+    /// # Errors
+    ///
+    /// - as the type's `pagable_serialize`: the serializer keeps what it held before, and may hold
+    ///   a part of the value.
     fn write<S: PagableSerializer<E>>(&self, serializer: &mut S) -> Result<(), Error>
         ensures ok { OnOk result (WritesSome (means self.now) (nesting (S.levels serializer.old) (E.parts (S.environment serializer.old)))
             (own_shape (S.environment serializer.old) self.now) (S.out serializer.old) (S.out serializer.new)) }
@@ -58,7 +70,12 @@ pub trait NodeSet<E: Env>: Sized {
         ensures same_env { S.environment serializer.new ≡ S.environment serializer.old }
         ensures same_levels { S.levels serializer.new ≡ S.levels serializer.old };
 
-    /// Reads a value of this type, as the type's `pagable_deserialize` does. WrongKind where there is no such type.
+    /// Reads a value of this type, as the type's `pagable_deserialize` does.
+    ///
+    /// # Errors
+    ///
+    /// - `WrongKind` if there is no such type.
+    /// - as the type's `pagable_deserialize`.
     fn read<D: PagableDeserializer<E>>(
         node_type: u32,
         alloc: Global,
@@ -76,11 +93,11 @@ pub trait NodeSet<E: Env>: Sized {
 
     ghost read_causes_are_own: { (t : ℕ) (e : Refusal) → read_causes t e → is_own_reading e ≡ true };
 
-    // A value means something, and refers to what it means to.
+    // Each value means something, and its references are those of its meaning.
     ghost has_meaning: { (n : Self) → SomeMeaning (means n) };
 
     ghost refers: { (n : Self) (m : Meaning Reference) → means n m → SameReferences (refs_of n) (references_in m) };
 
-    // A node's own type is there.
+    // The node's own type has a shape.
     ghost has_shape: { (e : E) (n : Self) → shape_of e (type_of n) ≡ Some (own_shape e n) };
 }

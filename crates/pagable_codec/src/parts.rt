@@ -1,4 +1,4 @@
-//! The parts of values that hold others: flags and counts. Each later type is written and read by these.
+//! Flags and counts: the first part of the encodings of options, lists, maps and other types.
 
 ghost use Rattle.pagable_value_spec.specs.{BasicValues.{bool_at, bool_form, length_at, length_form, longest}, Outcomes.{Gives, memory, never}, Lengths.long_or_memory, Reading.bytes_of, Cursor.MovesOn};
 ghost use Rattle.pagable_value_spec.specs.Writing.{Grows, added};
@@ -9,7 +9,11 @@ use crate::env::Env;
 use crate::serializer::PagableSerializer;
 use pagable_flavors::{Error, Reader};
 
-/// Writes the flag that stands before a part that may be absent. Refused by want of memory alone.
+/// Writes the flag that says whether an optional part follows.
+///
+/// # Errors
+///
+/// - `OutOfMemory` only.
 #[tactic(auto, using(crate::proofs::Writing::parts, crate::proofs::Writing::steps))]
 pub fn write_flag<E: Env, S: PagableSerializer<E>>(
     flag: bool,
@@ -24,7 +28,12 @@ pub fn write_flag<E: Env, S: PagableSerializer<E>>(
     serializer.serde().write_bool(flag)
 }
 
-/// Writes how many items follow. TooLong above 4,294,967,295; else refused by want of memory alone.
+/// Writes how many items follow.
+///
+/// # Errors
+///
+/// - `TooLong` only if the count is above 4,294,967,295.
+/// - `OutOfMemory`.
 #[tactic(auto, using(crate::proofs::Writing::parts, crate::proofs::Writing::steps))]
 pub fn write_count<E: Env, S: PagableSerializer<E>>(
     count: usize,
@@ -40,7 +49,12 @@ pub fn write_count<E: Env, S: PagableSerializer<E>>(
     serializer.serde().write_len(count)
 }
 
-/// Reads a flag: BadBool where the byte is neither 0 nor 1.
+/// Reads a flag.
+///
+/// # Errors
+///
+/// - `BadBool` if the byte is neither 0 nor 1.
+/// - a fault of the input, if it has no byte left.
 pub fn read_flag<E: Env, D: PagableDeserializer<E>>(deserializer: &mut D) -> Result<bool, Error>
     ensures gives { Gives never (λ b. (b, D.rest deserializer.new)) result (bytes_of bool_at (λ b. b) (D.rest deserializer.old)) }
     ensures moves { MovesOn (D.standing deserializer.old) (D.standing deserializer.new) }
@@ -50,7 +64,12 @@ pub fn read_flag<E: Env, D: PagableDeserializer<E>>(deserializer: &mut D) -> Res
     deserializer.serde().read_bool()
 }
 
-/// Reads how many items follow: TooLong above 4,294,967,295.
+/// Reads how many items follow.
+///
+/// # Errors
+///
+/// - `TooLong` if the count is above 4,294,967,295.
+/// - a fault of the input's bytes.
 pub fn read_count<E: Env, D: PagableDeserializer<E>>(deserializer: &mut D) -> Result<usize, Error>
     ensures gives { Gives never (λ n. (n, D.rest deserializer.new)) result (bytes_of length_at (λ n. n) (D.rest deserializer.old)) }
     ensures moves { MovesOn (D.standing deserializer.old) (D.standing deserializer.new) }
@@ -60,7 +79,8 @@ pub fn read_count<E: Env, D: PagableDeserializer<E>>(deserializer: &mut D) -> Re
     deserializer.serde().read_len()
 }
 
-/// How many places to reserve for so many items: no more than bytes are left, so that a count alone takes no memory.
+/// Returns the number of items to reserve room for: `count`, but at most the number of bytes left,
+/// so that a count alone reserves no memory.
 pub fn places_for<E: Env, D: PagableDeserializer<E>>(count: usize, deserializer: &mut D) -> usize
     ensures few { result ≡ min count (length (D.rest deserializer.old).bytes) }
     ensures same_rest { D.rest deserializer.new ≡ D.rest deserializer.old }

@@ -8,12 +8,13 @@ use crate::session::SessionContext;
 use pagable_flavors::{Error, PagableVecFlavor};
 use pagable_value_spec::{ArcRef, PagableCursor};
 
-/// What values are written to: a writer of bytes, and a list of the references in their order.
+/// A serializer: what values are written to. It holds the bytes, and the references in the order in
+/// which they were written.
 pub trait PagableSerializer<E: Env> {
     // What was written so far.
     ghost out: { Self → Out };
 
-    // How many levels were entered.
+    // How many levels are entered.
     ghost levels: { Self → ℕ };
 
     ghost environment: { Self → E };
@@ -21,12 +22,16 @@ pub trait PagableSerializer<E: Env> {
     // The serializer with other bytes.
     ghost with_bytes: { Self → List ℕ → Self };
 
-    /// The writer of bytes, for basic types.
+    /// Returns the writer of bytes, which basic types use.
     fn serde(&mut self) -> &mut PagableVecFlavor
         ensures* writes_back { sem 𝓛 (Lends Self.row writer_row self.entry result (with_bytes self.old)) }
         ensures value { result.now ≡ (out self.old).bytes };
 
-    /// Appends a reference. Refused by want of memory alone; then nothing was appended.
+    /// Appends a reference.
+    ///
+    /// # Errors
+    ///
+    /// - `OutOfMemory` only: nothing is appended.
     fn serialize_arc(&mut self, reference: ArcRef) -> Result<(), Error>
         ensures ok { OnOk result (out self.new ≡ added (out self.old) [] (reference ∷ [])) }
         ensures err { OnErr result (out self.new ≡ out self.old) }
@@ -34,37 +39,41 @@ pub trait PagableSerializer<E: Env> {
         ensures same_env { environment self.new ≡ environment self.old }
         ensures same_levels { levels self.new ≡ levels self.old };
 
-    /// How many bytes and references were written.
+    /// Returns how many bytes and references were written.
     fn position(&self) -> PagableCursor
         ensures { result ≡ end_of (out self.now) };
 
-    /// Overwrites bytes that were written already, from this position on.
+    /// Overwrites bytes that were written before, from this position on.
     fn write_at(&mut self, position: usize, bytes: &[u8])
         requires { position + length bytes.now ≤ length (out self.old).bytes }
         ensures written { out self.new ≡ record (out self.old) { bytes = overwritten (out self.old).bytes position bytes.now } }
         ensures same_env { environment self.new ≡ environment self.old }
         ensures same_levels { levels self.new ≡ levels self.old };
 
-    /// One level down: a value inside a value. At 128 levels TooDeep, and nothing changes.
+    /// Enters one level: a value inside a value.
+    ///
+    /// # Errors
+    ///
+    /// - `TooDeep` if 128 levels are entered: nothing changes.
     fn enter(&mut self) -> Result<(), Error>
         ensures ok { OnOk result ((levels self.new ≡ levels self.old + 1) × (levels self.old < deepest)) }
         ensures err { IfErr result (λ e. (e ≡ Error.TooDeep) × (deepest ≤ levels self.old) × (levels self.new ≡ levels self.old)) }
         ensures same_out { out self.new ≡ out self.old }
         ensures same_env { environment self.new ≡ environment self.old };
 
-    /// One level up again.
+    /// Leaves one level.
     fn leave(&mut self)
         requires { 0 < levels self.old }
         ensures up { levels self.new ≡ levels self.old - 1 }
         ensures same_out { out self.new ≡ out self.old }
         ensures same_env { environment self.new ≡ environment self.old };
 
-    /// The environment, where registries are found.
+    /// Returns the environment, which holds the registries.
     fn env(&self) -> &E
         ensures { result.now ≡ environment self.now };
 
-    /// What the values of this session of writing share. What a lock holds is no part of a value, so no clause can tell
-    /// one session from another; it is the one that the serializer was made with.
+    /// Returns the values that this session of writing shares: the context that the serializer was
+    /// made with. What a lock holds is no part of a value, so no clause says which session it is.
     fn session_context(&self) -> &SessionContext<E::CtxKey, E::CtxValue>;
 
     ghost out_of_with: { (s : Self) (w : List ℕ) → out (with_bytes s w) ≡ record (out s) { bytes = w } };

@@ -1,4 +1,4 @@
-//! What one session of reading and writing shares among its values: a map under a lock.
+//! The values that one session of reading and writing shares: a map behind a lock.
 
 ghost use Rattle.{pagable_value_spec.specs.{Outcomes.memory, Composite.MayHold, Session.{IsBack, IsCloneOf, Under}}, std.{proofs.Common.rules, specs.{BTreeMap.{IsEmpty, IsUnchanged, Updates, get}, Cmp.Rules.comparing, Sync.Mutex.mutex_guard_value}}};
 ghost use Rattle.std.specs.Prelude.{IfErr, IfOk, IfSome, IsSome, IsTrue, None, OnErr, OnOk, Some, refl, ◌≡◌};
@@ -8,7 +8,7 @@ use std::alloc::Global;
 use std::collections::BTreeMap;
 use std::sync::{Arc, Mutex, MutexGuard, Wait};
 
-/// A value of a session: its clones are equal to it.
+/// A value that a session keeps: its clones are equal to it.
 pub trait SessionValue: Clone + Eq + Drop {
     ghost clones_equal: { (x y : Self) → Self.is_clone x y → IsTrue (Self.eq x y) };
 }
@@ -33,14 +33,14 @@ impl<T: Eq + Drop> SessionValue for Arc<T> {
     ghost clones_equal = { Prim.search (comparing, rules) };
 }
 
-/// The values of a session by their keys. Answers are clones of the values.
+/// A session's values by their keys. Calls return clones of the values.
 #[derive(Drop)]
 pub struct SessionMap<K: Ord, V> {
     pub values: BTreeMap<K, V>,
 }
 
 impl<K: Ord + Drop, V: Drop> SessionMap<K, V> {
-    /// A map without values.
+    /// Creates a map without values.
     pub fn new(alloc: Global) -> Self
         ensures { IsEmpty result.values }
     {
@@ -50,7 +50,11 @@ impl<K: Ord + Drop, V: Drop> SessionMap<K, V> {
 }
 
 impl<K: Ord + Drop, V: SessionValue> SessionMap<K, V> {
-    /// A clone of the key's value, or None where there is none. Refused by want of memory alone.
+    /// Returns a clone of the key's value, or None if the key has none.
+    ///
+    /// # Errors
+    ///
+    /// - `OutOfMemory` only, and only if the key has a value.
     pub fn get(&self, key: &K) -> Result<Option<V>, Error>
         ensures value { IfOk result (IsCloneOf V.is_clone (get K.cmp self.now.values key.now)) }
         ensures there { OnErr result (IsSome (get K.cmp self.now.values key.now)) }
@@ -59,7 +63,11 @@ impl<K: Ord + Drop, V: SessionValue> SessionMap<K, V> {
         Ok(self.values.get(key).cloned()?)
     }
 
-    /// Gives the key this value, in place of the one that it had. Refused by want of memory alone; then nothing changes, and key and value come back.
+    /// Sets the key's value, in place of the one that it had.
+    ///
+    /// # Errors
+    ///
+    /// - `OutOfMemory` only: the map is unchanged, and the caller gets key and value back.
     pub fn set(&mut self, key: K, value: V) -> Result<(), (Error, K, V)>
         ensures ok { OnOk result (Updates K.cmp self.old.values self.new.values key (Some value)) }
         ensures err { OnErr result (IsUnchanged self.old.values self.new.values) }
@@ -75,8 +83,13 @@ impl<K: Ord + Drop, V: SessionValue> SessionMap<K, V> {
         }
     }
 
-    /// A clone of the key's value, which is made where there is none. Refused by want of memory alone; then nothing
-    /// changes, and the key comes back, with the value if one was made.
+    /// Returns a clone of the key's value. If the key has none, calls `make` and keeps what it
+    /// returns.
+    ///
+    /// # Errors
+    ///
+    /// - `OutOfMemory` only: the map is unchanged, and the caller gets the key back, with the value
+    ///   if `make` was called.
     pub fn get_or_insert_with<F: FnOnce() -> V>(
         &mut self,
         key: K,
@@ -106,8 +119,8 @@ impl<K: Ord + Drop, V: SessionValue> SessionMap<K, V> {
     }
 }
 
-/// A session's map under a lock, which the values of one session of reading or writing share. Each call waits for the
-/// lock, and is one call of `SessionMap` on the map that the lock lends.
+/// A session's map behind a lock, shared by the values of one session of reading or writing. Each
+/// call waits for the lock, and makes one call of `SessionMap` on the map.
 #[derive(Drop)]
 pub struct SessionContext<K: Ord, V> {
     map: Mutex<SessionMap<K, V>>,
@@ -120,20 +133,20 @@ impl<K: Ord, V> AsRef<SessionContext<K, V>> for SessionContext<K, V> {
 }
 
 impl<K: Ord + Drop, V: Drop> SessionContext<K, V> {
-    /// A context without values.
+    /// Creates a context without values.
     pub fn new(alloc: Global) -> Self {
         let map = Mutex::new(SessionMap::new(alloc));
         SessionContext { map }
     }
 
-    /// The same as `new`.
+    /// Creates a context without values, as `new` does.
     pub fn default(alloc: Global) -> Self {
         Self::new(alloc)
     }
 }
 
 impl<K: Ord + Drop, V: SessionValue> SessionContext<K, V> {
-    /// Takes the lock, under which the map is lent.
+    /// Takes the lock, and with it the map.
     #[tactic(auto, unfolding(pagable_value_spec::specs::Composite::MayHold))]
     fn lent<R: Wait>(&self, rt: &R) -> MutexGuard<'_, SessionMap<K, V>>
         ensures { MayHold self.now (mutex_guard_value result) }
@@ -141,7 +154,7 @@ impl<K: Ord + Drop, V: SessionValue> SessionContext<K, V> {
         self.map.lock(rt)
     }
 
-    /// Gives the lock back, and with it the map as it is.
+    /// Releases the lock; the map stays as the caller left it.
     #[tactic(auto, unfolding(pagable_value_spec::specs::Composite::MayHold))]
     fn give_back(&self, map: MutexGuard<'_, SessionMap<K, V>>)
         ensures { MayHold self.now (mutex_guard_value map.entry) }
@@ -149,7 +162,11 @@ impl<K: Ord + Drop, V: SessionValue> SessionContext<K, V> {
         drop(map);
     }
 
-    /// `SessionMap::get` on the lent map.
+    /// Calls `SessionMap::get` under the lock.
+    ///
+    /// # Errors
+    ///
+    /// - `OutOfMemory` only.
     pub fn get<R: Wait>(&self, rt: &R, key: &K) -> Result<Option<V>, Error>
         ensures does { Under self.now (λ (old new : SessionMap K V). IfOk result (IsCloneOf V.is_clone (get K.cmp old.values key.now)) × OnErr result (IsSome (get K.cmp old.values key.now))) }
         ensures only { IfErr result memory }
@@ -160,7 +177,11 @@ impl<K: Ord + Drop, V: SessionValue> SessionContext<K, V> {
         value
     }
 
-    /// `SessionMap::set` on the lent map.
+    /// Calls `SessionMap::set` under the lock.
+    ///
+    /// # Errors
+    ///
+    /// - `OutOfMemory` only: the map is unchanged, and the caller gets key and value back.
     pub fn set<R: Wait>(&self, rt: &R, key: K, value: V) -> Result<(), (Error, K, V)>
         ensures does { Under self.now (λ (old new : SessionMap K V). OnOk result (Updates K.cmp old.values new.values key (Some value)) × OnErr result (IsUnchanged old.values new.values)) }
         ensures only { IfErr result (λ e. memory e.0) }
@@ -172,7 +193,12 @@ impl<K: Ord + Drop, V: SessionValue> SessionContext<K, V> {
         done
     }
 
-    /// `SessionMap::get_or_insert_with` on the lent map; the value is made under the lock.
+    /// Calls `SessionMap::get_or_insert_with` under the lock; `make` runs under the lock too.
+    ///
+    /// # Errors
+    ///
+    /// - `OutOfMemory` only: the map is unchanged, and the caller gets the key back, with the value
+    ///   if `make` was called.
     pub fn get_or_insert_with<R: Wait, F: FnOnce() -> V>(
         &self,
         rt: &R,

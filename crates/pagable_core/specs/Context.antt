@@ -1,4 +1,4 @@
--- What a serializer and a deserializer over memory stand for.
+-- What the serializer and the deserializer over memory are in the words of the definitions.
 use Rattle.std.{proofs.Common.{arith, ap}, specs.{Global.Global, Prelude.{ℕ, ◌+◌, List, [], ◌∷◌, Option, Result, Vec, refl}}}
 use Rattle.{pagable_core.specs.declared.context.writing.{SerializedData.SerializedData, SerializerOver.SerializerOver}, pagable_value_spec.specs.Reading.Rest}
 use Rattle.pagable_value_spec.specs.{Cursor.{Answer, Standing, MovesOn}, Progress.{Track, GoesOn}, Writing.Out, declared.{error.Error.Error, numbers.ArcRef.ArcRef}}
@@ -7,16 +7,16 @@ use Rattle.pagable_value_spec.specs.{Cursor.{Answer, Standing, MovesOn}, Progres
 abbrev pub nothing : Out
 nothing = record { bytes = []; refs = [] }
 
--- what was written, without where it lies in memory
+-- what was written, without its place in memory
 abbrev pub out_of : SerializedData → Out
 out_of d = record { bytes = d.bytes.items; refs = d.arcs.items }
 
--- the answers from a place on, to the keys in their order
+-- the answers for keys in their order, the first of which is at this place
 abbrev pub answers_from : (ℕ → ℕ → ℕ → Result ArcRef Error) → ℕ → List ℕ → List Answer
 answers_from answer place [] = []
 answers_from answer place (key ∷ keys) = (λ kind. answer place key kind) ∷ answers_from answer (place + 1) keys
 
--- where a deserializer stands whose keys and reader stand there, and which is lent this at each place
+-- the state of a deserializer whose keys and reader are at these positions, with what it is lent at each place
 abbrev pub standing_of : {N : Type 0} → (ℕ → ℕ → ℕ → Result ArcRef Error) → (ℕ → Option (ArcRef × N)) → Track → Track → Standing N
 standing_of answer lent keys reader = record {
   whole = record { bytes = reader.all; refs = answers_from answer 0 keys.all };
@@ -24,11 +24,11 @@ standing_of answer lent keys reader = record {
   cursor = record { byte_pos = reader.position; arc_index = keys.position };
 }
 
--- at the front of these bytes and keys
+-- the state at the start of these bytes and keys
 abbrev pub at_front : {N : Type 0} → (ℕ → ℕ → ℕ → Result ArcRef Error) → (ℕ → Option (ArcRef × N)) → List ℕ → List ℕ → Standing N
 at_front answer lent bytes keys = standing_of answer lent (record { all = keys; position = 0 }) (record { all = bytes; position = 0 })
 
--- a reader that goes on moves the deserializer on
+-- a reader that has moved on moves the deserializer on
 pub moves_of : {N : Type 0} (answer : ℕ → ℕ → ℕ → Result ArcRef Error) (lent : ℕ → Option (ArcRef × N)) (keys old new : Track) → GoesOn old new → MovesOn (standing_of answer lent keys old) (standing_of answer lent keys new)
 moves_of answer lent keys old new g = record {
   whole = ap (λ (bytes : List ℕ). let x : Rest Answer = record { bytes = bytes; refs = answers_from answer 0 keys.all } in x) g.all;
@@ -38,10 +38,10 @@ moves_of answer lent keys old new g = record {
   within = λ w. record { bytes = g.within; refs = w.refs };
 }
 
--- the same of a pair
+-- what a pair of bytes and references says that was written
 abbrev pub pair_out : Vec ℕ Global × Vec ArcRef Global → Out
 pair_out p = record { bytes = p.0.items; refs = p.1.items }
 
--- what the fields of a serializer stand for
+-- what a serializer's fields say that was written
 abbrev pub written : {E S : Type 0} → SerializerOver E S → Out
 written s = record { bytes = s.writer; refs = s.arcs.items }

@@ -1,20 +1,20 @@
--- Blobs as the code keeps them, and what the hashes have taken.
+-- Blobs as the code keeps them, and the bytes that a hash was given.
 use Rattle.std.specs.{Arc.arc_value, Global.Global, HashMap.{HashMap, get}, Prelude.{◌≡◌, ◌%◌, ◌^◌, ◌+◌, List, ℕ, length, Option, option_map, nat_eq}}
 use Rattle.std.specs.declared.{hash.{BuildHasherDefault.BuildHasherDefault, FoldHasher.FoldHasher}, sync.Arc.Arc}
 use Rattle.{pagable_core.specs.declared.storage.{data.PagableData.PagableData, weigh.WeighHash.WeighHash}, pagable_value_spec.specs.Blob.{Blob, weight}}
 
--- the blob without where it lies in memory
+-- the blob without its place in memory
 abbrev pub blob_of : PagableData → Blob
 blob_of d = record { bytes = d.bytes.items; keys = d.arcs.items }
 
--- what stands under a key of a map in memory
+-- the blob under a key of a map in memory
 abbrev pub Blobs : Type 0
 Blobs = HashMap ℕ (Arc PagableData Global) (BuildHasherDefault FoldHasher)
 
 abbrev pub stored_in : Blobs → ℕ → Option Blob
 stored_in m key = option_map (λ d. blob_of (arc_value d)) (get nat_eq m key)
 
--- the hash stands behind these bytes
+-- the hash was given these bytes
 pub record IsWeighed (h : WeighHash) (came : List ℕ) : Type 0 where
   pub place : h.place ≡ (length came + 1) % 2 ^ 128
   pub sum : h.sum ≡ weight 1 came % 2 ^ 128

@@ -3,11 +3,11 @@ use Rattle.std.specs.Prelude.{◌≡◌, ℕ, Bool, true, if◌then◌else◌, L
 use Rattle.std.specs.Str.{bytes_eq}
 use Rattle.pagable_value_spec.specs.{Blob.Blob, Stored.HasFailed, declared.error.Error.Error}
 
--- a name stands for this key now, or for none, and each other for what it stood for
+-- the name stands for this key now, or for none; each other name stands for what it stood for
 abbrev pub Sets : List ℕ → Option ℕ → (List ℕ → Option ℕ) → (List ℕ → Option ℕ) → Type 0
 Sets name key old new = (q : List ℕ) → new q ≡ (if bytes_eq name q then key else old q)
 
--- a blob stands under the key, if there is one
+-- a blob is stored under the key, if there is a key
 abbrev pub Stands : (ℕ → Option Blob) → Option ℕ → Type 0
 Stands stored None = Unit {0}
 Stands stored (Some key) = IsSome (stored key)

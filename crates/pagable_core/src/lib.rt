@@ -1,5 +1,5 @@
-//! What stands between the values and the pager: the serializer and the deserializer of one blob, the blobs and
-//! their keys, what a storage of blobs offers, and blobs in memory.
+//! The layer between values and the pager: the serializer and the deserializer of one blob, blobs
+//! and their keys, the trait of a storage of blobs, and a storage in memory.
 #![tactic(auto)]
 
 pub mod context;

@@ -1,4 +1,5 @@
-//! Blobs, their keys, and the storages that keep them: what each storage offers, and one in memory.
+//! Blobs, their keys, and the storages that keep them: the traits of a storage, and a storage in
+//! memory.
 
 pub mod data;
 pub mod in_memory;

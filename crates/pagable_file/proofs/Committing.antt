@@ -1,4 +1,4 @@
--- What a commit makes of what waited.
+-- What a commit makes of what waits for a flush.
 use Rattle.std.proofs.Common.{◌≡◌, ◌∙◌, ◌≤◌, ◌⊎◌, ℕ, Bool, false, IsTrue, List, [], Option, Some, inl, inr, refl, sym, ap, arith}
 use Rattle.std.specs.Prelude.{◌==◌, if◌then◌else◌}
 use Rattle.std.specs.{HashMap.IsUnique, List.{AllByRecursion as Each}, Ordering.int_eq}

@@ -1,4 +1,4 @@
--- What a look at what waits and at the table says of what is stored.
+-- What a look-up in what waits and in the table says of what is stored.
 use Rattle.std.proofs.Common.{◌≡◌, ◌≢◌, ◌∙◌, ℕ, ℤ, Bool, true, false, IsTrue, List, [], Option, Some, None, Result, Ok, Err, refl, sym, ap, subst, true≢false, inl, inr, arith}
 use Rattle.std.proofs.lemmas.Bool.{eqb-true, Decides.{nat_tests, Decides-int_eq}}
 use Rattle.std.specs.{HashMap.get, Map.lookup, Ordering.int_eq, Prelude.{◌==◌, OnErr, OnOk, if◌then◌else◌}}

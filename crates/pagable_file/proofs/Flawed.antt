@@ -1,4 +1,4 @@
--- What a test of a file of blobs adds to its flaws.
+-- Which flaws a test of a file of blobs adds.
 use Rattle.std.proofs.Common.{◌≡◌, ◌≢◌, ◌∙◌, ◌<◌, ◌≤◌, ◌+◌, ℕ, String, get_or, string_bytes, suc, zero, ℤ, Bool, true, false, IsTrue, IsSome, List, [], ◌∷◌, ◌++◌, length, map, take, Option, Some, None, refl, sym, ap, subst, true≢false, arith}
 use Rattle.std.proofs.lemmas.List.{Elements.All-contains_itself, take_all, take_more}
 use Rattle.std.specs.declared.alloc.Global.{Global}

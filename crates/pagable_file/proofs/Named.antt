@@ -1,4 +1,4 @@
--- Names, and whether a blob stands under a key.
+-- Names of roots, and whether a blob is stored under a key.
 use Rattle.std.proofs.Common.{◌≡◌, ◌∙◌, ◌≤◌, ℕ, ℤ, Bool, true, false, IsTrue, List, Option, Some, None, refl, sym, ap, subst, true≢false, arith}
 use Rattle.std.proofs.lemmas.{Bool.Decides.{nat_tests, Decides-int_eq}, Slice.Eq.bytes_eq-Decides}
 use Rattle.std.specs.{HashMap.get, Map.lookup, Ordering.int_eq, Prelude.{◌==◌, if◌then◌else◌, is_some}, Str.bytes_eq, String.string_bytes}

@@ -1,4 +1,4 @@
--- Which row stands at a place once others were put, and what the table of blobs has then.
+-- The row at a place after other rows were put, and the blobs that the table then has.
 use Rattle.std.proofs.Common.{◌≡◌, ◌≢◌, ◌∙◌, ℕ, zero, suc, ◌+◌, ℤ, Bool, true, false, List, [], ◌∷◌, Option, Some, None, filter, refl, sym, ap, true≢false, Ordering, Less, Equal, Greater, is_eq, subst, arith}
 use Rattle.std.specs.{Ordering.{int_eq, match_ordering}, Prelude.{◌==◌, if◌then◌else◌, fold, slice_get, take}, Cmp.signed_Decides, List.{IsDistinct, AllByRecursion as Each}, Map.{keys_of, lookup}, Str.bytes_eq, String.string_bytes}
 use Rattle.std.proofs.lemmas.Bool.Decides.{nat_tests}

@@ -1,4 +1,4 @@
--- What the calls of a store leave between two calls of a file of blobs.
+-- The state that a store's calls leave between two calls of a file of blobs.
 use Rattle.std.proofs.Common.{◌≡◌, ◌∙◌, ℕ, ℤ, ◌≤◌, Bool, true, false, List, IsTrue, Result, Ok, Err, refl, sym, ap, subst, arith}
 use Rattle.std.specs.Prelude.{◌&&◌, OnErr, OnOk, Option, Some, None, if◌then◌else◌, slice_get}
 use Rattle.sqlite_value.specs.Order.{Row}

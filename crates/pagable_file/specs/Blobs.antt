@@ -1,4 +1,4 @@
--- What a file of blobs holds: what waits for a flush, and what its tables have.
+-- The state of a file of blobs: what waits for a flush, and the rows of its tables.
 use Rattle.std.specs.Prelude.{◌≡◌, ℕ, ℤ, ◌≢◌, ◌==◌, ◌&&◌, Bool, true, false, if◌then◌else◌, List, [], ◌∷◌, IsTrue, Option, Some, None, IsSome, fold}
 use Rattle.std.specs.{Arc.arc_value, HashMap.{HashMap, IsUnique, get}, List.AllByRecursion, Ordering.int_eq, Str.bytes_eq, String.string_bytes}
 use base.Stored.{Coded-set}
@@ -25,7 +25,7 @@ blob_pending it = blob_of (arc_value it.blob)
 abbrev pub Fits : Pending → Type 0
 Fits it = CanBeKey it.key × AllByRecursion CanBeKey (blob_pending it).keys
 
--- what waits at a key's place goes before what the table has
+-- the blob under each key: what waits at the key's place hides what the table has
 abbrev pub before : ℕ → Option Pending → Option Blob → Option Blob
 before key None below = below
 before key (Some it) below = if it.key == key then Some (blob_pending it) else None
@@ -33,7 +33,7 @@ before key (Some it) below = if it.key == key then Some (blob_pending it) else N
 unfoldable pub stored_with : Waiting → List Row → ℕ → Option Blob
 stored_with waiting rows key = before key (get int_eq waiting (place_of key)) (blobs_in rows key)
 
--- the row of what waits at a place
+-- the row of the blob that waits at a place
 abbrev pub pending_row : ℤ → Pending → Row
 pending_row place it = blob_row place it.key (blob_pending it)
 
@@ -55,11 +55,11 @@ CanBeKeyIf (Some key) = CanBeKey key
 abbrev pub pending_root_row : ℤ → PendingRoot → Row
 pending_root_row place it = root_row place (string_bytes it.name) it.key
 
--- the table once all that waits is put into it
+-- the table with all that waits put into it
 unfoldable pub put_all : {A : Type 0} → (ℤ → A → Row) → List (ℤ × A) → List Row → List Row
 put_all row entries rows = fold (λ all it. put_row (row it.0 it.1) all) rows entries
 
--- nothing stands under any key, and no name for any
+-- no blob is stored under any key, and no name stands for any
 abbrev pub no_blobs : ℕ → Option Blob
 no_blobs key = None
 
@@ -70,11 +70,11 @@ no_roots name = None
 abbrev pub unless : Bool → (ℕ → Option Blob) → ℕ → Option Blob
 unless closed blobs = if closed then no_blobs else blobs
 
--- No wrong answer of the disk was taken as true, and no fault of it has shut the file.
+-- No wrong answer of the disk was taken for true, and no fault of it has shut the file.
 abbrev pub is_sure : View → Bool
 is_sure v = v.is_clean && v.is_open
 
--- between two calls: the two tables are there, and nothing is written that isn't committed
+-- the state between two calls: the two tables exist, and nothing is written that isn't committed
 pub record IsSettled (v : View) : Type 0 where
   pub blobs : v.shape blob_tree ≡ Table
   pub roots : v.shape root_tree ≡ Table
@@ -106,7 +106,7 @@ settled_prop v = Π_prop (λ _. IsSettled-prop v)
 abbrev pub AreKeyed : (Blob → ℕ) → Waiting → Type 0
 AreKeyed key_of waiting = (place : ℤ) (it : Pending) → get int_eq waiting place ≡ Some it → key_of (blob_pending it) ≡ it.key
 
--- a blob comes to what waits, in the place of whatever waited at its key's place
+-- a blob is added to those that wait, in the place of what waited at its key's place
 pub record Holds (key : ℕ) (blob : Blob) (old new : Waiting) : Type 0 where
   pub it : Pending
   pub own : it.key ≡ key
@@ -123,13 +123,13 @@ pub record Wrote (old new : View) (blobs roots : List Row) : Type 0 where
 abbrev pub MovesOnly : View → View → Type 0
 MovesOnly old new = new ≡ record old { cursors = new.cursors }
 
--- a call that changes nothing of what was committed, as far as the file is sure of it
+-- a call that changes nothing of what was committed, if the file is sure
 pub record StaysPut (old new : View) : Type 0 where
   pub settled : Settled old → Settled new
   pub sure : IsTrue (is_sure new) → IsTrue (is_sure old)
   pub same : IsTrue (is_sure new) → new.committed ≡ old.committed
 
--- a call that committed these rows of the two tables, as far as the file is sure of it
+-- a call that committed these rows of the two tables, if the file is sure
 pub record Saved (old new : View) (blobs roots : List Row) : Type 0 where
   pub settled : Settled old → Settled new
   pub sure : IsTrue (is_sure new) → IsTrue (is_sure old)
@@ -147,12 +147,12 @@ abbrev pub IsNaming : List ℕ → Row → Naming → Type 0
 IsNaming name row naming.Other = bytes_eq (bytes (column row 2)) name ≡ false
 IsNaming name row (naming.Root key) = (bytes_eq (bytes (column row 2)) name ≡ true) × (root_in name row ≡ key)
 
--- what a table has at a key's place
+-- the row that a table has at a key's place
 abbrev pub IsFoundAs : List Row → ℕ → Option Reading → Type 0
 IsFoundAs rows key None = row_at rows (place_of key) ≡ None
 IsFoundAs rows key (Some it) = (row : Row) × (row_at rows (place_of key) ≡ Some row) × IsReading key row it
 
--- what a table has at a name's place
+-- the row that a table has at a name's place
 abbrev pub IsNamedAs : List Row → List ℕ → Option Naming → Type 0
 IsNamedAs rows name None = row_at rows (place_of_name name) ≡ None
 IsNamedAs rows name (Some it) = (row : Row) × (row_at rows (place_of_name name) ≡ Some row) × IsNaming name row it
@@ -166,14 +166,14 @@ pub record SavedAs (old : View) (waiting : Waiting) (roots : WaitingRoots) (db :
   pub once : IsUnique int_eq waiting
   pub roots_once : IsUnique int_eq roots
 
--- what a table has at a key's place is this blob
+-- the row that a table has at a key's place is this blob's
 abbrev pub HasBlob : Option Reading → Blob → Type 0
 HasBlob None blob = ⊥
 HasBlob (Some reading.Other) blob = ⊥
 HasBlob (Some reading.Damaged) blob = ⊥
 HasBlob (Some (reading.Blob found)) blob = blob_of found ≡ blob
 
--- it is none, or another key's
+-- the table has no row there, or another key's
 abbrev pub HasNone : Option Reading → Type 0
 HasNone None = Unit {0}
 HasNone (Some reading.Other) = Unit {0}
@@ -185,7 +185,7 @@ RefusesRead found key before after Error.OutOfMemory = Unit {0}
 RefusesRead found key before after (Error.Storage code) = HasFailed before after
 RefusesRead found key before after _ = ⊥
 
--- what waits at a key's place is another key's, or memory is wanted
+-- what waits at a key's place is another key's, or memory runs out
 abbrev pub IsNotHeld : ℕ → ℕ → Error → Type 0
 IsNotHeld held key (Error.NoData k) = (k ≡ key) × (held ≢ key)
 IsNotHeld held key Error.OutOfMemory = Unit {0}
@@ -201,42 +201,42 @@ RefusesFound found blob before after Error.KeyTaken = (other : Blob) × HasBlob 
 RefusesFound found blob before after (Error.Storage code) = HasFailed before after
 RefusesFound found blob before after _ = ⊥
 
--- a database as it is opened, with nothing written that isn't committed
+-- a newly opened database: nothing is written that isn't committed
 abbrev pub IsIdle : View → Type 0
 IsIdle v = IsClean v → IsTrue v.is_open → (v.is_broken ≡ false) × (v.trees ≡ v.committed) × (v.marks ≡ [])
 
--- the two tables were made, without rows
+-- the two tables were created, without rows
 pub record Made (old new : View) : Type 0 where
   pub settled : IsSettled new
   pub is_open : new.is_open ≡ old.is_open
   pub no_blobs_there : new.committed blob_tree ≡ []
   pub no_roots_there : new.committed root_tree ≡ []
 
--- the two tables are there, and have the rows that they had
+-- the two tables exist, and have the rows that they had
 pub record Finds (old new : View) : Type 0 where
   pub settled : Settled new
   pub sure : IsTrue (is_sure new) → IsTrue (is_sure old)
   pub blobs_are : IsTrue (is_sure new) → new.committed blob_tree ≡ old.committed blob_tree
   pub roots_are : IsTrue (is_sure new) → new.committed root_tree ≡ old.committed root_tree
 
--- which key each name stands for, unless the storage was closed
+-- the key that each name stands for, unless the storage was closed
 abbrev pub roots_unless : Bool → (List ℕ → Option ℕ) → List ℕ → Option ℕ
 roots_unless closed roots = if closed then no_roots else roots
 
--- no other name has this one's place, by what waits there or else by the row there
+-- no other name has this name's place, by what waits there, or else by the row there
 abbrev pub HasPlace : List ℕ → Option PendingRoot → Option Row → Type 0
 HasPlace name (Some it) below = bytes_eq (string_bytes it.name) name ≡ true
 HasPlace name None None = Unit {0}
 HasPlace name None (Some row) = bytes_eq (bytes (column row 2)) name ≡ true
 
--- a name comes to what waits, in the place of whatever waited at its place
+-- a name is added to those that wait, in the place of what waited at its place
 pub record HoldsRoot (name : List ℕ) (key : Option ℕ) (old new : WaitingRoots) : Type 0 where
   pub it : PendingRoot
   pub own : string_bytes it.name ≡ name
   pub stands : it.key ≡ key
   pub each : (place : ℤ) → get int_eq new place ≡ (if int_eq (place_of_name name) place then Some it else get int_eq old place)
 
--- the key that a look found for a name
+-- the key that a look-up found for a name
 abbrev pub found_root : Option Naming → Option ℕ
 found_root None = None
 found_root (Some naming.Other) = None
@@ -247,7 +247,7 @@ IsNotOther None = Unit {0}
 IsNotOther (Some naming.Other) = ⊥
 IsNotOther (Some (naming.Root key)) = Unit {0}
 
--- whether a look found a blob
+-- whether a look-up found a blob
 abbrev pub reads_blob : Option Reading → Bool
 reads_blob None = false
 reads_blob (Some reading.Other) = false

@@ -1,4 +1,4 @@
--- What a copy of one storage's blobs into another has.
+-- What a copy of one storage's blobs into another contains.
 use Rattle.std.specs.Prelude.{◌≡◌, ℕ, List, [], ◌∷◌, Option, Some, IsSome, nat_eq}
 use Rattle.std.specs.{HashMap.{HashMap, get}, List.{AllByRecursion, Contains}, declared.hash.{BuildHasherDefault.BuildHasherDefault, FoldHasher.FoldHasher}}
 use Rattle.pagable_value_spec.specs.Blob.{Blob}
@@ -10,7 +10,7 @@ Copied = HashMap ℕ (Unit {0}) (BuildHasherDefault FoldHasher)
 abbrev pub HasCopied : Copied → ℕ → Type 0
 HasCopied copied key = IsSome (get nat_eq copied key)
 
--- one blob stands under the key in both, and its children were copied
+-- both storages have the same blob under the key, and its children were copied
 pub record IsCopied (from to : ℕ → Option Blob) (copied : Copied) (key : ℕ) : Type 0 where
   pub blob : Blob
   pub there : from key ≡ Some blob
@@ -34,15 +34,15 @@ end_of key (child ∷ path) = end_of child path
 abbrev pub Reaches : (ℕ → Option Blob) → ℕ → ℕ → Type 0
 Reaches stored root key = (path : List ℕ) × IsPath stored root path × (end_of root path ≡ key)
 
--- one blob stands under the key in both
+-- both storages have the same blob under the key
 abbrev pub IsInBoth : (ℕ → Option Blob) → (ℕ → Option Blob) → ℕ → Type 0
 IsInBoth from to key = (blob : Blob) × (from key ≡ Some blob) × (to key ≡ Some blob)
 
--- a name stands for the key that is wanted, if one is, and that was copied
+-- a name stands for the wanted key, if there is one, and that was copied
 abbrev pub Matches : Copied → (List ℕ → Option ℕ) → (List ℕ → Option ℕ) → List ℕ → Type 0
 Matches copied wanted roots name = (root : ℕ) → wanted name ≡ Some root → (roots name ≡ Some root) × HasCopied copied root
 
--- a name stands for the same key in both, and all that this reaches stands under its key in both
+-- a name stands for the same key in both, and both have the same blobs under all keys that this one reaches
 pub record IsSameRoot (from to : ℕ → Option Blob) (copies : List ℕ → Option ℕ) (name : List ℕ) (root : ℕ) : Type 0 where
   pub set : copies name ≡ Some root
   pub blobs : (key : ℕ) → Reaches from root key → IsInBoth from to key

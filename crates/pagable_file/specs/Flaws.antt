@@ -1,4 +1,4 @@
--- What is wrong with a file of blobs.
+-- The flaws of a file of blobs.
 use Rattle.std.specs.Prelude.{◌≡◌, ◌≢◌, ℕ, ℤ, List, String, [], Option, Some, None, IsSome, option_map, if◌then◌else◌}
 use Rattle.std.specs.declared.alloc.Global.{Global}
 use Rattle.std.specs.{List.{AllByRecursion, Contains}, Ordering.int_eq, Str.IsUtf8, String.string_bytes}
@@ -11,16 +11,16 @@ use Rattle.pagable_file.specs.declared.fsck.Flaw.TheVariants as flaw
 abbrev pub keyed : ℕ → Blob → ℕ × Blob
 keyed key blob = (key, blob)
 
--- a key's blob, where the key's place is this one
+-- a key's blob, if this is the key's place
 abbrev pub keyed_at : ℤ → Row → Option ℕ → Option (ℕ × Blob)
 keyed_at place row None = None
 keyed_at place row (Some key) = if int_eq (place_of key) place then option_map (keyed key) (blob_in key row) else None
 
--- the key and the blob of a row that stands at this place; none where no key's blob is found there
+-- the key and the blob of the row at this place; none if the row there is no key's blob
 unfoldable pub blob_at : ℤ → Row → Option (ℕ × Blob)
 blob_at place row = keyed_at place row (key_in (bytes (column row 2)))
 
--- a blob stands under the key
+-- a blob is stored under the key
 abbrev pub IsThere : List Row → ℕ → Type 0
 IsThere rows key = IsSome (blobs_in rows key)
 
@@ -36,11 +36,12 @@ IsFlaw key_of rows roots (flaw.MissingChild key child) = IsChild rows key child 
 IsFlaw key_of rows roots (flaw.StrayRoot place) = (row : Row) × (row_at roots place ≡ Some row) × (IsUtf8 (bytes (column row 2)) → place_of_name (bytes (column row 2)) ≢ place)
 IsFlaw key_of rows roots (flaw.MissingRoot name key) = (roots_in roots (string_bytes name) ≡ Some key) × (blobs_in rows key ≡ None)
 
--- a row of the table of roots has a name, whose place is this one
+-- a row of the table of roots has a name whose place is this one
 abbrev pub IsNamed : ℤ → Row → Type 0
 IsNamed place row = IsUtf8 (bytes (column row 2)) × (place_of_name (bytes (column row 2)) ≡ place)
 
--- each row stands at its key's or its name's place, each blob has the key that it stands under, and each of its children is there, and what each name stands for
+-- each row is at its key's or its name's place; each blob is under its own key; the table has each of its children, and
+-- the blob of each key that a name stands for
 pub record IsWhole (key_of : Blob → ℕ) (rows roots : List Row) : Type 0 where
   pub placed : (place : ℤ) (row : Row) → row_at rows place ≡ Some row → IsSome (blob_at place row)
   pub keyed : (key : ℕ) (blob : Blob) → blobs_in rows key ≡ Some blob → key_of blob ≡ key
@@ -48,17 +49,17 @@ pub record IsWhole (key_of : Blob → ℕ) (rows roots : List Row) : Type 0 wher
   pub names_placed : (place : ℤ) (row : Row) → row_at roots place ≡ Some row → IsNamed place row
   pub named : (name : List ℕ) (key : ℕ) → roots_in roots name ≡ Some key → IsThere rows key
 
--- the text that a row has as its name, where the name's place is this one
+-- the text that a row has as its name, if this is the name's place
 abbrev pub IsNameAt : ℤ → Row → Option (String Global) → Type 0
 IsNameAt place row None = IsUtf8 (bytes (column row 2)) → place_of_name (bytes (column row 2)) ≢ place
 IsNameAt place row (Some name) = (string_bytes name ≡ bytes (column row 2)) × (place_of_name (string_bytes name) ≡ place)
 
--- the flaws that a test added are flaws, and where there is none at all, this holds
+-- the flaws that a test added are flaws; if there are none at all, this holds
 pub record Tested (P : Flaw → Type 0) (old new : List Flaw) (Q : Type 0) : Type 0 where
   pub real : AllByRecursion P old → AllByRecursion P new
   pub clear : new ≡ [] → (old ≡ []) × Q
 
--- a key's blob has this key, and its children are there
+-- a key's blob has this key, and the table has its children
 pub record IsSoundBlob (key_of : Blob → ℕ) (rows : List Row) (key : ℕ) (blob : Blob) : Type 0 where
   pub keyed : key_of blob ≡ key
   pub children : AllByRecursion (IsThere rows) blob.keys
@@ -67,6 +68,6 @@ pub record IsSoundBlob (key_of : Blob → ℕ) (rows : List Row) (key : ℕ) (bl
 abbrev pub IsSoundPlace : (Blob → ℕ) → List Row → ℤ → Type 0
 IsSoundPlace key_of rows place = (row : Row) → row_at rows place ≡ Some row → (key : ℕ) × (blob : Blob) × (blob_at place row ≡ Some (key, blob)) × IsSoundBlob key_of rows key blob
 
--- the root at a place, if there is one, is a name's, and what it stands for is there
+-- the row at a place, if there is one, is a name's, and the table has the blob of the name's key
 abbrev pub IsSoundRoot : List Row → List Row → ℤ → Type 0
 IsSoundRoot rows roots place = (row : Row) → row_at roots place ≡ Some row → IsNamed place row × ((key : ℕ) → key_in (bytes (column row 3)) ≡ Some key → IsThere rows key)

@@ -1,4 +1,4 @@
--- How blobs and roots stand in the rows of two tables.
+-- The rows of blobs and roots in the two tables.
 use Rattle.std.specs.Prelude.{◌≡◌, ℕ, ℤ, pos, suc, zero, ◌%◌, ◌/◌, ◌^◌, ◌<◌, ◌==◌, ◌&&◌, Bool, true, false, not, if◌then◌else◌, List, [], ◌∷◌, ◌++◌, length, take, drop, filter, Option, Some, None, option_map, slice_get}
 use Rattle.std.specs.{Int.{w64, w128, to_le_bytes, from_le_bytes}, List.flat_map, Str.bytes_eq}
 use Rattle.sqlite_value.specs.{declared.value.Value.TheVariants.{Null, Int, Text, Blob as Bytes}, Order.{Row, column, bytes}}
@@ -12,7 +12,7 @@ blob_tree = 0
 abbrev pub root_tree : ℕ
 root_tree = 1
 
--- where the row of a key's blob stands: at the key's low 63 bits
+-- the place of the row of a key's blob: the key's low 63 bits
 abbrev pub place_of : ℕ → ℤ
 place_of key = pos (key % 2 ^ 63)
 
@@ -33,7 +33,7 @@ with_key None more = None
 with_key (Some key) None = None
 with_key (Some key) (Some more) = Some (key ∷ more)
 
--- so many keys, one behind the other, and nothing behind them
+-- a number of keys, one after another, and nothing behind them
 unfoldable pub keys_from : ℕ → List ℕ → Option (List ℕ)
 keys_from zero [] = Some []
 keys_from zero (b ∷ bs) = None
@@ -58,7 +58,7 @@ abbrev pub blob_of_row : ℕ → Option Row → Option Blob
 blob_of_row key None = None
 blob_of_row key (Some row) = blob_in key row
 
--- what the table of blobs has under each key
+-- the blob that the table has under each key
 unfoldable pub blobs_in : List Row → ℕ → Option Blob
 blobs_in rows key = blob_of_row key (row_at rows (place_of key))
 
@@ -66,7 +66,7 @@ blobs_in rows key = blob_of_row key (row_at rows (place_of key))
 abbrev pub blob_row : ℤ → ℕ → Blob → Row
 blob_row place key blob = Int place ∷ Null ∷ Bytes (to_le_bytes w128 key) ∷ Bytes blob.bytes ∷ Bytes (flat_map (to_le_bytes w128) blob.keys) ∷ []
 
--- where the row of a root stands: at the low 63 bits of the SHA-256 of its name
+-- the place of the row of a root: the low 63 bits of the SHA-256 of its name
 abbrev pub place_of_name : List ℕ → ℤ
 place_of_name name = pos (from_le_bytes w64 (take 8 (sha256 name)) % 2 ^ 63)
 
@@ -78,7 +78,7 @@ abbrev pub root_of_row : List ℕ → Option Row → Option ℕ
 root_of_row name None = None
 root_of_row name (Some row) = root_in name row
 
--- which key each name stands for
+-- the key that each name stands for
 unfoldable pub roots_in : List Row → List ℕ → Option ℕ
 roots_in rows name = root_of_row name (row_at rows (place_of_name name))
 

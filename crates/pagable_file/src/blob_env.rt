@@ -1,9 +1,9 @@
-//! The environment of programs that look at blobs alone.
+//! An environment for programs that work with blobs alone.
 
 use pagable_codec::{Env, KeyHash};
 use std::marker::PhantomData;
 
-/// An environment without values, whose keys are made by the hash `H`.
+/// An environment without values. The hash `H` computes its keys.
 #[derive(Drop)]
 pub struct BlobEnv<H> {
     hash: PhantomData<H>,

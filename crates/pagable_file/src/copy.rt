@@ -1,4 +1,4 @@
-//! Copies what roots reach from one storage into another.
+//! The copy of all that roots reach, from one storage into another.
 
 ghost use Rattle.std.specs.{Arc.arc_value, List.AllByRecursion, Prelude.{◌≡◌, ◌≤◌, IfOk, IsTrue, ℕ, List, OnOk, Option, Some, map}, String.string_bytes};
 ghost use Rattle.{pagable_core.specs.Data.blob_of, pagable_value_spec.specs.{Blob.{Blob, key_of}, Stored.Keeps}};
@@ -11,22 +11,23 @@ use pagable_flavors::{DataKey, Error};
 use std::alloc::Global;
 use std::collections::HashMap;
 
-/// How many blobs are copied between two flushes.
+/// How many blobs the copy stores between two flushes.
 const BATCH: usize = 1_000;
 
-/// The keys whose blobs were copied, with all that they reach.
+/// The keys whose blobs were copied with all that they reach.
 pub type Copied = HashMap<DataKey, ()>;
 
-/// What is still to be done with a key: children come before the blob that refers to them.
+/// A task of the copy. It copies a blob's children before the blob itself.
 #[derive(Drop)]
 enum Visit {
-    /// Its children are due.
+    /// Plan the copy of the key's children, and then of its blob.
     Enter(DataKey),
-    /// Its children were copied, and its blob is due.
+    /// Copy the key's blob; its children were copied.
     Leave(DataKey),
 }
 
-/// Tests that each child was copied: only in a ring of references one wasn't.
+/// Tests that each child was copied. Fails with `TooDeep` if one wasn't, which happens only if
+/// references make a ring.
 fn test_children(copied: &Copied, children: &[DataKey]) -> Result<(), Error>
     ensures { OnOk result (AllByRecursion (HasCopied copied.now) children.now) }
 {
@@ -76,7 +77,7 @@ fn copy_blob<E: Env, S: PagableStorage<E>, T: PagableStorage<E>>(
     Ok(())
 }
 
-/// Lets a key's children come before its blob, unless it was seen.
+/// Plans the copy of a key's children and then of its blob, unless the key was seen before.
 fn enter<E: Env, S: PagableStorage<E>>(
     alloc: Global,
     from: &mut S,
@@ -95,7 +96,7 @@ fn enter<E: Env, S: PagableStorage<E>>(
     push_children(due, blob.arcs.as_slice())
 }
 
-/// Lets these keys be entered next.
+/// Plans to enter these keys next.
 fn push_children(due: &mut Vec<Visit>, children: &[DataKey]) -> Result<(), Error> {
     for child in children {
         due.push(Visit::Enter(*child))?;
@@ -103,7 +104,7 @@ fn push_children(due: &mut Vec<Visit>, children: &[DataKey]) -> Result<(), Error
     Ok(())
 }
 
-/// Flushes after each so many blobs.
+/// Flushes if the count of copied blobs is a multiple of `BATCH`.
 fn flush_batch<E: Env, T: PagableStorage<E>>(to: &mut T, count: usize) -> Result<(), Error>
     ensures same { IsTrue (T.is_honest to.new) → T.stored to.new ≡ T.stored to.old }
     ensures honest { IsTrue (T.is_honest to.new) → IsTrue (T.is_honest to.old) }
@@ -114,7 +115,7 @@ fn flush_batch<E: Env, T: PagableStorage<E>>(to: &mut T, count: usize) -> Result
     Ok(())
 }
 
-/// Does what is due with one key.
+/// Performs one task.
 #[tactic(auto, using(crate::proofs::Copying::copying))]
 fn make_visit<E: Env, S: PagableStorage<E>, T: PagableStorage<E>, W: Watch>(
     alloc: Global,
@@ -182,7 +183,7 @@ fn copy_reached<E: Env, S: PagableStorage<E>, T: PagableStorage<E>, W: Watch>(
     Ok(copied)
 }
 
-/// Finds the key that each name stands for.
+/// Reads the key that each name stands for.
 #[tactic(auto, using(crate::proofs::Copying::naming))]
 fn read_roots<E: Env, S: Roots<E>>(
     alloc: Global,
@@ -200,7 +201,7 @@ fn read_roots<E: Env, S: Roots<E>>(
     Ok(keys)
 }
 
-/// Lets these keys be entered.
+/// Makes a list of tasks that enter these keys.
 fn begin(alloc: Global, keys: &[Option<DataKey>]) -> Result<Vec<Visit>, Error> {
     let mut due = Vec::new(alloc);
     for key in keys {
@@ -255,15 +256,16 @@ fn set_all<E: Env, T: Roots<E>>(
     Ok(())
 }
 
-/// Copies all that the roots of these names reach, children before the blobs that refer to them and the roots last, and
-/// answers how many blobs these are. It flushes after each 1,000 blobs, and the roots wait for the caller's flush. A name
-/// that stands for nothing is left out.
+/// Copies all that the roots of these names reach, and returns how many blobs that is. It copies
+/// children before the blobs that refer to them, and sets the roots last. It flushes after every
+/// 1,000 blobs; the caller must flush the roots. It skips a name that stands for no key.
 ///
 /// # Errors
-/// - What the one storage refuses a fetch by, or the other a store, a flush or a root.
-/// - TooDeep where the references make a ring.
 ///
-/// Some blobs may have been copied then, and some roots set.
+/// Some blobs may have been copied, and some roots set.
+///
+/// - as a fetch of `from`, or a store, a flush or a `set_root` of `to`.
+/// - `TooDeep` if references make a ring.
 #[tactic(auto, using(crate::proofs::Copying::whole))]
 pub fn copy<E: Env, S: Roots<E>, T: Roots<E>, W: Watch>(
     alloc: Global,

@@ -1,27 +1,27 @@
-//! Why a file of blobs failed.
+//! The faults of a file of blobs.
 
 use sqlite_trees::error::StoreError;
 use std::fmt;
 
-/// What the code of [`pagable_flavors::Error::Storage`] says, where a file of blobs answers it.
+/// The meaning of the code in [`pagable_flavors::Error::Storage`], if a file of blobs returned it.
 #[derive(Clone, Copy, Debug, PartialEq, Eq)]
 pub enum Fault {
     /// The disk failed.
     Io,
-    /// The file is damaged, or what stands under the key has another key.
+    /// The file is damaged, or the blob under the key has another key.
     Damaged,
     /// The disk or the file has no room.
     Full,
-    /// An earlier failure shut the file, and only another open mends that.
+    /// An earlier failure shut the file; it works again only after another open.
     Shut,
-    /// The blob is longer than a row of a table may be, a billion bytes.
+    /// The blob is longer than a row of a table may be: a billion bytes.
     TooLong,
-    /// Another key has the place of this one.
+    /// Another key or name has the place of this one.
     PlaceTaken,
 }
 
 impl Fault {
-    /// Answers the code of [`pagable_flavors::Error::Storage`], from 1 to 6.
+    /// Returns the code for [`pagable_flavors::Error::Storage`], from 1 to 6.
     pub fn code(self) -> u32 {
         match self {
             Fault::Io => 1,
@@ -33,7 +33,7 @@ impl Fault {
         }
     }
 
-    /// Finds the fault of a code; None for a code that no file of blobs answers.
+    /// Returns the fault of a code, or None for a code that no file of blobs returns.
     pub fn of_code(code: u32) -> Option<Fault> {
         match code {
             1 => Some(Fault::Io),
@@ -46,7 +46,7 @@ impl Fault {
         }
     }
 
-    /// Names the fault of a table's store; None for want of memory.
+    /// Returns the fault of an error of a table's store, or None for `OutOfMemory`.
     pub fn of_store(error: StoreError) -> Option<Fault> {
         match error {
             StoreError::OutOfMemory => None,

@@ -26,8 +26,8 @@ use std::collections::HashMap;
 use std::marker::PhantomData;
 use std::sync::Arc;
 
-/// A storage of blobs over a database of two tables, in a file or in memory, with names of roots. What was stored and
-/// which names were set is held back in memory until a flush commits it all at once.
+/// A storage of blobs with names of roots, over a database of two tables, in a file or in memory.
+/// It holds new blobs and names back in memory until a flush commits them all at once.
 #[derive(Drop)]
 pub struct FileBlobs<E: Env, S: Store> {
     pub(crate) store: S,
@@ -43,10 +43,12 @@ pub struct FileBlobs<E: Env, S: Store> {
 }
 
 impl<E: Env> FileBlobs<E, FileStore<File>> {
-    /// Opens the file at a path, or makes it. A new file ends each page in a sum of its bytes, so that damage is seen.
+    /// Opens the file at a path, or creates it. A new file ends each page with a checksum of its
+    /// bytes, so that damage is noticed.
     ///
     /// # Errors
-    /// As [`OpenError`] names them; a file that is refused is left as it is.
+    ///
+    /// - the causes in [`OpenError`]: a file that isn't opened stays as it is.
     pub fn open(rt: &HostRuntime, path: &str) -> Result<FileBlobs<E, FileStore<File>>, OpenError> {
         let conn = Connection::open_with_sums(rt, path)?;
         FileBlobs::over(rt.alloc(), conn)
@@ -54,10 +56,11 @@ impl<E: Env> FileBlobs<E, FileStore<File>> {
 }
 
 impl<E: Env> FileBlobs<E, MemStore> {
-    /// Makes a storage in memory, without blobs and names.
+    /// Creates a storage in memory, without blobs and names.
     ///
     /// # Errors
-    /// OutOfMemory.
+    ///
+    /// - `OutOfMemory`.
     pub fn in_memory(alloc: Global) -> Result<FileBlobs<E, MemStore>, OpenError> {
         let conn = Connection::open_in_memory(alloc)?;
         FileBlobs::over(alloc, conn)
@@ -65,10 +68,11 @@ impl<E: Env> FileBlobs<E, MemStore> {
 }
 
 impl<E: Env, S: Alter + Drop> FileBlobs<E, S> {
-    /// Opens the blobs of a database, or makes the tables for them where it has none.
+    /// Opens the blobs of a database, or creates the two tables if it has none.
     ///
     /// # Errors
-    /// As [`OpenError`] names them, with nothing changed.
+    ///
+    /// - the causes in [`OpenError`]: nothing is changed.
     #[tactic(auto, using(crate::proofs::Fetching::none_keyed))]
     pub fn over(alloc: Global, conn: Connection<S>) -> Result<FileBlobs<E, S>, OpenError>
         ensures open { IfOk result (λ blobs. blobs.closed ≡ false) }
@@ -93,17 +97,20 @@ impl<E: Env, S: Alter + Drop> FileBlobs<E, S> {
 }
 
 impl<E: Env, S: Store> FileBlobs<E, S> {
-    /// Tells what has been asked since the open.
+    /// Returns what was asked of the storage since it was opened.
     pub fn stats(&self) -> Stats
         ensures { result ≡ self.now.stats }
     {
         self.stats
     }
 
-    /// Tells whether a blob stands under a key. It is read, and its key isn't computed again.
+    /// Returns whether a blob is stored under a key. It reads the blob, but doesn't compute its key
+    /// again.
     ///
     /// # Errors
-    /// OutOfMemory, or Storage with the failure counted.
+    ///
+    /// - `OutOfMemory`.
+    /// - `Storage` only if the call raised the count of failures.
     #[tactic(auto, using(crate::proofs::Named::roots_named))]
     pub fn contains(&mut self, alloc: Global, key: DataKey) -> Result<bool, Error>
         ensures ok { IsTrue (is_sure (S.view self.new.store)) → IfOk result (λ there. there ≡ is_some (unless self.old.closed (stored_with self.old.waiting ((S.view self.old.store).committed blob_tree)) key)) }
@@ -127,15 +134,20 @@ impl<E: Env, S: Store> FileBlobs<E, S> {
         Ok(there)
     }
 
-    /// Tells how many blobs wait for a flush.
+    /// Returns how many blobs wait for a flush.
     pub fn pending(&self) -> usize {
         self.waiting.len()
     }
 
-    /// Commits the blobs that were stored and the names that were set, all in one, or none of them.
+    /// Commits all blobs that were stored and all names that were set since the last commit, or
+    /// none of them.
     ///
     /// # Errors
-    /// OutOfMemory, or Storage with the failure counted; then all of it waits as before.
+    ///
+    /// All of them then wait as before.
+    ///
+    /// - `OutOfMemory`.
+    /// - `Storage` only if the call raised the count of failures.
     #[tactic(auto, using(crate::proofs::Committing::committing, crate::proofs::Fetching::none_keyed))]
     pub fn commit(&mut self) -> Result<(), Error>
         ensures blobs { IsTrue (is_sure (S.view self.new.store)) → OnOk result (blobs_in ((S.view self.new.store).committed blob_tree) ≡ stored_with self.old.waiting ((S.view self.old.store).committed blob_tree)) }
@@ -168,7 +180,7 @@ impl<E: Env, S: Store> FileBlobs<E, S> {
         }
     }
 
-    /// Gives the database back. What waits for a flush is let go.
+    /// Returns the database, and drops what waits for a flush.
     pub fn into_store(self) -> S
         ensures { result ≡ self.store }
     {
@@ -262,7 +274,8 @@ impl<E: Env, S: Store> PagableStorage<E> for FileBlobs<E, S> {
     }
 }
 
-/// Shares the blob that waits at a key's place, if it is this key's.
+/// Returns the blob that waits at a key's place, shared. Fails with `NoData` if it is another
+/// key's.
 fn held_blob(held: &Pending, key: DataKey) -> Result<Arc<PagableData>, Error>
     ensures ok { IfOk result (λ blob. (blob_of (arc_value blob) ≡ blob_pending held.now) × (held.now.key ≡ key)) }
     ensures only { IfErr result (IsNotHeld held.now.key key) }
@@ -273,7 +286,8 @@ fn held_blob(held: &Pending, key: DataKey) -> Result<Arc<PagableData>, Error>
     Ok(held.blob.clone()?)
 }
 
-/// Shares what was read, if it has the key that was asked for.
+/// Returns the blob that was read, shared. Fails with `NoData` if none was read, and with `Storage`
+/// if its key isn't the one that was asked for.
 fn tested<E: Env>(
     alloc: Global,
     stats: &mut Stats,
@@ -298,7 +312,7 @@ fn tested<E: Env>(
     }
 }
 
-/// Counts a fetch of so many bytes.
+/// Counts a fetch of a blob with this many bytes.
 fn count_fetch(stats: &mut Stats, bytes: usize)
     ensures { stats.new.failures ≡ stats.old.failures }
 {

@@ -1,4 +1,4 @@
-//! Whether a file of blobs is whole.
+//! The check of a whole file of blobs.
 
 ghost use Rattle.std.specs.{List.AllByRecursion, Prelude.{[], ℕ, IfErr, IfOk, IsTrue, List, OnOk, Some, is_some, option_map, ◌≡◌, ◌≤◌, ◌↔◌}, String.string_bytes};
 ghost use Rattle.sqlite_value.specs.Order.{Row as SqlRow};
@@ -23,22 +23,22 @@ use sqlite_trees::store::Store;
 use sqlite_value::row::Row;
 use std::alloc::{AllocError, Global};
 
-/// What is wrong with a file of blobs.
+/// A flaw of a file of blobs.
 #[derive(Debug, PartialEq, Drop)]
 pub enum Flaw {
-    /// The row at this place of the table of blobs is no key's, so that no fetch finds it.
+    /// The row at this place of the table of blobs belongs to no key, so no fetch finds it.
     StrayBlob(i64),
     /// The blob under this key has another key.
     WrongKey(DataKey),
-    /// The first key's blob refers to the second, under which no blob stands.
+    /// The first key's blob refers to the second key, under which no blob is stored.
     MissingChild(DataKey, DataKey),
-    /// The row at this place of the table of roots is no name's, so that nothing finds what it stands for.
+    /// The row at this place of the table of roots belongs to no name, so no look-up finds it.
     StrayRoot(i64),
-    /// The name stands for the key, under which no blob stands.
+    /// The name stands for the key, under which no blob is stored.
     MissingRoot(String, DataKey),
 }
 
-/// Reads the key and the blob of a row that stands at a place; None where no key's blob is found there.
+/// Reads the key and the blob of a row at a place. Returns None if the row there is no key's blob.
 #[tactic(auto, unfolding(crate::specs::Flaws::blob_at, crate::specs::Rows::blob_in))]
 fn read_at(
     alloc: Global,
@@ -59,7 +59,7 @@ fn read_at(
     }
 }
 
-/// Tells whether a blob stands under a key in its table.
+/// Returns whether the table has a blob under a key.
 #[tactic(auto, using(crate::proofs::Named::row_has_blob))]
 fn is_there<S: Store>(
     alloc: Global,
@@ -75,7 +75,7 @@ fn is_there<S: Store>(
     Ok(is_blob(&found))
 }
 
-/// Tests that a child of a key's blob is there.
+/// Tests that the table has a child of a key's blob.
 #[tactic(auto, using(crate::proofs::Flawed::testing))]
 fn test_child<S: Store>(
     alloc: Global,
@@ -97,7 +97,7 @@ fn test_child<S: Store>(
     Ok(())
 }
 
-/// Tests that each child of a key's blob is there.
+/// Tests that the table has each child of a key's blob.
 #[tactic(auto, using(crate::proofs::Flawed::looping))]
 fn test_children<S: Store>(
     alloc: Global,
@@ -135,7 +135,7 @@ fn test_key<H: KeyHash>(
     Ok(())
 }
 
-/// Tests that a key's blob has this key, and that its children are there.
+/// Tests that a key's blob has this key, and that the table has its children.
 #[tactic(auto, using(crate::proofs::Flawed::testing))]
 fn test_blob<H: KeyHash, S: Store>(
     alloc: Global,
@@ -206,7 +206,8 @@ fn test_rows<H: KeyHash, S: Store, W: Watch>(
     Ok(())
 }
 
-/// Reads the name of a root's row that stands at a place; None where no name is found there.
+/// Reads the name of the root's row at a place. Returns None if the row has no text, or a name with
+/// another place.
 fn read_name_at(alloc: Global, row: &Row, place: i64) -> Result<Option<String>, AllocError>
     ensures { IfOk result (IsNameAt place row.now) }
 {
@@ -220,7 +221,7 @@ fn read_name_at(alloc: Global, row: &Row, place: i64) -> Result<Option<String>, 
     Ok(Some(name))
 }
 
-/// Tests that what a name stands for is there.
+/// Tests that the table has the blob of the key that a name stands for.
 #[tactic(auto, using(crate::proofs::Flawed::testing))]
 fn test_named<S: Store>(
     alloc: Global,
@@ -290,7 +291,7 @@ fn test_roots<S: Store>(
     Ok(())
 }
 
-/// Finds all that is wrong with the two tables.
+/// Finds all flaws of the two tables.
 #[tactic(auto, using(crate::proofs::Flawed::finding))]
 fn find_flaws<H: KeyHash, S: Store, W: Watch>(
     alloc: Global,
@@ -312,11 +313,15 @@ fn find_flaws<H: KeyHash, S: Store, W: Watch>(
 }
 
 impl<E: Env, S: Store> FileBlobs<E, S> {
-    /// Finds all that is wrong with the file: each row is read, the key of each blob is computed again, and each child
-    /// key and each root is looked for. What waits for a flush isn't looked at.
+    /// Finds all flaws of the file: reads each row, computes the key of each blob again, and looks
+    /// for each child key and each root's key. What waits for a flush isn't checked.
     ///
     /// # Errors
-    /// OutOfMemory, or Storage with the failure counted; then nothing is said of the file.
+    ///
+    /// Each says nothing of the file.
+    ///
+    /// - `OutOfMemory`.
+    /// - `Storage` only if the call raised the count of failures.
     pub fn fsck<W: Watch>(&mut self, alloc: Global, watch: &mut W) -> Result<Vec<Flaw>, Error>
         ensures exact { IsTrue (is_sure (S.view self.new.store)) → IfOk result (λ flaws. (flaws.items ≡ []) ↔ IsWhole (key_of E.Hash.digest) ((S.view self.old.store).committed blob_tree) ((S.view self.old.store).committed root_tree)) }
         ensures real { IsTrue (is_sure (S.view self.new.store)) → IfOk result (λ flaws. AllByRecursion (IsFlaw (key_of E.Hash.digest) ((S.view self.old.store).committed blob_tree) ((S.view self.old.store).committed root_tree)) flaws.items) }

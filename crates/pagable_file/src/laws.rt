@@ -1,4 +1,4 @@
-//! What is always so of a file of blobs, as contracts of functions that do nothing.
+//! What holds of every file of blobs, as contracts of functions that do nothing.
 
 ghost use Rattle.std.specs.Prelude.{IsTrue, ◌≡◌};
 ghost use Rattle.sqlite_trees.specs.Tree.{Trees};
@@ -10,14 +10,16 @@ use pagable_core::PagableStorage;
 use sqlite::MemStore;
 use sqlite_trees::store::Store;
 
-/// In memory a storage is honest, whatever was called: no wrong answer was taken as true, and no fault has shut it.
+/// A storage in memory is honest whatever was called: it took no wrong answer for true, and no
+/// fault has shut it.
 pub fn memory_is_honest<E: Env>(blobs: &FileBlobs<E, MemStore>)
     ensures { IsTrue (⟦<FileBlobs<E, MemStore> as PagableStorage<E>>⟧.is_honest blobs.now) }
 {
     let _blobs = blobs;
 }
 
-/// While the storage is honest, a crash leaves just what the last flush committed, blobs and names in one.
+/// While the storage is honest, a crash leaves exactly what the last flush committed, blobs and
+/// names together.
 pub fn crash_leaves_flushed<E: Env, S: Store>(blobs: &FileBlobs<E, S>)
     ensures blobs { IsTrue (is_sure (S.view blobs.now.store)) → (db : Trees) → S.recovers blobs.now.store db → blobs_in (db blob_tree) ≡ blobs_in ((S.view blobs.now.store).committed blob_tree) }
     ensures roots { IsTrue (is_sure (S.view blobs.now.store)) → (db : Trees) → S.recovers blobs.now.store db → roots_in (db root_tree) ≡ roots_in ((S.view blobs.now.store).committed root_tree) }

@@ -1,7 +1,8 @@
-//! Blobs that last: a storage of a pager in a file that SQLite reads, with names of roots, and the same in memory.
+//! A durable storage for a pager: blobs and names of roots in a file that SQLite reads, or in
+//! memory.
 //!
-//! The file has two tables, `blobs` and `roots`, over the kit's `sqlite`. What was stored is held back in memory until
-//! `flush` writes it, the names of roots with the blobs that they stand for, in one transaction.
+//! The file has two tables, `blobs` and `roots`, written by the kit's `sqlite`. The storage holds
+//! new blobs and names back in memory until `flush` writes them all in one transaction.
 #![tactic(auto)]
 
 pub mod blob_env;

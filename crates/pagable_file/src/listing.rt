@@ -1,4 +1,4 @@
-//! What the rows of blobs are, without their bytes.
+//! A list of a file's blobs, without their bytes.
 
 ghost use Rattle.std.specs.Prelude.{IfErr, IsTrue, ◌≡◌, ◌≤◌};
 ghost use Rattle.pagable_value_spec.specs.Stored.{RefusesFlush};
@@ -28,7 +28,7 @@ pub struct Listed {
     pub children: u64,
 }
 
-/// Reads what is listed of the row at a place; None where the row has no key.
+/// Reads the list entry of the row at a place, or returns None if the row has no key.
 #[tactic(auto, using(crate::proofs::Named::stays_then))]
 fn list_row<S: Store>(
     store: &mut S,
@@ -53,7 +53,7 @@ fn list_row<S: Store>(
     }))
 }
 
-/// Reads what is listed of the rows at these places.
+/// Reads the list entries of the rows at these places.
 #[tactic(auto, using(crate::proofs::Named::stays_then))]
 fn list_rows<S: Store>(
     alloc: Global,
@@ -73,7 +73,7 @@ fn list_rows<S: Store>(
     Ok(all)
 }
 
-/// Reads what is listed of all rows.
+/// Reads the list entries of all rows.
 #[tactic(auto, using(crate::proofs::Named::stays_then))]
 fn list_all<S: Store>(
     alloc: Global,
@@ -89,10 +89,13 @@ fn list_all<S: Store>(
 }
 
 impl<E: Env, S: Store> FileBlobs<E, S> {
-    /// Lists the blobs of the file, in the order of their places. What waits for a flush isn't listed.
+    /// Lists the blobs of the file, in the order of their places. Blobs that wait for a flush
+    /// aren't listed.
     ///
     /// # Errors
-    /// OutOfMemory, or Storage with the failure counted.
+    ///
+    /// - `OutOfMemory`.
+    /// - `Storage` only if the call raised the count of failures.
     pub fn list(&mut self, alloc: Global) -> Result<Vec<Listed>, Error>
         ensures same { IsTrue (is_sure (S.view self.new.store)) → (S.view self.new.store).committed ≡ (S.view self.old.store).committed }
         ensures waits { (self.new.waiting ≡ self.old.waiting) × (self.new.waiting_roots ≡ self.old.waiting_roots) }

@@ -1,4 +1,4 @@
-//! Looks at one row of a table.
+//! Look-ups of one row of a table.
 
 ghost use Rattle.std.specs.Prelude.{◌≡◌, IfOk, IsTrue, None, Some, if◌then◌else◌};
 ghost use Rattle.sqlite_trees.specs.{Tree.Trees, declared.store.Shape.TheVariants.Table};
@@ -12,7 +12,8 @@ use sqlite_trees::store::Store;
 use sqlite_value::row::Row;
 use std::alloc::Global;
 
-/// Reads the row at a place of a table over `row`, or answers false where none is there. A failure is rolled back.
+/// Reads the row at a place of a table into `row`, or returns false if the table has none there. If
+/// it fails, it rolls back.
 #[tactic(auto, using(crate::proofs::Settling::reading))]
 pub fn look<S: Store>(
     store: &mut S,
@@ -38,7 +39,8 @@ pub fn look<S: Store>(
     }
 }
 
-/// Reads the blob of a key from its table; None where no row stands at the key's place.
+/// Reads the blob of a key from its table, or returns None if the table has no row at the key's
+/// place.
 pub fn read<S: Store>(
     alloc: Global,
     store: &mut S,
@@ -57,7 +59,8 @@ pub fn read<S: Store>(
     }
 }
 
-/// Reads the root of a name from its table; None where no row stands at the name's place.
+/// Reads the root of a name from its table, or returns None if the table has no row at the name's
+/// place.
 pub fn read_name<S: Store>(
     store: &mut S,
     row: &mut Row,

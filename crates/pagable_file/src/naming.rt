@@ -1,4 +1,5 @@
-//! Looks at what waits and then at a table: whether a blob stands under a key, and whether a name may be set.
+//! Look-ups in what waits and then in a table: whether a blob is stored under a key, and whether a
+//! name may be set.
 
 ghost use Rattle.std.specs.{HashMap.get, Ordering.int_eq, Str.bytes_eq, String.string_bytes, Prelude.{◌≡◌, ◌≤◌, None, false, is_some, if◌then◌else◌, IfErr, IfOk, IsTrue, OnErr, OnOk, true}};
 ghost use Rattle.pagable_value_spec.specs.{Outcomes.memory, Stored.RefusesFlush};
@@ -17,14 +18,15 @@ use sqlite_trees::store::Store;
 use sqlite_value::row::Row;
 use std::alloc::Global;
 
-/// Whether a blob was read.
+/// Returns whether a blob was read.
 pub fn is_blob(found: &Option<Reading>) -> bool
     ensures { result ≡ reads_blob found.now }
 {
     matches!(found, Some(Reading::Blob(_)))
 }
 
-/// Tells whether a blob stands under a key. It is read, and its key isn't computed again.
+/// Returns whether a blob is stored under a key. It reads the blob, but doesn't compute its key
+/// again.
 #[tactic(auto, using(crate::proofs::Named::looking))]
 pub fn has<S: Store>(
     alloc: Global,
@@ -49,7 +51,7 @@ pub fn has<S: Store>(
     }
 }
 
-/// Tests that a blob stands under a key, if there is one.
+/// Tests that a blob is stored under the key, if a key is given.
 #[tactic(auto, using(crate::proofs::Named::looking))]
 fn test_key<S: Store>(
     alloc: Global,
@@ -76,7 +78,8 @@ fn test_key<S: Store>(
     }
 }
 
-/// The key that a name stands for by what waits at its place, or None where another name waits there.
+/// Returns the key that a name stands for, by what waits at its place; None if another name waits
+/// there.
 pub fn held_root(held: &PendingRoot, name: &str) -> Option<DataKey>
     ensures { result ≡ (if bytes_eq (string_bytes held.now.name) name.now then held.now.key else None) }
 {
@@ -87,7 +90,7 @@ pub fn held_root(held: &PendingRoot, name: &str) -> Option<DataKey>
     }
 }
 
-/// The key that a name stands for by what was read.
+/// Returns the key that a name stands for, by the row that was read at its place.
 pub fn read_key_of(found: Option<Naming>) -> Option<DataKey>
     ensures { result ≡ found_root found }
 {
@@ -97,7 +100,7 @@ pub fn read_key_of(found: Option<Naming>) -> Option<DataKey>
     }
 }
 
-/// Tests that what waits at a name's place is this name.
+/// Tests that the name that waits at this name's place is this one.
 fn test_held(stats: &mut Stats, held: &PendingRoot, name: &str) -> Result<(), Error>
     ensures ok { OnOk result (bytes_eq (string_bytes held.now.name) name.now ≡ true) }
     ensures only { IfErr result (RefusesFlush stats.old.failures stats.new.failures) }
@@ -110,7 +113,7 @@ fn test_held(stats: &mut Stats, held: &PendingRoot, name: &str) -> Result<(), Er
     }
 }
 
-/// Tests that what was read at a name's place is no other name.
+/// Tests that the row that was read at a name's place isn't another name's.
 fn test_found(stats: &mut Stats, found: Option<Naming>) -> Result<(), Error>
     ensures ok { OnOk result (IsNotOther found) }
     ensures only { IfErr result (RefusesFlush stats.old.failures stats.new.failures) }
@@ -122,7 +125,7 @@ fn test_found(stats: &mut Stats, found: Option<Naming>) -> Result<(), Error>
     }
 }
 
-/// Tests that no other name has this one's place.
+/// Tests that no other name has this name's place.
 #[tactic(auto, using(crate::proofs::Named::looking))]
 fn test_place<S: Store>(
     store: &mut S,
@@ -150,7 +153,8 @@ fn test_place<S: Store>(
     }
 }
 
-/// Tests that a blob stands under the key, if there is one, and that no other name has this one's place.
+/// Tests that a blob is stored under the key, if a key is given, and that no other name has this
+/// name's place.
 #[tactic(auto, using(crate::proofs::Named::looking))]
 pub fn test_root<S: Store>(
     alloc: Global,
@@ -174,7 +178,8 @@ pub fn test_root<S: Store>(
     Ok(())
 }
 
-/// Lets a name wait with the key that it stands for.
+/// Adds a name to those that wait, with the key that it stands for. Fails with `OutOfMemory` only;
+/// then nothing changes.
 pub fn hold_root(
     alloc: Global,
     waiting: &mut WaitingRoots,

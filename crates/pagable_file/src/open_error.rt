@@ -1,22 +1,22 @@
-//! Why a file of blobs isn't opened.
+//! The causes for which a file of blobs isn't opened.
 
 use sqlite::{Error as SqlError, ErrorCode};
 use sqlite_trees::error::StoreError;
 use std::alloc::{AllocError, AllocFailed};
 use std::fmt;
 
-/// Why a file of blobs isn't opened.
+/// The cause for which a file of blobs isn't opened.
 #[derive(Clone, Copy, Debug, PartialEq, Eq)]
 pub enum OpenError {
-    /// Memory was wanted.
+    /// Out of memory.
     OutOfMemory,
     /// Another handle has the file open.
     InUse,
-    /// The file can't be opened, as for want of a folder or of rights.
+    /// The file can't be opened, for example because a folder or a permission is missing.
     CannotOpen,
-    /// The file is none of blobs: it is no database, or one with other tables.
+    /// The file isn't a file of blobs: it is no database, or one with other tables.
     NotBlobs,
-    /// A later version of this crate wrote the file: its number.
+    /// A later version of this crate wrote the file. The number is the file's version.
     Newer(u32),
     /// The disk failed.
     Io,

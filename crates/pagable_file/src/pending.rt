@@ -1,4 +1,4 @@
-//! What was stored, and which names were set, and not yet flushed.
+//! The blobs that were stored, and the names that were set, since the last flush.
 
 ghost use Rattle.std.specs.{Arc.arc_value, HashMap.get, Ordering.int_eq, Prelude.{◌≡◌, ◌↔◌, IfErr, IsTrue, OnErr, OnOk, option_copied}};
 ghost use Rattle.{pagable_core.specs.Data.blob_of, pagable_file.specs.Blobs.Holds, pagable_value_spec.specs.Outcomes.memory};
@@ -20,7 +20,8 @@ pub struct Pending {
 /// The blobs that wait for a flush, by their places.
 pub type Waiting = HashMap<i64, Pending>;
 
-/// A name that waits for a flush, with the key that it stands for; None where it stands for none any more.
+/// A name that waits for a flush, with the key that it stands for, or None if it stands for none
+/// any more.
 #[derive(Drop)]
 pub struct PendingRoot {
     pub name: String,
@@ -30,21 +31,21 @@ pub struct PendingRoot {
 /// The names that wait for a flush, by their places.
 pub type WaitingRoots = HashMap<i64, PendingRoot>;
 
-/// Finds what waits at a key's place.
+/// Returns the blob that waits at a key's place, if one does.
 pub fn waiting_at(waiting: &Waiting, key: DataKey) -> Option<&Pending>
     ensures { option_copied result ≡ get int_eq waiting.now (spec.place_of key) }
 {
     waiting.get(&place_of(key))
 }
 
-/// Finds what waits at a name's place.
+/// Returns the name that waits at a name's place, if one does.
 pub fn root_at<'a>(waiting: &'a WaitingRoots, name: &str) -> Option<&'a PendingRoot>
     ensures { option_copied result ≡ get int_eq waiting.now (spec.place_of_name name.now) }
 {
     waiting.get(&place_of_name(name))
 }
 
-/// Lets a blob wait under its key.
+/// Adds a blob to those that wait. Fails with `OutOfMemory` only; then nothing changes.
 #[tactic(auto, using(crate::proofs::Fetching::holds))]
 pub fn hold(waiting: &mut Waiting, key: DataKey, blob: Arc<PagableData>) -> Result<(), Error>
     ensures ok { OnOk result (Holds key (blob_of (arc_value blob)) waiting.old waiting.new) }
@@ -55,7 +56,7 @@ pub fn hold(waiting: &mut Waiting, key: DataKey, blob: Arc<PagableData>) -> Resu
     Ok(())
 }
 
-/// Whether two blobs are one.
+/// Returns whether two blobs are equal.
 pub fn is_same(left: &PagableData, right: &PagableData) -> bool
     ensures { IsTrue result ↔ (blob_of left.now ≡ blob_of right.now) }
 {

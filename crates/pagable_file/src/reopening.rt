@@ -1,4 +1,4 @@
-//! Closing a file of blobs and opening it again.
+//! Closing a file of blobs, and opening it again.
 
 ghost use Rattle.std.specs.{Arc.arc_value, Prelude.{◌≡◌, [], IfOk, IfSome, IsTrue, Some, false}};
 ghost use Rattle.sqlite_store.specs.FileStore.{view};
@@ -17,7 +17,7 @@ use sqlite_trees::store::Store;
 use std::alloc::Global;
 use std::sync::Arc;
 
-/// Closes a database, with the log beside it copied into its file.
+/// Closes a database, after its log has been copied into its file.
 fn close_store<D: Disk + Drop>(alloc: Global, store: FileStore<D>) -> Result<Files<D>, OpenError>
     requires settled { Settled (view store) }
     ensures usable { IfOk result (λ files. IsTrue (D.Disk.is_usable files.log) × IsTrue (D.Disk.is_usable files.db)) }
@@ -38,10 +38,12 @@ fn close_store<D: Disk + Drop>(alloc: Global, store: FileStore<D>) -> Result<Fil
 }
 
 impl<E: Env, D: Disk + Drop> FileBlobs<E, FileStore<D>> {
-    /// Closes the file, with the log beside it copied into it, and gives both back. What waits for a flush is let go.
+    /// Copies the log into the file, closes both, and returns both. What waits for a flush is
+    /// dropped.
     ///
     /// # Errors
-    /// As [`OpenError`] names them; what was committed stays so.
+    ///
+    /// - the causes in [`OpenError`]: what was committed stays committed.
     pub fn close_files(self, alloc: Global) -> Result<Files<D>, OpenError>
         ensures { IfOk result (λ files. AreClean D.Disk files.log files.db → IsHeldIn D.Disk files (view self.store).committed) }
     {
@@ -49,10 +51,12 @@ impl<E: Env, D: Disk + Drop> FileBlobs<E, FileStore<D>> {
         Ok(files)
     }
 
-    /// Closes the file, with the log beside it copied into it, and opens it again. What waits for a flush is let go.
+    /// Closes the file as `close_files` does, and opens it again. What waits for a flush is
+    /// dropped.
     ///
     /// # Errors
-    /// As [`OpenError`] names them; what was committed stays so.
+    ///
+    /// - the causes in [`OpenError`]: what was committed stays committed.
     pub fn reopen(
         self,
         alloc: Global,
@@ -75,7 +79,7 @@ impl<E: Env, D: Disk + Drop> FileBlobs<E, FileStore<D>> {
     }
 }
 
-/// Stores a blob and flushes. None where a call was refused.
+/// Stores a blob and flushes. Returns None if a call fails.
 fn store_flushed<E: Env, S: Store + Drop>(
     alloc: Global,
     mut blobs: FileBlobs<E, S>,
@@ -93,7 +97,7 @@ fn store_flushed<E: Env, S: Store + Drop>(
     }
 }
 
-/// Fetches a blob. None where the call was refused.
+/// Fetches a blob. Returns None if the call fails.
 fn fetch_last<E: Env, S: Store + Drop>(
     alloc: Global,
     mut blobs: FileBlobs<E, S>,
@@ -108,8 +112,8 @@ fn fetch_last<E: Env, S: Store + Drop>(
     }
 }
 
-/// Stores a blob, flushes, closes the file, opens it again, and fetches the blob under its key: it is what was stored,
-/// as long as the storage is honest at the end. None where a call was refused.
+/// Stores a blob, flushes, closes the file, opens it again, and fetches the blob under its key: it
+/// is the one that was stored, if the storage is honest at the end. Returns None if a call fails.
 pub fn stored_again<E: Env, D: Disk + Drop>(
     alloc: Global,
     blobs: FileBlobs<E, FileStore<D>>,

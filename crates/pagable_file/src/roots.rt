@@ -1,4 +1,4 @@
-//! Names that stand for keys, and last.
+//! The names of roots in a file of blobs.
 
 ghost use Rattle.pagable_file.specs.{Blobs.{roots_unless, roots_with}, Rows.{root_tree}};
 

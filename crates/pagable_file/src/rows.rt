@@ -1,8 +1,9 @@
-//! How blobs and roots stand in rows.
+//! The rows of blobs and roots.
 //!
-//! A blob's row is its place, NULL for the column of the INTEGER PRIMARY KEY, its key as 16 bytes, its bytes, and each
-//! child key as 16 bytes, low bytes first throughout: as the hash gave them. A root's row is its place, NULL, its name,
-//! and the key that it stands for, or no bytes where it stands for none any more.
+//! A row's place is its INTEGER PRIMARY KEY, for whose column SQLite stores NULL. A blob's row is
+//! its place, NULL, its key as 16 bytes, its bytes, and each child key as 16 bytes, all with low
+//! bytes first, as the hash returned them. A root's row is its place, NULL, its name, and the key
+//! that it stands for, or no bytes if it stands for none any more.
 
 ghost use Rattle.std.specs.{Int.{to_le_bytes, w128}, List.{AllByRecursion, flat_map}, Prelude.{◌≡◌, ◌++◌, ◌∷◌, [], IfOk, OnOk, option_map}};
 ghost use Rattle.sqlite_value.specs.{Order.{bytes, column}, declared.value.Value.TheVariants.{Blob as Bytes}};
@@ -18,14 +19,14 @@ use sqlite_value::row::Row;
 use sqlite_value::value::ValueRef;
 use std::alloc::{AllocError, Global};
 
-/// Where the row of a key's blob stands: at the key's low 63 bits.
+/// Returns the place of the row of a key's blob: the key's low 63 bits.
 pub fn place_of(key: DataKey) -> i64
     ensures { result ≡ spec.place_of key }
 {
     (key.get() % (1 << 63)) as i64
 }
 
-/// Where the row of a root stands: at the low 63 bits of the SHA-256 of its name.
+/// Returns the place of the row of a root: the low 63 bits of the SHA-256 of its name.
 pub fn place_of_name(name: &str) -> i64
     ensures { result ≡ spec.place_of_name name.now }
 {
@@ -37,7 +38,7 @@ pub fn place_of_name(name: &str) -> i64
     (u64::from_le_bytes(low) % (1 << 63)) as i64
 }
 
-/// Reads a key from 16 bytes; None where they are more or fewer, or all 0.
+/// Reads a key from 16 bytes. Returns None if there are more or fewer, or if all are 0.
 #[tactic(auto, unfolding(crate::specs::Rows::key_in))]
 fn read_key(bytes: &[u8]) -> Option<DataKey>
     ensures { result ≡ spec.key_in bytes.now }
@@ -48,7 +49,7 @@ fn read_key(bytes: &[u8]) -> Option<DataKey>
     }
 }
 
-/// Reads child keys, one behind the other; None where the bytes are no keys.
+/// Reads child keys, one after another. Returns None if the bytes aren't a list of keys.
 #[tactic(auto, using(crate::proofs::Keys::one_more, crate::proofs::Keys::no_key, crate::proofs::Keys::at_end, crate::proofs::Keys::more_behind))]
 fn read_keys(alloc: Global, bytes: &[u8]) -> Result<Option<Vec<DataKey>>, AllocError>
     ensures { IfOk result (λ keys. option_map (λ found. found.items) keys ≡ spec.keys_in bytes.now) }
@@ -83,7 +84,7 @@ fn write_keys(children: &mut Vec<u8>, keys: &[DataKey]) -> Result<(), AllocError
     Ok(())
 }
 
-/// Reads the key in a column of a row.
+/// Reads the key in a column of a row, or returns None if the column holds none.
 pub fn key_at(row: &Row, at: usize) -> Option<DataKey>
     ensures { result ≡ spec.key_in (bytes (column row.now at)) }
 {
@@ -93,14 +94,14 @@ pub fn key_at(row: &Row, at: usize) -> Option<DataKey>
 /// What a row says of a key.
 #[derive(Drop)]
 pub enum Reading {
-    /// It is another key's row.
+    /// The row is another key's.
     Other,
-    /// It is the key's row, and its child keys are no keys.
+    /// The row is the key's, but its child keys aren't keys.
     Damaged,
     Blob(PagableData),
 }
 
-/// Whether a row is this key's.
+/// Returns whether the row is this key's.
 fn is_row_of(row: &Row, key: DataKey) -> bool
     ensures { result ≡ spec.is_row_of key row.now }
 {
@@ -125,7 +126,7 @@ pub fn read_blob(alloc: Global, row: &Row, key: DataKey) -> Result<Reading, Allo
     Ok(Reading::Blob(PagableData { bytes, arcs }))
 }
 
-/// Writes a key as 16 bytes, or none as no bytes.
+/// Writes a key as 16 bytes, or no bytes for no key.
 fn write_key(bytes: &mut Vec<u8>, key: Option<DataKey>) -> Result<(), AllocError>
     ensures ok { OnOk result (bytes.new.items ≡ spec.key_bytes key) }
     ensures fit { OnOk result (CanBeKeyIf key) }
@@ -137,7 +138,7 @@ fn write_key(bytes: &mut Vec<u8>, key: Option<DataKey>) -> Result<(), AllocError
     Ok(())
 }
 
-/// Appends a key as 16 bytes, or none as no bytes; `bytes` is a buffer.
+/// Appends a key to the row as 16 bytes, or no bytes for no key; `bytes` is a buffer.
 fn push_key(row: &mut Row, bytes: &mut Vec<u8>, key: Option<DataKey>) -> Result<(), AllocError>
     ensures ok { OnOk result (row.new ≡ row.old ++ Bytes (spec.key_bytes key) ∷ []) }
     ensures fit { OnOk result (CanBeKeyIf key) }
@@ -147,7 +148,7 @@ fn push_key(row: &mut Row, bytes: &mut Vec<u8>, key: Option<DataKey>) -> Result<
     Ok(())
 }
 
-/// Appends child keys, one behind the other; `bytes` is a buffer.
+/// Appends child keys to the row, one after another; `bytes` is a buffer.
 fn push_keys(row: &mut Row, bytes: &mut Vec<u8>, keys: &[DataKey]) -> Result<(), AllocError>
     ensures ok { OnOk result (row.new ≡ row.old ++ Bytes (flat_map (to_le_bytes w128) keys.now) ∷ []) }
     ensures fit { OnOk result (AllByRecursion CanBeKey keys.now) }
@@ -182,9 +183,9 @@ pub fn write_blob(
 /// What a row says of a name.
 #[derive(Drop)]
 pub enum Naming {
-    /// It is another name's row.
+    /// The row is another name's.
     Other,
-    /// The key that the name stands for, or None for none any more.
+    /// The key that the name stands for, or None if it stands for none any more.
     Root(Option<DataKey>),
 }
 

@@ -1,4 +1,4 @@
-//! The transaction that commits all that waits.
+//! The transaction that commits all that waits for a flush.
 
 ghost use Rattle.std.specs.{HashMap.IsUnique, List.AllByRecursion, Ordering.int_eq, Prelude.{◌≡◌, ◌≤◌, ◌⊎◌, OnErr, OnOk}};
 ghost use Rattle.sqlite_trees.specs.{Tree.Trees, View.{IsClean, KeepsCommitted, doubt}, declared.store.Shape.TheVariants.Table};
@@ -11,7 +11,7 @@ use sqlite_trees::error::StoreError;
 use sqlite_trees::store::Store;
 use sqlite_value::row::Row;
 
-/// Puts the blobs that wait into their table, in a transaction that goes on.
+/// Puts the waiting blobs into their table, without a commit.
 #[tactic(auto, using(crate::proofs::Settling::writing, crate::proofs::Putting::putting))]
 fn put_blobs<S: Store>(
     store: &mut S,
@@ -34,7 +34,7 @@ fn put_blobs<S: Store>(
     Ok(())
 }
 
-/// Puts the names that wait into their table, in the same transaction.
+/// Puts the waiting names into their table, in the same transaction.
 #[tactic(auto, using(crate::proofs::Settling::writing, crate::proofs::Putting::putting))]
 fn put_roots<S: Store>(
     store: &mut S,
@@ -82,7 +82,8 @@ fn put_waiting<S: Store>(
     Ok(())
 }
 
-/// Commits all that waits in one transaction, or leaves what was committed as it is.
+/// Commits all that waits in one transaction. If it fails, what was committed before stays as it
+/// is.
 #[tactic(auto, using(crate::proofs::Settling::saving, crate::proofs::Committing::crashed))]
 pub fn save<S: Store>(
     store: &mut S,

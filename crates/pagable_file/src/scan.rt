@@ -1,4 +1,4 @@
-//! Goes over all rows of a table.
+//! Scans of all rows of a table.
 
 ghost use Rattle.std.specs.Prelude.{IfOk, IsTrue, OnErr, OnOk, map, ◌≡◌, ◌≤◌};
 ghost use Rattle.sqlite_value.specs.declared.value.Value.TheVariants.{Int};
@@ -13,10 +13,10 @@ use sqlite_value::row::Row;
 use sqlite_value::value::ValueRef;
 use std::alloc::Global;
 
-/// The cursor that goes over a table.
+/// The cursor of the scans.
 const CURSOR: u16 = 0;
 
-/// Collects the places of all rows of a table, in their order.
+/// Returns the places of all rows of a table, in ascending order.
 #[tactic(auto, using(crate::proofs::Settling::scanning))]
 fn places<S: Store>(
     alloc: Global,
@@ -46,7 +46,7 @@ fn places<S: Store>(
     Err(StoreError::Full)
 }
 
-/// Collects the places of all rows of a table, in their order. A failure is rolled back.
+/// Returns the places of all rows of a table, in ascending order. If it fails, it rolls back.
 #[tactic(auto, using(crate::proofs::Settling::scanning, crate::proofs::Settling::reading))]
 pub fn all_places<S: Store>(
     alloc: Global,
@@ -72,7 +72,7 @@ pub fn all_places<S: Store>(
     }
 }
 
-/// Collects the names of all rows of the table of roots that are texts, in the order of their places.
+/// Returns the names of all roots whose names are texts, in the order of their places.
 #[tactic(auto, using(crate::proofs::Settling::scanning))]
 fn names<S: Store>(alloc: Global, store: &mut S, row: &mut Row) -> Result<Vec<String>, StoreError>
     ensures ok { OnOk result (IsClean (S.view store.new) → MovesOnly (S.view store.old) (S.view store.new)) }
@@ -94,7 +94,7 @@ fn names<S: Store>(alloc: Global, store: &mut S, row: &mut Row) -> Result<Vec<St
     Ok(names)
 }
 
-/// Collects the names of all roots, in the order of their places. A failure is rolled back.
+/// Returns the names of all roots, in the order of their places. If it fails, it rolls back.
 #[tactic(auto, using(crate::proofs::Settling::scanning))]
 pub fn all_names<S: Store>(
     alloc: Global,

@@ -1,4 +1,4 @@
-//! What a file of blobs has been asked.
+//! Counts of what was asked of a file of blobs.
 
 ghost use Rattle.std.specs.Prelude.{◌≡◌, ◌≤◌};
 ghost use Rattle.pagable_value_spec.specs.Stored.{HasFailed, RefusesFlush};
@@ -8,25 +8,25 @@ use crate::fault::Fault;
 use pagable_flavors::Error;
 use sqlite_trees::error::StoreError;
 
-/// How often a file of blobs was asked for what since it was opened. Each count stays at 2^64 - 1.
+/// What was asked of a file of blobs since it was opened. Each count stops at 2^64 - 1.
 #[derive(Clone, Copy, Debug, PartialEq, Eq)]
 pub struct Stats {
-    /// Blobs that were fetched.
+    /// Fetched blobs.
     pub fetches: u64,
-    /// The bytes of these, without their child keys.
+    /// The bytes of the fetched blobs, without their child keys.
     pub fetched_bytes: u64,
-    /// Blobs that were stored anew.
+    /// Stored blobs that were new.
     pub stores: u64,
-    /// Blobs that were stored and stood there already.
+    /// Stored blobs that the storage had already.
     pub known: u64,
-    /// Flushes that had something to write.
+    /// Commits that succeeded.
     pub flushes: u64,
-    /// Calls that the file refused by a fault.
+    /// Calls that failed with a fault.
     pub failures: u64,
 }
 
 impl Stats {
-    /// Nothing was asked yet.
+    /// The counts before anything was asked.
     pub const NONE: Stats = Stats {
         fetches: 0,
         fetched_bytes: 0,
@@ -37,7 +37,7 @@ impl Stats {
     };
 }
 
-/// Counts a failure, and names it.
+/// Counts a failure, and returns it as an error.
 pub fn fail(stats: &mut Stats, fault: Fault) -> Error
     ensures storage { (code : _) × (result ≡ error.Storage code) }
     ensures counts { HasFailed stats.old.failures stats.new.failures }
@@ -46,7 +46,7 @@ pub fn fail(stats: &mut Stats, fault: Fault) -> Error
     Error::Storage(fault.code())
 }
 
-/// Counts and names what a table refused. Want of memory isn't counted.
+/// Returns a store's error as the storage's error, and counts it unless it is `OutOfMemory`.
 pub fn refuse(stats: &mut Stats, refused: StoreError) -> Error
     ensures named { RefusesFlush stats.old.failures stats.new.failures result }
     ensures later { stats.old.failures ≤ stats.new.failures }

@@ -19,7 +19,7 @@ pub const BLOBS: u32 = 0;
 /// The number of the table of roots.
 pub const ROOTS: u32 = 1;
 
-/// The version of the two tables, which the file has as SQLite's user version.
+/// The version of the two tables, which the file keeps as SQLite's user version.
 pub const VERSION: u32 = 1;
 
 const BLOBS_SQL: &str =
@@ -42,12 +42,12 @@ fn table(name: &'static str, sql: &'static str) -> Object<'static>
     }
 }
 
-/// Whether a row of the list of objects is this table.
+/// Returns whether a row of the list of objects is this table.
 fn lists(row: &Row, name: &str, sql: &str) -> bool {
     bytes_of(row.get(2)) == name.as_bytes() && bytes_of(row.get(4)) == sql.as_bytes()
 }
 
-/// Whether neither of the two tables is there.
+/// Returns whether the store has neither of the two tables.
 fn is_free<S: Store>(store: &S) -> bool
     ensures blobs { IsTrue result → (S.view store.now).shape blob_tree ≡ shape.Absent }
     ensures roots { IsTrue result → (S.view store.now).shape root_tree ≡ shape.Absent }
@@ -55,7 +55,7 @@ fn is_free<S: Store>(store: &S) -> bool
     matches!(store.shape(BLOBS), Shape::Absent) && matches!(store.shape(ROOTS), Shape::Absent)
 }
 
-/// Whether both tables are there.
+/// Returns whether the store has both tables.
 fn is_there<S: Store>(store: &S) -> bool
     ensures blobs { IsTrue result → (S.view store.now).shape blob_tree ≡ shape.Table }
     ensures roots { IsTrue result → (S.view store.now).shape root_tree ≡ shape.Table }
@@ -63,7 +63,7 @@ fn is_there<S: Store>(store: &S) -> bool
     matches!(store.shape(BLOBS), Shape::Table) && matches!(store.shape(ROOTS), Shape::Table)
 }
 
-/// Makes the two tables in an empty database.
+/// Creates the two tables in an empty database.
 fn make<S: Alter>(store: &mut S) -> Result<(), StoreError>
     requires numbered { IsClean (S.Store.view store.old) → IsTrue (S.Store.view store.old).is_numbered }
     requires empty { IsClean (S.Store.view store.old) → (S.Store.view store.old).trees catalog_tree ≡ [] }
@@ -78,7 +78,7 @@ fn make<S: Alter>(store: &mut S) -> Result<(), StoreError>
     store.commit()
 }
 
-/// Tests that the two tables are the only ones, and of this version.
+/// Tests that the database has exactly these two tables, in a version that this crate knows.
 fn test<S: Alter>(store: &S, objects: &[Row]) -> Result<(), OpenError> {
     if store.version() > VERSION {
         return Err(OpenError::Newer(store.version()));
@@ -93,7 +93,7 @@ fn test<S: Alter>(store: &S, objects: &[Row]) -> Result<(), OpenError> {
     }
 }
 
-/// Finds the two tables, and makes them where the database has none.
+/// Finds the two tables, and creates them if the database is empty.
 #[tactic(auto, using(crate::proofs::Opening::opening))]
 pub fn prepare<S: Alter>(alloc: Global, store: &mut S) -> Result<(), OpenError>
     requires numbered { IsClean (S.Store.view store.old) → IsTrue (S.Store.view store.old).is_numbered }

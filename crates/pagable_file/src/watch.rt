@@ -1,12 +1,12 @@
-//! Who hears how far a long call has come.
+//! Reports of progress in long calls.
 
-/// Hears how far a long call has come.
+/// Receives reports of progress from a long call.
 pub trait Watch {
-    /// Notes that one more blob is gone over.
+    /// Notes that the call has handled one more blob.
     fn note(&mut self);
 }
 
-/// Hears nothing.
+/// Ignores all reports.
 impl Watch for () {
     fn note(&mut self) {}
 }

@@ -1,11 +1,11 @@
--- What the nodes of one value type, and those of three, say.
+-- The numbers, meanings, references and errors of nodes of one value type and of three.
 use Rattle.std.{proofs.Common.arith, specs.{Arc.arc_value, Prelude.{List, None, Option, Some, refl, suc, zero, ℕ, ◌<◌, ◌^◌, ◌≡◌}}}
 use Rattle.pagable_nodes.specs.declared.{either_node.EitherNode.EitherNode, one_node.OneNode.OneNode}
 use Rattle.pagable_value_spec.specs.{Meaning.Meaning, References.{SameReferences, references_in}, Shape.Shape, Cursor.SomeMeaning, declared.numbers.ArcRef.ArcRef}
 use Rattle.pagable_traits.specs.{InNodes.{Holds, holds-none, holds-value}, Meanings.{AreSingle, Meanings, some}, OwnCauses.{ReadCauses, WriteCauses, reads_memory_or}}
 use Rattle.pagable_nodes.specs.declared.either_node.EitherNode.TheVariants as nodes
 
--- what a value refers to is what its one meaning refers to
+-- a value refers to what its one meaning refers to
 pub value_refers : {T : Type 0} (M : Meanings T) → AreSingle M → (x : T) (m : Meaning ArcRef) → M.of x m → SameReferences (references_in (M.meaning x)) (references_in m)
 value_refers M single x m h = rw (single x m h) (λ test. refl)
 
@@ -95,7 +95,7 @@ module _ {A B C : Type 0} where
     either_refers i j k (nodes.Second n) m h = value_refers N j (arc_value n.value) m h
     either_refers i j k (nodes.Third n) m h = value_refers O k (arc_value n.value) m h
 
-    -- what a node of each type holds
+    -- what a node holds of each type
     pub holds_first : (n : EitherNode A B C) → Holds M.of 0 (either_number n) (either_means n) (first_held n)
     holds_first (nodes.First n) = holds-value (arc_value n.value) refl (λ m h. h) (λ m h. h)
     holds_first _ = holds-none (λ e. omega (arith, e))

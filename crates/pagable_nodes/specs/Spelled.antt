@@ -1,4 +1,4 @@
--- How the values of a type are spelled and what they mean, made of how those of its fields are.
+-- The encoding and the meaning of a type's values, made of those of its fields.
 use Rattle.std.specs.{Global.Vec, Int.Width, Prelude.{Bool, Option, String, ℕ, ℤ, refl}, String.string_bytes, declared.alloc.Global.Global}
 use Rattle.pagable_value_spec.specs.OneForm.{HasOneFormThroughout, basic_has_one_form, over_has_one_form, two_has_one_form}
 use Rattle.pagable_value_spec.specs.{Shape.Shape, declared.numbers.ArcRef.ArcRef}
@@ -11,8 +11,9 @@ use Rattle.pagable_traits.specs.declared.{arc.HoldingArc.HoldingArc, pagable_arc
 use Rattle.pagable_value_spec.specs.Meaning as meanings
 use Rattle.pagable_value_spec.specs.Shape as shapes
 
--- All that the impls of a type say of it: how its values are spelled, what each means, which is one thing, and all refusals of their writing, and of their reading beside the faults
--- of the input and of references; and in every environment, that each form lists the references in their order, that no meaning has two forms, and that forms are read again.
+-- What the impls of a type say of its values: their shape, their one meaning each, all errors of writing them, and the
+-- errors of reading them other than faults of the input and of references; and, in every environment, that each form
+-- lists the references in their order, that no meaning has two forms, and that forms are read back.
 pub record Spelled (T : Type 0) : Type 1 where
   pub shape : Shape
   pub means : Meanings T
@@ -23,7 +24,7 @@ pub record Spelled (T : Type 0) : Type 1 where
   pub one_form : (parts : ℕ → Shape) → HasOneFormThroughout parts shape
   pub is_read : (parts : ℕ → Shape) → IsReadThroughout parts shape
 
--- nothing, as no byte
+-- the unit, which is written as no byte
 abbrev pub empty : Spelled Unit
 empty = record {
   shape = shapes.nothing;
@@ -86,7 +87,7 @@ text = record {
   is_read = λ parts. basic_is_read tt;
 }
 
--- a reference of a kind by its number: `RawRef<KIND>`
+-- a reference of the kind with this number: `RawRef<KIND>`
 abbrev pub one : (kind : ℕ) → Spelled (RawRef kind)
 one kind = record {
   shape = shapes.reference kind;
@@ -150,7 +151,7 @@ many a = record {
   is_read = λ parts. over_is_read refl (a.is_read parts);
 }
 
--- a pair; of more fields the first and the pair of the others
+-- a pair; more fields are the first and the pair of the others
 abbrev pub two : {A B : Type 0} → Spelled A → Spelled B → Spelled (A × B)
 two a b = record {
   shape = shapes.both a.shape b.shape;
@@ -163,7 +164,7 @@ two a b = record {
   is_read = λ parts. two_is_read (refl, refl) (a.is_read parts) (b.is_read parts);
 }
 
--- a struct, by the pairs of its fields
+-- a struct, seen as the pairs of its fields
 abbrev pub fields : {X Y : Type 0} → (X → Y) → Spelled Y → Spelled X
 fields view a = record {
   shape = a.shape;

@@ -1,4 +1,4 @@
-//! Values without references, written to bytes in one call, and read from them.
+//! Writers and readers of values without references, in one call each, to bytes and from bytes.
 
 ghost use Rattle.pagable_value_spec.specs.{Writing.{Refused, nesting}, declared.error.Error.TheVariants.WrongKind};
 ghost use Rattle.std.specs.Prelude.{IfErr, IfOk, ◌≡◌, ◌⊎◌};
@@ -11,11 +11,12 @@ use pagable_traits::{
 };
 use std::alloc::Global;
 
-/// Writes a value that refers to nothing, and answers its bytes.
+/// Writes a value that refers to nothing, and returns its bytes.
 ///
 /// # Errors
+///
+/// - `WrongKind` if the value refers to something.
 /// - as the value's `pagable_serialize`.
-/// - WrongKind: the value refers to something.
 #[tactic(auto, using(crate::proofs::Alone::written_alone))]
 pub fn to_bytes<E: Env, T: PagableSerialize<E>>(
     alloc: Global,
@@ -35,10 +36,13 @@ pub fn to_bytes<E: Env, T: PagableSerialize<E>>(
     Ok(data.bytes)
 }
 
-/// Reads a value without references from the front of these bytes; what is behind it is left.
+/// Reads a value without references from the start of these bytes, and ignores the bytes behind it.
 ///
 /// # Errors
-/// - the first fault of the bytes; WrongKind or NoMoreKeys where a reference is read; a cause of the type's own.
+///
+/// - the first fault of the bytes.
+/// - `WrongKind` or `NoMoreKeys` if the value has a reference.
+/// - a cause of the type's own.
 #[tactic(auto, using(crate::proofs::Alone::read_alone))]
 pub fn from_bytes<'de, E: Env, T: PagableDeserialize<'de, E>>(
     alloc: Global,

@@ -11,8 +11,8 @@ use pagable_traits::{ArcRef, Env, NodeSet, PagableDeserializer, PagableSerialize
 use std::alloc::Global;
 use std::sync::Arc;
 
-/// A node of an environment with three value types, which have the numbers 0, 1 and 2 in their order. An environment with
-/// two takes `()` for the third.
+/// A node of an environment with three value types, which have the numbers 0, 1 and 2 in their
+/// order. An environment with two value types takes `()` as the third.
 #[derive(Drop)]
 pub enum EitherNode<A, B, C> {
     /// A value of the type number 0.
@@ -24,10 +24,11 @@ pub enum EitherNode<A, B, C> {
 }
 
 impl<A: Drop, B: Drop, C: Drop> EitherNode<A, B, C> {
-    /// Shares its value of the type number 0. Answers None where it holds another.
+    /// Returns its value of the type number 0, shared; or None if it holds another value.
     ///
     /// # Errors
-    /// - OutOfMemory: the value can't be shared once more.
+    ///
+    /// - `OutOfMemory` if the value can't be shared once more.
     pub fn first(&self) -> Result<Option<Arc<A>>, Error>
         ensures value { IfOk result (λ found. option_map arc_value found ≡ first_held self.now) }
         ensures only { IfErr result memory }
@@ -38,10 +39,11 @@ impl<A: Drop, B: Drop, C: Drop> EitherNode<A, B, C> {
         }
     }
 
-    /// Shares its value of the type number 1. Answers None where it holds another.
+    /// Returns its value of the type number 1, shared; or None if it holds another value.
     ///
     /// # Errors
-    /// - OutOfMemory: the value can't be shared once more.
+    ///
+    /// - `OutOfMemory` if the value can't be shared once more.
     pub fn second(&self) -> Result<Option<Arc<B>>, Error>
         ensures value { IfOk result (λ found. option_map arc_value found ≡ second_held self.now) }
         ensures only { IfErr result memory }
@@ -52,10 +54,11 @@ impl<A: Drop, B: Drop, C: Drop> EitherNode<A, B, C> {
         }
     }
 
-    /// Shares its value of the type number 2. Answers None where it holds another.
+    /// Returns its value of the type number 2, shared; or None if it holds another value.
     ///
     /// # Errors
-    /// - OutOfMemory: the value can't be shared once more.
+    ///
+    /// - `OutOfMemory` if the value can't be shared once more.
     pub fn third(&self) -> Result<Option<Arc<C>>, Error>
         ensures value { IfOk result (λ found. option_map arc_value found ≡ third_held self.now) }
         ensures only { IfErr result memory }

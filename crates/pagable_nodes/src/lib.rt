@@ -1,5 +1,5 @@
-//! Nodes of an environment: of one value type (`OneNode`) or of three (`EitherNode`), and an environment of records for
-//! programs that need no types of their own.
+//! Nodes for environments with one value type (`OneNode`) or three (`EitherNode`), and an
+//! environment of records for programs that need no types of their own.
 #![tactic(auto)]
 
 pub mod bytes;

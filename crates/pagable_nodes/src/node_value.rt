@@ -11,41 +11,45 @@ use pagable_traits::{
 };
 use std::alloc::Global;
 
-/// A type whose values a node holds, as `OneNode` and `EitherNode` ask of theirs. A type that has the impls of a carried
-/// one, made of one `Spelled`, passes the three calls on to these: `references_of`, `write_with_refs` and
+/// A type whose values a node holds: `OneNode` and `EitherNode` require it. A type whose impls are
+/// made of one `Spelled` implements the three calls by `references_of`, `write_with_refs` and
 /// `pagable_deserialize`.
 ///
-/// It stands beside those traits, since the environment's node is a part of the pager's type: there a bound may name no
-/// lifetime, and no trait that has an impl for a type parameter.
+/// It is a trait of its own because the environment's node is a part of the pager's type: a bound
+/// there may name no lifetime, and no trait that has an impl for a type parameter.
 pub trait NodeValue<E: Env>: Sized {
-    // How the values are spelled, what each means, and all refusals.
+    // The shape of the values, the meaning of each, and all errors.
     ghost spelled: { Spelled Self };
 
-    /// Lists the references in the value, in the order in which they are written.
+    /// Returns the references in the value, in the order in which they are written.
     ///
     /// # Errors
-    /// - OutOfMemory: nothing is listed.
+    ///
+    /// - `OutOfMemory` only.
     fn list(&self, alloc: Global) -> Result<Vec<ArcRef>, Error>
         ensures ok { IfOk result (λ v. v.items ≡ references_in (spelled.means.meaning self.now)) }
         ensures only { IfErr result memory };
 
-    /// Appends a form of the value, and lists its references.
+    /// Appends a form of the value, and its references in their order.
     ///
     /// # Errors
-    /// - as the type's `pagable_serialize`: what stood before still stands.
+    ///
+    /// - as the type's `pagable_serialize`: what was written before stays in place.
     fn write<S: PagableSerializer<E>>(&self, serializer: &mut S) -> Result<(), Error>
         ensures wrote { Wrote E.Env S.PagableSerializer (form (spelled.means.of self.now) spelled.shape) spelled.writes.are serializer.old serializer.new result }
         ensures listed { OnOk result ((S.out serializer.new).refs ≡ (S.out serializer.old).refs ++ references_in (spelled.means.meaning self.now)) };
 
-    /// Reads the value at the front of what is left, and leaves the rest.
+    /// Reads the value at the start of what is left, and leaves the rest.
     ///
     /// # Errors
-    /// - as the type's `pagable_deserialize`: the first fault from the front, or a cause of the type's own.
+    ///
+    /// - as the type's `pagable_deserialize`: the first fault from the start, or a cause of the
+    ///   type's own.
     fn read<D: PagableDeserializer<E>>(alloc: Global, deserializer: &mut D) -> Result<Self, Error>
         ensures reads { Reads E.Env D.PagableDeserializer spelled.reads.are spelled.means.of (λ c. read_shape c spelled.shape) deserializer.old deserializer.new result };
 }
 
-/// Nothing, as the third type of an environment with two.
+/// `()` is the third type of an environment with two.
 impl<E: Env> NodeValue<E> for () {
     ghost spelled = { empty };
 

@@ -12,9 +12,8 @@ use pagable_traits::{
 use std::alloc::Global;
 use std::sync::Arc;
 
-/// A node of an environment whose values are all of the type `T`, which has the number 0.
-///
-/// An environment names it, as `type Node = OneNode<Commit>`.
+/// A node of an environment whose values are all of the type `T`, which has the number 0. An
+/// environment names it as its node type: `type Node = OneNode<Commit>`.
 #[derive(Drop)]
 pub struct OneNode<T> {
     /// The value.
@@ -30,9 +29,11 @@ impl<T> OneNode<T> {
     }
 }
 
-/// Writes a value whose references are told, and lists those, as a node has to.
+/// Writes a value, with the law that a node needs: the serializer lists exactly the references that
+/// the type's `Refers` lists.
 ///
 /// # Errors
+///
 /// - as the value's `pagable_serialize`.
 pub fn write_with_refs<E: Env, T: Refers<E> + PagableSerialize<E>, S: PagableSerializer<E>>(
     value: &T,

@@ -1,5 +1,5 @@
-//! An environment for programs that need no types of their own: a record has a tag, a text and references to other
-//! records.
+//! An environment for programs that need no types of their own. A record has a tag, a text and
+//! references to other records.
 
 ghost use Rattle.std.specs.{Arc.arc_value, Prelude.{IfOk, Some, refl, ◌≡◌}};
 ghost use Rattle.pagable_nodes.specs.{Nodes.{holds_one, one_held, zero_is_small}, Records.{IsRecord, record_spelled}};
@@ -16,7 +16,7 @@ use pagable_traits::{
 use std::alloc::Global;
 use std::sync::Arc;
 
-/// The environment of records, which have the type number 0. Keys are made by SHA-256.
+/// The environment of records, which have the type number 0. Keys are computed by SHA-256.
 #[derive(Drop)]
 pub struct Records;
 
@@ -40,20 +40,21 @@ impl Env for Records {
     ghost parts = { λ e number. nothing };
 }
 
-/// A node of records.
+/// A node that holds a record.
 pub type RecordNode = OneNode<Record>;
 
-/// A reference to a record, as a record holds it: it is read without the other's value.
+/// A reference to a record, as a record holds it. A record is read without the values of its
+/// references.
 pub type RecordRef = RawRef<1>;
 
-/// A record: what it is by a number of the program's own, a text, and references to other records in their order.
+/// A record: a tag, a text, and references to other records in their order.
 #[derive(Drop)]
 pub struct Record {
-    /// What kind of record it is, by a number that the program chooses.
+    /// The record's sort, a number that the program chooses.
     pub tag: u32,
-    /// Its content.
+    /// The record's content.
     pub text: String,
-    /// What it refers to.
+    /// The records that it refers to.
     pub refs: Vec<RecordRef>,
 }
 
@@ -61,7 +62,8 @@ impl Record {
     /// Makes a record with a copy of this text.
     ///
     /// # Errors
-    /// - OutOfMemory: the references are dropped.
+    ///
+    /// - `OutOfMemory`: the references are dropped.
     pub fn new(alloc: Global, tag: u32, text: &str, refs: Vec<RecordRef>) -> Result<Record, Error>
         ensures { IfOk result (λ r. IsRecord tag text.now refs r) }
     {
@@ -69,10 +71,11 @@ impl Record {
         Ok(Record { tag, text, refs })
     }
 
-    /// Makes the node of such a record, as `insert` takes it.
+    /// Makes the node of a record with a copy of this text, as `insert` takes it.
     ///
     /// # Errors
-    /// - OutOfMemory: the references are dropped.
+    ///
+    /// - `OutOfMemory`: the references are dropped.
     pub fn node(
         alloc: Global,
         tag: u32,
@@ -85,7 +88,7 @@ impl Record {
         Ok(OneNode::new(Arc::new(alloc, made)?))
     }
 
-    /// Makes a loose reference one that a record holds.
+    /// Makes a loose reference one that a record can hold.
     pub fn reference(of: PagableArc<Record>) -> RecordRef
         ensures { plain 1 result ≡ loose 0 of }
     {
@@ -191,7 +194,7 @@ impl InNode<Records> for Record {
     ghost reads_as = { λ e h. h };
 }
 
-/// The forms of a record are read again.
+/// The forms of a record are read back.
 #[tactic(auto, using(crate::specs::Records::record_is_read))]
 pub fn records_are_read<E: Env>()
     ensures { (e : E) → IsReadThroughout (E.parts e) (⟦<Record as Carried<E>>⟧.shape e) }

@@ -1,4 +1,4 @@
--- The refusals of a storage that fails once, and of one that passes those of its memory on.
+-- The errors of a storage that fails once, and of one that passes on the errors of its memory.
 use Rattle.{pagable_testkit.specs.Failing.failures_of, pagable_value_spec.specs.{Blob.Blob, Stored.{HasFailed, RefusesFetch, RefusesStore, RefusesFlush}, declared.error.Error.Error}}
 use Rattle.futures.specs.{Poll.IfReady, declared.task.Poll.Poll}
 use Rattle.std.{proofs.{Common.{◌≡◌, ◌+◌, ◌-◌, ◌^◌, ◌<◌, ℕ, Bool, true, false, min, arith, Option, Result, Ok, Err, inl, inr}, lemmas.Bool.cases_lt}, specs.{Int.from_bool, Prelude.IfErr}}

@@ -1,4 +1,4 @@
--- What the values of the rows mean, and how they are spelled.
+-- What the values of the test cases mean, and how they are encoded.
 use Rattle.std.specs.{Global.Vec, Int.w8, Prelude.{None, Option, Some, String, refl, suc, true, zero, ℕ, ◌≡◌}, String.string_bytes, declared.alloc.Global.Global}
 use Rattle.pagable_testkit.specs.{Linked.{Case, chain_means, chain_single, one_writes, node_case}, declared.{cells.CellNode.CellNode, linked.chain.Chain.Chain}}
 use Rattle.pagable_value_spec.specs.{Form.unsigned-form, Meaning.{Meaning, number}, References.references_in, Refusals.may_refuse_writing, Shape.{Shape, both, list, nothing, optional, reference, text}}
@@ -9,7 +9,7 @@ use Rattle.pagable_traits.specs.declared.raw_ref.RawRef.{RawRef}
 use Rattle.pagable_value_spec.specs.Meaning as meanings
 use Rattle.pagable_testkit.specs.declared.cells.CellNode.TheVariants as nodes
 
--- how the values of a type are spelled, what each means, which is one thing, and all refusals of their writing
+-- the shape of a type's values, their one meaning each, and all errors of writing them
 pub record Spelled (T : Type 0) : Type 1 where
   pub shape : Shape
   pub means : Meanings T
@@ -63,7 +63,7 @@ shape_of (suc (suc (suc (suc (suc (suc zero)))))) = Some (reference 0)
 shape_of (suc (suc (suc (suc (suc (suc (suc zero))))))) = Some (both (unsigned w8) (unsigned w8))
 shape_of (suc (suc (suc (suc (suc (suc (suc (suc n)))))))) = None
 
--- all refusals of the writing of a type's values: of notes, any that a writer may have of its own
+-- all errors of writing a type's values; for notes, any error that a writer may have of its own
 abbrev pub writes : ℕ → WriteCauses
 writes zero = string.writes
 writes (suc zero) = record { are = λ e. may_refuse_writing e ≡ true; may = λ e h. h }

@@ -1,4 +1,4 @@
--- What links and bundles mean and refer to, and what the nodes that hold them do.
+-- What links and bundles mean and refer to, and the same for the nodes that hold them.
 use Rattle.std.{proofs.Common.arith, specs.{Arc.arc_value, Global.Vec, Prelude.{List, None, Option, Some, false, refl, suc, true, zero, ℕ, ◌<◌, ◌^◌, ◌≡◌}}}
 use Rattle.{pagable_testkit.specs.declared.linked.{LinkedNode.LinkedNode, bundle.Bundle.Bundle, chain.Chain.Chain}, pagable_value_spec.specs.Meaning.Meaning}
 use Rattle.pagable_value_spec.specs.{OneForm.{HasOneFormThroughout, over_has_one_form, two_has_one_form}, References.{SameReferences, references_in}}
@@ -48,7 +48,7 @@ pub bundle_single : AreSingle bundle_means
 bundle_single b = pairs_single (many (holding_means 1 false)) (pairs (many (loose_means 0)) (many (holding_means 0 true))) (many-single (holding_means 1 false))
     (pairs_single (many (loose_means 0)) (many (holding_means 0 true)) (many-single (loose_means 0)) (many-single (holding_means 0 true))) (b.shared, (b.loose, b.pinned))
 
--- what holds of a list of references of any kind, and of a pair if of its parts, holds of a bundle
+-- what holds for a list of references of any kind, and for a pair if it holds for its parts, holds for a bundle
 in-bundle : (P : Shape → Type 0) → ((s t : Shape) → P s → P t → P (both s t)) → ((kind : ℕ) → P (list (reference kind))) → P bundle_shape
 in-bundle P pairs lists = pairs (list (reference 3)) (both (list (reference 1)) (list (reference 2))) (lists 3) (pairs (list (reference 1)) (list (reference 2)) (lists 1) (lists 2))
 
@@ -61,7 +61,8 @@ bundle_is_read = in-bundle (IsReadThroughout no_parts) (λ s t. two_is_read (ref
 pub bundle_in_order : ListsInOrder no_parts bundle_shape
 bundle_in_order = in-bundle (ListsInOrder no_parts) (both_in_order no_parts) (λ kind. list_in_order no_parts (reference kind) (reference_in_order no_parts kind))
 
--- all refusals of the writing of at most one reference, and of a list of them, of which a bundle has three; and of a bundle's reading, beside the faults of the input and of references
+-- all errors of writing at most one reference, and of writing a list of them, of which a bundle has three; and the
+-- errors of reading a bundle other than faults of the input and of references
 abbrev pub one_writes : WriteCauses
 one_writes = writes_memory_or writes_memory
 
@@ -73,7 +74,8 @@ bundle_reads = reads_either (reads_memory_or reads_unlent) (reads_either (reads_
 
 -- ---- nodes
 
--- what a case of a node says: its type's number, its shape, what it means, and what it refers to, which is what its one meaning refers to
+-- what a node says by its case: its type's number, its shape, its meaning, and its references, which are those of its
+-- one meaning
 pub record Case (shape_of : ℕ → Option Shape) : Type 1 where
   pub number : ℕ
   pub shape : Shape
@@ -105,7 +107,8 @@ told (nodes.Link c) = node_case shape_of 0 (optional (reference 1)) refl (chain_
 told (nodes.ArcLink c) = node_case shape_of 1 (optional (reference 3)) refl (chain_means 3) (chain_single 3) (arc_value c)
 told (nodes.Bundle b) = node_case shape_of 2 bundle_shape refl bundle_means bundle_single (arc_value b)
 
--- all refusals of the writing of a type's values, and of the reading, beside the faults of the input and of references
+-- all errors of writing a type's values, and the errors of reading them other than faults of the input and of
+-- references
 abbrev pub writes : ℕ → WriteCauses
 writes (suc (suc t)) = bundle_writes
 writes _ = one_writes
@@ -114,7 +117,7 @@ abbrev pub reads : ℕ → ReadCauses
 reads (suc (suc t)) = reads_memory_or bundle_reads
 reads _ = reads_memory_or reads_never
 
--- ---- what a node holds
+-- ---- the value that a node holds
 
 abbrev pub HoldsIn : {T : Type 0} → Meanings T → ℕ → LinkedNode → Option T → Type 0
 HoldsIn M t n = Holds M.of t (told n).number (told n).means
@@ -143,7 +146,7 @@ pub holds_bundle : (n : LinkedNode) → HoldsIn bundle_means 2 n (bundle_in n)
 holds_bundle (nodes.Bundle x) = holds-value (arc_value x) refl (λ m h. h) (λ m h. h)
 holds_bundle _ = holds-none (λ e. omega (arith, e))
 
--- ---- what is held beside references: by the shared ones and the pins of a bundle, the values of their nodes
+-- ---- what is held beside references: the values of the nodes of a bundle's shared references and pins
 
 abbrev many-beside : {T : Type 0} → Beside LinkedNode T → Beside LinkedNode (Vec T)
 many-beside B v = lists_beside B v.items

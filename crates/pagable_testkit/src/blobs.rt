@@ -1,11 +1,12 @@
-//! Inputs and blobs as rows spell them.
+//! Parsers of inputs and blobs, as the lines of test cases spell them.
 
 use anyhow::Context;
 use pagable_core::{PagableData, WeighHash};
 use pagable_flavors::DataKey;
 use std::alloc::Global;
 
-/// The bytes of an input: parts in hex, each perhaps with how often it stands, as `0401*127+0400`. `-` is none.
+/// Parses the bytes of an input: parts in hex, each with an optional count of repeats, as in
+/// `0401*127+0400`. `-` is the empty input.
 pub fn bytes_of(alloc: Global, input: &str) -> anyhow::Result<Vec<u8>> {
     let mut bytes = Vec::new(alloc);
     if input == "-" {
@@ -21,7 +22,7 @@ pub fn bytes_of(alloc: Global, input: &str) -> anyhow::Result<Vec<u8>> {
     Ok(bytes)
 }
 
-/// The child keys, which are parted by commas.
+/// Parses child keys, separated by commas.
 fn children_of(alloc: Global, text: &str) -> anyhow::Result<Vec<DataKey>> {
     let mut children = Vec::new(alloc);
     for child in text.split(',') {
@@ -30,7 +31,7 @@ fn children_of(alloc: Global, text: &str) -> anyhow::Result<Vec<DataKey>> {
     Ok(children)
 }
 
-/// A blob: its bytes as an input, and behind a colon its child keys, if it has some.
+/// Parses a blob: its bytes as an input, and after a colon its child keys, if it has any.
 pub fn blob(alloc: Global, text: &str) -> anyhow::Result<PagableData> {
     let (bytes, arcs) = match text.split_once(':') {
         Some((bytes, children)) => (bytes, children_of(alloc, children)?),
@@ -40,7 +41,7 @@ pub fn blob(alloc: Global, text: &str) -> anyhow::Result<PagableData> {
     Ok(PagableData { bytes, arcs })
 }
 
-/// The key of a blob by `WeighHash`, as a text.
+/// Returns the key of a blob by `WeighHash`, as a text.
 pub fn weighed(alloc: Global, text: &str) -> anyhow::Result<String> {
     let key = blob(alloc, text)?.compute_key::<WeighHash>();
     Ok(format!(in alloc; "{}", key.get())?)

@@ -1,4 +1,4 @@
-//! The values of the rows, by the numbers of their types.
+//! The values of the test cases, by the numbers of their types.
 
 use crate::linked::chain::Chain;
 use crate::linked::write_with_refs;
@@ -10,7 +10,7 @@ use pagable_traits::{
 use std::alloc::Global;
 use std::marker::PhantomData;
 
-/// The environment of these values, whose keys are made by the hash `H`.
+/// The environment of these values. The hash `H` computes its keys.
 #[derive(Drop)]
 pub struct CellEnv<H> {
     hash: PhantomData<H>,
@@ -36,7 +36,7 @@ impl<H: KeyHash> Env for CellEnv<H> {
     ghost parts = { λ e number. nothing };
 }
 
-/// References of each sort to values of their own type, and to names, loose and shared.
+/// References of each sort to values of the same type, and loose and shared references to names.
 type Lists = (
     Vec<RawRef<6>>,
     (Vec<RawRef<7>>, (Vec<RawRef<8>>, (Vec<RawRef<1>>, Names))),
@@ -45,37 +45,37 @@ type Lists = (
 /// A byte and lists.
 type Mixed = (u8, Lists);
 
-/// A link to the next one by a loose reference: of its own kind.
+/// A link to the next link by a loose reference, of the link's own kind.
 type Link = Chain<10>;
 
-/// A link to the next one by a shared reference: of its own kind.
+/// A link to the next link by a shared reference, of the link's own kind.
 type ArcLink = Chain<12>;
 
 /// Shared references to names.
 type Names = Vec<RawRef<0>>;
 
-/// A node's value.
+/// A node that holds a value of one of these types.
 #[derive(Drop)]
 pub enum CellNode {
-    /// Of the type 0: a text.
+    /// Type 0: a text.
     Name(String),
-    /// Of the type 1: a text that can be read, and whose writer refuses.
+    /// Type 1: a text that can be read, and whose writer fails.
     Note(String),
-    /// Of the type 2: a byte and lists.
+    /// Type 2: a byte and lists.
     Mixed(Mixed),
-    /// Of the type 3.
+    /// Type 3: a link by a loose reference.
     Link(Link),
-    /// Of the type 4.
+    /// Type 4: a link by a shared reference.
     ArcLink(ArcLink),
-    /// Of the type 5.
+    /// Type 5: shared references to names.
     Names(Names),
-    /// Of the type 6: a shared reference to a name, and no byte.
+    /// Type 6: a shared reference to a name, and no byte.
     Holder(RawRef<0>),
-    /// Of the type 7: two bytes.
+    /// Type 7: two bytes.
     Bytes((u8, u8)),
 }
 
-/// Those that are of the kind that is wanted.
+/// Returns those references that are of this kind.
 pub fn of_kinds<const KIND: u32>(
     alloc: Global,
     references: &[ArcRef],
@@ -89,7 +89,7 @@ pub fn of_kinds<const KIND: u32>(
     Ok(found)
 }
 
-/// Those that are of the one kind, and those that are of the other.
+/// Returns those references that are of the one kind, and those that are of the other.
 pub fn of_two_kinds<const KIND: u32, const OTHER: u32>(
     alloc: Global,
     references: &[ArcRef],
@@ -98,7 +98,7 @@ pub fn of_two_kinds<const KIND: u32, const OTHER: u32>(
     Ok((first, of_kinds(alloc, references)?))
 }
 
-/// The lists of these references, list after list.
+/// Sorts these references into lists, one for each kind.
 pub fn lists(alloc: Global, spelled: &[ArcRef]) -> Result<Lists, Error> {
     let (own, loose) = of_two_kinds(alloc, spelled)?;
     let pinned = of_kinds(alloc, spelled)?;

@@ -1,5 +1,6 @@
-//! What rows of events are made of: blobs, values that refer to others, and events as lines spell them, and what comes of these; an environment of texts; types
-//! that refer to each other, and their environment; a storage over another storage, which fails once, and one that answers wrongly once; and lines of input, which are answered one by one.
+//! The parts of test cases: parsers of blobs, values and events from lines, and printers of
+//! results; environments of texts and of types that refer to each other; a storage that fails once
+//! and one that answers wrongly once; and a loop that reads lines and answers each.
 #![tactic(auto)]
 
 pub mod blobs;

@@ -1,25 +1,25 @@
-//! Lines of input, and answering them.
+//! A loop that reads lines and writes an answer to each.
 
 use std::alloc::Global;
 use std::io;
 use std::io::{BufRead, BufWriter, Read, Write};
 
-/// The greatest length of a line in bytes, its LF not counted.
+/// The greatest length of a line in bytes, without its LF.
 const LONGEST_LINE: usize = 65_536;
 
-/// What the next line is.
+/// What the reader found as the next line.
 #[derive(Clone, Copy)]
 enum Line {
-    /// There is none: the input has ended.
+    /// No line: the input has ended.
     End,
-    /// A line, which is in the buffer without its LF.
+    /// A line; the buffer holds it without its LF.
     Whole,
     /// A line above the greatest length.
     TooLong,
 }
 
-/// Reads the next line into the buffer. The last line may lack its LF. Of a line that is too long no more than one byte
-/// above the greatest length is held.
+/// Reads the next line into the buffer. The last line may lack its LF. Of a line that is too long,
+/// the buffer holds at most one byte above the greatest length.
 fn next_line<R: BufRead>(reader: &mut R, line: &mut Vec<u8>) -> io::Result<Line> {
     line.clear();
     let most = LONGEST_LINE as u64 + 1;
@@ -36,9 +36,10 @@ fn next_line<R: BufRead>(reader: &mut R, line: &mut Vec<u8>) -> io::Result<Line>
     Ok(Line::Whole)
 }
 
-/// What answers lines.
+/// A program that answers lines.
 pub trait Answering {
-    /// Writes the answer to a line; None is one that isn't text, or is too long. Refused where writing fails.
+    /// Writes the answer to a line, or to None for a line that isn't text or is too long. Fails if
+    /// writing fails.
     fn answer<W: Write>(
         &mut self,
         alloc: Global,
@@ -47,8 +48,12 @@ pub trait Answering {
     ) -> io::Result<()>;
 }
 
-/// Has each line of the input answered, one after the other, and flushes each answer. Refused where reading or writing fails, or a buffer can't be made; nothing
-/// more is written then, not even what a failed write held.
+/// Has each line of the input answered, one after another, and flushes each answer.
+///
+/// # Errors
+///
+/// - an error of reading or writing, or of creating a buffer: the call writes nothing more, not
+///   even what a failed write left in the buffer.
 pub fn serve<A: Answering, R: BufRead, W: Write + Drop>(
     alloc: Global,
     answering: &mut A,
@@ -57,19 +62,19 @@ pub fn serve<A: Answering, R: BufRead, W: Write + Drop>(
 ) -> io::Result<()> {
     let mut buffered = BufWriter::new(alloc, writer)?;
     let outcome = answer_each(alloc, answering, reader, &mut buffered);
-    // A buffer that is dropped writes what it holds, so it gives that up first.
+    // A buffer writes what it holds when it is dropped, so this takes it apart first.
     let (_writer, _unwritten) = buffered.into_parts();
     outcome
 }
 
-/// Has each line of the input answered into a buffered writer.
+/// Has each line of the input answered, into a buffered writer.
 fn answer_each<A: Answering, R: BufRead, W: Write>(
     alloc: Global,
     answering: &mut A,
     reader: &mut R,
     writer: &mut W,
 ) -> io::Result<()> {
-    // The buffer never grows, so that reading lines takes no memory.
+    // The buffer never grows, so reading lines allocates nothing.
     let mut line = Vec::with_capacity(alloc, LONGEST_LINE + 1)?;
     for _ in 0..u64::MAX {
         let text = match next_line(reader, &mut line)? {

@@ -1,5 +1,5 @@
-//! Types that refer to each other, and their environment: links refer to links, and a bundle to links of both sorts by each
-//! sort of references.
+//! Types that refer to each other, and their environment: links refer to links, and a bundle to
+//! links of both sorts by each sort of references.
 
 ghost use Rattle.std.specs.{Arc.arc_value, Prelude.{OnOk, Some, refl, ◌++◌, ◌≡◌}};
 ghost use Rattle.{pagable_value_spec.specs.References.references_in, pagable_traits.specs.Clauses.{Wrote, value as form}};
@@ -20,7 +20,7 @@ use pagable_traits::{
 use std::alloc::Global;
 use std::sync::Arc;
 
-/// The environment of links, of the type number 0, links by shared references, 1, and bundles, 2.
+/// The environment of links (type number 0), links by shared references (1) and bundles (2).
 #[derive(Drop)]
 pub struct Linked;
 
@@ -36,7 +36,8 @@ impl Env for Linked {
     ghost parts = { λ e. no_parts };
 }
 
-/// Writes a value whose references are told: it lists those, as a node has to.
+/// Writes a value, with the law that a node needs: the serializer lists exactly the references that
+/// the type's `Refers` lists.
 pub fn write_with_refs<E: Env, T: Refers<E> + PagableSerialize<E>, S: PagableSerializer<E>>(
     value: &T,
     serializer: &mut S,
@@ -47,7 +48,7 @@ pub fn write_with_refs<E: Env, T: Refers<E> + PagableSerialize<E>, S: PagableSer
     value.pagable_serialize(serializer)
 }
 
-/// What a node may hold.
+/// A node that holds a value of one of these types.
 #[derive(Drop)]
 pub enum LinkedNode {
     Link(Arc<Link>),

@@ -1,4 +1,4 @@
-//! What a row asks for: events, parted by semicolons.
+//! The parser of a test case's events, which are separated by semicolons.
 
 use crate::blobs::{blob, bytes_of};
 use crate::cells::CellNode;
@@ -14,12 +14,12 @@ pub type CellCall = Call<CellNode, PagableData>;
 
 pub type CellEvent = Event<CellNode, PagableData, SerializedData>;
 
-/// A word, and what stands behind it.
+/// Splits a text into its first word and what follows it.
 pub fn split(text: &str) -> (&str, &str) {
     text.split_once(' ').unwrap_or((text, ""))
 }
 
-/// The events of a row.
+/// Parses the events of a line.
 pub fn events(alloc: Global, line: &str) -> anyhow::Result<Vec<CellEvent>> {
     let mut events = Vec::new(alloc);
     for part in line.split(';') {
@@ -28,7 +28,7 @@ pub fn events(alloc: Global, line: &str) -> anyhow::Result<Vec<CellEvent>> {
     Ok(events)
 }
 
-/// Adds one event, as many steps as are told, or a chain of births.
+/// Appends one event, a step as often as the line says, or a chain of inserts.
 fn push_events(alloc: Global, events: &mut Vec<CellEvent>, part: &str) -> anyhow::Result<()> {
     if let Some(chain) = part.strip_prefix("chain ") {
         return push_chain(alloc, events, chain);
@@ -40,13 +40,14 @@ fn push_events(alloc: Global, events: &mut Vec<CellEvent>, part: &str) -> anyhow
     Ok(())
 }
 
-/// Adds one event.
+/// Appends one event.
 fn push_event(alloc: Global, events: &mut Vec<CellEvent>, one: &str) -> anyhow::Result<()> {
     Ok(events.push(event(alloc, one)?)?)
 }
 
-/// Adds so many births in a new pager, of which each refers to the one before: as `new_loose 3 10 130`, the call, the type, the kind of
-/// the references and how many.
+/// Appends inserts into a new pager, each of which refers to the node before. A chain such as
+/// `new_loose 3 10 130` is the call, the type, the kind of the references, and the number of
+/// inserts.
 fn push_chain(alloc: Global, events: &mut Vec<CellEvent>, chain: &str) -> anyhow::Result<()> {
     let (birth, times) = chain.rsplit_once(' ').context("no chain")?;
     let (birth, kind) = birth.rsplit_once(' ').context("no chain")?;
@@ -58,7 +59,7 @@ fn push_chain(alloc: Global, events: &mut Vec<CellEvent>, chain: &str) -> anyhow
     Ok(())
 }
 
-/// A step with its load or worker, and how often it is to be made; anything else once.
+/// Splits a step of a load or a worker from its count; anything else has the count 1.
 fn times_of(part: &str) -> (&str, u64) {
     if !part.starts_with("step ") && !part.starts_with("work ") {
         return (part, 1);
@@ -69,7 +70,7 @@ fn times_of(part: &str) -> (&str, u64) {
     }
 }
 
-/// One event: a step of a load or of a worker, or a call.
+/// Parses one event: a step of a load or of a worker, or a call.
 fn event(alloc: Global, part: &str) -> anyhow::Result<CellEvent> {
     let (name, rest) = split(part);
     let (first, behind) = split(rest);
@@ -89,7 +90,7 @@ fn event(alloc: Global, part: &str) -> anyhow::Result<CellEvent> {
     }
 }
 
-/// An item: data in hex, and behind a colon references as values have them.
+/// Parses an item: its bytes in hex, and after a colon its references, as in values.
 pub fn item(alloc: Global, spelled: &str) -> anyhow::Result<SerializedData> {
     let (data, behind) = spelled.split_once(':').unwrap_or((spelled, ""));
     Ok(SerializedData {
@@ -98,22 +99,22 @@ pub fn item(alloc: Global, spelled: &str) -> anyhow::Result<SerializedData> {
     })
 }
 
-/// A number that a word spells.
+/// Parses a number; anything else is 0.
 fn number_of(word: &str) -> u64 {
     word.parse::<u64>().unwrap_or_default()
 }
 
-/// A kind of references, or a type, that a word spells.
+/// Parses a kind of references or a type; anything else is 0.
 fn kind_of(word: &str) -> u32 {
     word.parse::<u32>().unwrap_or_default()
 }
 
-/// A key that a word spells.
+/// Parses a key; returns None for 0 and for anything else.
 fn key_of(word: &str) -> Option<DataKey> {
     DataKey::new(word.parse::<u128>().unwrap_or_default())
 }
 
-/// One call: its name, and what it is about. A number that isn't there is 0, which nothing has.
+/// Parses one call: its name and its arguments. A number that is missing is 0, which names nothing.
 fn call(alloc: Global, name: &str, rest: &str) -> anyhow::Result<CellCall> {
     let (first, behind) = split(rest);
     let load = LoadNumber(number_of(first));
@@ -129,7 +130,7 @@ fn call(alloc: Global, name: &str, rest: &str) -> anyhow::Result<CellCall> {
     }
 }
 
-/// A call that is about a handle and no more; other names are handed on.
+/// Parses a call whose one argument is a handle, and passes other names on.
 fn of_handle(name: &str, first: &str, behind: &str) -> Option<CellCall> {
     let handle = HandleNumber(number_of(first));
     Some(match name {
@@ -148,7 +149,7 @@ fn of_handle(name: &str, first: &str, behind: &str) -> Option<CellCall> {
     })
 }
 
-/// A call of another number, or of none; other names are handed on.
+/// Parses a call whose one argument is another number, or that has none, and passes other names on.
 fn of_numbers(name: &str, first: &str, behind: &str) -> Option<CellCall> {
     let number = number_of(first);
     Some(match name {
@@ -165,7 +166,7 @@ fn of_numbers(name: &str, first: &str, behind: &str) -> Option<CellCall> {
     })
 }
 
-/// A call of a key, which is its first, second or third word.
+/// Parses a call with a key as its first, second or third word.
 fn of_key(name: &str, first: &str, behind: &str) -> Option<CellCall> {
     let (second, third) = split(behind);
     let key = key_of(match name {
@@ -190,7 +191,7 @@ fn of_key(name: &str, first: &str, behind: &str) -> Option<CellCall> {
     })
 }
 
-/// The handles that a load of a key hands over.
+/// Parses a call that takes handles from a load of a key.
 fn taken(alloc: Global, load: LoadNumber, words: &str) -> anyhow::Result<CellCall> {
     let mut handles = Vec::new(alloc);
     for word in words.split(' ') {
@@ -201,7 +202,7 @@ fn taken(alloc: Global, load: LoadNumber, words: &str) -> anyhow::Result<CellCal
     Ok(Call::LoadTake(load, handles))
 }
 
-/// What a load read under a kind and a key becomes a node.
+/// Parses a call that makes a node of what a load read under a kind and a key.
 fn adopted(alloc: Global, load: LoadNumber, behind: &str) -> anyhow::Result<CellCall> {
     let (kind, rest) = split(behind);
     let (key, spelled) = split(rest);

@@ -1,4 +1,4 @@
-//! Values and references as rows spell them.
+//! Parsers and printers of values and references, as the lines of test cases spell them.
 
 use crate::blobs::bytes_of;
 use crate::cells::{CellEnv, CellNode, lists, of_kinds};
@@ -10,7 +10,7 @@ use pagable_traits::{NodeSet, RawRef};
 use pagable_value_spec::{ArcRef, HandleNumber, Kind, NodeNumber};
 use std::alloc::Global;
 
-/// The references that are spelled, parted by commas.
+/// Parses references, separated by commas.
 pub fn references(alloc: Global, spelled: &str) -> anyhow::Result<Vec<ArcRef>> {
     let mut references = Vec::new(alloc);
     for word in spelled.split(',') {
@@ -21,7 +21,7 @@ pub fn references(alloc: Global, spelled: &str) -> anyhow::Result<Vec<ArcRef>> {
     Ok(references)
 }
 
-/// A reference by its kind, its node and its handle.
+/// Parses a reference: its kind, its node and its handle.
 fn reference(word: &str) -> ArcRef {
     let (kind, rest) = word.split_once(':').unwrap_or((word, ""));
     let (node, handle) = rest.split_once(':').unwrap_or((rest, ""));
@@ -32,7 +32,7 @@ fn reference(word: &str) -> ArcRef {
     }
 }
 
-/// Adds references as rows spell them, parted by commas.
+/// Appends references as lines spell them, separated by commas.
 pub fn push_references(
     alloc: Global,
     text: &mut String,
@@ -47,19 +47,20 @@ pub fn push_references(
     Ok(())
 }
 
-/// A reference of the kind that is wanted.
+/// Returns the reference as one of this kind. Fails if it is of another.
 fn of_kind<const KIND: u32>(reference: ArcRef) -> anyhow::Result<RawRef<KIND>> {
     RawRef::from_reference(reference).context("a reference of another kind")
 }
 
-/// A link by this reference, if that is of the link's kind.
+/// Makes a link by this reference. Fails if the reference isn't of the link's kind.
 fn link<const KIND: u32>(reference: ArcRef) -> anyhow::Result<Chain<KIND>> {
     Ok(Chain {
         next: Some(of_kind(reference)?),
     })
 }
 
-/// Adds a value as rows spell it, but for its type. The byte before lists is left out if it is 0.
+/// Appends a value as lines spell it, without its type. The byte before lists is left out if it is
+/// 0.
 pub fn push_node(alloc: Global, text: &mut String, node: &CellNode) -> Result<(), Error> {
     match node {
         CellNode::Name(name) | CellNode::Note(name) => text.push_str(name.as_str())?,
@@ -79,8 +80,9 @@ pub fn push_node(alloc: Global, text: &mut String, node: &CellNode) -> Result<()
     Ok(())
 }
 
-/// The value that a row spells, as `0 hello world`: its type, and all after the first space, or the empty text. References are
-/// spelled `2 7:1:2,8:3:4`: of each the kind, the node and the handle, list after list. The byte stands before them, as in `2 5/7:1:2`, if it isn't 0.
+/// Parses a value such as `0 hello world`: its type, and all after the first space, or the empty
+/// text. References are written as in `2 7:1:2,8:3:4`: for each its kind, node and handle, list
+/// after list. A byte before them is written if it isn't 0, as in `2 5/7:1:2`.
 pub fn node(alloc: Global, spelled: &str) -> anyhow::Result<CellNode> {
     let (node_type, rest) = spelled.split_once(' ').unwrap_or((spelled, ""));
     match node_type {
@@ -95,7 +97,7 @@ pub fn node(alloc: Global, spelled: &str) -> anyhow::Result<CellNode> {
     }
 }
 
-/// A byte and lists.
+/// Parses a byte and lists.
 fn mixed(alloc: Global, spelled: &str) -> anyhow::Result<CellNode> {
     let (tag, rest) = spelled.split_once('/').unwrap_or(("0", spelled));
     let tag = tag.parse::<u8>()?;
@@ -109,7 +111,7 @@ fn mixed(alloc: Global, spelled: &str) -> anyhow::Result<CellNode> {
     Ok(node)
 }
 
-/// A value of references of one kind.
+/// Makes a value that holds references of one kind.
 fn node_case(alloc: Global, node_type: &str, references: &[ArcRef]) -> anyhow::Result<CellNode> {
     match (node_type, references) {
         ("5", names) => Ok(CellNode::Names(of_kinds(alloc, names)?)),

@@ -1,4 +1,4 @@
-//! What events answer, in words, and where a handle's node stands.
+//! The printer of events' results and of handles' nodes.
 
 use crate::cells::CellNode;
 use crate::parse_values::{push_node, push_references};
@@ -16,13 +16,13 @@ type CellReply = Reply<CellNode, Arc<PagableData>>;
 
 type CellAnswer = EventReply<CellNode, Arc<PagableData>, Arc<SerializedData>>;
 
-/// A word, which may be empty, and at most two numbers behind it.
+/// A word, which may be empty, and at most two numbers after it.
 type Told = (&'static str, Option<u128>, Option<u128>);
 
-/// Nothing more is told.
+/// No word and no numbers.
 const NOTHING: Told = ("", None, None);
 
-/// A refusal: its number, and the key or code that it carries.
+/// Returns an error's number, and the key or code that it carries.
 fn refused(word: &'static str, refusal: &Error) -> Told {
     let second = match refusal {
         Error::NoData(key) => Some(key.get()),
@@ -32,13 +32,13 @@ fn refused(word: &'static str, refusal: &Error) -> Told {
     (word, Some(refusal.number() as u128), second)
 }
 
-/// A refusal by its number alone.
+/// Returns an error's number alone.
 fn fault(word: &'static str, refusal: &Error) -> Told {
     let (word, number, _) = refused(word, refusal);
     (word, number, None)
 }
 
-/// What the begin of a load answers.
+/// Returns the result of a load's begin.
 fn begun(begun: &Beginning) -> Told {
     match begun {
         Beginning::InMemory => ("memory", None, None),
@@ -46,7 +46,8 @@ fn begun(begun: &Beginning) -> Told {
     }
 }
 
-/// What a call answers, but for a blob, and for a value that comes back.
+/// Returns the result of a call, without a blob and without the mark of a value that the caller
+/// gets back.
 fn told(reply: &CellReply) -> Told {
     let number = match reply {
         Reply::Made(Ok(handle))
@@ -83,7 +84,7 @@ fn told(reply: &CellReply) -> Told {
     ("ok", Some(number), None)
 }
 
-/// Adds a word and its numbers to a text.
+/// Appends a word and its numbers to a text.
 fn push_words(alloc: Global, text: &mut String, told: Told) -> anyhow::Result<()> {
     let (word, first, second) = told;
     text.push_str(word)?;
@@ -96,13 +97,14 @@ fn push_words(alloc: Global, text: &mut String, told: Told) -> anyhow::Result<()
     Ok(())
 }
 
-/// Adds bytes in hex.
+/// Appends bytes in hex.
 fn push_bytes(alloc: Global, text: &mut String, bytes: &[u8]) -> Result<(), AllocError> {
     text.push_str("0x")?;
     text.push_str(hex::encode(alloc, bytes)?.as_str())
 }
 
-/// Adds what a call answers. That a value comes back is told too.
+/// Appends the result of a call, with a blob's bytes, or the mark of a value that the caller gets
+/// back.
 fn push_call(alloc: Global, text: &mut String, reply: &CellReply) -> anyhow::Result<()> {
     match reply {
         Reply::Fetched(Ok(blob)) | Reply::LoadFound(Ok(Found::Blob(blob))) => {
@@ -116,7 +118,8 @@ fn push_call(alloc: Global, text: &mut String, reply: &CellReply) -> anyhow::Res
     }
 }
 
-/// What a step of a load answers, and how many it has made, but for a value that was read.
+/// Returns the result of a step of a load, and how many steps the load has made, without a value
+/// that was read.
 fn moved(moved: &LoadReply<CellNode>) -> Told {
     let steps = Some(moved.steps as u128);
     match &moved.ended {
@@ -127,7 +130,8 @@ fn moved(moved: &LoadReply<CellNode>) -> Told {
     }
 }
 
-/// What a step of a worker was: its kind, whom it was about, and what its call answered, but for what was written.
+/// Returns what a worker's step was: its sort, the node that it was about, and the result of its
+/// call, without what was written.
 fn action(action: &Action<Arc<SerializedData>>) -> (&'static str, Option<Identity>, Told) {
     match action {
         Action::Claim(identity, found) => (" claim", Some(*identity), claimed(found)),
@@ -147,7 +151,7 @@ fn action(action: &Action<Arc<SerializedData>>) -> (&'static str, Option<Identit
     }
 }
 
-/// What a claim found.
+/// Returns the result of a claim.
 fn claimed(found: &Result<Claim, Error>) -> Told {
     match found {
         Ok(Claim::Claimed) => (" claimed", None, None),
@@ -158,7 +162,7 @@ fn claimed(found: &Result<Claim, Error>) -> Told {
     }
 }
 
-/// What a step of pinning did.
+/// Returns what a step of pinning did.
 fn pinned(step: &Result<PinStep, Error>) -> Told {
     match step {
         Ok(PinStep::Held(handle)) => (" held", Some(handle.0 as u128), None),
@@ -168,7 +172,7 @@ fn pinned(step: &Result<PinStep, Error>) -> Told {
     }
 }
 
-/// What a worker answered in the end.
+/// Returns a worker's final result.
 fn worker_answer(answer: &WorkerAnswer) -> Told {
     match answer {
         WorkerAnswer::Key(key) => (" -> ok", Some(key.get()), None),
@@ -177,7 +181,8 @@ fn worker_answer(answer: &WorkerAnswer) -> Told {
     }
 }
 
-/// Adds a step of a worker: how many it has made, the step, and the answer if it was the last.
+/// Appends a step of a worker: how many steps it has made, the step, and the worker's result if it
+/// was the last.
 fn push_work(
     alloc: Global,
     text: &mut String,
@@ -199,7 +204,7 @@ fn push_work(
     }
 }
 
-/// Adds what was written of a value, as an item is spelled.
+/// Appends what was written of a value, as an item is spelled.
 fn push_written(alloc: Global, text: &mut String, written: &SerializedData) -> anyhow::Result<()> {
     text.push_str(" ")?;
     push_bytes(alloc, text, written.bytes.as_slice())?;
@@ -207,7 +212,7 @@ fn push_written(alloc: Global, text: &mut String, written: &SerializedData) -> a
     Ok(push_references(alloc, text, written.arcs.as_slice())?)
 }
 
-/// Adds what a step of a load answers, with a value that was read.
+/// Appends the result of a step of a load, with a value that was read.
 fn push_moved(alloc: Global, text: &mut String, reply: &LoadReply<CellNode>) -> anyhow::Result<()> {
     push_words(alloc, text, moved(reply))?;
     if let Some(LoadAnswer::Read(value)) = &reply.ended {
@@ -217,7 +222,7 @@ fn push_moved(alloc: Global, text: &mut String, reply: &LoadReply<CellNode>) -> 
     Ok(())
 }
 
-/// Adds what an event answers.
+/// Appends the result of an event.
 fn push_event(alloc: Global, text: &mut String, answer: &CellAnswer) -> anyhow::Result<()> {
     let told = match answer {
         EventReply::CallReply(reply) => return push_call(alloc, text, reply),
@@ -235,7 +240,7 @@ fn push_event(alloc: Global, text: &mut String, answer: &CellAnswer) -> anyhow::
     push_words(alloc, text, told)
 }
 
-/// The answers of a list, in the order of its events.
+/// Returns the results of events, in the order of the events.
 pub fn replies(alloc: Global, replies: &[CellAnswer]) -> anyhow::Result<String> {
     let mut text = String::new(alloc);
     for reply in replies {
@@ -247,10 +252,12 @@ pub fn replies(alloc: Global, replies: &[CellAnswer]) -> anyhow::Result<String> 
     Ok(text)
 }
 
-/// Where a handle's node stands: its number, its count, its key, and whether its value is away.
+/// The state of a handle's node: its number, its pin count, its key, and whether its value is only
+/// in the storage.
 pub type Standing = (NodeNumber, u64, OptionalDataKey, bool);
 
-/// Adds a live handle: its number, its node, the node's count and key, or 0 for none, and whether the value is in memory.
+/// Appends a live handle: its number, its node, the node's count and key (0 for none), and whether
+/// the value is in memory.
 pub fn push_handle(
     alloc: Global,
     text: &mut String,

@@ -1,4 +1,4 @@
-//! What `serve` writes to lines, where its reader may fail, and its writer fails once.
+//! Test cases of `serve`, with a reader that may fail and a writer that fails once.
 
 use crate::blobs::bytes_of;
 use crate::lines::{Answering, serve};
@@ -7,7 +7,7 @@ use std::alloc::Global;
 use std::io;
 use std::io::{BufReader, Read, Write};
 
-/// Answers a line with the count of its bytes.
+/// Answers each line with the number of its bytes.
 #[derive(Clone, Copy)]
 struct Counting;
 
@@ -25,7 +25,8 @@ impl Answering for Counting {
     }
 }
 
-/// Gives its bytes three at a time, and fails once they are used up, if it isn't to end there.
+/// A reader that returns its bytes three at a time. After them it ends if `ends` is set, else it
+/// fails.
 #[derive(Drop)]
 struct Source<'a> {
     bytes: &'a [u8],
@@ -45,7 +46,7 @@ impl<'a> Read for Source<'a> {
     }
 }
 
-/// Takes so many bytes, fails once, and takes all that comes later.
+/// A writer that accepts `left` bytes, fails once, and then accepts everything.
 #[derive(Drop)]
 struct Faltering<'a> {
     free: &'a mut [u8],
@@ -72,7 +73,8 @@ impl<'a> Write for Faltering<'a> {
     }
 }
 
-/// Whether lines are answered to their end, and how many bytes are left free of those that the answers are written to.
+/// Returns whether `serve` answered all lines, and how many bytes of the writer's buffer stayed
+/// free.
 fn serve_into(
     alloc: Global,
     source: Source<'_>,
@@ -89,8 +91,9 @@ fn serve_into(
     Ok((outcome.is_ok(), writer.free.len()))
 }
 
-/// What is written to lines, as a text in hex, and whether they are answered to their end. An input is how many bytes the writer takes
-/// before it fails once, and behind a colon the bytes that are read; behind those reading `ends` or `fails`.
+/// Runs `serve` and returns `ok` if it answered all lines, else `failed`, and what it wrote, in
+/// hex. `input` is how many bytes the writer accepts before it fails once, and after a colon the
+/// bytes to read; `behind` says what the reader does after those bytes: `ends` or `fails`.
 pub fn answer(alloc: Global, behind: &str, input: &str) -> anyhow::Result<String> {
     let (room, lines) = input.split_once(':').context("no room")?;
     let lines = bytes_of(alloc, lines)?;

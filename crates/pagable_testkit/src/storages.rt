@@ -1,4 +1,5 @@
-//! Storages for tests: one over another storage, which fails once, and one whose memory answers wrongly once.
+//! Storages for tests: one over another storage, which fails once; and one in memory, which answers
+//! wrongly once.
 
 ghost use Rattle.std.specs.Prelude.{◌≡◌, true, false};
 ghost use Rattle.pagable_testkit.specs.Failing.{failures_of};
@@ -10,8 +11,8 @@ use pagable_traits::Env;
 use std::alloc::Global;
 use std::sync::Arc;
 
-/// A storage of which one call fails, as another storage is called: `fetch_data_blocking`, each poll of `fetch_data`,
-/// `store_data` and `flush` count as calls.
+/// A storage that passes each call on to another storage, except for one call, which fails. Calls
+/// of `fetch_data_blocking`, `store_data` and `flush` and each poll of `fetch_data` count.
 #[derive(Drop)]
 pub struct FailingStorage<S> {
     inner: S,
@@ -20,7 +21,7 @@ pub struct FailingStorage<S> {
 }
 
 impl<S> FailingStorage<S> {
-    /// The storage, which lets `calls_before` calls through and then refuses one with Storage(7).
+    /// Makes the storage: it passes `calls_before` calls on, and then fails one with `Storage(7)`.
     pub fn new(inner: S, calls_before: u64) -> FailingStorage<S> {
         FailingStorage {
             inner,
@@ -29,7 +30,7 @@ impl<S> FailingStorage<S> {
         }
     }
 
-    /// Whether this call is the one that fails.
+    /// Returns whether this call is the one that fails.
     fn fails_now(&mut self) -> bool
         ensures same_inner { self.new.inner ≡ self.old.inner }
         ensures raised { result ≡ true → (self.old.has_failed ≡ false) × (self.new.has_failed ≡ true) }
@@ -113,18 +114,18 @@ impl<E: Env, S: PagableStorage<E>> PagableStorage<E> for FailingStorage<S> {
     }
 }
 
-/// What is answered wrongly, of whatever key is asked for.
+/// The wrong answer of a storage, whatever key it is asked for.
 #[derive(Clone, Copy)]
 pub enum Lie {
-    /// That nothing stands there, which nobody can tell.
+    /// No blob is stored under the key: a wrong answer that no caller can notice.
     Nothing,
     /// An empty blob, which has another key.
     Empty,
 }
 
-/// A storage over blobs in memory, which answers one fetch wrongly. An answer that has another key than the one asked
-/// for is refused with Storage(2), and counts as a failure; any other is taken as true, and the storage is in doubt from
-/// then on.
+/// A storage in memory that answers one fetch wrongly. If the answer's key isn't the one that was
+/// asked for, the fetch fails with `Storage(2)` and counts as a failure; else the answer is taken
+/// for true, and the storage isn't honest from then on.
 #[derive(Drop)]
 pub struct DoubtfulBlobs<E: Env> {
     blobs: InMemoryBlobs<E>,
@@ -132,12 +133,13 @@ pub struct DoubtfulBlobs<E: Env> {
     fetches_before: u64,
     has_lied: bool,
     failures: u64,
-    // No call reads it.
+    // No call reads this field.
     is_honest: bool,
 }
 
 impl<E: Env> DoubtfulBlobs<E> {
-    /// Makes the storage, which answers `fetches_before` fetches truly and then one wrongly. It takes no memory.
+    /// Makes the storage: it answers `fetches_before` fetches truly, and then one wrongly. It
+    /// allocates nothing.
     pub fn new(blobs: InMemoryBlobs<E>, lie: Lie, fetches_before: u64) -> DoubtfulBlobs<E> {
         DoubtfulBlobs {
             blobs,
@@ -149,7 +151,7 @@ impl<E: Env> DoubtfulBlobs<E> {
         }
     }
 
-    /// Tells whether this fetch is the one that is answered wrongly.
+    /// Returns whether this fetch is the one that is answered wrongly.
     fn lies_now(&mut self) -> bool
         ensures blobs { self.new.blobs ≡ self.old.blobs }
         ensures failures { self.new.failures ≡ self.old.failures }

@@ -10,7 +10,7 @@ use std::alloc::Global;
 use std::marker::PhantomData;
 use std::sync::Arc;
 
-/// The environment of texts, whose keys are made by the hash `H`. Texts have the type number 0.
+/// The environment of texts, which have the type number 0. The hash `H` computes its keys.
 #[derive(Drop)]
 pub struct TextEnv<H> {
     hash: PhantomData<H>,
@@ -42,18 +42,18 @@ impl<H: KeyHash> Env for TextEnv<H> {
     ghost parts = { λ e number. nothing };
 }
 
-/// A text as a node's value.
+/// A node that holds a text.
 #[derive(Drop)]
 pub struct TextNode(pub Arc<String>);
 
 impl TextNode {
-    /// A node that holds a copy of the text. Refused with OutOfMemory.
+    /// Makes a node that holds a copy of the text. Fails with `OutOfMemory` only.
     pub fn new(alloc: Global, text: &str) -> Result<TextNode, Error> {
         let text = String::from_str(alloc, text)?;
         Ok(TextNode(Arc::new(alloc, text)?))
     }
 
-    /// The text.
+    /// Returns the text.
     pub fn as_str(&self) -> &str {
         self.0.as_ref().as_str()
     }

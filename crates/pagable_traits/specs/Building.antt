@@ -1,4 +1,4 @@
--- What `regex` builds of a text, and why it builds nothing.
+-- What `regex` builds from a text, and why it builds nothing.
 use Rattle.std.{proofs.Common.{inl, inr}, specs.Prelude.{List, Ok, Result, refl, true, ℕ, ◌≡◌, ◌≢◌, ◌⊎◌}}
 use Rattle.pagable_value_spec.specs.Meaning.{Meaning, pattern}
 use Rattle.{pagable_value_spec.specs.{Refusals.is_own_reading, declared.{error.Error.Error, numbers.ArcRef.ArcRef}}, pagable_traits.specs.OwnCauses.ReadCauses, regex.specs.Failures.IsRightKind}
@@ -6,14 +6,14 @@ use Rattle.regex.specs.{Patterns.default_config, Sources.IsRefusal, Strings.{IsR
 use Rattle.regex.specs.declared.error.Error.TheVariants as causes
 use Rattle.pagable_value_spec.specs.declared.error.Error.TheVariants as errors
 
--- The regular expression is what the grammar of `regex` reads in this text, with the default options.
+-- The regular expression is the one that the grammar of `regex` reads in this text, with the default options.
 pub record IsBuiltFrom (text : List ℕ) (built : Regex) : Type 0 where
   pub source : regex_source built ≡ text
   pub config : regex_config built ≡ default_config
   pub read : IsReadFromSource built
 
--- `regex` may refuse the text for a cause that is no want of memory: the grammar doesn't read it, or it nests too deep; or it is
--- a pattern that takes too much room when it is built
+-- `regex` may refuse the text for another cause than memory: its grammar doesn't read it, or it nests too deep; or it
+-- is a pattern that takes too much room when it is built
 pub record IsNoPattern (text : List ℕ) : Type 0 where
   pub cause : Cause
   pub no_memory : cause ≢ causes.OutOfMemory
@@ -21,23 +21,23 @@ pub record IsNoPattern (text : List ℕ) : Type 0 where
   pub unread : IsRefusal default_config text cause
   pub kind : IsRightKind default_config text cause
 
--- want of memory, or the text is refused
+-- out of memory, or `regex` refuses the text
 abbrev pub IsRefusedPattern : List ℕ → Error → Type 0
 IsRefusedPattern text e = (e ≡ errors.OutOfMemory) ⊎ ((e ≡ errors.RegexRefused) × IsNoPattern text)
 
--- the refusal for a cause of `regex`
+-- the error for an error of `regex`
 abbrev pub refusal_of : Cause → Error
 refusal_of causes.OutOfMemory = errors.OutOfMemory
 refusal_of _ = errors.RegexRefused
 
--- reading gives a pattern, and `regex` may refuse its text
+-- reading returned a pattern whose text `regex` may refuse
 pub record ReadsNoPattern {R : Type 0} (read : Result (Meaning ArcRef × R) Error) : Type 0 where
   pub text : List ℕ
   pub after : R
   pub gave : read ≡ Ok (pattern text, after)
   pub refused : IsNoPattern text
 
--- the causes of reading a pattern that are its own
+-- the errors of reading a pattern beside the faults of the input
 abbrev pub pattern_causes : Error → Type 0
 pattern_causes e = (e ≡ errors.OutOfMemory) ⊎ (e ≡ errors.RegexRefused)
 

@@ -1,4 +1,4 @@
--- What functions that write and read values owe: the clauses that the traits of values have, in one record.
+-- The contracts of functions that write and read values: the clauses of the value traits, in one record each.
 use Rattle.std.specs.{BTreeMap.{BTreeMap, insert_entry}, Int.w64, Prelude.{IfErr, List, OnOk, Result, String, [], ℕ, ◌-◌, ◌≡◌, ◌≤◌}, String.string_cmp, declared.alloc.Global.Global}
 use Rattle.pagable_codec.specs.declared.{deserializer.PagableDeserializer.Ghosts as Deserializers, env.Env.Ghosts as Environments, serializer.PagableSerializer.Ghosts as Serializers}
 use Rattle.pagable_value_spec.specs.{BasicValues.{length_form, longest}, Collected.Collected, Composite.MeansPair, Meaning.Meaning, Numbers.unsigned_form, Reading.{Context, Gets, JsonCase}, Shape.Shape}
@@ -7,12 +7,12 @@ use Rattle.pagable_value_spec.specs.{Writing.{Grows, Nesting, Out, Refused, Refu
 use Rattle.{pagable_traits.specs.JsonData.{of_key, of_value}, serde_json.specs.declared.value.Value.Value}
 use Rattle.serde_json.specs.declared.value.Value as values
 
--- what is added in a nesting, and what a refusal says there
+-- what may be added in a nesting, and what an error says there
 pub record Piece : Type 1 where
   pub wrote : Nesting → Out → Out → Type 0
   pub lacks : Nesting → Error → Type 0
 
--- these bytes; a case and a count after it; a form of a value; the forms of items
+-- pieces: these bytes; a case and a count after it; a form of a value; the forms of items
 abbrev pub bytes : List ℕ → Piece
 bytes b = record { wrote = λ n old new. new ≡ added old b []; lacks = λ n e. Unit {0} }
 
@@ -29,7 +29,7 @@ module _ {S E N H K V : Type 0} (env : Environments E N H K V) (s : Serializers 
   abbrev pub nested_in : S → Nesting
   nested_in x = nesting (s.levels x) (env.parts (s.environment x))
 
-  -- as PagableSerialize says it of a value
+  -- the contract of `PagableSerialize`
   pub record Wrote {X : Type 0} (piece : Piece) (causes : Error → Type 0) (old new : S) (result : Result X Error) : Type 0 where
     pub ok : OnOk result (piece.wrote (nested_in old) (s.out old) (s.out new))
     pub refused : IfErr result (piece.lacks (nested_in old))
@@ -42,18 +42,18 @@ module _ {D E R N H K V : Type 0} (env : Environments E N H K V) (d : Deserializ
   abbrev pub context_in : D → Context Answer ArcRef
   context_in x = handles_at (d.levels x) (env.parts (d.environment x))
 
-  -- as PagableDeserialize says it of a value
+  -- the contract of `PagableDeserialize`
   pub record Reads {X Y : Type 0} (causes : Error → Type 0) (means : X → Y → Type 0) (get : Context Answer ArcRef → Gets Answer Y) (old new : D) (result : Result X Error) : Type 0 where
     pub gives : GivesSome causes means (d.rest new) result (get (context_in old) (d.rest old))
     pub moves : MovesOn (d.standing old) (d.standing new)
     pub same_env : d.environment new ≡ d.environment old
     pub same_levels : d.levels new ≡ d.levels old
 
--- a JSON value after its case
+-- a JSON value, after its case
 abbrev pub part_of : JsonCase → Context Answer ArcRef → Gets Answer (Meaning ArcRef)
 part_of case c = json_part (below answer_at c.parts (deepest - c.levels)) case
 
--- an object whose members these mean, one after another: a later value of a repeated key stands
+-- an object whose members mean these, one after another: of a repeated key the later value counts
 pub record ObjectOf (v : Value) (ms : List (Meaning ArcRef)) : Type 0 where
   pub members : BTreeMap (String Global) Value
   pub is : v ≡ values.Object members

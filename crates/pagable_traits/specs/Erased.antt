@@ -1,35 +1,35 @@
--- What references of all sorts answer of the values that they refer to, and of the keys of their cells.
+-- What references of all sorts return of the values that they refer to, and of the keys of their cells.
 use Rattle.std.specs.Prelude.{Bool, Err, IfSome, Ok, Option, Result, Some, false, option_and_then, true, ℕ, ◌≡◌}
 use Rattle.pagable_value_spec.specs.{Meaning.Meaning, Shape.Shape, Writing.{Refused, WritesSome}, declared.{data_key.OptionalDataKey.OptionalDataKey, error.Error.Error, numbers.ArcRef.ArcRef}}
 use Rattle.pagable_traits.specs.Clauses.{Piece}
 
--- the value is that of the handle's node, where the storage tells what its handles name
+-- the value is the one of the handle's node, if the storage tells the values of its handles
 abbrev pub IsToldAt : {N T : Type 0} → (N → Option T) → Option (ℕ → Option N) → ℕ → T → Type 0
 IsToldAt held told handle x = IfSome told (λ at. option_and_then held (at handle) ≡ Some x)
 
--- whether a cell without a value in the storage has to be paged out: it has no key
+-- whether a cell has to be paged out, by the storage's answer for its key: it has to if it has no key
 abbrev pub needs_by : Result OptionalDataKey Error → Result Bool Error
 needs_by (Ok OptionalDataKey.None) = Ok true
 needs_by (Ok (OptionalDataKey.Some key)) = Ok false
 needs_by (Err e) = Err e
 
--- what the storage has answered for the key of the handle's cell is turned so
+-- the result is made in this way from an answer that the storage may give for the key of the handle's cell
 pub record NeedsByKey (answers : Result OptionalDataKey Error → Type 0) (result : Result Bool Error) : Type 0 where
   pub key : Result OptionalDataKey Error
   pub answered : answers key
   pub needs : result ≡ needs_by key
 
--- a reference that has a key of its own asks its storage, and another never needs it
+-- a reference with a key of its own asks its storage; another never needs paging out
 abbrev pub NeedsPagingOut : Bool → (Result OptionalDataKey Error → Type 0) → Result Bool Error → Type 0
 NeedsPagingOut true answers result = NeedsByKey answers result
 NeedsPagingOut false answers result = result ≡ Ok false
 
--- a reference that has a key of its own sets it in its storage, and another does nothing
+-- a reference with a key of its own sets it in its storage; another does nothing
 abbrev pub SetsKey : Bool → (Result (Unit {0}) Error → Type 0) → Result (Unit {0}) Error → Type 0
 SetsKey true sets result = sets result
 SetsKey false sets result = result ≡ Ok tt
 
--- why the value that a reference holds is refused, or one that had to be pinned first
+-- an error of the value that a reference holds, or of one that had to be pinned first
 abbrev pub LacksInner : {X : Type 0} → Bool → (X → Type 0) → (X → Error → Type 0) → Error → Type 0
 LacksInner true IsInner lacks e = Unit {0}
 LacksInner {X} false IsInner lacks e = (x : X) × IsInner x × lacks x e

@@ -22,7 +22,7 @@ pairs_beside B C p r y = B p.0 r y × C p.1 r y
 abbrev pub lists_beside : {N T : Type 0} → Beside N T → Beside N (List T)
 lists_beside B xs r y = All (λ x. B x r y) xs
 
--- what items left that were put in one after another, each of which holds what was lent
+-- the result of adding items one after another, each of which holds what the deserializer lent
 pub record CollectsHeld {N T : Type 0} (s : Standing N) (B : Beside N T) (puts : List T → T → List T → Type 0) (now : List T) : Type 0 where
   pub xs : List T
   pub each : All (HoldsLent s B) xs

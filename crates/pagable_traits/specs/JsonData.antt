@@ -1,4 +1,4 @@
--- What the JSON values of `serde_json` are in the words of the definitions.
+-- The JSON values of `serde_json` in the words of the definitions.
 use Rattle.std.specs.{Prelude.{String, pos, ℕ, ◌<◌, ◌≡◌, ◌⊎◌}, String.string_bytes, declared.alloc.Global.Global}
 use Rattle.pagable_value_spec.specs.{BasicValues.longest, Outcomes.memory, Json.{Json, of_json}, Meaning.Meaning, declared.{error.Error.Error, numbers.ArcRef.ArcRef}}
 use Rattle.serde_json.specs.{Data.{Data, Num}, View.view, declared.value.Value.Value}
@@ -7,14 +7,14 @@ use Rattle.pagable_value_spec.specs.declared.error.Error.TheVariants as errors
 use Rattle.pagable_value_spec.specs.Json as own
 use Rattle.pagable_value_spec.specs.Meaning as meanings
 
--- a number that is whole is so whether it is kept with a sign or without
+-- a whole number is whole whether the crate keeps it with a sign or without
 abbrev pub json_of_number : Num → Json
 json_of_number (kit.unsigned n) = own.whole (pos n)
 json_of_number (kit.negative z) = own.whole z
 json_of_number (kit.float x) = own.float x
 
 abbrev mutual
-  -- the same value; the members of an object are kept in order of their keys
+  -- the same value; an object keeps its members sorted by key
   pub json_of : Data → Json
   json_of kit.null = own.null
   json_of (kit.boolean b) = own.boolean b
@@ -31,7 +31,7 @@ abbrev mutual
   json_members kit.no_members = own.no_members
   json_members (kit.member k d members) = own.member k (json_of d) (json_members members)
 
--- what the data of a value means, a value, and a key
+-- the meanings of data, of a value, and of a key
 abbrev pub of_data : Data → Meaning ArcRef
 of_data d = of_json (json_of d)
 
@@ -41,6 +41,7 @@ of_value v = of_data (view v)
 abbrev pub of_key : String Global → Meaning ArcRef
 of_key k = meanings.text (string_bytes k)
 
--- TooLong only where the length is above the greatest, and else want of memory, which the case may meet before the length
+-- `TooLong` only if the length is above the greatest, and else `OutOfMemory`, by which the case may fail before the
+-- length
 abbrev pub long_or_no_memory : ℕ → Error → Type 0
 long_or_no_memory len e = ((longest < len) × (e ≡ errors.TooLong)) ⊎ memory e

@@ -7,12 +7,13 @@ use Rattle.std.specs.{BTreeMap.BTreeMap, Prelude.{IsTrue, List, None, Option, St
 use Rattle.pagable_value_spec.specs.declared.error.Error.TheVariants as errors
 use Rattle.serde_json.specs.declared.value.Value as values
 
--- items that were written here, so that none of them has a fault
+-- items that can be written here, so none of them has a fault
 abbrev pub WereWritten : (List (Meaning ArcRef) → Type 0) → Nesting → Shape → Type 0
 WereWritten M n s = (old : Out) × (new : Out) × WritesSomeAll M n s old new
 
 mutual
-  -- a number that 64 bits with a sign don't hold, a text that is too long, a count that is, no level for an array or an object, and then the first fault of a part
+  -- the fault of: a number outside the range of an `i64`; a text or a count that is too long; an array or an object
+  -- with no level left; else the first fault of a part
   pub data Fault : Nesting → Value → Error → Type 0 where
     number-fault : (n : Nesting) (x : Number) → as_i64 (number_view x) ≡ (let o : Option ℤ = None in o) → Fault n (values.Number x) errors.JsonNumber
     text-fault : (n : Nesting) (t : String Global) → NoFormOfSome (Is of_key t) n text → Fault n (values.String t) errors.TooLong
@@ -23,11 +24,11 @@ mutual
     object-deep : (n : Nesting) (m : BTreeMap (String Global) Value) → length m.entries ≤ longest → deepest ≤ n.levels → Fault n (values.Object m) errors.TooDeep
     object-part : (n : Nesting) (m : BTreeMap (String Global) Value) (e : Error) → n.levels < deepest → MemberFault (nesting (n.levels + 1) n.parts) m.entries e → Fault n (values.Object m) e
 
-  -- the fault of an item before which all were written
+  -- the fault of an item, where all items before it can be written
   pub data ItemFault : Nesting → List Value → Error → Type 0 where
     item-fault : (n : Nesting) (before : List Value) (x : Value) (after : List Value) (e : Error) → WereWritten (MeanAll (Is of_value) before) n json → Fault n x e → ItemFault n (before ++ x ∷ after) e
 
-  -- the same of members, of which each is its key and its value
+  -- the fault of a member, where all members before it can be written; a member is its key and its value
   pub data MemberFault : Nesting → List (String Global × Value) → Error → Type 0 where
     member-fault : (n : Nesting) (before : List (String Global × Value)) (k : String Global) (x : Value) (after : List (String Global × Value)) (e : Error)
         → WereWritten (MeanAll (MeansPair (Is of_key) (Is of_value)) before) n (both text json) → EntryFault n k x e → MemberFault n (before ++ (k, x) ∷ after) e
@@ -36,10 +37,10 @@ mutual
     key-fault : (n : Nesting) (k : String Global) (x : Value) → NoFormOfSome (Is of_key k) n text → EntryFault n k x errors.TooLong
     value-fault : (n : Nesting) (k : String Global) (x : Value) (e : Error) → Fault n x e → EntryFault n k x e
 
--- what is refused as this fault says, where it is refused for a fault
+-- a piece whose errors are these faults, where an error is a fault of writing
 abbrev pub refused_as : (Nesting → Error → Type 0) → Piece → Piece
 refused_as fault p = record { wrote = p.wrote; lacks = λ n e. p.lacks n e × (IsTrue (is_writing_fault e) → fault n e) }
 
--- the form of a value whose data these are
+-- a form of the value that has this data
 abbrev pub json_of_value : Value → Data → Piece
 json_of_value v d = refused_as (λ n. Fault n v) (form (Is of_data d) json)

@@ -1,4 +1,4 @@
--- What is asked of the keys of maps and of the items of sets, made of what is asked of their parts.
+-- The law of keys of maps and items of sets, made of the laws of their parts.
 use Rattle.std.{proofs.Common.◌∙◌, specs.Prelude.{◌≡◌, ◌&&◌, Bool, refl, ℕ, nat_eq}, specs.Cmp.Lexicographic.pointwise, specs.Int.Width, specs.Option.option_eq, specs.Result.result_eq, specs.Str.bytes_eq}
 use Rattle.pagable_value_spec.specs.{Keyed.{RefersToNothing, number_is_same, text_is_same, list_is_same, option_is_same, pair_is_same, result_is_same}, Keys.same_key, Meaning.{number, text}}
 use Rattle.pagable_value_spec.specs.{OneForm.{IsOfTwo, IsOver, basic_refers_to_nothing, over_refers_to_nothing, two_refers_to_nothing}, Shape.{Shape, both, optional, outcome, unsigned}}
@@ -11,18 +11,18 @@ pub record IsKey {X E : Type 0} (M : Meanings X) (eq : X → X → Bool) (parts 
   pub refers_to_nothing : (e : E) → RefersToNothing (parts e) (shape e)
 
 module _ {X E : Type 0} {M : Meanings X} {eq : X → X → Bool} {parts : E → ℕ → Shape} {s : E → Shape} where
-  -- of values by what is seen of them
+  -- for values that are seen as keys
   abbrev pub key_seen : {Z : Type 0} (view : Z → X) → IsKey M eq parts s → IsKey (seen_by view M) (λ x y. eq (view x) (view y)) parts s
   key_seen view k = record { same = λ x y. k.same (view x) (view y); refers_to_nothing = k.refers_to_nothing }
 
-  -- of values that are tested alike in another way
+  -- for values with another test of equality that has the same results
   abbrev pub key_alike : {test : X → X → Bool} → ((x y : X) → test x y ≡ eq x y) → IsKey M eq parts s → IsKey M test parts s
   key_alike alike k = record { same = λ x y. alike x y ∙ k.same x y; refers_to_nothing = k.refers_to_nothing }
 
   abbrev pub option_key : IsKey M eq parts s → IsKey (options M) (option_eq eq) parts (λ e. optional (s e))
   option_key k = record { same = option_is_same eq M.meaning k.same; refers_to_nothing = λ e. over_refers_to_nothing refl (k.refers_to_nothing e) }
 
-  -- of lists, in a shape that is made of their items'
+  -- for lists, in a shape made of their items' shape
   abbrev pub list_key : {whole : E → Shape} → ((e : E) → IsOver (s e) (whole e)) → IsKey M eq parts s → IsKey (lists M) (pointwise eq) parts whole
   list_key over k = record { same = list_is_same eq M.meaning k.same; refers_to_nothing = λ e. over_refers_to_nothing (over e) (k.refers_to_nothing e) }
 
@@ -36,14 +36,14 @@ module _ {X E : Type 0} {M : Meanings X} {eq : X → X → Bool} {parts : E → 
       refers_to_nothing = λ e. two_refers_to_nothing (refl, refl) (k.refers_to_nothing e) (l.refers_to_nothing e);
     }
 
-    -- of entries, in a shape that is made of their keys' and their values'
+    -- for entries, in a shape made of their keys' and their values' shapes
     abbrev pub entries_key : {whole : E → Shape} → ((e : E) → IsOfTwo (s e) (t e) (whole e)) → IsKey M eq parts s → IsKey N like parts t → IsKey (lists (pairs M N)) (pointwise (λ p q. eq p.0 q.0 && like p.1 q.1)) parts whole
     entries_key over k l = record {
       same = list_is_same (λ p q. eq p.0 q.0 && like p.1 q.1) (pairs M N).meaning (pair_key k l).same;
       refers_to_nothing = λ e. two_refers_to_nothing (over e) (k.refers_to_nothing e) (l.refers_to_nothing e);
     }
 
--- of whole numbers, and of texts
+-- for whole numbers, and for texts
 abbrev pub number_key : {E : Type 0} {parts : E → ℕ → Shape} {w : Width} → IsKey (exactly number) nat_eq parts (λ (e : E). unsigned w)
 number_key = record { same = number_is_same; refers_to_nothing = λ e. basic_refers_to_nothing tt }
 

@@ -4,7 +4,7 @@ use Rattle.pagable_value_spec.specs.{declared.numbers.ArcRef.ArcRef, Meaning.{Me
 use Rattle.pagable_value_spec.specs.Composite.{MeansList, MeansOption, MeansPair, MeansResult, list_is_meaning, list_single, option_is_meaning, option_single, pair_is_meaning, pair_single}
 use Rattle.pagable_value_spec.specs.{Composite.result_is_meaning, Hashed.{MeansHashMap, hash_map_is_meaning}}
 
--- what each value may mean, and one thing that it means: the only one, or any where its content isn't known
+-- the meanings that a value may have, and one of them: the only one, or any if no contract knows its content
 pub record Meanings (X : Type 0) : Type 1 where
   pub of : X → Meaning ArcRef → Type 0
   pub meaning : X → Meaning ArcRef
@@ -14,15 +14,15 @@ pub record Meanings (X : Type 0) : Type 1 where
 abbrev pub some : {X : Type 0} (M : Meanings X) (x : X) → SomeMeaning (M.of x)
 some M x = (M.meaning x, M.is x)
 
--- no value means anything else
+-- no value has a second meaning
 abbrev pub AreSingle : {X : Type 0} → Meanings X → Type 0
 AreSingle {X} M = (x : X) (m : Meaning ArcRef) → M.of x m → m ≡ M.meaning x
 
--- this alone
+-- this meaning alone
 abbrev pub exactly : {X : Type 0} → (X → Meaning ArcRef) → Meanings X
 exactly meaning = record { of = Is meaning; meaning = meaning; is = λ x. refl }
 
--- what the value means that is seen of it
+-- the meanings of what the value is seen as
 abbrev pub seen_by : {X Y : Type 0} → (X → Y) → Meanings Y → Meanings X
 seen_by view M = record { of = λ x. M.of (view x); meaning = λ x. M.meaning (view x); is = λ x. M.is (view x) }
 

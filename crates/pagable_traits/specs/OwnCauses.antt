@@ -1,10 +1,10 @@
--- The causes that a type's readers and writers have of their own, each with what is asked of it.
+-- The errors that a type's readers and writers have of their own, each list with the law that it obeys.
 use Rattle.std.specs.Prelude.{true, ◌≡◌}
 use Rattle.pagable_value_spec.specs.Causes.{deep_or_may_refuse_writing, either_is_own_reading, either_may_refuse_writing, json_may_refuse_writing, long_or_may_refuse_writing}
 use Rattle.pagable_value_spec.specs.Causes.{memory_is_own_reading, memory_may_refuse_writing, memory_or_is_own_reading, memory_or_may_refuse_writing, never_is_own_reading, never_may_refuse_writing}
 use Rattle.pagable_value_spec.specs.{Outcomes.{deep_or, either, json_causes, long_or, memory, memory_or, never}, Refusals.{is_own_reading, may_refuse_writing}, declared.error.Error.Error}
 
--- none is a fault of the input
+-- no cause is a fault of the input
 pub record ReadCauses : Type 1 where
   pub are : Error → Type 0
   pub own : (e : Error) → are e → is_own_reading e ≡ true
@@ -21,7 +21,7 @@ reads_memory_or part = record { are = memory_or part.are; own = memory_or_is_own
 abbrev pub reads_either : ReadCauses → ReadCauses → ReadCauses
 reads_either first second = record { are = either first.are second.are; own = either_is_own_reading first.are second.are first.own second.own }
 
--- each is a refusal that a writer may answer
+-- each cause is an error that a writer may return
 pub record WriteCauses : Type 1 where
   pub are : Error → Type 0
   pub may : (e : Error) → are e → may_refuse_writing e ≡ true

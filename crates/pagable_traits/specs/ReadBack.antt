@@ -1,9 +1,9 @@
--- Why the forms of the carried types are read again.
+-- Why the forms of the carried types are read back.
 use Rattle.std.specs.{Prelude.{ℕ, List}, List.AllByRecursion}
 use Rattle.pagable_value_spec.specs.{Canonical.{IsReadable, LiesIn, Throughout}, Keyed.{throughout-alone, throughout-over, throughout-two}}
 use Rattle.pagable_value_spec.specs.{OneForm.{IsBasic, IsOver, IsOfTwo, any, basic-follows, over-follows, two-follows}, Shape.{Shape, hash_map}}
 
--- the forms of the shape, and those of all parts of its values in one blob, are read again
+-- the forms of the shape, and those of all parts of its values in one blob, are read back
 abbrev pub IsReadThroughout : (ℕ → Shape) → Shape → Type 0
 IsReadThroughout parts s = Throughout IsReadable parts s
 

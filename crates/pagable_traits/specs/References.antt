@@ -1,4 +1,4 @@
--- References as values hold them: what they mean, and why they are read again and have one form.
+-- References in values: what they mean, and why they are read back and have one form.
 use Rattle.std.{proofs.Common.{inl, inr, subst, sym}, specs.Prelude.{Bool, List, codes, false, refl, true, ℕ, ◌*◌, ◌+◌, ◌≡◌, ◌⊎◌}}
 use Rattle.pagable_value_spec.specs.{Canonical.{IsCanonical, IsReadable, LiesIn}, Causes.memory_is_own_reading, Keyed.throughout-alone, Meaning.Meaning}
 use Rattle.pagable_value_spec.specs.{OneForm.HasOneFormThroughout, Refusals.is_own_reading, Shape.{Shape, reference}, declared.{error.Error.Error, numbers.ArcRef.ArcRef, reason.Reason.Reason}}
@@ -10,21 +10,21 @@ use Rattle.pagable_value_spec.specs.declared.error.Error.TheVariants as errors
 abbrev pub loose_kind : ℕ → ℕ
 loose_kind t = 3 * t + 1
 
--- the reference that a value holds so
+-- the reference of a loose one
 abbrev pub loose : {T : Type 0} → ℕ → PagableArc T → ArcRef
 loose t a = record { kind = record { 0 = loose_kind t }; node = a.node; handle = a.handle }
 
 abbrev pub loose_means : {T : Type 0} → ℕ → PagableArc T → Meaning ArcRef
 loose_means t a = meanings.reference (loose t a)
 
--- a plain reference of a kind
+-- the reference of a raw one
 abbrev pub plain : (kind : ℕ) → RawRef kind → ArcRef
 plain kind a = record { kind = record { 0 = kind }; node = a.node; handle = a.handle }
 
 abbrev pub plain_means : (kind : ℕ) → RawRef kind → Meaning ArcRef
 plain_means kind a = meanings.reference (plain kind a)
 
--- and those that hold the value, of pins or of shared ones
+-- the kind of references that hold a value of the type number t: of pins, or of shared ones
 abbrev pub holding_kind : ℕ → Bool → ℕ
 holding_kind t true = 3 * t + 2
 holding_kind t false = 3 * t
@@ -39,7 +39,7 @@ abbrev pub holding_name : Bool → List ℕ
 holding_name true = codes "PinnedPagableArc"
 holding_name false = codes "Arc"
 
--- a reference that holds its value may be refused for want of memory, and in words where no value of its type is lent
+-- a reference that holds its value may fail with `OutOfMemory`, or with `Custom` if no value of its type is lent
 abbrev pub unlent : Error → Type 0
 unlent e = (e ≡ errors.OutOfMemory) ⊎ ((reason : Reason) × (e ≡ errors.Custom reason))
 

@@ -1,11 +1,11 @@
--- Why static values may be keys, and why their forms are read again: each index of a registered value as that value, in which
--- nothing is referred to.
+-- Why static values may be keys, and why their forms are read back: each index of a registered value is read as that
+-- value, which refers to nothing.
 use Rattle.std.specs.{List.AllByRecursion, Prelude.{Bool, IsTrue, List, [], refl, ℕ, ◌∷◌, ◌≡◌}}
 use Rattle.pagable_value_spec.specs.{Canonical.{HasNoReference, IsReadable, LiesIn}, Codes.one-meaning, Keyed.{RefersToNothing, same-by, throughout-alone}, Keys.same_key}
 use Rattle.pagable_value_spec.specs.{Meaning.{Meaning, followed, lifted, pair, plain, reference, rename, variant}, Shape.{Shape, static_value}, Statics.meanings_of}
 use Rattle.{pagable_value_spec.specs.{Statics.{unregistered, unregistered_may_refuse_writing}, declared.numbers.ArcRef.ArcRef}, pagable_traits.specs.{OwnCauses.WriteCauses, ReadBack.IsReadThroughout}}
 
--- a value that isn't registered is refused
+-- writing a value that isn't registered fails
 abbrev pub writes_unregistered : WriteCauses
 writes_unregistered = record { are = unregistered; may = unregistered_may_refuse_writing }
 
@@ -17,7 +17,7 @@ pub static_is_read : {T : Type 0} (parts : ℕ → Shape) (meaning : T → Meani
 unfolding IsReadable LiesIn
 static_is_read parts meaning holds_none registry = throughout-alone IsReadable parts (static_value (meanings_of meaning registry)) (all-plain meaning holds_none registry) (λ those. tt)
 
--- what is lifted, and loses its references again, is as it was
+-- a meaning that is lifted and then loses its references again is as it was
 plain-lifted : (A : Type 0) (m : Meaning ⊥) → plain {A = A} (lifted m) ≡ m
 unfolding plain rename
 plain-lifted A (pair a b) = rw (plain-lifted A a, plain-lifted A b) refl

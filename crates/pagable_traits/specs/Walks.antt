@@ -1,20 +1,20 @@
--- What writing each item that a walk yields owes, where next says what the walk gives from one state to the other.
+-- The contract of writing each item that an iterator yields; `next` says what the iterator yields between two states.
 use Rattle.std.specs.{Iterator.{Drains, YieldsThen}, Prelude.{List, Option, Some, [], ℕ, ◌≤◌, ◌⊎◌}}
 use Rattle.pagable_value_spec.specs.{BasicValues.{length_form, longest}, Lengths.long_or_memory, Composite.MeanAll, Meaning.Meaning, Shape.Shape, Writing.{Nesting, Out, Refused, WritesSomeAll, added}}
 use Rattle.{pagable_value_spec.specs.declared.{error.Error.Error, numbers.ArcRef.ArcRef}, pagable_traits.specs.Clauses.Piece}
 
--- these items were yielded, and then no more, and each was written
+-- the iterator yielded these items and then no more, and each was written
 pub record WritesEach {W T : Type 0} (next : W → Option T → W → Type 0) (M : T → Meaning ArcRef → Type 0) (walk : W) (n : Nesting) (s : Shape) (old new : Out) : Type 0 where
   pub xs : List T
   pub all : Drains next walk xs
   pub wrote : WritesSomeAll (MeanAll M xs) n s old new
 
--- the same after their count
+-- the count was written, and then each item
 pub record WritesCounted {W T : Type 0} (next : W → Option T → W → Type 0) (M : T → Meaning ArcRef → Type 0) (walk : W) (count : ℕ) (n : Nesting) (s : Shape) (old new : Out) : Type 0 where
   pub within : count ≤ longest
   pub each : WritesEach next M walk n s (added old (length_form count) []) new
 
--- an item is refused that was yielded after these
+-- an item that the iterator yielded after these fails
 pub record RefusedAmong {W T : Type 0} (next : W → Option T → W → Type 0) (M : T → Meaning ArcRef → Type 0) (walk : W) (n : Nesting) (s : Shape) (e : Error) : Type 0 where
   pub before : List T
   pub x : T
@@ -22,11 +22,11 @@ pub record RefusedAmong {W T : Type 0} (next : W → Option T → W → Type 0) 
   pub yields : YieldsThen next walk before (Some x) after
   pub refused : Refused (M x) n s e
 
--- the count is refused, or an item
+-- the count or an item fails
 abbrev pub RefusedCounted : {W T : Type 0} → (W → Option T → W → Type 0) → (T → Meaning ArcRef → Type 0) → W → ℕ → Nesting → Shape → Error → Type 0
 RefusedCounted next M walk count n s e = long_or_memory count e ⊎ RefusedAmong next M walk n s e
 
--- the forms of the items that a walk yields, and the same after their count
+-- the forms of the items that an iterator yields; and those behind their count
 abbrev pub each : {W T : Type 0} → (W → Option T → W → Type 0) → (T → Meaning ArcRef → Type 0) → W → Shape → Piece
 each next M walk s = record { wrote = λ n. WritesEach next M walk n s; lacks = λ n. RefusedAmong next M walk n s }
 

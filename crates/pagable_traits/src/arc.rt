@@ -18,9 +18,9 @@ use std::alloc::Global;
 use std::ops::Deref;
 use std::sync::{Arc as Shared, Wait};
 
-/// A reference that holds its shared value, so that looking at the value takes no lock. Where values of type `T` have the
-/// number `t`, its kind is `3t + 2` if it pins, and else `3t`. Two are equal where their values are, whichever nodes these
-/// stand in.
+/// A reference that holds its shared value: reading the value takes no lock. If values of type `T`
+/// have the number `t`, its kind is `3t + 2` if it pins, else `3t`. Two references are equal if
+/// their values are, whatever their nodes.
 #[derive(Drop)]
 #[derive_where(PartialEq, Eq; T)]
 pub struct HoldingArc<T, const PINS: bool> {
@@ -31,13 +31,15 @@ pub struct HoldingArc<T, const PINS: bool> {
     value: Shared<T>,
 }
 
-/// A shared reference: the value stays in memory as long as its node, and has no key of its own.
+/// A shared reference: the value stays in memory as long as its node lives, and the node has no key
+/// of its own.
 pub type Arc<T> = HoldingArc<T, false>;
 
-/// A pin: the value stays in memory as long as its cell is pinned, and may be paged out then.
+/// A pin: the value stays in memory as long as its cell is pinned; after that it may be paged out.
 pub type PinnedPagableArc<T> = HoldingArc<T, true>;
 
-/// The kind of references that hold values of type `T`, of pins or of shared ones.
+/// Returns the kind of the references that hold values of type `T`: pins if `pins`, else shared
+/// references.
 pub fn holding_kind_of<E: Env, T: OfNode<E>>(pins: bool) -> Kind
     ensures { result.0 ≡ holding_kind T.TYPE pins }
 {
@@ -49,7 +51,7 @@ pub fn holding_kind_of<E: Env, T: OfNode<E>>(pins: bool) -> Kind
 }
 
 impl<T, const PINS: bool> HoldingArc<T, PINS> {
-    /// The reference as values hold it.
+    /// Returns the reference with its kind, as values list it.
     pub fn reference<E: Env>(&self) -> ArcRef
     where
         T: OfNode<E>,
@@ -62,8 +64,8 @@ impl<T, const PINS: bool> HoldingArc<T, PINS> {
         }
     }
 
-    /// The reference, which has to be of this kind, with its shared value. A value that comes with one of another kind is
-    /// given back.
+    /// Makes a reference that holds this value. If the reference is of another kind, returns the
+    /// value as the error.
     pub fn from_reference<E: Env>(
         reference: ArcRef,
         value: Shared<T>,
@@ -83,24 +85,29 @@ impl<T, const PINS: bool> HoldingArc<T, PINS> {
         })
     }
 
-    /// The shared value.
+    /// Returns the shared value.
     pub fn get(&self) -> &T
         ensures { result.now ≡ arc_value self.now.value }
     {
         self.value.as_ref()
     }
 
-    /// Whether both refer to the same node. It looks at no value.
+    /// Returns whether both refer to the same node. It compares no values.
     pub fn ptr_eq(left: &HoldingArc<T, PINS>, right: &HoldingArc<T, PINS>) -> bool
         ensures { result ≡ nat_eq left.now.node.0 right.now.node.0 }
     {
         left.node.0 == right.node.0
     }
 
-    /// Inserts the value into the storage as a new node, and answers its first handle, which holds it.
+    /// Inserts the value into the storage as a new node, and returns the node's first reference,
+    /// which holds the value.
     ///
     /// # Errors
-    /// - as `Storage::insert`, and OutOfMemory where the value can't be shared once more. The value comes back.
+    ///
+    /// Each returns the value to the caller.
+    ///
+    /// - as `Storage::insert`.
+    /// - `OutOfMemory` if the value can't be shared once more.
     pub fn new<E: Env, R: Wait, S: Storage<E>>(
         rt: &R,
         alloc: Global,
@@ -127,10 +134,12 @@ impl<T, const PINS: bool> HoldingArc<T, PINS> {
         }
     }
 
-    /// Makes one more of the same mode, which holds the same value.
+    /// Makes another reference to the node, in the same mode, with the same value.
     ///
     /// # Errors
-    /// - as `Storage::clone_handle`, and OutOfMemory where the value can't be shared once more.
+    ///
+    /// - as `Storage::clone_handle`.
+    /// - `OutOfMemory` if the value can't be shared once more.
     pub fn clone<E: Env, R: Wait, S: Storage<E>>(
         &self,
         rt: &R,
@@ -151,10 +160,12 @@ impl<T, const PINS: bool> HoldingArc<T, PINS> {
         })
     }
 
-    /// Gives it up.
+    /// Releases the reference.
     ///
     /// # Errors
-    /// - as `Storage::release`. It comes back, but where it was given up all the same.
+    ///
+    /// - as `Storage::release`: the caller gets the reference back, except with `NumbersSpent` and
+    ///   `OutOfMemory`, when it is released all the same.
     pub fn release<E: Env, R: Wait, S: Storage<E>>(
         self,
         rt: &R,
@@ -171,18 +182,20 @@ impl<T, const PINS: bool> HoldingArc<T, PINS> {
         }
     }
 
-    /// Counts the handles that pin its node.
+    /// Returns how many handles pin the reference's node.
     ///
     /// # Errors
-    /// - NoSuchHandle: it was given up by its number.
+    ///
+    /// - `NoSuchHandle` if the reference's handle was released by its number.
     pub fn count<E: Env, R: Wait, S: Storage<E>>(&self, rt: &R, storage: &S) -> Result<u64, Error> {
         storage.count(rt, self.handle)
     }
 
-    /// Answers the key of its cell, if it has one.
+    /// Returns the key of the reference's cell, if the cell has one.
     ///
     /// # Errors
-    /// - NoSuchHandle: it was given up by its number.
+    ///
+    /// - `NoSuchHandle` if the reference's handle was released by its number.
     pub fn key<E: Env, R: Wait, S: Storage<E>>(
         &self,
         rt: &R,
@@ -191,10 +204,11 @@ impl<T, const PINS: bool> HoldingArc<T, PINS> {
         storage.key(rt, self.handle)
     }
 
-    /// Tells whether its cell has its value in the storage alone.
+    /// Returns whether the value of the reference's cell is only in the storage.
     ///
     /// # Errors
-    /// - NoSuchHandle: it was given up by its number.
+    ///
+    /// - `NoSuchHandle` if the reference's handle was released by its number.
     pub fn is_paged_out<E: Env, R: Wait, S: Storage<E>>(
         &self,
         rt: &R,
@@ -204,7 +218,7 @@ impl<T, const PINS: bool> HoldingArc<T, PINS> {
     }
 }
 
-// How a new node is held by the first reference of this sort.
+// Returns the mode of a new node's first handle, for a pin or a shared reference.
 fn first_handle(is_pin: bool) -> FirstHandle {
     if is_pin {
         FirstHandle::Pinned
@@ -214,7 +228,7 @@ fn first_handle(is_pin: bool) -> FirstHandle {
 }
 
 impl<T> HoldingArc<T, true> {
-    /// Joins the numbers of a new pin and the value that it holds.
+    /// Makes a pin of its node, its handle and the value that it holds.
     pub(crate) fn of(
         node: NodeNumber,
         handle: HandleNumber,
@@ -230,10 +244,11 @@ impl<T> HoldingArc<T, true> {
         }
     }
 
-    /// Makes the pin a loose reference with the same number, which pins.
+    /// Makes the pin a loose reference with the same handle, which pins.
     ///
     /// # Errors
-    /// - as `Storage::into_pagable`. The pin comes back.
+    ///
+    /// - as `Storage::into_pagable`: the caller gets the pin back.
     pub fn into_pagable<E: Env, R: Wait, S: Storage<E>>(
         self,
         rt: &R,
@@ -250,7 +265,7 @@ impl<T> HoldingArc<T, true> {
         }
     }
 
-    /// The pin, borrowed.
+    /// Borrows the pin.
     pub fn borrow(pin: &PinnedPagableArc<T>) -> PinnedPagableArcBorrow<'_, T>
         ensures { result.pin.now ≡ pin.now }
     {
@@ -268,14 +283,14 @@ impl<T, const PINS: bool> Deref for HoldingArc<T, PINS> {
     }
 }
 
-/// A pin that is borrowed: its value stays in memory as long as the borrow.
+/// A borrowed pin: its value stays in memory as long as the borrow lasts.
 #[derive_where(Clone, Copy)]
 pub struct PinnedPagableArcBorrow<'a, T> {
     pub pin: &'a PinnedPagableArc<T>,
 }
 
 impl<'a, T> PinnedPagableArcBorrow<'a, T> {
-    /// The shared value.
+    /// Returns the shared value.
     pub fn get(self) -> &'a T
         ensures { result.now ≡ arc_value self.entry.pin.now.value }
     {
@@ -283,9 +298,10 @@ impl<'a, T> PinnedPagableArcBorrow<'a, T> {
         pin.get()
     }
 
-    /// Makes a pin of its own, which holds the same value.
+    /// Makes another pin of the node, which holds the same value.
     ///
     /// # Errors
+    ///
     /// - as `PinnedPagableArc::clone`.
     pub fn clone_arc<E: Env, R: Wait, S: Storage<E>>(
         self,
@@ -345,8 +361,14 @@ impl<'de, E: Env, T: OfNode<E> + Drop, const PINS: bool> PagableDeserialize<'de,
     for HoldingArc<T, PINS> {
     ghost read_causes = { reads_unlent };
 
-    /// Reads the next reference, of this sort, and takes the value that it is lent. Beside what the reference itself is
-    /// refused by, it is refused for want of memory, and with Custom where no value of the type is lent.
+    /// Reads the next reference, of this sort, and takes the value that the deserializer lends by
+    /// it.
+    ///
+    /// # Errors
+    ///
+    /// - an error of the reference itself.
+    /// - `OutOfMemory`.
+    /// - `Custom` if the deserializer lends no value of the type by the reference.
     #[tactic(auto, using(crate::proofs::Lent::taken_holds))]
     fn pagable_deserialize<D: PagableDeserializer<E>>(
         alloc: Global,

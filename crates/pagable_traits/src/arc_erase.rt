@@ -1,4 +1,4 @@
-//! What the three sorts of references have in common, whatever the type of their values.
+//! What the three sorts of references have in common, whatever type their values have.
 
 ghost use Rattle.std.specs.{Arc.arc_value, Prelude.{Bool, IfErr, IfOk, List, Option, Some, codes, false, option_map, refl, true, ℕ, ◌≡◌}};
 ghost use Rattle.pagable_value_spec.specs.{Outcomes.memory, Reading.{read, read_typed}, References.references_in, Cursor.HoldsLent};
@@ -17,7 +17,7 @@ use std::alloc::Global;
 use std::marker::PhantomData;
 use std::sync::{Arc as Shared, Wait};
 
-/// A sort of references: `Arc`, `PagableArc` or `PinnedPagableArc`, with the type of their values.
+/// A sort of references, `Arc`, `PagableArc` or `PinnedPagableArc`, with the type of its values.
 pub trait ArcErase<E: Env>: Sized {
     /// The type of the values that these references refer to.
     type Value: OfNode<E>;
@@ -26,23 +26,23 @@ pub trait ArcErase<E: Env>: Sized {
 
     ghost referred: { Self → Reference };
 
-    // whether these references name cells, which have keys of their own
+    // whether these references refer to cells, which have keys of their own
     ghost is_paged: { Bool };
 
-    // a value that the reference refers to, by what its storage tells of handles
+    // the reference refers to this value, as far as its storage tells the values of handles
     ghost refers_to: { Self → Option (ℕ → Option E.Node) → Self.Value → Type 0 };
 
-    /// The kind of these references.
+    /// Returns the kind of these references.
     fn kind() -> Kind
         ensures { result.0 ≡ KIND };
 
-    /// The reference, with its kind.
+    /// Returns the reference with its kind.
     fn as_reference(&self) -> ArcRef
         ensures { result ≡ referred self.now };
 
     ghost of_kind: { (a : Self) → (referred a).kind.0 ≡ KIND };
 
-    /// What page-out counts it as: its node, by this kind.
+    /// Returns the identity by which page-out counts the reference: its node, by this kind.
     fn identity(&self) -> Identity
         ensures { result ≡ record { kind = record { 0 = KIND }; node = (referred self.now).node } }
     {
@@ -52,29 +52,32 @@ pub trait ArcErase<E: Env>: Sized {
         }
     }
 
-    /// What tells its sort without the type of its values.
+    /// Returns the sort of references without the type of their values.
     fn erase_type() -> StdArcEraseType<Self> {
         StdArcEraseType::new()
     }
 
-    /// The node that holds the value.
+    /// Makes the node that holds the value.
     fn into_node(value: Shared<Self::Value>) -> E::Node
         ensures { Self.Value.held result ≡ Some (arc_value value) };
 
-    /// The value that the node holds, or None where the node is of another type.
+    /// Returns the value that the node holds, or None if the node is of another type.
     ///
     /// # Errors
-    /// - OutOfMemory: the value can't be shared once more.
+    ///
+    /// - `OutOfMemory` only, if the value can't be shared once more.
     fn from_node(alloc: Global, node: &E::Node) -> Result<Option<Shared<Self::Value>>, Error>
         ensures value { IfOk result (λ found. option_map arc_value found ≡ Self.Value.held node.now) }
         ensures only { IfErr result memory };
 
-    /// Lists the references in the value that it refers to, in the order in which each form lists them. A loose
-    /// reference is followed for it, which leaves handles and counts as they were.
+    /// Returns the references in the value that this one refers to, in the order in which each form
+    /// lists them. A loose reference is followed to get the value; handles and counts are then as
+    /// before.
     ///
     /// # Errors
-    /// - as `PagableArc::follow`, of a loose reference.
-    /// - OutOfMemory.
+    ///
+    /// - as `PagableArc::follow`, for a loose reference.
+    /// - `OutOfMemory`.
     fn refs<R: Wait, S: Storage<E>>(
         &self,
         rt: &R,
@@ -86,10 +89,12 @@ pub trait ArcErase<E: Env>: Sized {
         ensures ok { IfOk result (λ list. (x : Self.Value) × refers_to self.now (S.told storage.now) x × (list.items ≡ references_in (Self.Value.Carried.means.meaning x))) }
         ensures only { IfErr result (inner_causes is_paged memory) };
 
-    /// Sets the key of its cell, as `Storage::set_data_key`. A reference that isn't loose has none, and does nothing.
+    /// Sets the key of the reference's cell, as `Storage::set_data_key` does. A reference that
+    /// isn't loose has no key, and the call does nothing.
     ///
     /// # Errors
-    /// - as `Storage::set_data_key`, of a loose reference.
+    ///
+    /// - as `Storage::set_data_key`, for a loose reference.
     fn set_data_key<R: Wait, S: Storage<E>>(
         &self,
         rt: &R,
@@ -98,20 +103,22 @@ pub trait ArcErase<E: Env>: Sized {
     ) -> Result<(), Error>
         ensures { SetsKey is_paged (S.sets storage.now (referred self.now).handle key) result };
 
-    /// Tells whether its value has still to be written to the storage: true only of a loose reference, whose cell has
-    /// no key.
+    /// Returns whether the value has still to be written to the storage: true only for a loose
+    /// reference whose cell has no key.
     ///
     /// # Errors
-    /// - as `Storage::key`, of a loose reference.
+    ///
+    /// - as `Storage::key`, for a loose reference.
     fn needs_paging_out<R: Wait, S: Storage<E>>(&self, rt: &R, storage: &S) -> Result<bool, Error>
         ensures { NeedsPagingOut is_paged (S.keys storage.now (referred self.now).handle) result };
 
-    /// Writes the value that it refers to, as the value's type does. A loose reference is followed for it, which leaves
-    /// handles and counts as they were.
+    /// Writes the value that this reference refers to, as the value's type does. A loose reference
+    /// is followed to get the value; handles and counts are then as before.
     ///
     /// # Errors
-    /// - as `PagableArc::follow`, of a loose reference: nothing was written.
-    /// - as the value's `pagable_serialize`. What stood before still stands.
+    ///
+    /// - as `PagableArc::follow`, for a loose reference: nothing is written.
+    /// - as the value's `pagable_serialize`: what was written before stays in place.
     fn serialize_inner<R: Wait, S: Storage<E>, W: PagableSerializer<E>>(
         &self,
         rt: &R,
@@ -127,28 +134,28 @@ pub trait ArcErase<E: Env>: Sized {
             (inner_causes is_paged Self.Value.PagableSerialize.write_causes.are) serializer.old serializer.new result };
 }
 
-/// A sort of references without the type of its values.
+/// A sort of references, without the type of their values.
 pub trait ArcEraseType {
     ghost name: { List ℕ };
 
-    /// `Arc`, `PagableArc` or `PinnedPagableArc`.
+    /// Returns `Arc`, `PagableArc` or `PinnedPagableArc`.
     fn type_name(&self) -> &'static str
         ensures { result.now ≡ name };
 }
 
-/// The sort of the references `A`.
+/// The sort of the references of type `A`.
 #[derive(Drop)]
 pub struct StdArcEraseType<A> {
     sort: PhantomData<A>,
 }
 
 impl<A> StdArcEraseType<A> {
-    /// It holds nothing.
+    /// Creates the sort. It holds no data.
     pub fn new() -> StdArcEraseType<A> {
         StdArcEraseType { sort: PhantomData }
     }
 
-    /// As `new`.
+    /// Creates the sort, as `new` does.
     pub fn default() -> StdArcEraseType<A> {
         StdArcEraseType::new()
     }
@@ -370,15 +377,18 @@ fn read_held<E: Env<Node: NodeSet<E>>, T: OfNode<E> + Drop, D: PagableDeserializ
     }
 }
 
-// What a trait's method can't have is a bound on the environment's nodes, so that each sort has this call by itself.
+// A trait's method can't have a bound on the environment's nodes, so each sort has this call
+// outside the trait.
 
 impl<T> PagableArc<T> {
-    /// Reads a value, as a node of its type is read, inserts it into the storage as a new node, and answers the first
-    /// reference to it.
+    /// Reads a value as a node of its type is read, inserts it into the storage as a new node, and
+    /// returns the first reference to it.
     ///
     /// # Errors
-    /// - as `NodeSet::read`, and OutOfMemory where the value can't be shared.
-    /// - as `Storage::insert`. The value goes; the handles in it are the caller's.
+    ///
+    /// - as `NodeSet::read`.
+    /// - `OutOfMemory` if the value can't be shared.
+    /// - as `Storage::insert`: the value is dropped; the handles in it are the caller's.
     pub fn deserialize_inner<
         E: Env<Node: NodeSet<E>>,
         R: Wait,
@@ -404,12 +414,14 @@ impl<T> PagableArc<T> {
 }
 
 impl<T, const PINS: bool> HoldingArc<T, PINS> {
-    /// Reads a value, as a node of its type is read, inserts it into the storage as a new node, and answers the first
-    /// reference to it.
+    /// Reads a value as a node of its type is read, inserts it into the storage as a new node, and
+    /// returns the first reference to it.
     ///
     /// # Errors
-    /// - as `NodeSet::read`, and OutOfMemory where the value can't be shared.
-    /// - as `Storage::insert`. The value goes; the handles in it are the caller's.
+    ///
+    /// - as `NodeSet::read`.
+    /// - `OutOfMemory` if the value can't be shared.
+    /// - as `Storage::insert`: the value is dropped; the handles in it are the caller's.
     pub fn deserialize_inner<
         E: Env<Node: NodeSet<E>>,
         R: Wait,
@@ -439,7 +451,11 @@ impl<T, const PINS: bool> HoldingArc<T, PINS> {
     }
 }
 
-/// Reads the next reference as one of this sort, as its type's `pagable_deserialize` does.
+/// Reads the next reference as one of this sort.
+///
+/// # Errors
+///
+/// - as the sort's `pagable_deserialize`.
 pub fn deserialize_arc<
     'de,
     E: Env,

@@ -1,4 +1,5 @@
-//! Values that are carried as those of another type: lent and boxed values as they are, and tuples as pairs.
+//! Types that are encoded as another type: borrowed and boxed values as the value itself, longer
+//! tuples as pairs.
 
 ghost use Rattle.std.specs.Prelude.{◌≡◌};
 ghost use Rattle.pagable_traits.specs.Meanings.{seen_by};
@@ -9,17 +10,17 @@ use pagable_codec::{Env, PagableDeserializer};
 use pagable_flavors::Error;
 use std::alloc::Global;
 
-/// A type whose values are spelled, and mean, as those of another.
+/// A type whose values have the shape and the meaning of another type's values.
 pub trait EncodedAs {
     type Other;
 
-    // What a value is carried as.
+    // The value of the other type as which a value is encoded.
     ghost other: { Self → Self.Other };
 }
 
-/// A type whose values are also read as those of another.
+/// A type whose values are also decoded as values of the other type.
 pub trait DecodedAs: EncodedAs + Sized {
-    /// The value that is carried as this one.
+    /// Makes the value that is encoded as this one.
     fn from_encoded(value: Self::Other) -> Self
         ensures { Self.other result ≡ value };
 }

@@ -1,4 +1,4 @@
-//! The carried types.
+//! The impls of the carried types.
 
 pub mod collecting;
 pub mod holders;

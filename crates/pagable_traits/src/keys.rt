@@ -1,7 +1,8 @@
-//! The types that may be keys of maps and items of sets. What holds others is equal exactly if its parts are, and refers
-//! to nothing since they don't. Lists, and maps and sets in the order of their keys, stand in the order of the first items
-//! that differ, and a list stands before one that goes on. Maps and sets in order of arrival are none, since these are
-//! equal in any order.
+//! The types that may be keys of maps and items of sets. Two values that hold others are equal
+//! exactly if their parts are, and refer to nothing because their parts don't. Lists, and maps and
+//! sets sorted by key, are ordered by the first items that differ; a list comes before its
+//! continuations. Maps and sets in order of insertion are no keys, since they are equal in any
+//! order.
 
 ghost use Rattle.std.{proofs.Common.◌∙◌, proofs.Math.Bool.and_assoc, specs.Prelude.{◌≡◌, ◌&&◌, map, refl}};
 ghost use Rattle.std.specs.{Cmp.Lexicographic.slice_cmp, Ordering.ordering_then, Box.{boxed_slice_items, boxed_str_bytes}, String.string_bytes};
@@ -20,14 +21,14 @@ use std::boxed::{BoxedSlice, BoxedStr};
 use std::collections::{BTreeMap, BTreeSet};
 use std::marker::PhantomData;
 
-/// A type whose values may be keys of a map or items of a set: two values are equal exactly if they mean the same, and
-/// no value refers to anything. Equal values hash alike by the law of `Hash`. So a map has one form, whatever values
-/// it was made of.
+/// A type whose values may be keys of a map or items of a set: two values are equal exactly if they
+/// mean the same, and no value refers to anything. By the law of `Hash` equal values have equal
+/// hashes. So a map has one form, whichever of equal values it was made of.
 pub trait PagableKey<E: Env>: OneMeaning<E> + Eq {
     ghost key: { IsKey Self.means Self.eq E.parts Self.shape };
 }
 
-/// A key whose order depends on meanings alone.
+/// A key whose order depends on the meanings alone.
 pub trait PagableOrdKey<E: Env>: PagableKey<E> + Ord {
     // The order of the meanings, which the shape of a sorted map names.
     ghost order: { KeyOrder };
@@ -159,7 +160,7 @@ impl<E: Env> PagableKey<E> for bool {
     ghost key = { record { same = flag_is_same; refers_to_nothing = λ e. basic_refers_to_nothing tt } };
 }
 
-/// `false` stands before `true`.
+/// `false` is less than `true`.
 impl<E: Env> PagableOrdKey<E> for bool {
     ghost order = { flag_order };
 
@@ -220,7 +221,7 @@ impl<E: Env, K: PagableKey<E>> PagableKey<E> for Option<K> {
     ghost key = { option_key K.key };
 }
 
-/// None stands before each key.
+/// None is less than each key.
 impl<E: Env, K: PagableOrdKey<E>> PagableOrdKey<E> for Option<K> {
     ghost order = { optional_order K.order };
 
@@ -251,7 +252,7 @@ impl<E: Env, K: PagableKey<E>, L: PagableKey<E>> PagableKey<E> for Result<K, L> 
     ghost key = { result_key K.key L.key };
 }
 
-/// A success stands before each failure.
+/// A success is less than each failure.
 impl<E: Env, K: PagableOrdKey<E>, L: PagableOrdKey<E>> PagableOrdKey<E> for Result<K, L> {
     ghost order = { outcome_order K.order L.order };
 
@@ -262,7 +263,7 @@ impl<E: Env, A: PagableKey<E>, B: PagableKey<E>> PagableKey<E> for (A, B) {
     ghost key = { pair_key A.key B.key };
 }
 
-/// Pairs stand in the order of their first parts, and where these are equal of their second ones.
+/// Pairs are ordered by their first parts, and if these are equal by their second ones.
 impl<E: Env, A: PagableOrdKey<E>, B: PagableOrdKey<E>> PagableOrdKey<E> for (A, B) {
     ghost order = { pair_order A.order B.order };
 
@@ -273,7 +274,7 @@ impl<E: Env, A: PagableKey<E>, B: PagableKey<E>, C: PagableKey<E>> PagableKey<E>
     ghost key = { key_alike (λ x y. and_assoc (A.eq x.0 y.0) (B.eq x.1 y.1) (C.eq x.2 y.2)) (key_seen (λ p. (p.0, (p.1, p.2))) (pair_key A.key (pair_key B.key C.key))) };
 }
 
-/// A tuple stands as the pair of its first part and the tuple of the others does.
+/// A tuple is ordered as the pair of its first part and the tuple of the others.
 impl<E: Env, A: PagableOrdKey<E>, B: PagableOrdKey<E>, C: PagableOrdKey<E>> PagableOrdKey<E>
     for (A, B, C) {
     ghost order = { pair_order A.order (pair_order B.order C.order) };

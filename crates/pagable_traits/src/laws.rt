@@ -1,7 +1,7 @@
-//! What the carried types mean, where their impls don't say it in plain words. Callers can cite each law: it is a function
-//! that does nothing, whose contract holds for every environment and every value. A type's shape, what it means, why it is
-//! refused and in what order it stands as a key are told at its impls (`shape`, `means`, `write_causes`, `read_causes`,
-//! `order`).
+//! Laws of the carried types whose impls don't state them plainly. A caller can cite each law: it
+//! is a function that does nothing, whose contract holds for every environment and every value.
+//! What an impl states itself is its type's shape, meanings, errors and order of keys (`shape`,
+//! `means`, `write_causes`, `read_causes`, `order`).
 
 ghost use Rattle.std.specs.{HashMap.IsUnique, List.slice_get, Prelude.{IsPermutation, Ok, Some, [], ℕ, ◌↔◌, ◌∷◌, ◌≡◌}};
 ghost use Rattle.pagable_value_spec.specs.{Hashed.MeansHashMap, Meaning.Meaning, Reading.registered, Cursor.SomeMeaning, Statics.meanings_of, Tagged.MeansTagged};
@@ -26,7 +26,8 @@ use std::sync::OnceLock;
 use std::sync::atomic::AtomicI64;
 use std::time::Duration;
 
-/// A `HashMap` means its entries whatever their order: a map with the same entries in another order means the same.
+/// A `HashMap` means its entries in any order: a map with the same entries in another order means
+/// the same.
 pub fn hash_map_is_carried<
     E: Env,
     K: PagableKey<E> + Hash + PagableSerialize<E> + PagableDeserialize<'static, E> + Drop,
@@ -36,9 +37,9 @@ pub fn hash_map_is_carried<
     ensures any_order { (x y : _) (m : Meaning Reference) → IsUnique K.eq x → IsPermutation x.entries y.entries → ⟦<HashMap<K, V> as Carried<E>>⟧.means.of x m → ⟦<HashMap<K, V> as Carried<E>>⟧.means.of y m }
 {}
 
-/// Every type that is read is read throughout where those that it is made of are: then its forms are read again, whatever follows
-/// them, in all parts of a value that lie in one blob (`forms_are_read_again` of `pagable`). `O` stands for a type that is carried as `T`,
-/// as boxes, loans and tuples are.
+/// Each type is read throughout if its parts are: then its forms are read back, whatever bytes
+/// follow them, in all parts of a value that are in one blob (`forms_are_read_again` of `pagable`).
+/// `O` stands for a type that is encoded as `T`, such as a box, a borrow or a tuple.
 pub fn carried_types_are_read<
     E: Env,
     T: Carried<E>,
@@ -67,7 +68,7 @@ pub fn carried_types_are_read<
         × (IsReadThroughout (E.parts e) (H.shape e) → AreRead (E.parts e) (⟦<IndexMap<H, T> as Carried<E>>⟧.shape e ∷ ⟦<HashMap<H, T> as Carried<E>>⟧.shape e ∷ [])) }
 {}
 
-/// The forms of a static value are read again.
+/// The forms of a static value are read back.
 #[tactic(auto, using(crate::specs::StaticValues::static_is_read))]
 pub fn static_value_is_carried<E: Env, T: HasStaticValueRegistry<E>>()
     ensures again { (e : E) → IsReadThroughout (E.parts e) (⟦<StaticValue<T> as Carried<E>>⟧.shape e) }
@@ -79,13 +80,14 @@ pub fn static_values_are_read_again<E: Env, T: HasStaticValueRegistry<E>>()
     ensures { (e : E) (i : ℕ) (known : T) → slice_get (T.known e) i ≡ Some known → registered (meanings_of T.plain (T.known e)) i ≡ Ok (T.plain known) }
 {}
 
-/// A tagged value means its tag with something that its body means: what its type owes as the law `has_meaning` of `Carried`.
+/// A tagged value means its tag with something that its body means. A tagged type needs this law
+/// for the proof `has_meaning` of its `Carried`.
 #[tactic(auto, using(crate::proofs::Registered::tagged_means, crate::specs::Meanings::some))]
 pub fn tagged_has_meaning<E: Env, T: PagableTagged<E>>()
     ensures { (x : T) → SomeMeaning (MeansTagged (T.tag x) (T.body_means.of x)) }
 {}
 
-/// The forms of a regular expression are read again.
+/// The forms of a regular expression are read back.
 #[tactic(auto, using(crate::specs::ReadBack::basic_is_read))]
 pub fn saved_regex_is_carried<E: Env>()
     ensures again { (e : E) → IsReadThroughout (E.parts e) (⟦<SavedRegex as Carried<E>>⟧.shape e) }

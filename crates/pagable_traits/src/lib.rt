@@ -1,5 +1,6 @@
-//! What can be written and read: the traits of values, and the carried types: std's, those of some crates, references to
-//! shared values, regular expressions, and what registries of the environment hold, static values and readers of tagged ones.
+//! The traits of values that can be written and read, and the types that implement them: those of
+//! std and of some crates, references to shared values, regular expressions, static values, and
+//! tagged values with the environment's registries.
 #![tactic(auto)]
 
 pub mod arc;

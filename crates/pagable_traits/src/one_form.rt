@@ -1,4 +1,5 @@
-//! The types whose content addresses are keys: a value has one meaning, and a meaning one form.
+//! Canonical types: a value has one meaning, and a meaning one form, so equal values have equal
+//! keys.
 
 ghost use Rattle.std.specs.Prelude.{refl};
 ghost use Rattle.pagable_value_spec.specs.OneForm.{HasOneFormThroughout, basic_has_one_form, over_has_one_form, run_has_one_form, two_has_one_form};
@@ -16,9 +17,9 @@ use std::collections::{BTreeMap, BTreeSet};
 use std::hash::Hash;
 use std::time::Duration;
 
-/// A type of which each value has one meaning, and each meaning at most one form, in all parts of a value that lie in
-/// one blob. So equal values are written alike, and have one key. A type with a hash map in it is none, since its
-/// entries may come in any order.
+/// A type whose values each have one meaning, and whose meanings each have at most one form, in all
+/// parts of a value that are in one blob. So equal values are written alike and have one key. A
+/// type with a hash map in it isn't canonical, since the map's entries may be written in any order.
 pub trait Canonical<E: Env>: OneMeaning<E> {
     ghost one_form: { (e : E) → HasOneFormThroughout (E.parts e) (Self.shape e) };
 }

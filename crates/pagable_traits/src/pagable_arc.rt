@@ -19,8 +19,8 @@ use std::alloc::Global;
 use std::marker::PhantomData;
 use std::sync::{Arc, Wait};
 
-/// A loose reference to a shared value of type `T`. It holds no value: reading it reads nothing of the value, and pinning
-/// it gives the value.
+/// A loose reference to a shared value of type `T`. It holds no value: reading the reference reads
+/// nothing of the value, and pinning it returns the value.
 #[derive(Debug, Drop)]
 pub struct PagableArc<T> {
     node: NodeNumber,
@@ -28,7 +28,7 @@ pub struct PagableArc<T> {
     value: PhantomData<T>,
 }
 
-/// The kind of loose references to values of type `T`.
+/// Returns the kind of loose references to values of type `T`.
 pub fn loose_kind_of<E: Env, T: OfNode<E>>() -> Kind
     ensures { result.0 ≡ loose_kind T.TYPE }
 {
@@ -36,7 +36,7 @@ pub fn loose_kind_of<E: Env, T: OfNode<E>>() -> Kind
 }
 
 impl<T> PagableArc<T> {
-    /// The loose reference that this is, or None where it is of another kind.
+    /// Returns the loose reference, or None if the reference is of another kind.
     pub fn from_reference<E: Env>(reference: ArcRef) -> Option<PagableArc<T>>
     where
         T: OfNode<E>,
@@ -53,7 +53,7 @@ impl<T> PagableArc<T> {
         })
     }
 
-    /// The reference as values hold it.
+    /// Returns the reference with its kind, as values list it.
     pub fn reference<E: Env>(&self) -> ArcRef
     where
         T: OfNode<E>,
@@ -66,7 +66,7 @@ impl<T> PagableArc<T> {
         }
     }
 
-    /// Joins the numbers of a loose reference.
+    /// Makes a loose reference of its node and its handle.
     pub(crate) fn of(node: NodeNumber, handle: HandleNumber) -> PagableArc<T>
         ensures { (result.node ≡ node) × (result.handle ≡ handle) }
     {
@@ -77,10 +77,15 @@ impl<T> PagableArc<T> {
         }
     }
 
-    /// Inserts the value into the storage as a new cell, and answers its first handle, which pins.
+    /// Inserts the value into the storage as a new cell, and returns the cell's first reference,
+    /// which pins.
     ///
     /// # Errors
-    /// - as `Storage::insert`, and OutOfMemory where the value can't be shared once more. The value comes back.
+    ///
+    /// Each returns the value to the caller.
+    ///
+    /// - as `Storage::insert`.
+    /// - `OutOfMemory` if the value can't be shared once more.
     pub fn new<E: Env, R: Wait, S: Storage<E>>(
         rt: &R,
         alloc: Global,
@@ -102,10 +107,12 @@ impl<T> PagableArc<T> {
         }
     }
 
-    /// Makes a cell whose value has this key and the type `T`, and answers its first reference, which pins nothing. It
-    /// reads nothing, and asks that the key reads as a value of this type.
+    /// Makes a cell whose value is stored under this key and has the type `T`, and returns the
+    /// cell's first reference, which pins nothing. It reads nothing: the caller must know that the
+    /// blob of the key is read as a value of this type.
     ///
     /// # Errors
+    ///
     /// - as `Storage::new_paged_out`.
     pub fn new_paged_out<E: Env, R: Wait, S: Storage<E>>(
         rt: &R,
@@ -121,9 +128,10 @@ impl<T> PagableArc<T> {
         Ok(PagableArc::of(node, handle))
     }
 
-    /// Makes one more of the same mode: it pins as this does.
+    /// Makes another reference in the same mode: it pins if this one does.
     ///
     /// # Errors
+    ///
     /// - as `Storage::clone_handle`.
     pub fn clone<E: Env, R: Wait, S: Storage<E>>(
         &self,
@@ -137,15 +145,17 @@ impl<T> PagableArc<T> {
         Ok(PagableArc::of(self.node, handle))
     }
 
-    /// Pins its cell, reading the value where it isn't in memory, and from then on pins itself. It is for a reference of
-    /// the caller's; `follow` is for one that stands in a value.
+    /// Pins the reference's cell, loading the value if it isn't in memory. From then on this
+    /// reference pins too. The caller must own the reference; `follow` is for one that is in a
+    /// value.
     ///
     /// # Errors
-    /// - as `Storage::pin`.
-    /// - WrongKind: the cell's value is of another type.
-    /// - OutOfMemory: the value can't be shared once more.
     ///
     /// Each leaves handles and counts as they were.
+    ///
+    /// - as `Storage::pin`.
+    /// - `WrongKind` if the cell's value is of another type.
+    /// - `OutOfMemory` if the value can't be shared once more.
     pub fn pin_sync<E: Env, R: Wait, S: Storage<E>>(
         &self,
         rt: &R,
@@ -175,10 +185,12 @@ impl<T> PagableArc<T> {
         Err(refused)
     }
 
-    /// Makes a pin of its cell that is polled, for a reference of the caller's. It begins with its first poll.
+    /// Returns a future that pins the cell of this reference, which the caller must own. Its first
+    /// poll begins the pin.
     ///
     /// # Errors
-    /// - OutOfMemory: the storage is shared too often already.
+    ///
+    /// - `OutOfMemory` if the storage is shared too often already.
     pub fn pin<E: Env, S: Storage<E>>(&self, storage: &S) -> Result<PinFuture<T, S::Pin>, Error>
         ensures node { IfOk result (λ p. p.node ≡ self.now.node) }
         ensures begins { IfOk result (λ p. S.Pin.stage p.pin ≡ PinStage.Begin) }
@@ -187,10 +199,11 @@ impl<T> PagableArc<T> {
         Ok(PinFuture::new(self.node, pin))
     }
 
-    /// Pins the cell of a reference that stands in a value, whose handle is that value's: clones it, pins the clone, and
-    /// gives the clone up.
+    /// Pins the cell of a reference that is in a value, which owns its handle: clones the
+    /// reference, pins by the clone, and releases the clone.
     ///
     /// # Errors
+    ///
     /// - as `clone` and `pin_sync`: handles and counts are as they were.
     pub fn follow<E: Env, R: Wait, S: Storage<E>>(
         &self,
@@ -209,15 +222,17 @@ impl<T> PagableArc<T> {
         pin
     }
 
-    /// Lets its pin go. The cell is listed for page-out with its last pin, where it has no key.
+    /// Unpins the reference: it stops pinning its cell. If it was the cell's last pin and the cell
+    /// has no key, the storage lists the cell for page-out.
     ///
     /// # Errors
+    ///
     /// - as `Storage::unpin`.
     pub fn unpin<E: Env, R: Wait, S: Storage<E>>(&self, rt: &R, storage: &S) -> Result<(), Error> {
         storage.unpin(rt, self.handle)
     }
 
-    /// Sets the key of its cell, as `Storage::set_data_key`; refused as that.
+    /// Sets the key of the reference's cell, and fails, as `Storage::set_data_key` does.
     pub(crate) fn set_key<E: Env, R: Wait, S: Storage<E>>(
         &self,
         rt: &R,
@@ -229,10 +244,12 @@ impl<T> PagableArc<T> {
         storage.set_data_key(rt, self.handle, key)
     }
 
-    /// Gives it up.
+    /// Releases the reference.
     ///
     /// # Errors
-    /// - as `Storage::release`. It comes back, but where it was given up all the same.
+    ///
+    /// - as `Storage::release`: the caller gets the reference back, except with `NumbersSpent` and
+    ///   `OutOfMemory`, when it is released all the same.
     pub fn release<E: Env, R: Wait, S: Storage<E>>(
         self,
         rt: &R,
@@ -247,18 +264,20 @@ impl<T> PagableArc<T> {
         }
     }
 
-    /// Counts the handles that pin its node.
+    /// Returns how many handles pin the reference's node.
     ///
     /// # Errors
-    /// - NoSuchHandle: it was given up by its number.
+    ///
+    /// - `NoSuchHandle` if the reference's handle was released by its number.
     pub fn count<E: Env, R: Wait, S: Storage<E>>(&self, rt: &R, storage: &S) -> Result<u64, Error> {
         storage.count(rt, self.handle)
     }
 
-    /// Answers the key of its cell, if it has one.
+    /// Returns the key of the reference's cell, if the cell has one.
     ///
     /// # Errors
-    /// - NoSuchHandle: it was given up by its number.
+    ///
+    /// - `NoSuchHandle` if the reference's handle was released by its number.
     pub fn key<E: Env, R: Wait, S: Storage<E>>(
         &self,
         rt: &R,
@@ -269,10 +288,11 @@ impl<T> PagableArc<T> {
         storage.key(rt, self.handle)
     }
 
-    /// Tells whether its cell has its value in the storage alone.
+    /// Returns whether the value of the reference's cell is only in the storage.
     ///
     /// # Errors
-    /// - NoSuchHandle: it was given up by its number.
+    ///
+    /// - `NoSuchHandle` if the reference's handle was released by its number.
     pub fn is_paged_out<E: Env, R: Wait, S: Storage<E>>(
         &self,
         rt: &R,
@@ -281,7 +301,7 @@ impl<T> PagableArc<T> {
         storage.is_paged_out(rt, self.handle)
     }
 
-    /// Whether both refer to the same shared value.
+    /// Returns whether both refer to the same node.
     pub fn ptr_eq(left: &PagableArc<T>, right: &PagableArc<T>) -> bool
         ensures { result ≡ nat_eq left.now.node.0 right.now.node.0 }
     {

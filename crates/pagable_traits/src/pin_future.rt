@@ -1,4 +1,4 @@
-//! Pins that wait without a thread: they are polled, as a task's other waits are.
+//! Pins that wait without a thread: a task polls them, as it polls its other futures.
 
 ghost use Rattle.std.specs.Prelude.{Err, IfOk, ◌≡◌};
 ghost use Rattle.futures.specs.{Poll.{IfReady, OnPending}, Task.{IsArmed, Keeps}};
@@ -12,31 +12,32 @@ use std::alloc::Global;
 use std::marker::PhantomData;
 use std::sync::Wait;
 
-/// Where a polled pin stands between two polls.
+/// The stage of a polled pin between two polls.
 #[derive(Clone, Copy, Debug, PartialEq)]
 pub enum PinStage {
-    /// It hasn't been polled.
+    /// No poll has begun it.
     Begin,
-    /// Its load is open, and the fetch of its root's blob is polled next.
+    /// Its load is open; the next poll polls the fetch of its root's blob.
     Fetch,
-    /// It has answered, or was given up.
+    /// It has returned a result, or was cancelled.
     Ended,
 }
 
-/// A pin of a loose handle that is polled. A storage has one such type (`Storage::Pin`). One that is dropped before it
-/// has ended leaves its load open, with all that the load owns.
+/// A polled pin of a loose handle. A storage has one such type (`Storage::Pin`). If it is dropped
+/// before it has ended, its load stays open, with all that the load owns.
 pub trait Polls<E: Env>: Sized {
     ghost use Rattle.pagable_traits.specs.declared.pin_future.PinStage.{PinStage};
 
     ghost stage: { Self → PinStage };
 
-    /// Polls it: begins it, polls the fetch of its root's blob, and once that is ready reads the value and pins the
-    /// cell. Nested blobs come by the blocking fetch. It is pending only where the storage's fetch is, which has left
-    /// a waker in `cx`.
+    /// Begins the pin at the first poll, polls the fetch of its root's blob, and once that is ready
+    /// reads the value and pins the cell. Nested blobs are fetched by blocking calls. It is pending
+    /// only if the storage's fetch is, which has left a waker in `cx`.
     ///
     /// # Errors
-    /// - as `Storage::pin`, and what is refused leaves handles and counts as they were.
-    /// - NoSuchHandle: it has ended before.
+    ///
+    /// - as `Storage::pin`: handles and counts are as they were.
+    /// - `NoSuchHandle` if it ended before.
     fn poll<R: Wait>(
         &mut self,
         rt: &R,
@@ -48,16 +49,17 @@ pub trait Polls<E: Env>: Sized {
         ensures again { stage self.old ≡ PinStage.Ended → result ≡ Poll.Ready (Err Error.NoSuchHandle) }
         ensures kept { Keeps cx.old cx.new };
 
-    /// Takes a pin that it answered back: handles and counts are as before it.
+    /// Takes a returned pin back: handles and counts are then as before the pin.
     fn take_back<R: Wait>(&self, rt: &R, pinned: HandleNumber, was_unpinned: bool);
 
-    /// Gives it up, and its load with all that the load owns. What has ended stays so.
+    /// Cancels the pin: ends its load and releases all that the load owns. A pin that has ended is
+    /// unchanged.
     fn cancel<R: Wait>(&mut self, rt: &R)
         ensures { stage self.new ≡ PinStage.Ended };
 }
 
-/// A pin of a `PagableArc` that is polled. One that is dropped without `cancel` leaves its load open, with all that the
-/// load owns.
+/// A polled pin of a `PagableArc`. If it is dropped without `cancel`, its load stays open, with all
+/// that the load owns.
 #[derive(Drop)]
 pub struct PinFuture<T, P> {
     node: NodeNumber,
@@ -66,7 +68,7 @@ pub struct PinFuture<T, P> {
 }
 
 impl<T, P> PinFuture<T, P> {
-    /// Makes the pin of this node's cell.
+    /// Makes the future of this pin of the node's cell.
     pub(crate) fn new(node: NodeNumber, pin: P) -> PinFuture<T, P>
         ensures { (result.node ≡ node) × (result.pin ≡ pin) }
     {
@@ -77,12 +79,14 @@ impl<T, P> PinFuture<T, P> {
         }
     }
 
-    /// Polls it. It is pending only where the storage's fetch of the cell's blob is, which has left a waker in `cx`; the
-    /// next poll goes on from there. Between two polls it holds no lock.
+    /// Polls the pin. It is pending only if the storage's fetch of the cell's blob is, which has
+    /// left a waker in `cx`; the next poll continues from there. Between two polls it holds no
+    /// lock.
     ///
     /// # Errors
+    ///
     /// - as `PagableArc::pin_sync`: handles and counts are as they were.
-    /// - NoSuchHandle: it has answered before.
+    /// - `NoSuchHandle` if it has returned a result before.
     pub fn poll<E: Env, R: Wait>(
         &mut self,
         rt: &R,
@@ -118,7 +122,7 @@ impl<T, P> PinFuture<T, P> {
         Poll::Ready(Err(refused))
     }
 
-    /// Gives it up, and its load with all that the load owns. Nothing refuses it.
+    /// Cancels the pin: ends its load and releases all that the load owns. It never fails.
     pub fn cancel<E: Env, R: Wait>(mut self, rt: &R)
     where
         P: Polls<E> + Drop,

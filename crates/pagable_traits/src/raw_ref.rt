@@ -1,4 +1,4 @@
-//! Plain references: a reference by its kind alone, whatever the type of the value that it refers to is called.
+//! Raw references: a reference by the number of its kind, without the type of its value.
 
 ghost use Rattle.std.specs.Prelude.{IfNone, IfOk, IfSome, Some, ◌≡◌, ◌≢◌};
 ghost use Rattle.pagable_value_spec.specs.{Outcomes.{memory, never}, Meaning.reference as meaning_of, Reading.read, Shape.reference as reference_shape, Cursor.{Is, IsLent}};
@@ -11,7 +11,11 @@ use pagable_codec::{
 use pagable_flavors::Error;
 use std::alloc::Global;
 
-/// Writes a reference: no byte, and the reference at the end of the list. Refused by want of memory alone.
+/// Writes a reference: appends it to the list, and writes no byte.
+///
+/// # Errors
+///
+/// - `OutOfMemory` only.
 #[tactic(auto, using(pagable_codec::proofs::Writing::parts, pagable_codec::proofs::Writing::references))]
 pub fn write_reference<E: Env, S: PagableSerializer<E>>(
     reference: ArcRef,
@@ -22,8 +26,12 @@ pub fn write_reference<E: Env, S: PagableSerializer<E>>(
     serializer.serialize_arc(reference)
 }
 
-/// Reads the next reference, of this kind. It takes the next key, also where the reference is refused: NoMoreKeys where
-/// none is left, or what the reference itself is refused by.
+/// Reads the next reference, of this kind. It takes the next key, also if the reference fails.
+///
+/// # Errors
+///
+/// - `NoMoreKeys` if no key is left.
+/// - an error of the reference itself.
 #[tactic(auto, unfolding(pagable_value_spec::specs::Reading::read, pagable_value_spec::specs::Reading::read_with), using(pagable_codec::proofs::Reading::parts))]
 pub fn read_reference<E: Env, D: PagableDeserializer<E>>(
     kind: Kind,
@@ -37,7 +45,8 @@ pub fn read_reference<E: Env, D: PagableDeserializer<E>>(
     Ok(reference)
 }
 
-/// A plain reference of the kind `KIND`: what a type holds that knows the kind by its number, its own kind among them.
+/// A reference of the kind `KIND`: a type holds it if it knows the kind by number, such as a type
+/// that refers to its own type.
 #[derive(Clone, Copy, Debug, PartialEq, Eq)]
 pub struct RawRef<const KIND: u32> {
     node: NodeNumber,
@@ -45,7 +54,7 @@ pub struct RawRef<const KIND: u32> {
 }
 
 impl<const KIND: u32> RawRef<KIND> {
-    /// The reference as one of this kind, or None where it is of another.
+    /// Returns the raw reference, or None if the reference is of another kind.
     pub fn from_reference(reference: ArcRef) -> Option<RawRef<KIND>>
         ensures some { IfSome result (λ a. plain KIND a ≡ reference) }
         ensures none { IfNone result (reference.kind.0 ≢ KIND) }
@@ -59,7 +68,7 @@ impl<const KIND: u32> RawRef<KIND> {
         })
     }
 
-    /// The reference, with its kind.
+    /// Returns the reference with its kind.
     pub fn reference(&self) -> ArcRef
         ensures { result ≡ plain KIND self.now }
     {

@@ -1,4 +1,4 @@
-//! The references in a value, listed.
+//! The references in a value, as a list.
 #![tactic(auto, using(crate::proofs::Listed::parts), unfolding(pagable_value_spec::specs::References::references_in))]
 
 ghost use Rattle.std.specs.Prelude.{IfErr, IfOk, OnOk, [], map, ◌++◌, ◌∷◌, ◌≡◌};
@@ -13,16 +13,19 @@ use pagable_codec::{ArcRef, Env, OfNode};
 use pagable_flavors::Error;
 use std::alloc::Global;
 
-/// A type whose values tell their references. A type with a hash map in it is none, since its entries are written in any
-/// order.
+/// A type whose values list their references. A type with a hash map in it has no impl, since the
+/// map's entries may be written in any order.
 pub trait Refers<E: Env>: OneMeaning<E> {
-    /// Appends the references in the value, in the order in which they are written. Refused by want of memory alone; then
-    /// some of them were appended.
+    /// Appends the references in the value, in the order in which they are written.
+    ///
+    /// # Errors
+    ///
+    /// - `OutOfMemory` only: some of the references may be appended.
     fn list_references(&self, list: &mut Vec<ArcRef>) -> Result<(), Error>
         ensures ok { OnOk result (list.new.items ≡ list.old.items ++ references_in (Self.Carried.means.meaning self.now)) }
         ensures only { IfErr result memory };
 
-    // Each form lists them so.
+    // Each form lists the references in this order.
     ghost in_order: { (e : E) → ListsInOrder (E.parts e) (Self.Carried.shape e) };
 }
 
@@ -79,7 +82,7 @@ impl<E: Env, A: Refers<E>, B: Refers<E>> Refers<E> for (A, B) {
     ghost in_order = { λ e. both_in_order (E.parts e) (A.Carried.shape e) (B.Carried.shape e) (A.in_order e) (B.in_order e) };
 }
 
-/// A boxed value refers to what the value does,
+/// A boxed value refers to what the value refers to.
 impl<E: Env, T: Refers<E>> Refers<E> for Box<T> {
     fn list_references(&self, list: &mut Vec<ArcRef>) -> Result<(), Error> {
         T::list_references(&**self, list)
@@ -88,7 +91,7 @@ impl<E: Env, T: Refers<E>> Refers<E> for Box<T> {
     ghost in_order = { T.in_order };
 }
 
-/// an outcome to what is in it,
+/// A result refers to what the value or the failure in it refers to.
 impl<E: Env, T: Refers<E>, X: Refers<E>> Refers<E> for Result<T, X> {
     fn list_references(&self, list: &mut Vec<ArcRef>) -> Result<(), Error> {
         match self {
@@ -100,7 +103,7 @@ impl<E: Env, T: Refers<E>, X: Refers<E>> Refers<E> for Result<T, X> {
     ghost in_order = { λ e. outcome_in_order (E.parts e) (T.Carried.shape e) (X.Carried.shape e) (T.in_order e) (X.in_order e) };
 }
 
-/// and a longer tuple to what a pair of its first value and the others does.
+/// A longer tuple refers to what the pair of its first value and the others refers to.
 impl<E: Env, A: Refers<E>, B: Refers<E>, C: Refers<E>> Refers<E> for (A, B, C) {
     #[tactic(auto, using(crate::proofs::Listed::pair_listed))]
     fn list_references(&self, list: &mut Vec<ArcRef>) -> Result<(), Error> {
@@ -122,7 +125,11 @@ impl<E: Env, A: Refers<E>, B: Refers<E>, C: Refers<E>, D: Refers<E>> Refers<E> f
         (both_in_order (E.parts e) (B.Carried.shape e) (both (C.Carried.shape e) (D.Carried.shape e)) (B.in_order e) (both_in_order (E.parts e) (C.Carried.shape e) (D.Carried.shape e) (C.in_order e) (D.in_order e))) };
 }
 
-/// The references in a value, in the order in which they are written. Refused by want of memory alone.
+/// Returns the references in a value, in the order in which they are written.
+///
+/// # Errors
+///
+/// - `OutOfMemory` only.
 pub fn references_of<E: Env, T: Refers<E>>(alloc: Global, value: &T) -> Result<Vec<ArcRef>, Error>
     ensures ok { IfOk result (λ list. list.items ≡ references_in (T.Carried.means.meaning value.now)) }
     ensures only { IfErr result memory }
@@ -132,7 +139,7 @@ pub fn references_of<E: Env, T: Refers<E>>(alloc: Global, value: &T) -> Result<V
     Ok(list)
 }
 
-/// Appends the references of the items, one item after another.
+/// Appends the references of the items, one item after another. Fails with `OutOfMemory` only.
 fn list_each<E: Env, T: Refers<E>>(items: &[T], list: &mut Vec<ArcRef>) -> Result<(), Error>
     ensures ok { OnOk result (list.new.items ≡ list.old.items ++ references_in (sequence (map T.Carried.means.meaning items.now))) }
     ensures only { IfErr result memory }
@@ -151,7 +158,7 @@ impl<E: Env, T: Refers<E>> Refers<E> for Vec<T> {
     ghost in_order = { λ e. list_in_order (E.parts e) (T.Carried.shape e) (T.in_order e) };
 }
 
-/// References are read throughout, as `carried_types_are_read` of `pagable_traits` says it of other types.
+/// References are read throughout, as `carried_types_are_read` states for other types.
 #[tactic(auto, using(crate::specs::References::reference_is_read))]
 pub fn references_are_read<E: Env, T: OfNode<E>, const PINS: bool, const KIND: u32>()
     ensures { (e : E) → AreRead (E.parts e) (⟦<HoldingArc<T, PINS> as Carried<E>>⟧.shape e ∷ ⟦<PagableArc<T> as Carried<E>>⟧.shape e ∷ ⟦<RawRef<KIND> as Carried<E>>⟧.shape e ∷ []) }

@@ -1,4 +1,5 @@
-//! Values that refer to nothing, and so list nothing: numbers, flags, texts, spans of time, patterns and static values.
+//! Impls for values that refer to nothing: numbers, flags, texts, durations, patterns and static
+//! values.
 #![tactic(auto, using(crate::proofs::Listed::parts), unfolding(pagable_value_spec::specs::References::references_in))]
 
 ghost use Rattle.{pagable_value_spec.specs.Statics.meanings_of, std.specs.Int.{w8, w16, w32, w64, w128}};

@@ -1,4 +1,4 @@
-//! Regular expressions beside their texts.
+//! Regular expressions, kept with their texts.
 
 ghost use Rattle.std.{proofs.Common.rules, specs.{Cmp.Rules.{comparing, hashing}, Prelude.{IfErr, IfOk, List, ℕ, ◌≡◌, ◌≢◌}, Str.bytes_eq, String.string_bytes}};
 ghost use Rattle.pagable_value_spec.specs.{Outcomes.{long_or, memory}, Keyed.pattern_is_same, Meaning.pattern, OneForm.{basic_has_one_form, basic_refers_to_nothing}, Reading.read, Cursor.{HoldsLent, Is}};
@@ -16,15 +16,16 @@ use std::fmt;
 use std::hash::{Hash, Hasher};
 use std::marker::Model;
 
-/// A regular expression beside the text that it was built of, with the options that stand in the text alone. It is written
-/// as its text, and built anew when that is read. Two are equal where their texts are.
+/// A regular expression with the text from which it was built; options can only be written in the
+/// text. It is written as its text, and reading it builds it again. Two are equal if their texts
+/// are.
 #[derive(Drop)]
 pub struct SavedRegex {
     text: String,
     built: Regex,
 }
 
-// Contracts see the text.
+// Contracts see it as its text.
 impl Model for SavedRegex {
     ghost Value = { List ℕ };
 
@@ -33,7 +34,7 @@ impl Model for SavedRegex {
     ghost invariant = { λ r. IsBuiltFrom (string_bytes r.text) r.built };
 }
 
-/// The refusal for a cause of `regex`: RegexRefused for each but want of memory.
+/// Returns the error for an error of `regex`: `RegexRefused`, except for `OutOfMemory`.
 fn refusal(cause: regex::Error) -> Error
     ensures { result ≡ refusal_of cause }
 {
@@ -41,8 +42,8 @@ fn refusal(cause: regex::Error) -> Error
     Error::of_library(is_memory, Error::RegexRefused)
 }
 
-/// What `regex` builds of a text with its default options. RegexRefused where it refuses the text, else refused by want of
-/// memory alone.
+/// Builds the regular expression of a text with the default options of `regex`. Fails with
+/// `RegexRefused` if `regex` refuses the text, else only with `OutOfMemory`.
 fn build(alloc: Global, text: &str) -> Result<Regex, Error>
     ensures built { IfOk result (IsBuiltFrom text.now) }
     ensures refused { IfErr result (IsRefusedPattern text.now) }
@@ -51,8 +52,12 @@ fn build(alloc: Global, text: &str) -> Result<Regex, Error>
 }
 
 impl SavedRegex {
-    /// The regular expression of a text. RegexRefused where `regex` refuses the text for another cause than memory, else
-    /// refused by want of memory alone.
+    /// Builds the regular expression of a text.
+    ///
+    /// # Errors
+    ///
+    /// - `RegexRefused` if `regex` refuses the text for another cause than memory.
+    /// - `OutOfMemory`.
     pub fn new(alloc: Global, text: &str) -> Result<SavedRegex, Error>
         ensures pattern { IfOk result (λ r. r ≡ text.now) }
         ensures refused { IfErr result (IsRefusedPattern text.now) }
@@ -62,14 +67,14 @@ impl SavedRegex {
         Ok(SavedRegex { text, built })
     }
 
-    /// The text.
+    /// Returns the text.
     pub fn pattern(&self) -> &str
         ensures { result.now ≡ self.now }
     {
         self.text.as_str()
     }
 
-    /// The regular expression that was built of the text.
+    /// Returns the regular expression.
     pub fn regex(&self) -> &Regex
         ensures { IsBuiltFrom self.now result.now }
     {
@@ -125,8 +130,8 @@ impl<E: Env> PagableKey<E> for SavedRegex {
     ghost key = { record { same = pattern_is_same; refers_to_nothing = λ e. basic_refers_to_nothing tt } };
 }
 
-/// Writes the text of a pattern: its length in bytes, and its bytes. TooLong above 4,294,967,295 bytes; else refused by
-/// want of memory alone.
+/// Writes the text of a pattern: its length in bytes, and its bytes. Fails with `TooLong` above
+/// 4,294,967,295 bytes, else only with `OutOfMemory`.
 #[tactic(auto, using(pagable_codec::proofs::Writing::parts, crate::proofs::Parts::writes_pattern, crate::proofs::Parts::refused_pattern))]
 fn write_text<E: Env, S: PagableSerializer<E>>(text: &str, serializer: &mut S) -> Result<(), Error>
     ensures { Wrote E.Env S.PagableSerializer (form (Is pattern text.now) shapes.pattern) (long_or memory) serializer.old serializer.new result }
@@ -143,7 +148,7 @@ impl<E: Env> PagableSerialize<E> for SavedRegex {
     }
 }
 
-/// Reads the text of a pattern, and builds nothing.
+/// Reads the text of a pattern without building it.
 fn read_text<E: Env, D: PagableDeserializer<E>>(
     alloc: Global,
     deserializer: &mut D,
@@ -157,8 +162,13 @@ fn read_text<E: Env, D: PagableDeserializer<E>>(
 impl<'de, E: Env> PagableDeserialize<'de, E> for SavedRegex {
     ghost read_causes = { reads_pattern };
 
-    /// Reads a text, and builds it. RegexRefused only where there is a text that `regex` refuses for another cause than
-    /// memory.
+    /// Reads a text, and builds its regular expression.
+    ///
+    /// # Errors
+    ///
+    /// - `RegexRefused` only if it has read a text that `regex` refuses for another cause than
+    ///   memory.
+    /// - `OutOfMemory`, or a fault of the input.
     fn pagable_deserialize<D: PagableDeserializer<E>>(
         alloc: Global,
         deserializer: &mut D,

@@ -1,5 +1,6 @@
-//! Static values: they stand in a registry that the environment holds, and are written as their index there. `T` is the
-//! reference to what is static, as `&'static str`: nothing is proved yet of a `&'static T` with a type parameter `T`.
+//! Static values: a registry of the environment holds them, and each is written as its index there.
+//! `T` is the reference to what is static, such as `&'static str`: nothing is proved yet for a
+//! `&'static T` with a type parameter `T`.
 
 ghost use Rattle.std.specs.{List.{Sorted.{IsPermutation, IsSorted, IsStable}, slice_get}, Prelude.{Err, IfErr, IfNone, IfOk, IfSome, IsTrue, List, Option, Some, length, map, vec_len, ◌<◌, ◌↔◌, ◌≡◌}};
 ghost use Rattle.std.specs.Prelude.{◌≤◌};
@@ -17,10 +18,10 @@ use std::hash::Hash;
 use std::marker::Model;
 use std::ops::Deref;
 
-/// The greatest count of entries of one registry: an index is a number of 32 bits.
+/// The greatest number of entries of one registry: an index has 32 bits.
 const MOST_ENTRIES: usize = 4_294_967_295;
 
-/// A value, and its index in the registry that it stands in. Two entries are equal where their values are.
+/// A value and its index in its registry. Two entries are equal if their values are.
 #[derive_where(PartialEq, Eq, Hash; T)]
 #[derive_where(Clone, Copy; T: Copy)]
 pub struct StaticValueEntry<T> {
@@ -29,13 +30,13 @@ pub struct StaticValueEntry<T> {
     pub index: u32,
 }
 
-/// A value that is written as its index. Two are equal where their values are, whatever their indices.
+/// A value that is written as its index. Two are equal if their values are, whatever their indices.
 #[derive(PartialEq, Eq, Hash)]
 #[derive_where(Clone, Copy; T: Copy)]
 pub struct StaticValue<T>(pub StaticValueEntry<T>);
 
 impl<T: Copy> StaticValue<T> {
-    /// The value.
+    /// Returns the value.
     pub fn value(self) -> T
         ensures { result ≡ self.0.value }
     {
@@ -75,7 +76,7 @@ impl<T: fmt::Debug> fmt::Debug for StaticValue<T> {
 pub type StaticStr = StaticValue<&'static str>;
 
 impl StaticStr {
-    /// The text.
+    /// Returns the text.
     pub fn as_str(self) -> &'static str
         ensures { result ≡ self.entry.0.value }
     {
@@ -87,7 +88,7 @@ impl StaticStr {
 pub type StaticBytes = StaticValue<&'static [u8]>;
 
 impl StaticBytes {
-    /// The bytes.
+    /// Returns the bytes.
     pub fn as_bytes(self) -> &'static [u8]
         ensures { result ≡ self.entry.0.value }
     {
@@ -95,7 +96,7 @@ impl StaticBytes {
     }
 }
 
-/// The static values of a type in their order, each under its index from 0 on.
+/// The static values of a type in their order; the first has the index 0.
 #[derive(Drop)]
 pub struct StaticValueRegistry<T> {
     values: Vec<T>,
@@ -116,9 +117,13 @@ fn values_of<T: Copy>(alloc: Global, entries: &[StaticValueEntry<T>]) -> Result<
 }
 
 impl<T: Copy> StaticValueRegistry<T> {
-    /// The registry of these values in ascending order, equal ones in the order in which they were given; each value's
-    /// index is its place there, from 0 on, whatever index its entry brought. TooLong above 4,294,967,295 entries, else
-    /// refused by want of memory alone.
+    /// Makes the registry of these values in ascending order, equal ones in the order given. A
+    /// value's index is its place in that order, from 0 on; the index in its entry is ignored.
+    ///
+    /// # Errors
+    ///
+    /// - `TooLong` above 4,294,967,295 entries.
+    /// - `OutOfMemory`.
     #[tactic(auto, using(std::proofs::lemmas::List::Sorted::length_permutation, crate::proofs::Registered::lengths))]
     pub fn from_entries(alloc: Global, entries: Vec<StaticValueEntry<T>>) -> Result<Self, Error>
     where
@@ -137,7 +142,7 @@ impl<T: Copy> StaticValueRegistry<T> {
         Ok(StaticValueRegistry { values })
     }
 
-    /// The value under this index with the index, or None where no value stands there.
+    /// Returns the value under this index, with the index, or None if the index has no value.
     pub fn get(&self, index: u32) -> Option<StaticValue<T>>
         ensures found { IfSome result (λ v. (v.0.index ≡ index) × (slice_get self.now index ≡ Some v.0.value)) }
         ensures missing { IfNone result (length self.now ≤ index) }
@@ -150,7 +155,7 @@ impl<T: Copy> StaticValueRegistry<T> {
         Some(StaticValue(StaticValueEntry { value, index }))
     }
 
-    /// The least index of an equal value, or None where there is none.
+    /// Returns the least index of an equal value, or None if there is none.
     pub fn index_of(&self, value: &T) -> Option<u32>
     where
         T: PartialEq,
@@ -163,7 +168,7 @@ impl<T: Copy> StaticValueRegistry<T> {
     }
 }
 
-/// The first place of an equal value, or None where there is none.
+/// Returns the first place of an equal value, or None if there is none.
 #[tactic(auto, using(crate::proofs::Registered::finding))]
 fn first_equal<T: PartialEq>(values: &[T], value: &T) -> Option<usize>
     ensures within { IfSome result (λ i. i < length values.now) }
@@ -179,19 +184,19 @@ fn first_equal<T: PartialEq>(values: &[T], value: &T) -> Option<usize>
     None
 }
 
-/// A type whose values stand in a registry of the environment.
+/// A type whose values are in a registry of the environment.
 pub trait HasStaticValueRegistry<E: Env>: Ord + Copy + Sized {
-    // What a value means; no references are in it.
+    // What a value means: it holds no references.
     ghost plain: { Self → Meaning ⊥ };
 
-    // The values that are registered, by their index.
+    // The registered values, by their index.
     ghost known: { E → List Self };
 
-    /// The registry of this type in the environment.
+    /// Returns the registry of this type in the environment.
     fn registry(env: &E) -> &StaticValueRegistry<Self>
         ensures { result.now ≡ known env.now };
 
-    // Values are equal exactly where they mean the same.
+    // Values are equal exactly if they mean the same.
     ghost same_meaning: { (x y : Self) → IsTrue (Self.eq x y) → plain x ≡ plain y };
 
     ghost same_value: { (x y : Self) → plain x ≡ plain y → IsTrue (Self.eq x y) };
@@ -199,7 +204,11 @@ pub trait HasStaticValueRegistry<E: Env>: Ord + Copy + Sized {
     ghost holds_no_reference: { (x : Self) → HasNoReference (plain x) };
 }
 
-/// The value that the environment's registry has under this index: BadStaticIndex where there is none.
+/// Returns the value that the environment's registry has under this index.
+///
+/// # Errors
+///
+/// - `BadStaticIndex` if the index has no value.
 #[tactic(auto, using(crate::proofs::Registered::steps))]
 pub fn registered_value<E: Env, T: HasStaticValueRegistry<E>>(
     index: u32,
@@ -211,8 +220,8 @@ pub fn registered_value<E: Env, T: HasStaticValueRegistry<E>>(
     T::registry(env).get(index).ok_or(Error::BadStaticIndex)
 }
 
-/// Whether the environment's registry has an equal value under the value's own index. An equal value under another
-/// index doesn't do.
+/// Returns whether the environment's registry has an equal value under the value's own index. An
+/// equal value under another index doesn't count.
 #[tactic(auto, using(crate::proofs::Registered::steps))]
 pub fn is_registered<E: Env, T: HasStaticValueRegistry<E>>(value: &StaticValue<T>, env: &E) -> bool
     ensures { IsTrue result ↔ StandsAt T.plain (T.known env.now) value.now.0.value value.now.0.index }
@@ -233,7 +242,8 @@ impl<E: Env, T: HasStaticValueRegistry<E>> OneMeaning<E> for StaticValue<T> {
     ghost single = { λ v m is. is };
 }
 
-/// By the value alone, as equality and the hash are.
+/// Two static values are the same key if their values are equal, whatever their indices, as for
+/// equality and hash.
 impl<E: Env, T: HasStaticValueRegistry<E>> PagableKey<E> for StaticValue<T> {
     ghost key = { record { same = λ x y. static_is_same T.eq T.plain T.same_meaning T.same_value x.0.value y.0.value; refers_to_nothing = λ e. static_refers_to_nothing (E.parts e) (meanings_of T.plain (T.known e)) } };
 }
@@ -241,8 +251,12 @@ impl<E: Env, T: HasStaticValueRegistry<E>> PagableKey<E> for StaticValue<T> {
 impl<E: Env, T: HasStaticValueRegistry<E>> PagableSerialize<E> for StaticValue<T> {
     ghost write_causes = { writes_memory_or writes_unregistered };
 
-    /// Appends the index. Unregistered exactly where the environment's registry has no equal value under it, and else
-    /// refused by want of memory alone.
+    /// Appends the index.
+    ///
+    /// # Errors
+    ///
+    /// - `Unregistered` exactly if the environment's registry has no equal value under the index.
+    /// - `OutOfMemory`.
     #[tactic(auto, using(pagable_codec::proofs::Writing::parts, crate::proofs::Registered::writes_static))]
     fn pagable_serialize<S: PagableSerializer<E>>(&self, serializer: &mut S) -> Result<(), Error>
         ensures wrote { Wrote E.Env S.PagableSerializer (form (Is (λ v. lifted (T.plain v.0.value)) self.now) (static_value (meanings_of T.plain (T.known (S.environment serializer.old)))))
@@ -258,8 +272,13 @@ impl<E: Env, T: HasStaticValueRegistry<E>> PagableSerialize<E> for StaticValue<T
 }
 
 impl<'de, E: Env, T: HasStaticValueRegistry<E>> PagableDeserialize<'de, E> for StaticValue<T> {
-    /// Reads an index, and gives the value that the environment's registry has under it, with that index: so it can be
-    /// written again. BadStaticIndex where there is none.
+    /// Reads an index, and returns the value that the environment's registry has under it, with
+    /// that index, so it can be written again.
+    ///
+    /// # Errors
+    ///
+    /// - `BadStaticIndex` if the index has no value.
+    /// - a fault of the input.
     #[tactic(auto, unfolding(pagable_value_spec::specs::Reading::read, pagable_value_spec::specs::Reading::read_with), using(pagable_codec::proofs::Reading::parts))]
     fn pagable_deserialize<D: PagableDeserializer<E>>(
         alloc: Global,

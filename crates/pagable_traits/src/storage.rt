@@ -1,4 +1,5 @@
-//! What makes, pins and gives up the handles of typed references: a pager behind a lock, or one that is lent.
+//! The calls by which typed references make, pin and release their handles: of a pager behind a
+//! lock, or of a borrowed one.
 
 ghost use Rattle.pagable_traits.specs.declared.pin_future.PinStage.{PinStage};
 ghost use Rattle.std.specs.{Arc.arc_value, Prelude.{IfOk, IfSome, Option, Result, Some, ℕ, ◌≡◌}};
@@ -14,7 +15,7 @@ use std::sync::{Arc, Wait};
 /// The mode in which a new node's first handle holds it.
 #[derive(Clone, Copy, Debug, PartialEq)]
 pub enum FirstHandle {
-    /// A loose handle, which pins.
+    /// A Loose handle, which pins.
     Loose,
     /// A Shared handle: the node has no key.
     Shared,
@@ -22,7 +23,8 @@ pub enum FirstHandle {
     Pinned,
 }
 
-/// A new pin, the value that it holds, and whether the handle by which it was made pinned nothing before.
+/// A new pin, the value that it holds, and whether the handle by which it was made didn't pin
+/// before.
 #[derive(Drop)]
 pub struct NewPin<N> {
     pub handle: HandleNumber,
@@ -30,30 +32,34 @@ pub struct NewPin<N> {
     pub was_unpinned: bool,
 }
 
-/// Keeps the nodes of typed references behind numbers: each call of a `PagableArc`, a `PinnedPagableArc` or an `Arc` on its
-/// storage goes by one of these. Where it tells what its handles name, a pin answers that.
+/// A store of nodes by handles: each call of a `PagableArc`, a `PinnedPagableArc` or an `Arc` on
+/// its storage makes one of these calls. If the storage tells the values of its handles, a pin
+/// returns that value.
 pub trait Storage<E: Env> {
-    /// Its pin that is polled.
+    /// The storage's polled pin.
     type Pin: Polls<E>;
 
-    // the value of each handle's node, if that is told
+    // the value of each handle's node, if the storage tells it
     ghost told: { Self → Option (ℕ → Option E.Node) };
 
-    // what is answered for the key of a handle's cell, and for setting it to one; and which cells of a type and a key
-    // are made
+    // the results of asking for the key of a handle's cell, and of setting it to a key; and the
+    // cells made for a type and a key
     ghost keys: { Self → Handle → Result Key Refusal → Type 0 } = { λ s h r. Unit {0} };
 
     ghost sets: { Self → Handle → ℕ → Result (Unit {0}) Refusal → Type 0 } = { λ s h k r. Unit {0} };
 
     ghost opens: { Self → ℕ → ℕ → Node × Handle → Type 0 } = { λ s t k r. Unit {0} };
 
-    /// Inserts a node, with its first handle, which is the caller's as the handles in the value were.
+    /// Inserts a node with its first handle. The caller owns that handle; it must own the handles
+    /// in the value.
     ///
     /// # Errors
-    /// - NoSuchHandle, NotYours, WrongMode, WrongKind: a reference of the value isn't one of the caller's that fits.
-    /// - NumbersSpent, OutOfMemory.
     ///
-    /// Each lets the node go: who asks keeps a share of the value.
+    /// Each drops the node: a caller who needs the value keeps a share of it.
+    ///
+    /// - `NoSuchHandle`, `NotYours`, `WrongMode`, `WrongKind` if a reference in the value isn't a
+    ///   fitting one that the caller owns.
+    /// - `NumbersSpent`, `OutOfMemory`.
     fn insert<R: Wait>(
         &self,
         rt: &R,
@@ -63,11 +69,13 @@ pub trait Storage<E: Env> {
     ) -> Result<(NodeNumber, HandleNumber), Error>
         ensures value { IfOk result (λ r. IfSome (told self.now) (λ at. at r.1.0 ≡ Some node)) };
 
-    /// Makes a cell that has a key and no value, with an unpinned loose handle of the caller's. It reads nothing, and
-    /// asks that the key reads as a value of this type.
+    /// Makes a cell that has a key and no value, with an unpinned loose handle that the caller
+    /// owns. It reads nothing: the caller must know that the blob of the key is read as a value of
+    /// this type.
     ///
     /// # Errors
-    /// - NumbersSpent, OutOfMemory: nothing changes.
+    ///
+    /// - `NumbersSpent`, `OutOfMemory`: nothing changes.
     fn new_paged_out<R: Wait>(
         &self,
         rt: &R,
@@ -77,20 +85,24 @@ pub trait Storage<E: Env> {
     ) -> Result<(NodeNumber, HandleNumber), Error>
         ensures opens { IfOk result (opens self.now node_type key) };
 
-    /// Makes one more handle of a handle's node, in the same mode.
+    /// Makes another handle of a handle's node, in the same mode.
     ///
     /// # Errors
-    /// - NoSuchHandle, NumbersSpent, OutOfMemory: nothing changes.
+    ///
+    /// - `NoSuchHandle`, `NumbersSpent`, `OutOfMemory`: nothing changes.
     fn clone_handle<R: Wait>(&self, rt: &R, handle: HandleNumber) -> Result<HandleNumber, Error>
         ensures value { IfOk result (λ r. IfSome (told self.now) (λ at. at r.0 ≡ at handle.0)) };
 
-    /// Pins the cell of the caller's loose handle, reading its value where it isn't in memory.
+    /// Pins the cell of a loose handle that the caller owns, loading its value if it isn't in
+    /// memory.
     ///
     /// # Errors
-    /// - NoSuchHandle, NotYours, WrongMode: the handle isn't a loose one of the caller's.
-    /// - what reading the value is refused by, NumbersSpent and OutOfMemory.
     ///
     /// Each leaves handles and counts as they were.
+    ///
+    /// - `NoSuchHandle`, `NotYours`, `WrongMode` if the handle isn't a loose one that the caller
+    ///   owns.
+    /// - the errors of loading the value, `NumbersSpent` and `OutOfMemory`.
     fn pin<R: Wait>(
         &self,
         rt: &R,
@@ -99,63 +111,76 @@ pub trait Storage<E: Env> {
     ) -> Result<NewPin<E::Node>, Error>
         ensures value { IfOk result (λ p. IfSome (told self.now) (λ at. at handle.0 ≡ Some (arc_value p.value))) };
 
-    /// Makes a pin of the cell of the caller's loose handle that is polled. It begins with its first poll.
+    /// Returns a polled pin of the cell of a loose handle that the caller owns. Its first poll
+    /// begins the pin.
     ///
     /// # Errors
-    /// - OutOfMemory: the storage is shared too often already.
+    ///
+    /// - `OutOfMemory` if the storage is shared too often already.
     fn polled_pin(&self, handle: HandleNumber) -> Result<Self::Pin, Error>
         ensures { IfOk result (λ p. Self.Pin.stage p ≡ PinStage.Begin) };
 
-    /// Has the caller's loose handle let its pin go.
+    /// Unpins a loose handle that the caller owns: the handle stops pinning its cell.
     ///
     /// # Errors
-    /// - NoSuchHandle, NotYours, WrongMode: nothing changes.
-    /// - NumbersSpent, OutOfMemory: the cell couldn't be listed; the pin is let go all the same.
+    ///
+    /// - `NoSuchHandle`, `NotYours`, `WrongMode`: nothing changes.
+    /// - `NumbersSpent`, `OutOfMemory` if the cell can't be listed for page-out: the handle is
+    ///   unpinned all the same.
     fn unpin<R: Wait>(&self, rt: &R, handle: HandleNumber) -> Result<(), Error>;
 
-    /// Makes the caller's Pinned handle a loose one with the same number, which pins.
+    /// Makes a Pinned handle that the caller owns a loose one with the same number, which pins.
     ///
     /// # Errors
-    /// - NoSuchHandle, NotYours, WrongMode: nothing changes.
+    ///
+    /// - `NoSuchHandle`, `NotYours`, `WrongMode`: nothing changes.
     fn into_pagable<R: Wait>(&self, rt: &R, handle: HandleNumber) -> Result<(), Error>;
 
-    /// Gives a handle of the caller's up.
+    /// Releases a handle that the caller owns.
     ///
     /// # Errors
-    /// - NoSuchHandle, NotYours: nothing changes.
-    /// - NumbersSpent, OutOfMemory: a cell couldn't be listed; the handle is given up all the same.
+    ///
+    /// - `NoSuchHandle`, `NotYours`: nothing changes.
+    /// - `NumbersSpent`, `OutOfMemory` if a cell can't be listed for page-out: the handle is
+    ///   released all the same.
     fn release<R: Wait>(&self, rt: &R, handle: HandleNumber) -> Result<(), Error>;
 
-    /// Counts the handles that pin a handle's node.
+    /// Returns how many handles pin a handle's node.
     ///
     /// # Errors
-    /// - NoSuchHandle.
+    ///
+    /// - `NoSuchHandle`.
     fn count<R: Wait>(&self, rt: &R, handle: HandleNumber) -> Result<u64, Error>;
 
-    /// Answers the key of a handle's cell, if it has one.
+    /// Returns the key of a handle's cell, if the cell has one.
     ///
     /// # Errors
-    /// - NoSuchHandle.
+    ///
+    /// - `NoSuchHandle`.
     fn key<R: Wait>(&self, rt: &R, handle: HandleNumber) -> Result<OptionalDataKey, Error>
         ensures answers { keys self.now handle result };
 
-    /// Sets the key of a handle's cell; where nothing pins the cell, its value goes. A Pinned or a Shared handle
-    /// changes nothing. It asks that the key reads as the cell's value in the storage.
+    /// Sets the key of a handle's cell; if nothing pins the cell, its value is dropped. For a
+    /// Pinned or a Shared handle it changes nothing. The caller must know that the blob of the key
+    /// is read as the cell's value.
     ///
     /// # Errors
-    /// - NoSuchHandle, NotYours: nothing changes.
-    /// - NumbersSpent, OutOfMemory: a cell couldn't be listed; the key is set all the same.
+    ///
+    /// - `NoSuchHandle`, `NotYours`: nothing changes.
+    /// - `NumbersSpent`, `OutOfMemory` if a cell can't be listed for page-out: the key is set all
+    ///   the same.
     fn set_data_key<R: Wait>(&self, rt: &R, handle: HandleNumber, key: DataKey) -> Result<(), Error>
         ensures answers { sets self.now handle key result };
 
-    /// Tells whether a handle's cell has its value in the storage alone.
+    /// Returns whether the value of a handle's cell is only in the storage.
     ///
     /// # Errors
-    /// - NoSuchHandle.
+    ///
+    /// - `NoSuchHandle`.
     fn is_paged_out<R: Wait>(&self, rt: &R, handle: HandleNumber) -> Result<bool, Error>;
 }
 
-/// Whether a release that is refused so has given the handle up all the same.
+/// Returns whether a release that fails so has released the handle all the same.
 pub(crate) fn has_gone(why: &Error) -> bool {
     matches!(why, Error::NumbersSpent | Error::OutOfMemory)
 }

@@ -1,5 +1,6 @@
-//! Tagged values: a value of one of several types is written as its type's tag and its body, and read by the reader
-//! that is registered for the tag. Registries are handed in; there are no globals.
+//! Tagged values: a value of one of several types is written as its type's tag and its body, and
+//! read by the reader that is registered for the tag. Callers pass registries in; there are no
+//! globals.
 
 ghost use Rattle.std.specs.{Prelude.{Bool, IfErr, IfNone, IfOk, IfSome, List, None, OnOk, Option, Some, [], length, map, ℕ, ◌≡◌, ◌≤◌}, Str.IsUtf8, String.string_bytes};
 ghost use Rattle.pagable_value_spec.specs.{BasicValues.{longest, text_at, text_form}, CarriedTypes.tagged_by, Outcomes.{Gives, long_or, memory, memory_or}, Lengths.long_or_memory, Reading.{bytes_of, read}};
@@ -11,35 +12,43 @@ use pagable_flavors::Error;
 use std::alloc::Global;
 use std::marker::{Model, PhantomData};
 
-/// A type whose values are written as a tag and a body, as an enum with one case for each tag.
+/// A type whose values are written as a tag and a body, such as an enum with one case for each tag.
 pub trait PagableTagged<E: Env>: Sized {
     // The tag of a value.
     ghost tag: { Self → List ℕ };
 
-    // How bodies are written under each tag.
+    // The shape of the bodies under each tag.
     ghost bodies: { E → List ℕ → Shape };
 
     // What the body of a value may mean.
     ghost body_means: { Meanings Self };
 
-    // What a value holds beside the reference, wherever its body refers by it, is the value of this node. A type whose values hold nothing beside references says nothing.
+    // Says that, wherever the body refers by this reference and holds what it refers to, the value
+    // holds the value of this node. By default it says nothing, which fits values that hold only
+    // references.
     ghost body_beside: { Self → Reference → E.Node → Type 0 } = { λ x r y. Unit {0} };
 
-    // All refusals of a body's writing, those among them that say that it has no form.
+    // All errors of writing a body, those included that say that the body has no form.
     ghost body_causes: { WriteCauses };
 
-    /// The tag of the value.
+    /// Returns the value's tag.
     fn pagable_type_tag(&self) -> &'static str
         ensures { result.now ≡ tag self.now };
 
-    /// Writes the body alone, as `PagableSerialize` writes a value.
+    /// Writes the body without the tag, as `PagableSerialize` writes a value.
     fn pagable_serialize_body<S: PagableSerializer<E>>(
         &self,
         serializer: &mut S,
     ) -> Result<(), Error>
         ensures { Wrote E.Env S.PagableSerializer (form (body_means.of self.now) (bodies (S.environment serializer.old) (tag self.now))) body_causes.are serializer.old serializer.new result };
 
-    /// Writes the tag and then the body, whichever tags are registered. TooLong for a tag above 4,294,967,295 bytes.
+    /// Writes the tag and then the body, whichever tags are registered.
+    ///
+    /// # Errors
+    ///
+    /// - `TooLong` for a tag above 4,294,967,295 bytes.
+    /// - `OutOfMemory`.
+    /// - as `pagable_serialize_body`.
     #[tactic(auto, using(crate::proofs::Items::writes, crate::proofs::Parts::only_parts, pagable_codec::proofs::Writing::grows_trans, crate::proofs::Registered::writes))]
     final fn serialize_tagged<S: PagableSerializer<E>>(
         &self,
@@ -54,7 +63,7 @@ pub trait PagableTagged<E: Env>: Sized {
     }
 }
 
-/// Writes a tag: TooLong above 4,294,967,295 bytes, else refused by want of memory alone.
+/// Writes a tag. Fails with `TooLong` above 4,294,967,295 bytes, else only with `OutOfMemory`.
 #[tactic(auto, using(pagable_codec::proofs::Writing::parts, pagable_codec::proofs::Writing::steps))]
 fn write_tag<E: Env, S: PagableSerializer<E>>(tag: &str, serializer: &mut S) -> Result<(), Error>
     ensures ok { OnOk result (S.out serializer.new ≡ added (S.out serializer.old) (text_form tag.now) []) }
@@ -68,24 +77,26 @@ fn write_tag<E: Env, S: PagableSerializer<E>>(tag: &str, serializer: &mut S) -> 
     serializer.serde().write_str(tag)
 }
 
-/// Marks a type as registered as one of `T`'s types.
+/// Marks a type as registered for `T`.
 pub trait PagableRegisteredFor<T> {}
 
-/// Readers that know the tag of the values that they give.
+/// A reader that knows the tag of the values that it returns.
 pub trait ForTag {
     ghost own_tag: { Self → List ℕ };
 }
 
-/// The readers of the bodies of `T`: one type for all tags, as an enum with one case for each.
+/// The readers of the bodies of `T`: one type for all tags, such as an enum with one case for each
+/// tag.
 pub trait TagReader<E: Env, T: PagableTagged<E>>: ForTag {
-    // How the reader reads a body.
+    // The shape that the reader reads.
     ghost grammar: { Self → E → Shape };
 
-    // The refusals beside the faults of the input and those of references.
+    // The errors of reading other than faults of the input and errors of references.
     ghost read_causes: { ReadCauses };
 
-    /// Reads a body, as `PagableDeserialize` reads a value. The value that it gives has the reader's tag, and holds beside
-    /// its references what was lent by them.
+    /// Reads a body, as `PagableDeserialize` reads a value. The value that it returns has the
+    /// reader's tag. If the value holds what its references refer to, it holds what the
+    /// deserializer lent by them.
     fn read<D: PagableDeserializer<E>>(
         &self,
         alloc: Global,
@@ -96,7 +107,7 @@ pub trait TagReader<E: Env, T: PagableTagged<E>>: ForTag {
         ensures holds { IfOk result (HoldsLent (D.standing deserializer.old) T.body_beside) };
 }
 
-/// A tag, and the reader of the bodies under it, which gives values of this tag.
+/// A tag, and the reader of the bodies under it, which returns values with this tag.
 #[derive(Drop)]
 pub struct TypetagRegistration<T, F: ForTag> {
     pub tag: String,
@@ -106,7 +117,7 @@ pub struct TypetagRegistration<T, F: ForTag> {
 }
 
 impl<T, F: ForTag> TypetagRegistration<T, F> {
-    /// A registration of the reader under its own tag.
+    /// Registers the reader under its own tag.
     pub fn new(tag: String, deserialize: F) -> Self
         requires { F.own_tag deserialize ≡ string_bytes tag }
         ensures tag { result.tag ≡ tag }
@@ -120,7 +131,7 @@ impl<T, F: ForTag> TypetagRegistration<T, F> {
     }
 }
 
-/// The registrations of `T`'s types, in the order in which they were made.
+/// The registrations for `T`, in the order in which they were made.
 #[derive(Drop)]
 pub struct TypetagRegistry<T, F: ForTag> {
     registrations: Vec<TypetagRegistration<T, F>>,
@@ -133,14 +144,15 @@ impl<T, F: ForTag> Model for TypetagRegistry<T, F> {
 }
 
 impl<T, F: ForTag> TypetagRegistry<T, F> {
-    /// The registry of these registrations. Where a tag is registered twice, the last one counts.
+    /// Makes the registry of these registrations. If a tag is registered twice, the last
+    /// registration counts.
     pub fn from_registrations(registrations: Vec<TypetagRegistration<T, F>>) -> Self
         ensures { result ≡ map (λ x. (string_bytes x.tag, x.deserialize)) registrations.items }
     {
         TypetagRegistry { registrations }
     }
 
-    /// The reader that was registered last for this tag, or None where none was.
+    /// Returns the reader that was registered last for this tag, or None if the tag has none.
     pub fn reader_of(&self, tag: &str) -> Option<&F>
         ensures found { IfSome result (λ f. IsLastFor tag.now self.now f.now) }
         ensures own { IfSome result (λ f. F.own_tag f.now ≡ tag.now) }
@@ -149,9 +161,15 @@ impl<T, F: ForTag> TypetagRegistry<T, F> {
         last_reader(&self.registrations, tag)
     }
 
-    /// Reads a tag, and then the body by the reader that was registered last for the tag: UnknownTag where none was.
-    /// The value that it gives has the tag that was read, and holds beside its references what was lent by them. This is
-    /// for a registry at hand; `deserialize_tagged` finds the environment's own.
+    /// Reads a tag, and then the body by the reader that this registry has for the tag (the last
+    /// one registered). The value that it returns has the tag that was read. If the value holds
+    /// what its references refer to, it holds what the deserializer lent by them. The function
+    /// `deserialize_tagged` uses the environment's registry instead.
+    ///
+    /// # Errors
+    ///
+    /// - `UnknownTag` if no reader is registered for the tag.
+    /// - `OutOfMemory`, a fault of the input, or an error of the reader.
     #[tactic(auto, unfolding(pagable_value_spec::specs::Reading::read, pagable_value_spec::specs::Reading::read_with), using(pagable_codec::proofs::Reading::parts, crate::proofs::Lent::held_so))]
     pub fn deserialize_tagged<E: Env, D: PagableDeserializer<E>>(
         &self,
@@ -174,7 +192,7 @@ impl<T, F: ForTag> TypetagRegistry<T, F> {
     }
 }
 
-/// The reader of the last registration of this tag, or None where there is none.
+/// Returns the reader of the last registration for this tag, or None if there is none.
 #[tactic(auto, using(crate::proofs::Registered::none_past))]
 fn last_reader<'r, T, F: ForTag>(
     registrations: &'r [TypetagRegistration<T, F>],
@@ -206,19 +224,20 @@ fn read_tag<E: Env, D: PagableDeserializer<E>>(
     deserializer.serde().read_string(alloc)
 }
 
-/// A type whose readers stand in a registry of the environment.
+/// A type whose readers are in a registry of the environment.
 pub trait HasTypetagRegistry<E: Env>: PagableTagged<E> {
     type Reader: TagReader<E, Self> + Copy;
 
     // The readers with their tags, in the order of registration.
     ghost readers: { E → List (List ℕ × Self.Reader) };
 
-    /// The registry of this type in the environment.
+    /// Returns the registry of this type in the environment.
     fn typetag_registry(env: &E) -> &TypetagRegistry<Self, Self::Reader>
         ensures { result.now ≡ readers env.now };
 }
 
-/// The reader that was registered last for this tag in the environment, or None where none was.
+/// Returns the reader that was registered last for this tag in the environment, or None if the tag
+/// has none.
 fn registered_reader<E: Env, T: HasTypetagRegistry<E>>(tag: &str, env: &E) -> Option<T::Reader>
     ensures found { IfSome result (IsLastFor tag.now (T.readers env.now)) }
     ensures own { IfSome result (λ f. T.Reader.own_tag f ≡ tag.now) }
@@ -227,9 +246,14 @@ fn registered_reader<E: Env, T: HasTypetagRegistry<E>>(tag: &str, env: &E) -> Op
     T::typetag_registry(env).reader_of(tag).copied()
 }
 
-/// Reads a tag, and then the body by the reader that the environment's registry has for the tag, the last one that was
-/// registered: UnknownTag where none was. The value that it gives has the tag that was read, and holds beside its
-/// references what was lent by them.
+/// Reads a tag, and then the body by the reader that the environment's registry has for the tag
+/// (the last one registered). The value that it returns has the tag that was read. If the value
+/// holds what its references refer to, it holds what the deserializer lent by them.
+///
+/// # Errors
+///
+/// - `UnknownTag` if no reader is registered for the tag.
+/// - `OutOfMemory`, a fault of the input, or an error of the reader.
 #[tactic(auto, unfolding(pagable_value_spec::specs::Reading::read, pagable_value_spec::specs::Reading::read_with), using(pagable_codec::proofs::Reading::parts, crate::proofs::Lent::held_so))]
 pub fn deserialize_tagged<E: Env, T: HasTypetagRegistry<E>, D: PagableDeserializer<E>>(
     alloc: Global,
@@ -247,8 +271,9 @@ pub fn deserialize_tagged<E: Env, T: HasTypetagRegistry<E>, D: PagableDeserializ
     reader.read(alloc, deserializer)
 }
 
-/// With distinct tags, each under which a body has a form being registered with a reader of what is written under it,
-/// the forms of tagged values are read again, as `forms_are_read_again` of `pagable` asks.
+/// If tags are distinct, and each tag under which a body has a form is registered with a reader of
+/// the shape that is written under it, the forms of tagged values are read back, as
+/// `forms_are_read_again` of `pagable` requires.
 #[tactic(auto, using(crate::proofs::Registered::distinct_is_read))]
 pub fn distinct_tags_are_read_again()
     ensures { (parts : ℕ → Shape) (written : List ℕ → Shape) (registrations : List (List ℕ × Shape)) → HasDistinctTags registrations → ReadsWhatIsWritten parts written registrations → IsReadThroughout parts (tagged_by written registrations) }

@@ -1,4 +1,4 @@
-//! The calls by which programs use a store of records, whatever storage lies below it.
+//! The calls by which programs use a store of records, whatever storage is below it.
 
 ghost use Rattle.std.specs.{Arc.arc_value, Prelude.{slice_get, string_bytes, ◌≡◌}};
 
@@ -9,7 +9,8 @@ use std::sync::Arc;
 /// The tag of a record that is a text alone.
 pub const TEXT: u32 = 0;
 
-/// A record that was read, and handles of what it refers to, which pin nothing and are the caller's.
+/// A record that was read, with a handle for each of its references. The caller owns the handles;
+/// they pin nothing.
 #[derive(Drop)]
 pub struct RecordView {
     /// The record.
@@ -19,14 +20,14 @@ pub struct RecordView {
 }
 
 impl RecordView {
-    /// Lends the record's text.
+    /// Returns the record's text.
     pub fn text(&self) -> &str
         ensures { result.now ≡ string_bytes (arc_value self.now.record).text }
     {
         self.record.as_ref().text.as_str()
     }
 
-    /// Answers the handle of its first reference, if it has one.
+    /// Returns the handle of its first reference, if it has one.
     pub fn first(&self) -> Option<HandleNumber>
         ensures { result ≡ slice_get self.now.refs.items 0 }
     {
@@ -34,14 +35,17 @@ impl RecordView {
     }
 }
 
-/// The calls of a store of records. A program that is written over them knows nothing of pagers and files.
+/// The calls of a store of records. A program that uses these alone knows nothing of pagers and
+/// files.
 pub trait RecordCalls {
-    /// Answers what the store allocates by.
+    /// Returns the allocator of the store.
     fn alloc(&self) -> Global;
 
-    /// Inserts a record over others, whose handles stay the caller's. Answers its handle, which pins nothing.
+    /// Inserts a record that refers to the records of `over`, and returns its handle, which pins
+    /// nothing. The caller keeps the handles in `over`.
     ///
     /// # Errors
+    ///
     /// - as `Pager::clone`, `typed_references::loose` and `cells::insert`.
     fn insert(
         &mut self,
@@ -50,41 +54,50 @@ pub trait RecordCalls {
         over: &[HandleNumber],
     ) -> Result<HandleNumber, Error>;
 
-    /// Reads the record of a handle that pins nothing, from the storage where it isn't in memory, and leaves the handle
-    /// so. The budget keeps the record in memory, as one of those that were read last.
+    /// Reads the record of a handle that pins nothing, loading it if it isn't in memory. The handle
+    /// pins nothing afterwards either; the budget keeps the record in memory, as the most recently
+    /// read.
     ///
     /// # Errors
+    ///
     /// - as `paging::pin`.
     fn read(&mut self, handle: HandleNumber) -> Result<RecordView, Error>;
 
-    /// Answers one more handle of a handle's record.
+    /// Returns another handle of a handle's record.
     ///
     /// # Errors
+    ///
     /// - as `Pager::clone`.
     fn clone_handle(&mut self, handle: HandleNumber) -> Result<HandleNumber, Error>;
 
-    /// Releases handles.
+    /// Releases handles, one after another.
     ///
     /// # Errors
-    /// - as `Pager::release`, at the first one that is refused.
+    ///
+    /// - as `Pager::release`: the call stops at the first handle that fails.
     fn release(&mut self, handles: &[HandleNumber]) -> Result<(), Error>;
 
-    /// Releases the handles of the list of those that wait for page-out: a record to which nothing else refers is gone
-    /// and isn't written; another is written with what refers to it.
+    /// Releases the handles of the pending list. A record to which nothing else refers is dropped
+    /// and never written; another record is written together with a record that refers to it.
     ///
     /// # Errors
+    ///
     /// - as `Pager::release`.
     fn release_waiting(&mut self) -> Result<(), Error>;
 
-    /// Answers the key of a handle's record, which is paged out for it with what changed of all that it reaches.
+    /// Returns the key of a handle's record. For that it pages out the record, with what changed of
+    /// all that it reaches.
     ///
     /// # Errors
+    ///
     /// - as `page_out_changed`.
     fn key(&mut self, handle: HandleNumber) -> Result<DataKey, Error>;
 
-    /// Computes the key of a record with the tag `TEXT`, this text and no references, and inserts nothing.
+    /// Computes the key of a record with the tag `TEXT`, this text and no references. It inserts
+    /// nothing.
     ///
     /// # Errors
-    /// - TooLong, OutOfMemory.
+    ///
+    /// - `TooLong`, `OutOfMemory`.
     fn key_of_text(&self, text: &str) -> Result<DataKey, Error>;
 }

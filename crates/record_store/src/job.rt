@@ -1,4 +1,4 @@
-//! Programs that go on from run to run by the records of a file.
+//! Programs that continue from run to run, by the records of a file.
 
 use crate::calls::RecordCalls;
 use crate::record_store::RecordStore;
@@ -7,18 +7,20 @@ use pagable::{HandleNumber, Records};
 use pagable_file::{FileBlobs, Roots};
 use std::alloc::Global;
 
-/// What a run of a program does with its records.
+/// The work that a program does in each run, with its records.
 pub trait Job {
-    /// The name of the root that stands for the record of the last run.
+    /// The name of the root that stands for the last run's record.
     const ROOT: &'static str;
 
-    /// How many records stay in memory beside those that are new.
+    /// How many records stay in memory beside the new ones.
     const KEPT_RECORDS: u64;
 
-    /// Does the work of a run, given the record of the last run, if there is one. Answers the record of this run.
+    /// Does the work of a run, and returns the record of this run. `last` is the handle of the last
+    /// run's record, if there is one.
     ///
     /// # Errors
-    /// - its own: then nothing is saved.
+    ///
+    /// - the job's own: then nothing is saved.
     fn run<R: RecordCalls>(
         &self,
         store: &mut R,
@@ -26,9 +28,10 @@ pub trait Job {
     ) -> Result<HandleNumber>;
 }
 
-/// Runs a job over the records of a storage, and saves what it answers there.
+/// Runs a job over the records of a storage, and saves the record that it returns there.
 ///
 /// # Errors
+///
 /// - as `RecordStore::open`, `Job::run` and `RecordStore::save`.
 pub fn run_over<J: Job, S: Roots<Records> + Drop>(
     alloc: Global,
@@ -41,9 +44,11 @@ pub fn run_over<J: Job, S: Roots<Records> + Drop>(
     Ok(())
 }
 
-/// Runs a job over the records of a file, which is made where there is none, and saves what it answers there.
+/// Runs a job over the records of a file, which it creates if there is none, and saves the record
+/// that the job returns there.
 ///
 /// # Errors
+///
 /// - as `FileBlobs::open` and `run_over`.
 pub fn run_over_file<J: Job>(rt: &HostRuntime, path: &str, job: &J) -> Result<()> {
     let storage = FileBlobs::open(rt, path).context("opening the store")?;

@@ -1,4 +1,5 @@
-//! Records that last: a pager of records over a storage that has names of roots, by the calls that programs make most.
+//! Durable records: a pager of records over a storage with names of roots, and the calls that
+//! programs make most.
 #![tactic(auto)]
 
 pub mod calls;

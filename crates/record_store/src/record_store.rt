@@ -1,4 +1,4 @@
-//! A pager of records and its budget.
+//! A store of records: a pager with a budget.
 
 ghost use Rattle.std.specs.Prelude.{IsTrue, OnOk, ◌≡◌};
 
@@ -15,7 +15,7 @@ use pagable_file::Roots;
 use std::alloc::Global;
 use std::sync::Arc;
 
-/// A pager of records over a storage, and a budget of those that stay in memory.
+/// A pager of records over a storage, and a budget of the records that stay in memory.
 #[derive(Drop)]
 pub struct RecordStore<S: PagableStorage<Records>> {
     alloc: Global,
@@ -24,7 +24,7 @@ pub struct RecordStore<S: PagableStorage<Records>> {
 }
 
 impl<S: PagableStorage<Records>> RecordStore<S> {
-    /// Makes a reference by a clone of a handle, which becomes the new record's.
+    /// Clones a handle, and makes the clone a reference that a new record will own.
     fn reference(&mut self, handle: HandleNumber) -> Result<RecordRef, Error> {
         let clone = self.pager.clone(handle)?;
         Ok(Record::reference(loose::<Record, _, _>(&self.pager, clone)?))
@@ -101,10 +101,12 @@ impl<S: PagableStorage<Records>> RecordCalls for RecordStore<S> {
 }
 
 impl<S: Roots<Records> + Drop> RecordStore<S> {
-    /// Opens the records of a storage: the handle of the one that a root's name stands for, if it stands for one, pins
-    /// nothing, and nothing of it is read. The budget keeps so many records in memory.
+    /// Opens the records of a storage, with a budget that keeps `kept` records in memory. If a key
+    /// stands under the root's name, also returns a handle of that record, which pins nothing; the
+    /// call doesn't read the record.
     ///
     /// # Errors
+    ///
     /// - as `Roots::root` and `cells::cell_of`.
     pub fn open(
         alloc: Global,
@@ -129,12 +131,13 @@ impl<S: Roots<Records> + Drop> RecordStore<S> {
         }
     }
 
-    /// Pages out a handle's record with what changed of all that it reaches, lets a root's name stand for it, and makes
-    /// sure of both in one flush. The store goes on.
+    /// Pages out a handle's record with what changed of all that it reaches, sets the root's name
+    /// to its key, and flushes both together. The store stays open.
     ///
     /// # Errors
-    /// - as `page_out_changed`, `Pager::set_root` and `Pager::flush`: after another open the name stands for what it
-    ///   stood for at the last flush.
+    ///
+    /// - as `page_out_changed`, `Pager::set_root` and `Pager::flush`: after another open the name
+    ///   stands for the key of the last flush.
     pub fn save(&mut self, name: &str, handle: HandleNumber) -> Result<(), Error>
         ensures flushed { IsTrue (S.PagableStorage.is_honest self.new.pager.storage)
             → OnOk result (S.PagableStorage.flushed self.new.pager.storage ≡ S.PagableStorage.stored self.new.pager.storage) }

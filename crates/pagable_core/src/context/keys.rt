@@ -1,4 +1,4 @@
-//! The keys of a blob, which are read one after another.
+//! A reader of a blob's keys.
 
 ghost use Rattle.pagable_value_spec.specs.Progress.{Track};
 ghost use Rattle.std.specs.Prelude.{IfNone, IfSome, OnSome, Some, length, slice_get, ◌+◌, ◌<◌, ◌≡◌, ◌≤◌};
@@ -6,7 +6,7 @@ ghost use Rattle.std.specs.Prelude.{IfNone, IfSome, OnSome, Some, length, slice_
 use pagable_flavors::DataKey;
 use std::marker::Model;
 
-/// A reader of keys, seen as all of them and how many were read.
+/// A reader of keys. Contracts see it as all keys and the number of those read.
 #[derive(Drop)]
 pub struct PagableKeys<'de> {
     keys: &'de [DataKey],
@@ -25,14 +25,14 @@ impl<'de> Model for PagableKeys<'de> {
 }
 
 impl<'de> PagableKeys<'de> {
-    /// A reader at the first of the keys.
+    /// Creates a reader at the first key.
     pub fn new(keys: &'de [DataKey]) -> PagableKeys<'de>
         ensures { result ≡ record { all = keys.now; position = 0 } }
     {
         PagableKeys { keys, position: 0 }
     }
 
-    /// How many keys were read.
+    /// Returns how many keys were read.
     pub fn position(&self) -> usize
         ensures place { result ≡ self.now.position }
         ensures within { result ≤ length self.now.all }
@@ -40,7 +40,7 @@ impl<'de> PagableKeys<'de> {
         self.position
     }
 
-    /// Goes to a place that isn't past the last key.
+    /// Moves to a position at most the number of keys.
     pub fn set_position(&mut self, position: usize)
         requires { position ≤ length self.old.all }
         ensures { self.new ≡ record self.old { position = position } }
@@ -48,7 +48,7 @@ impl<'de> PagableKeys<'de> {
         self.position = position;
     }
 
-    /// The next key, or None where none is left; then nothing moves.
+    /// Returns the next key and moves past it; or returns None if no key is left, and stays.
     pub fn next_key(&mut self) -> Option<DataKey>
         ensures none { IfNone result ((self.new ≡ self.old) × (length self.old.all ≤ self.old.position)) }
         ensures key { IfSome result (λ key. slice_get self.old.all self.old.position ≡ Some key) }

@@ -1,4 +1,4 @@
-//! The deserializer over one blob.
+//! The deserializer of one blob.
 
 ghost use Rattle.pagable_core.specs.Context.{at_front};
 ghost use Rattle.std.specs.Prelude.{◌≡◌};
@@ -12,8 +12,9 @@ use pagable_flavors::{DataKey, Error, PagableSlice};
 use std::alloc::Global;
 use std::sync::Arc;
 
-/// A deserializer over the bytes and keys of one blob. `B` reads the bytes; `R` answers for its references, and lends
-/// the environment and the session's context. What is left of bytes and keys after a value is accepted.
+/// A deserializer of one blob's bytes and keys. `B` reads the bytes; `R` returns the references,
+/// and lends the environment and the session's context. It accepts bytes and keys that are left
+/// after a value.
 #[derive(Drop)]
 pub struct PagableDeserializerImpl<'de, B, R> {
     reader: B,
@@ -23,7 +24,7 @@ pub struct PagableDeserializerImpl<'de, B, R> {
 }
 
 impl<'de, R> PagableDeserializerImpl<'de, PagableSlice<'de>, R> {
-    /// A deserializer at the front of the bytes and keys, with no level entered.
+    /// Creates a deserializer at the start of the bytes and keys, with no level entered.
     pub fn new<E: Env>(
         bytes: &'de [u8],
         arcs: &'de [DataKey],
@@ -44,7 +45,7 @@ impl<'de, R> PagableDeserializerImpl<'de, PagableSlice<'de>, R> {
         }
     }
 
-    /// What answered for the references.
+    /// Returns what answered for the references.
     pub fn finish(self) -> R
         ensures { result ≡ self.entry.references }
     {

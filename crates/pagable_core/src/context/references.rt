@@ -1,4 +1,4 @@
-//! What a deserializer asks for references.
+//! The trait by which a deserializer gets a blob's references.
 
 ghost use Rattle.std.specs.Prelude.{◌≡◌, ℕ, Option, None, Some, Result, Err, IfOk, option_map, true};
 ghost use Rattle.pagable_value_spec.specs.{Refusals.may_refuse_reference, declared.{error.Error.{Error as Refusal, TheVariants.WrongKind}, numbers.ArcRef.ArcRef as Reference}};
@@ -6,21 +6,23 @@ ghost use Rattle.pagable_value_spec.specs.{Refusals.may_refuse_reference, declar
 use pagable_codec::{ArcRef, Env, Kind, SessionContext};
 use pagable_flavors::{DataKey, Error};
 
-/// The context of a session over an environment.
+/// The context of an environment's sessions.
 pub type SessionOf<E> = SessionContext<<E as Env>::CtxKey, <E as Env>::CtxValue>;
 
-/// What lends a deserializer its environment and its session's context, and answers for its references. An answer depends on
-/// the place of the reference in the blob, its key and its kind alone, so that a blob may be read again from its front.
+/// Returns a blob's references to its deserializer, and lends it the environment and the session's
+/// context. A result depends on the reference's place in the blob, its key and its kind alone, so a
+/// blob may be read again from its start.
 pub trait References<E: Env> {
     ghost environment: { Self → E };
 
-    // The answer at a place, counted from 0, of a key, read as a kind.
+    // What it returns for the key at a place (counted from 0), read as a kind.
     ghost answer: { Self → ℕ → ℕ → ℕ → Result Reference Refusal };
 
-    // The nodes that it lends by references that it answered.
+    // The nodes that it lends by references that it has returned.
     ghost lends: { Self → Reference → Option E.Node };
 
-    // The reference that it answers at a place, with the node that it lends by it there, if it lends one.
+    // The reference that it returns at a place with the node that it lends by it there, or None if
+    // it lends none.
     ghost lends_at: { Self → ℕ → Option (Reference × E.Node) };
 
     fn env(&self) -> &E
@@ -28,7 +30,7 @@ pub trait References<E: Env> {
 
     fn session_context(&self) -> &SessionContext<E::CtxKey, E::CtxValue>;
 
-    /// The reference at this place of the blob's list, which has this key and is read as this kind.
+    /// Returns the reference at this place of the blob's list, for this key, read as this kind.
     fn reference(&mut self, place: usize, key: DataKey, kind: Kind) -> Result<ArcRef, Error>
         ensures of_kind { IfOk result (λ r. r.kind ≡ kind) }
         ensures answer { result ≡ answer self.old place key kind.0 }
@@ -37,15 +39,16 @@ pub trait References<E: Env> {
         ensures same_answers { answer self.new ≡ answer self.old }
         ensures same_lent { lends_at self.new ≡ lends_at self.old };
 
-    /// The node of a reference that was read together with its value; or None where none is lent.
+    /// Returns the node of a reference that was read together with its value, or None if it lends
+    /// none.
     fn shared(&self, reference: ArcRef) -> Option<&E::Node>
         ensures { option_map (λ x. x.now) result ≡ lends self.now reference };
 
-    // A refusal is one that a reference may have.
+    // An error is one that a reference may have.
     ghost refusals: { (s : Self) (place key kind : ℕ) (e : Refusal) → answer s place key kind ≡ Err e → may_refuse_reference e ≡ true };
 }
 
-/// An environment whose values hold no references: each one that a blob asks for is WrongKind.
+/// An environment whose values hold no references: `reference` fails with `WrongKind` for each.
 #[derive(Drop)]
 pub struct NoReferences<'e, E: Env> {
     env: &'e E,
@@ -53,7 +56,7 @@ pub struct NoReferences<'e, E: Env> {
 }
 
 impl<'e, E: Env> NoReferences<'e, E> {
-    /// Lends this environment, and this context as that of the session.
+    /// Borrows this environment, and this context of the session.
     pub fn new(env: &'e E, session: &'e SessionOf<E>) -> NoReferences<'e, E>
         ensures { ⟦<NoReferences<'e, E> as References<E>>⟧.environment result ≡ env.now }
     {

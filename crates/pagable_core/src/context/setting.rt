@@ -1,4 +1,4 @@
-//! What all reading and writing over one storage shares.
+//! The environment and the session that all reading and writing over one storage share.
 
 ghost use Rattle.std.specs.Prelude.{◌≡◌};
 
@@ -6,7 +6,8 @@ use crate::context::references::SessionOf;
 use pagable_codec::{Env, SessionContext};
 use std::alloc::Global;
 
-/// The environment, and the context of the one session of all values that are read and written over it.
+/// The environment, and the context of the one session in which all values over a storage are read
+/// and written.
 #[derive(Drop)]
 pub struct Setting<E: Env> {
     pub env: E,
@@ -14,7 +15,7 @@ pub struct Setting<E: Env> {
 }
 
 impl<E: Env> Setting<E> {
-    /// Joins an environment with a session in which nothing is kept yet. It takes no memory.
+    /// Joins an environment with a session that holds no value yet. It allocates nothing.
     pub fn new(alloc: Global, env: E) -> Setting<E>
         ensures { result.env ≡ env }
     {

@@ -8,15 +8,15 @@ use pagable_codec::{ArcRef, Env, PagableCursor, PagableSerializer, SessionContex
 use pagable_flavors::{Error, PagableVecFlavor};
 use std::alloc::Global;
 
-/// A value in bytes, with its references in the order in which they were written.
+/// A value's bytes, and its references in the order in which they were written.
 #[derive(Debug, PartialEq, Drop)]
 pub struct SerializedData {
     pub bytes: Vec<u8>,
     pub arcs: Vec<ArcRef>,
 }
 
-/// A serializer over memory, which is lent the environment, with a session's context: one of its own, or one that it is lent. Which one it is, no clause
-/// says. Its writing takes no lock.
+/// A serializer that writes to memory. It borrows the environment, and has a session's context, its
+/// own or a borrowed one; no clause says which. Writing takes no lock.
 #[derive(Drop)]
 pub struct SerializerOver<'e, E, S> {
     writer: PagableVecFlavor,
@@ -27,7 +27,7 @@ pub struct SerializerOver<'e, E, S> {
 }
 
 impl<'e, E, S> SerializerOver<'e, E, S> {
-    /// A serializer to which nothing was written, with this session. It takes no memory.
+    /// Creates an empty serializer with this session. It allocates nothing.
     fn over(alloc: Global, env: &'e E, session: S) -> SerializerOver<'e, E, S>
         ensures out { written result ≡ nothing }
         ensures levels { result.levels ≡ 0 }
@@ -43,14 +43,14 @@ impl<'e, E, S> SerializerOver<'e, E, S> {
     }
 }
 
-/// A serializer with a session's context of its own.
+/// A serializer that owns its session's context.
 pub type PagableSerializerImpl<'e, E> = SerializerOver<'e, E, SessionOf<E>>;
 
-/// The serializer that page-out writes a value to, which is lent the session's context.
+/// The serializer to which page-out writes a value; it borrows the session's context.
 pub type SerializerForPaging<'e, E> = SerializerOver<'e, E, &'e SessionOf<E>>;
 
 impl<'e, E: Env> SerializerForPaging<'e, E> {
-    /// A serializer to which nothing was written. It takes no memory.
+    /// Creates an empty serializer. It allocates nothing.
     pub fn new(alloc: Global, env: &'e E, session: &'e SessionOf<E>) -> SerializerForPaging<'e, E>
         ensures out { ⟦<SerializerForPaging<'e, E> as PagableSerializer<E>>⟧.out result ≡ nothing }
         ensures levels { ⟦<SerializerForPaging<'e, E> as PagableSerializer<E>>⟧.levels result ≡ 0 }
@@ -59,7 +59,7 @@ impl<'e, E: Env> SerializerForPaging<'e, E> {
         SerializerOver::over(alloc, env, session)
     }
 
-    /// The bytes, and the references in the order in which they were written.
+    /// Returns the bytes, and the references in the order in which they were written.
     pub fn finish(self) -> (Vec<u8>, Vec<ArcRef>)
         ensures { pair_out result ≡ ⟦<SerializerForPaging<'e, E> as PagableSerializer<E>>⟧.out self.entry }
     {
@@ -68,7 +68,7 @@ impl<'e, E: Env> SerializerForPaging<'e, E> {
 }
 
 impl<'e, E: Env> PagableSerializerImpl<'e, E> {
-    /// A serializer to which nothing was written, with a new context. It takes no memory.
+    /// Creates an empty serializer with a new context. It allocates nothing.
     pub fn testing_new(alloc: Global, env: &'e E) -> PagableSerializerImpl<'e, E>
         ensures out { ⟦<PagableSerializerImpl<'e, E> as PagableSerializer<E>>⟧.out result ≡ nothing }
         ensures levels { ⟦<PagableSerializerImpl<'e, E> as PagableSerializer<E>>⟧.levels result ≡ 0 }
@@ -77,7 +77,7 @@ impl<'e, E: Env> PagableSerializerImpl<'e, E> {
         SerializerOver::over(alloc, env, SessionContext::new(alloc))
     }
 
-    /// What was written. It succeeds always.
+    /// Returns what was written. It never fails.
     pub fn finish(self) -> Result<SerializedData, Error>
         ensures ok { IsOk result }
         ensures data { IfOk result (λ d. out_of d ≡ ⟦<PagableSerializerImpl<'e, E> as PagableSerializer<E>>⟧.out self.entry) }

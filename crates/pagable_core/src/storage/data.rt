@@ -6,7 +6,7 @@ ghost use Rattle.std.specs.Prelude.{◌≡◌};
 use pagable_codec::KeyHash;
 use pagable_flavors::DataKey;
 
-/// A value as it is stored: its bytes, and the keys of what it refers to, in the order of the references.
+/// A blob: a value's bytes, and the keys of what it refers to, in the order of its references.
 #[derive(Debug, PartialEq, Drop)]
 pub struct PagableData {
     pub bytes: Vec<u8>,
@@ -14,8 +14,10 @@ pub struct PagableData {
 }
 
 impl PagableData {
-    /// The key under which the blob stands: the hash of its preimage as a number of 128 bits, low bytes first, where 0 becomes 1. The preimage is the count of
-    /// child keys as 8 bytes, the bytes, and each child key as 16 bytes, low bytes first throughout. It takes no memory.
+    /// Computes the key under which the blob is stored: the hash of its preimage, read as a number
+    /// of 128 bits with low bytes first; 0 becomes 1. The preimage is the count of child keys as 8
+    /// bytes, the blob's bytes, and each child key as 16 bytes, all with low bytes first. The call
+    /// allocates nothing.
     pub fn compute_key<H: KeyHash>(&self) -> DataKey
         ensures { result ≡ key_of H.digest (blob_of self.now) }
     {

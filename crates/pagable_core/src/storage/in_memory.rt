@@ -1,4 +1,4 @@
-//! Blobs in memory: a storage for tests, and for stores that one run fills and forgets.
+//! A storage in memory, for tests and for stores that live as long as one run.
 
 ghost use Rattle.std.specs.Prelude.{◌≡◌, ◌↔◌, ◌==◌, if◌then◌else◌, ℕ, IsTrue, OnOk, OnErr, IfErr, None, Some, false, true, option_map};
 ghost use Rattle.std.specs.HashMap.{get_by_text};
@@ -15,8 +15,9 @@ use std::collections::HashMap;
 use std::marker::PhantomData;
 use std::sync::Arc;
 
-/// A map of blobs by key, and of keys by name, in memory. Another blob under a taken key is refused, and the first stays. What is stored is made sure of at once, and nothing lies below that
-/// could answer wrongly: the storage is honest, whatever is called.
+/// A storage in memory: a map of blobs by key, and one of keys by name. It refuses another blob
+/// under a taken key and keeps the first. What it stores counts as flushed at once. It is honest
+/// whatever is called: no layer below it can answer wrongly.
 #[derive(Drop)]
 pub struct InMemoryBlobs<E: Env> {
     blobs: HashMap<DataKey, Arc<PagableData>>,
@@ -27,7 +28,7 @@ pub struct InMemoryBlobs<E: Env> {
 }
 
 impl<E: Env> InMemoryBlobs<E> {
-    /// An open storage without blobs. It takes no memory.
+    /// Creates an open storage without blobs. It allocates nothing.
     pub fn new(alloc: Global) -> InMemoryBlobs<E>
         ensures empty { (key : ℕ) → ⟦<InMemoryBlobs<E> as PagableStorage<E>>⟧.stored result key ≡ None }
         ensures open { ⟦<InMemoryBlobs<E> as PagableStorage<E>>⟧.is_closed result ≡ false }
@@ -40,7 +41,7 @@ impl<E: Env> InMemoryBlobs<E> {
         }
     }
 
-    /// How many blobs are stored, each under a key of its own.
+    /// Returns how many blobs are stored, each under its own key.
     #[tactic(auto, using(crate::proofs::Adding::counts))]
     pub fn len(&self) -> usize
         ensures { IsCount (⟦<InMemoryBlobs<E> as PagableStorage<E>>⟧.stored self.now) result }
@@ -49,14 +50,14 @@ impl<E: Env> InMemoryBlobs<E> {
     }
 }
 
-/// Whether two blobs are one.
+/// Returns whether two blobs are equal.
 fn is_same(left: &PagableData, right: &PagableData) -> bool
     ensures { IsTrue result ↔ (blob_of left.now ≡ blob_of right.now) }
 {
     left == right
 }
 
-/// The blob under a key, or None where nothing stands.
+/// Returns the blob under a key, or None if none is stored there.
 fn stored_under(blobs: &HashMap<DataKey, Arc<PagableData>>, key: DataKey) -> Option<&PagableData>
     ensures { option_map (λ found. blob_of found.now) result ≡ stored_in blobs.now key }
 {
@@ -66,7 +67,7 @@ fn stored_under(blobs: &HashMap<DataKey, Arc<PagableData>>, key: DataKey) -> Opt
     }
 }
 
-/// Puts a blob under a key where nothing stands.
+/// Stores a blob under a key that has none. Fails with `OutOfMemory` only; then nothing changes.
 fn put(
     alloc: Global,
     blobs: &mut HashMap<DataKey, Arc<PagableData>>,

@@ -8,18 +8,20 @@ use pagable_codec::Env;
 use pagable_flavors::{DataKey, Error};
 use std::alloc::Global;
 
-/// Names in a storage of blobs, each of which stands for a key. A flush makes sure of them with the blobs that were
-/// stored by then.
+/// Names in a storage of blobs, each of which stands for a key. A flush makes them durable together
+/// with the blobs that were stored before it.
 ///
-/// What it answers of names holds as long as the storage is honest afterwards.
+/// What a call returns is right as long as the storage is honest after it.
 pub trait Roots<E: Env>: PagableStorage<E> {
-    // Which key each name stands for.
+    // The key that each name stands for, or None.
     ghost roots: { Self → List ℕ → Option ℕ };
 
-    /// Finds the key that a name stands for; None where it stands for none.
+    /// Returns the key that a name stands for, or None if it stands for none.
     ///
     /// # Errors
-    /// OutOfMemory, or Storage with the failure counted.
+    ///
+    /// - `OutOfMemory`.
+    /// - `Storage` only if the call raised the storage's count of failures.
     fn root(&mut self, name: &str) -> Result<Option<DataKey>, Error>
         ensures ok { IsTrue (Self.PagableStorage.is_honest self.new) → IfOk result (λ key. key ≡ roots self.old name.now) }
         ensures only { IfErr result (RefusesFlush (Self.PagableStorage.failed self.old) (Self.PagableStorage.failed self.new)) }
@@ -29,11 +31,16 @@ pub trait Roots<E: Env>: PagableStorage<E> {
         ensures open { Self.PagableStorage.is_closed self.new ≡ Self.PagableStorage.is_closed self.old }
         ensures later { Self.PagableStorage.failed self.old ≤ Self.PagableStorage.failed self.new };
 
-    /// Lets a name stand for a key under which a blob stands, or for none.
+    /// Lets a name stand for a key whose blob is stored, or for no key.
     ///
     /// # Errors
-    /// NoData where nothing stands under the key, Closed after `close`, OutOfMemory, or Storage with the failure
-    /// counted; then the name stands for what it stood for.
+    ///
+    /// Each leaves the name as it was.
+    ///
+    /// - `NoData` if no blob is stored under the key.
+    /// - `Closed` after `close`.
+    /// - `OutOfMemory`.
+    /// - `Storage` only if the call raised the storage's count of failures.
     fn set_root(&mut self, alloc: Global, name: &str, key: Option<DataKey>) -> Result<(), Error>
         ensures sets { IsTrue (Self.PagableStorage.is_honest self.new) → OnOk result (Sets name.now key (roots self.old) (roots self.new)) }
         ensures stands { IsTrue (Self.PagableStorage.is_honest self.new) → OnOk result (Stands (Self.PagableStorage.stored self.old) key) }
@@ -45,10 +52,13 @@ pub trait Roots<E: Env>: PagableStorage<E> {
         ensures open { Self.PagableStorage.is_closed self.new ≡ Self.PagableStorage.is_closed self.old }
         ensures later { Self.PagableStorage.failed self.old ≤ Self.PagableStorage.failed self.new };
 
-    /// Collects the names that stood for a key at the last flush, or once did, in no order that counts.
+    /// Returns the names that stood for a key at the last flush, and maybe others that once did, in
+    /// no particular order.
     ///
     /// # Errors
-    /// OutOfMemory, or Storage with the failure counted.
+    ///
+    /// - `OutOfMemory`.
+    /// - `Storage` only if the call raised the storage's count of failures.
     fn root_names(&mut self, alloc: Global) -> Result<Vec<String>, Error>
         ensures same { IsTrue (Self.PagableStorage.is_honest self.new) → roots self.new ≡ roots self.old }
         ensures stays { IsTrue (Self.PagableStorage.is_honest self.new) → (Self.PagableStorage.stored self.new ≡ Self.PagableStorage.stored self.old) × (Self.PagableStorage.flushed self.new ≡ Self.PagableStorage.flushed self.old) }

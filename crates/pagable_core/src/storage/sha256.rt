@@ -1,11 +1,12 @@
-//! The hash of keys in use.
+//! The hash by which keys are computed.
 
 ghost use Rattle.{sha2.specs.{Hashers.Holds256, Sha256.sha256}, std.specs.Prelude.take};
 
 use pagable_codec::KeyHash;
 use sha2::{Digest, Sha256};
 
-/// The first 16 bytes of the SHA-256 of FIPS 180-4. It works without the processor's own instructions for it.
+/// The first 16 bytes of the SHA-256 of FIPS 180-4, computed without the processor's own
+/// instructions for it.
 #[derive(Drop)]
 pub struct Sha256Key {
     hasher: Sha256,

@@ -1,4 +1,4 @@
-//! What a storage of blobs offers.
+//! The trait of a storage of blobs.
 
 ghost use Rattle.std.specs.{Arc.arc_value, Prelude.{◌≡◌, ◌≤◌, ◌↔◌, ℕ, Bool, true, false, IsTrue, Option, Some, None, OnOk, OnErr, IfOk, IfErr}};
 ghost use Rattle.{futures.specs.{Poll.{IfReady, OnPending}, Task.{IsArmed, Keeps as KeepsPoll}}, pagable_core.specs.Data.blob_of, pagable_value_spec.specs.{Blob.{Blob, key_of}, Stored.{Adds, Keeps, RefusesFetch, RefusesStore, RefusesFlush}}};
@@ -10,26 +10,36 @@ use pagable_flavors::{DataKey, Error};
 use std::alloc::Global;
 use std::sync::Arc;
 
-/// A storage of blobs: a map from keys to blobs that only grows, until it is closed. It counts its own failures, so that no other can blame it.
+/// A storage of blobs: a map from keys to blobs that only grows until it is closed. It counts its
+/// failures: a call may fail with `Storage` only if that count went up.
 ///
-/// What it answers of values holds as long as the storage is honest afterwards. Which refusals there are, and that a blob has the key that was asked for, holds always.
+/// What a call returns of values is right as long as the storage is honest after it. Two promises
+/// hold always: the possible errors, and that a fetched blob has the key that was asked for.
 pub trait PagableStorage<E: Env>: Sized {
-    // What is stored under each key.
+    // The blob under each key.
     ghost stored: { Self → ℕ → Option Blob };
 
-    // What a flush has made sure of under each key.
+    // The blob under each key that a flush has made durable.
     ghost flushed: { Self → ℕ → Option Blob };
 
     ghost is_closed: { Self → Bool };
 
-    // No wrong answer of what lies below has been taken as true. No call tells, and doubt doesn't go away.
+    // The storage hasn't taken a wrong answer of a layer below for true. No call tells, and a
+    // storage that isn't honest never becomes so again.
     ghost is_honest: { Self → Bool } = { λ _. true };
 
     // How often the storage has failed, up to 2^64 - 1.
     ghost failed: { Self → ℕ };
 
-    /// The blob under a key. It is refused with NoData only where the store has none, with OutOfMemory, and with
-    /// Storage only where the count of failures rose. What is stored stays as it is.
+    /// Fetches the blob under a key.
+    ///
+    /// # Errors
+    ///
+    /// Each leaves what is stored as it was.
+    ///
+    /// - `NoData` only if the storage has no blob under the key.
+    /// - `OutOfMemory`.
+    /// - `Storage` only if the call raised the count of failures.
     fn fetch_data_blocking(
         &mut self,
         alloc: Global,
@@ -44,12 +54,14 @@ pub trait PagableStorage<E: Env>: Sized {
         ensures open { is_closed self.new ≡ is_closed self.old }
         ensures later { failed self.old ≤ failed self.new };
 
-    /// Polls the fetch of the blob under a key. Where it is ready, it answers as `fetch_data_blocking`; it may always be. While it is
-    /// pending, it has left a waker in `cx`, which whoever ends the wait wakes, and the fetch is asked for again by the next poll.
-    /// Nothing but the count of failures has changed then.
+    /// Polls the fetch of the blob under a key. If it is ready, it returns what
+    /// `fetch_data_blocking` returns; a storage may be ready at every poll. If it is pending, it
+    /// has left a waker in `cx` and changed only the count of failures: whoever ends the wait wakes
+    /// that waker, and the next poll asks for the fetch again.
     ///
     /// # Errors
-    /// - NoData, OutOfMemory, Storage: as of `fetch_data_blocking`.
+    ///
+    /// - `NoData`, `OutOfMemory`, `Storage`: as `fetch_data_blocking`.
     fn fetch_data(
         &mut self,
         cx: &mut Context<'_>,
@@ -67,10 +79,17 @@ pub trait PagableStorage<E: Env>: Sized {
         ensures armed { OnPending result (IsArmed cx.new) }
         ensures kept { KeepsPoll cx.old cx.new };
 
-    /// Adds a blob under its key, and answers the key. Where the blob stands there already, nothing changes. It is
-    /// refused with KeyTaken only where another blob stands there, with Closed only after `close`, with OutOfMemory,
-    /// and with Storage only where the count of failures rose; then nothing changes either. What a flush has made sure
-    /// of stays so.
+    /// Stores a blob under its key, and returns the key. Does nothing if the same blob is stored
+    /// there already. What a flush has made durable stays durable.
+    ///
+    /// # Errors
+    ///
+    /// Each leaves what is stored as it was.
+    ///
+    /// - `KeyTaken` only if another blob is stored under the key.
+    /// - `Closed` only after `close`.
+    /// - `OutOfMemory`.
+    /// - `Storage` only if the call raised the count of failures.
     fn store_data(&mut self, alloc: Global, blob: PagableData) -> Result<DataKey, Error>
         ensures key { IfOk result (λ key. key ≡ key_of E.Hash.digest (blob_of blob)) }
         ensures adds { IsTrue (is_honest self.new) → OnOk result (Adds (key_of E.Hash.digest (blob_of blob)) (blob_of blob) (stored self.old) (stored self.new)) }
@@ -83,8 +102,13 @@ pub trait PagableStorage<E: Env>: Sized {
         ensures open { is_closed self.new ≡ is_closed self.old }
         ensures later { failed self.old ≤ failed self.new };
 
-    /// Adds a blob under its key, which the caller has made, as `store_data` does and refused as that is. So a caller who
-    /// shares the storage makes the key before it takes the lock. By default the key is made once more.
+    /// Stores a blob as `store_data` does, under the key that the caller has computed: a caller who
+    /// shares the storage computes the key before it takes the lock. The default implementation
+    /// computes the key once more.
+    ///
+    /// # Errors
+    ///
+    /// - as `store_data`.
     fn store_keyed(
         &mut self,
         alloc: Global,
@@ -106,7 +130,13 @@ pub trait PagableStorage<E: Env>: Sized {
         self.store_data(alloc, blob)
     }
 
-    /// Writes what the storage has held back: then all that is stored is made sure of. What is stored stays as it is.
+    /// Writes what the storage has held back: after it, all that is stored is durable. What is
+    /// stored stays as it is.
+    ///
+    /// # Errors
+    ///
+    /// - `OutOfMemory`.
+    /// - `Storage` only if the call raised the count of failures.
     fn flush(&mut self) -> Result<(), Error>
         ensures sure { IsTrue (is_honest self.new) → OnOk result (flushed self.new ≡ stored self.new) }
         ensures only { IfErr result (RefusesFlush (failed self.old) (failed self.new)) }
@@ -115,18 +145,18 @@ pub trait PagableStorage<E: Env>: Sized {
         ensures open { is_closed self.new ≡ is_closed self.old }
         ensures later { failed self.old ≤ failed self.new };
 
-    /// Lets every blob go. From then on nothing is stored. It flushes nothing.
+    /// Closes the storage: it drops every blob, and stores nothing any more. It flushes nothing.
     fn close(&mut self)
         ensures empty { (key : ℕ) → stored self.new key ≡ None }
         ensures closed { is_closed self.new ≡ true }
         ensures honest { IsTrue (is_honest self.new) → IsTrue (is_honest self.old) }
         ensures later { failed self.old ≤ failed self.new };
 
-    /// Whether the storage was closed.
+    /// Returns whether the storage was closed.
     fn has_closed(&self) -> bool
         ensures { result ≡ is_closed self.now };
 
-    /// How often the storage has failed; at 2^64 - 1 the count stays.
+    /// Returns how often the storage has failed; the count stops at 2^64 - 1.
     fn failures(&self) -> u64
         ensures { result ≡ failed self.now };
 }

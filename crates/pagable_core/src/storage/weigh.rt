@@ -5,7 +5,8 @@ ghost use Rattle.std.specs.Prelude.{List, length, ℕ, ◌%◌, ◌+◌, ◌^◌
 
 use pagable_codec::KeyHash;
 
-/// The sum of each byte times its place, from 1 on, modulo 2^128: a hash for tests, which anyone can compute by hand and which has collisions.
+/// A hash for tests, which anyone can compute by hand and which has collisions: the sum of each
+/// byte times its place, from 1 on, modulo 2^128.
 #[derive(Clone, Copy, Debug)]
 pub struct WeighHash {
     place: u128,

@@ -1,4 +1,4 @@
-//! Bundles: references of each sort to values of other types.
+//! Bundles: values with references of each sort to values of other types.
 
 ghost use Rattle.pagable_testkit.specs.Linked.{bundle_beside, bundle_has_one_form, bundle_in_order, bundle_means, bundle_reads, bundle_shape, bundle_single, bundle_writes, no_parts};
 ghost use Rattle.pagable_traits.specs.ReadBack.{IsReadThroughout};
@@ -12,7 +12,7 @@ use pagable_traits::{
 };
 use std::alloc::Global;
 
-/// Links by shared references, by loose ones and by pins.
+/// References to links: shared ones, loose ones and pins.
 #[derive(Drop)]
 pub struct Bundle {
     pub shared: Vec<Arc<ArcLink>>,
@@ -75,7 +75,7 @@ impl<'de> PagableDeserialize<'de, Linked> for Bundle {
     }
 }
 
-/// The forms of a bundle are read again, since those of references are.
+/// The forms of a bundle are read back, because those of references are.
 #[tactic(auto, using(crate::specs::Linked::bundle_is_read))]
 pub fn bundles_are_read()
     ensures { (e : Linked) → IsReadThroughout no_parts (⟦<Bundle as Carried<Linked>>⟧.shape e) }

@@ -6,16 +6,19 @@ use pagable_flavors::Error;
 use pagable_traits::encoded_as::{DecodedAs, EncodedAs};
 use pagable_traits::{ArcRef, Env, PagableSerialize, PagableSerializer, RawRef, Refers};
 
-/// A link: the next one, by a reference of the kind `KIND`. The kind names no type, so it may be one of the link's own.
+/// A link: it may refer to the next link by a reference of the kind `KIND`. The kind names no type,
+/// so it may be a kind of the link's own type.
 #[derive(Drop)]
 pub struct Chain<const KIND: u32> {
     pub next: Option<RawRef<KIND>>,
 }
 
-/// A link by a loose reference: it is read without those that follow. The type number is 0, so the kind is 1.
+/// A link by a loose reference, which is read without the links that follow. Its type number is 0,
+/// so its kind is 1.
 pub type Link = Chain<1>;
 
-/// A link by a shared reference: it is read with all that follow. The type number is 1, so the kind is 3.
+/// A link by a shared reference, which is read with all links that follow. Its type number is 1, so
+/// its kind is 3.
 pub type ArcLink = Chain<3>;
 
 impl<const KIND: u32> EncodedAs for Chain<KIND> {

@@ -1,5 +1,5 @@
-//! Items of lists, maps and sets, one after another: what they are put into as they are read, and those that a walk yields
-//! as they are written.
+//! Collections of items, read and written one after another: the trait of what reading fills, and
+//! the writers of what an iterator yields.
 
 ghost use Rattle.std.specs.{Iterator.IsFinite, Prelude.{◌≡◌, ℕ, List, [], length, min, ◌≤◌, OnOk, IfOk, IfErr}};
 ghost use Rattle.pagable_value_spec.specs.{Collected.Collected, Outcomes.{memory, memory_or, long_or}, Reading.{items, counted, read}, Cursor.MovesOn};
@@ -11,19 +11,23 @@ use pagable_codec::{Env, PagableDeserializer, PagableSerializer};
 use pagable_flavors::Error;
 use std::alloc::Global;
 
-/// What items are put into one after another.
+/// A collection that a reader fills item by item.
 pub trait Collects<T>: Sized {
     // The items that it holds, in their order.
     ghost held: { Self → List T };
 
-    // What it held, the item that was put in, and what it holds then.
+    // The items before, the added item, and the items after.
     ghost puts: { List T → T → List T → Type 0 };
 
-    // That it has room for so many items more, where it keeps room; a list for no others.
+    // It has room for this many more items. A collection that reserves no room says nothing.
     ghost has_room: { Self → ℕ → Type 0 } = { λ c n. Unit {0} };
 
-    /// Nothing, with room for so many items where it keeps room: for no more than bytes are left to read, so that a count
-    /// alone takes no memory. Refused by want of memory alone.
+    /// Creates an empty collection with room for `places` items, if it reserves room. `places` is
+    /// at most the number of bytes left to read, so a count alone reserves no memory.
+    ///
+    /// # Errors
+    ///
+    /// - `OutOfMemory` only.
     fn with_places<E: Env, D: PagableDeserializer<E>>(
         alloc: Global,
         places: usize,
@@ -34,14 +38,22 @@ pub trait Collects<T>: Sized {
         ensures room { IfOk result (λ c. has_room c places) }
         ensures only { IfErr result memory };
 
-    /// Puts one more item in. Refused by want of memory alone.
+    /// Adds one item.
+    ///
+    /// # Errors
+    ///
+    /// - `OutOfMemory` only.
     fn put_in(&mut self, item: T) -> Result<(), Error>
         ensures ok { OnOk result (puts (held self.old) item (held self.new)) }
         ensures only { IfErr result memory };
 }
 
-/// Nothing, to hold so many items: with room for as many of them as bytes are left.
-/// Refused by want of memory alone.
+/// Creates an empty collection with room for `count` items, but at most for as many as bytes are
+/// left.
+///
+/// # Errors
+///
+/// - `OutOfMemory` only.
 pub fn with_room<E: Env, T, C: Collects<T>, D: PagableDeserializer<E>>(
     alloc: Global,
     count: usize,
@@ -59,8 +71,13 @@ pub fn with_room<E: Env, T, C: Collects<T>, D: PagableDeserializer<E>>(
     C::with_places(alloc, places, deserializer)
 }
 
-/// Reads this many items and puts each in. A refusal is the first item's that is refused, or want of memory. Room is made
-/// by `with_room`; items that take no byte need room one by one.
+/// Reads `count` items and adds each to a collection made by `with_room`. Items that take no byte
+/// have no room reserved, and are given room one by one.
+///
+/// # Errors
+///
+/// - the first error of an item.
+/// - `OutOfMemory`.
 #[tactic(auto, using(crate::proofs::JsonSteps::no_room))]
 pub fn collect_items<
     'de,
@@ -80,7 +97,12 @@ pub fn collect_items<
     Ok(collected)
 }
 
-/// Reads how many items follow, and then the items, as `collect_items` does. TooLong above 4,294,967,295.
+/// Reads how many items follow, and then the items, as `collect_items` does.
+///
+/// # Errors
+///
+/// - `TooLong` if the count is above 4,294,967,295.
+/// - as `collect_items`.
 #[tactic(auto, using(crate::proofs::Parts::reads, crate::proofs::Lent::collected_so))]
 pub fn read_collected<
     'de,
@@ -96,7 +118,11 @@ pub fn read_collected<
     collect_items(alloc, count, deserializer)
 }
 
-/// Writes each item that a walk yields, without their count. A refusal is that of the first item that is refused.
+/// Writes each item that the iterator yields, without their count.
+///
+/// # Errors
+///
+/// - the first error of an item.
 pub fn write_each<
     E: Env,
     T: PagableSerialize<E> + Drop,
@@ -113,8 +139,13 @@ pub fn write_each<
     Ok(())
 }
 
-/// Writes a count, and then each item that a walk yields. TooLong where the count is above 4,294,967,295, before any
-/// item; else the first item's refusal, or want of memory.
+/// Writes a count, and then each item that the iterator yields.
+///
+/// # Errors
+///
+/// - `TooLong` if the count is above 4,294,967,295: nothing of the items is written.
+/// - the first error of an item.
+/// - `OutOfMemory`.
 #[tactic(auto, using(crate::proofs::Items::writes))]
 pub fn write_counted<
     E: Env,

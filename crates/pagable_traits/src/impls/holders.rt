@@ -1,6 +1,6 @@
-//! Values that hold others: `Option`, `Result`, `Box` and tuples, of which those of three to five values are written and read
-//! as their first value and the tuple of the others; values that are lent; a header with a list behind it; marks of a
-//! type, of which there is nothing to write; and cells.
+//! Values that hold others: `Option`, `Result`, `Box`, tuples (those of three to five values are
+//! encoded as their first value and the tuple of the others), borrowed values, a header with a
+//! list, type markers (which write nothing), and cells.
 
 ghost use Rattle.pagable_value_spec.specs.{CarriedTypes.{atomic_i64, once_lock, thin}, Composite.{MayHold, MeansAtomic, MeansOnce, atomic_has_meaning, once_has_meaning, result_single}, Shape.{optional, outcome, both}};
 ghost use Rattle.std.specs.Prelude.{option_copied};
@@ -173,7 +173,8 @@ impl<'de, E: Env, T: PagableDeserialize<'de, E>, X: PagableDeserialize<'de, E>> 
     }
 }
 
-/// A lent value is written as it is; nothing reads it, since a reader has nobody to lend from.
+/// A borrowed value is written as the value itself. Nothing reads it: a reader has no owner to
+/// borrow from.
 impl<'a, T> EncodedAs for &'a T {
     type Other = T;
 
@@ -208,7 +209,7 @@ impl<E: Env, T> PagableSerialize<E> for PhantomData<T> {
     }
 }
 
-/// A header and a list, which stands for what a thin pointer leads to. It is written as the pair of both.
+/// A header and a list: what a thin pointer leads to. It is written as the pair of both.
 #[derive(Debug, PartialEq, Eq, PartialOrd, Ord, Hash, Drop)]
 pub struct Thin<H, T> {
     pub header: H,
@@ -337,10 +338,11 @@ impl<
     }
 }
 
-// ---- cells: an atomic number, and a value that is written once. Another thread may write to a cell while it is looked at, so
-// no contract knows what one holds: each means what it may hold, and the four functions below say what that is.
+// ---- cells: an atomic number, and a value that is set once. Another thread may write to a cell
+// while this one reads it, so no contract knows what a cell holds: each means what it may hold, and
+// the four functions below say what that is.
 
-/// The number that a cell holds when it is looked at.
+/// Returns the number that the cell holds now.
 #[tactic(auto, unfolding(pagable_value_spec::specs::Composite::MayHold))]
 fn number_in(cell: &AtomicI64) -> i64
     ensures { MayHold cell.now result }
@@ -348,7 +350,7 @@ fn number_in(cell: &AtomicI64) -> i64
     cell.load(Ordering::SeqCst)
 }
 
-/// A cell that holds this number.
+/// Makes a cell that holds this number.
 #[tactic(auto, unfolding(pagable_value_spec::specs::Composite::MayHold))]
 fn atomic_of(number: i64) -> AtomicI64
     ensures { MayHold result number }
@@ -356,8 +358,8 @@ fn atomic_of(number: i64) -> AtomicI64
     AtomicI64::new(number)
 }
 
-/// The value that a cell holds when it is looked at. It doesn't wait for a thread that is writing: until that is done the
-/// cell holds none.
+/// Returns the value that the cell holds now. It doesn't wait for a thread that is writing: until
+/// that is done, the cell holds none.
 #[tactic(auto, unfolding(pagable_value_spec::specs::Composite::MayHold))]
 fn value_in<T>(cell: &OnceLock<T>) -> Option<&T>
     ensures { MayHold cell.now (option_copied result) }
@@ -365,7 +367,7 @@ fn value_in<T>(cell: &OnceLock<T>) -> Option<&T>
     cell.get()
 }
 
-/// A cell that holds this value, or none. No thread has seen it yet.
+/// Makes a cell that holds this value, or none. No other thread has seen it yet.
 #[tactic(auto, unfolding(pagable_value_spec::specs::Composite::MayHold))]
 fn once_of<T: Drop>(value: Option<T>) -> OnceLock<T>
     ensures { MayHold result value }
@@ -383,7 +385,7 @@ impl<E: Env> Carried<E> for AtomicI64 {
 }
 
 impl<E: Env> PagableSerialize<E> for AtomicI64 {
-    /// Appends the number that it holds when it is looked at, as an `i64`.
+    /// Appends the number that the cell holds now, as an `i64`.
     fn pagable_serialize<S: PagableSerializer<E>>(&self, serializer: &mut S) -> Result<(), Error> {
         let held = number_in(self);
         PagableSerialize::<E>::pagable_serialize(&held, serializer)
@@ -400,8 +402,8 @@ impl<'de, E: Env> PagableDeserialize<'de, E> for AtomicI64 {
     }
 }
 
-/// A handle that is put into such a lock after the lock's node was made is no reference of that node's value: the pager
-/// knows the references that a value had when it came.
+/// A handle that is put into a lock after the lock's node was made is no reference of that node's
+/// value: the pager knows only the references that the value had when it was inserted.
 impl<E: Env, T: Carried<E>> Carried<E> for OnceLock<T> {
     ghost shape = { λ e. once_lock (T.shape e) };
 
@@ -411,7 +413,7 @@ impl<E: Env, T: Carried<E>> Carried<E> for OnceLock<T> {
 impl<E: Env, T: PagableSerialize<E>> PagableSerialize<E> for OnceLock<T> {
     ghost write_causes = { writes_memory_or T.write_causes };
 
-    /// Appends the value that it holds when it is looked at, or that it holds none, as an `Option`.
+    /// Appends the value that the lock holds now, or that it holds none, as an `Option`.
     fn pagable_serialize<S: PagableSerializer<E>>(&self, serializer: &mut S) -> Result<(), Error> {
         let held = value_in(self);
         PagableSerialize::<E>::pagable_serialize(&held, serializer)
@@ -421,7 +423,7 @@ impl<E: Env, T: PagableSerialize<E>> PagableSerialize<E> for OnceLock<T> {
 impl<'de, E: Env, T: PagableDeserialize<'de, E> + Drop> PagableDeserialize<'de, E> for OnceLock<T> {
     ghost read_causes = { T.read_causes };
 
-    /// Reads an `Option`. The lock is set exactly where there was a value.
+    /// Reads an `Option`. The lock is set exactly if there was a value.
     fn pagable_deserialize<D: PagableDeserializer<E>>(
         alloc: Global,
         deserializer: &mut D,

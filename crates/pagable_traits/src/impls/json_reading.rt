@@ -1,5 +1,5 @@
-//! JSON values, and how they are read: the case, and then its part. Arrays and objects are one level further down, which is
-//! entered after their length was read.
+//! Readers of JSON values: the case, and then the part that it announces. Arrays and objects are
+//! one level deeper; a reader enters that level after it has read their length.
 
 ghost use Rattle.std.specs.{Prelude.{[], length, ◌≡◌, ◌≤◌}, Int.w64, Vec.vec_capacity};
 ghost use Rattle.pagable_value_spec.specs.{Reading.{bytes_of, items as items_at, read, seen, array_case, object_case}, Outcomes.{Gives, memory, never}, Composite.MeansPair, Meaning.{sequence, variant}};
@@ -45,8 +45,14 @@ fn read_case<E: Env, D: PagableDeserializer<E>>(deserializer: &mut D) -> Result<
     deserializer.serde().read_usize()
 }
 
-/// Reads a JSON value. JsonCase where the case is above 5, JsonNumber where a number is a float, TooDeep for an array or
-/// an object where 128 levels were entered, and else the faults of its parts.
+/// Reads a JSON value.
+///
+/// # Errors
+///
+/// - `JsonCase` if the case is above 5.
+/// - `JsonNumber` if a number is a float.
+/// - `TooDeep` for an array or an object if 128 levels are entered.
+/// - the errors of the value's parts.
 #[cycle(reading_json)]
 #[tactic(auto, unfolding(pagable_value_spec::specs::Reading::read, pagable_value_spec::specs::Reading::read_with), using(crate::proofs::Json::read_cases))]
 pub fn read_value<E: Env, D: PagableDeserializer<E>>(
@@ -79,7 +85,7 @@ pub fn read_value<E: Env, D: PagableDeserializer<E>>(
     }
 }
 
-// Reads an array after its case.
+// Reads an array whose case was read.
 #[cycle(reading_json)]
 #[tactic(auto, using(crate::proofs::Json::read_parts))]
 fn array_part<E: Env, D: PagableDeserializer<E>>(
@@ -95,7 +101,7 @@ fn array_part<E: Env, D: PagableDeserializer<E>>(
     read
 }
 
-// Reads an array of this many items. As many places as bytes are left are reserved at most.
+// Reads an array of this many items. It reserves room for at most as many items as bytes are left.
 #[cycle(reading_json)]
 #[tactic(auto, using(crate::proofs::JsonSteps::no_memory))]
 fn read_items<E: Env, D: PagableDeserializer<E>>(
@@ -109,7 +115,7 @@ fn read_items<E: Env, D: PagableDeserializer<E>>(
     fill_array(values, alloc, count, deserializer)
 }
 
-// Reads this many items into an empty list, whose places are no more than bytes are left.
+// Reads this many items into an empty list, whose capacity is at most the number of bytes left.
 #[cycle(reading_json)]
 #[tactic(auto, using(crate::proofs::JsonSteps::no_memory))]
 fn fill_array<E: Env, D: PagableDeserializer<E>>(
@@ -129,7 +135,7 @@ fn fill_array<E: Env, D: PagableDeserializer<E>>(
     Ok(Value::Array(values))
 }
 
-// Reads an object after its case.
+// Reads an object whose case was read.
 #[cycle(reading_json)]
 #[tactic(auto, using(crate::proofs::Json::read_parts))]
 fn object_part<E: Env, D: PagableDeserializer<E>>(
@@ -145,7 +151,7 @@ fn object_part<E: Env, D: PagableDeserializer<E>>(
     read
 }
 
-// Reads an object of this many members and puts each in: a later value of a repeated key stands.
+// Reads an object of this many members and adds each: of a repeated key the later value counts.
 #[cycle(reading_json)]
 #[tactic(auto, using(crate::proofs::JsonSteps::no_memory))]
 fn read_members<E: Env, D: PagableDeserializer<E>>(

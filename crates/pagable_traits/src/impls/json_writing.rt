@@ -1,5 +1,5 @@
-//! How JSON values are written: the case, and then its part. Arrays and objects are one level further down, which is
-//! entered after their length was written.
+//! Writers of JSON values: the case, and then its part. Arrays and objects are one level deeper; a
+//! writer enters that level after it has written their length.
 
 ghost use Rattle.{pagable_value_spec.specs.Refusals.is_writing_fault, std.specs.{Int.w64, Prelude.{IfErr, IsTrue}, String.string_bytes}};
 ghost use Rattle.pagable_value_spec.specs.{Outcomes.{memory, json_causes}, Composite.{MeanAll, MeansPair}, Numbers.unsigned_form, Shape.{both, json, text}, Cursor.Is};
@@ -17,7 +17,7 @@ use std::collections::BTreeMap;
 impl<E: Env> PagableSerialize<E> for Value {
     ghost write_causes = { writes_json };
 
-    /// Appends the value, and is refused by its first fault, as `write_value` is.
+    /// Appends the value. Fails with the value's first fault, as `write_value` does.
     fn pagable_serialize<S: PagableSerializer<E>>(&self, serializer: &mut S) -> Result<(), Error>
         ensures wrote { Wrote E.Env S.PagableSerializer (form (Is of_value self.now) json) json_causes serializer.old serializer.new result }
         ensures first { IfErr result (λ e. IsTrue (is_writing_fault e) → Fault (nested_in E.Env S.PagableSerializer serializer.old) self.now e) }
@@ -33,7 +33,8 @@ fn write_case<E: Env, S: PagableSerializer<E>>(case: usize, serializer: &mut S) 
     serializer.serde().write_usize(case)
 }
 
-// Writes the case of an array or an object and its length. TooLong above 4,294,967,295 items or members.
+// Writes the case of an array or an object, and its length. Fails with `TooLong` above
+// 4,294,967,295 items or members.
 fn write_front<E: Env, S: PagableSerializer<E>>(
     case: usize,
     count: usize,
@@ -52,7 +53,8 @@ fn write_flag<E: Env, S: PagableSerializer<E>>(flag: bool, serializer: &mut S) -
     flag.pagable_serialize(serializer)
 }
 
-// Writes a number. JsonNumber, before anything was written, where it isn't whole or 64 bits with a sign don't hold it.
+// Writes a number. Fails with `JsonNumber`, before it has written anything, if the number isn't
+// whole or isn't in the range of an `i64`.
 fn write_number<E: Env, S: PagableSerializer<E>>(
     value: &Number,
     serializer: &mut S,
@@ -67,7 +69,7 @@ fn write_number<E: Env, S: PagableSerializer<E>>(
     whole.pagable_serialize(serializer)
 }
 
-// Writes a text. TooLong where it has more than 4,294,967,295 bytes.
+// Writes a text. Fails with `TooLong` above 4,294,967,295 bytes.
 fn write_text<E: Env, S: PagableSerializer<E>>(
     text: &String,
     serializer: &mut S,
@@ -78,9 +80,18 @@ fn write_text<E: Env, S: PagableSerializer<E>>(
     text.pagable_serialize(serializer)
 }
 
-/// Writes a JSON value. TooLong above 4,294,967,295 bytes, items or members, JsonNumber for a float or a whole number
-/// that 64 bits with a sign don't hold, and TooDeep for an array or an object where 128 levels were entered: the first of
-/// these that is met, from the front, a length before its level and a level before what is below it.
+/// Writes a JSON value.
+///
+/// # Errors
+///
+/// The first of these from the front, where a length is before its level, and a level before what
+/// is in it:
+///
+/// - `TooLong` above 4,294,967,295 bytes, items or members.
+/// - `JsonNumber` for a float, or a whole number that isn't in the range of an `i64`.
+/// - `TooDeep` for an array or an object if 128 levels are entered.
+///
+/// Or `OutOfMemory`.
 #[cycle(writing_json)]
 pub fn write_value<E: Env, S: PagableSerializer<E>>(
     value: &Value,
@@ -139,7 +150,7 @@ fn write_object<E: Env, S: PagableSerializer<E>>(
     done
 }
 
-// Writes the members of an object in the order of their keys, in which they are kept.
+// Writes the members of an object in the order of their keys, in which the map keeps them.
 #[cycle(writing_json)]
 fn write_members<E: Env, S: PagableSerializer<E>>(
     members: &BTreeMap<String, Value>,

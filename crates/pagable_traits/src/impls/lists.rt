@@ -1,4 +1,4 @@
-//! Lists of each kind, slices and arrays, and the items of a list in turn.
+//! Lists of each kind, slices and arrays, and the writer of a list's items.
 
 ghost use Rattle.std.specs.{Box.boxed_slice_items, Prelude.{[], max, ◌++◌, ◌∷◌, ◌≡◌}, Vec.vec_capacity};
 ghost use Rattle.pagable_value_spec.specs.{Outcomes.{long_or, memory_or}, Composite.{MeanAll, MeansList}, Shape.{array, list, run}};
@@ -15,7 +15,11 @@ use std::alloc::Global;
 use std::boxed::BoxedSlice;
 use std::default::MadeWith;
 
-/// Writes the items one after another, without their count. A refusal is that of the first item that is refused.
+/// Writes the items one after another, without their count.
+///
+/// # Errors
+///
+/// - the first error of an item.
 pub fn write_items<E: Env, T: PagableSerialize<E>, S: PagableSerializer<E>>(
     values: &[T],
     serializer: &mut S,
@@ -25,8 +29,13 @@ pub fn write_items<E: Env, T: PagableSerialize<E>, S: PagableSerializer<E>>(
     write_each(values.iter(), serializer)
 }
 
-/// Writes a slice as a list: the count of its items, and then the items. TooLong above 4,294,967,295 items, before
-/// any item is looked at; else the first item's refusal, or want of memory.
+/// Writes a slice as a list: the count of its items, and then the items.
+///
+/// # Errors
+///
+/// - `TooLong` above 4,294,967,295 items, before it looks at any item.
+/// - the first error of an item.
+/// - `OutOfMemory`.
 pub fn serialize_slice<E: Env, T: PagableSerialize<E>, S: PagableSerializer<E>>(
     values: &[T],
     serializer: &mut S,
@@ -144,11 +153,11 @@ impl<
     }
 }
 
-// The most items that are written one after another without their count.
+// The most items that may be written one after another without their count.
 const LONGEST: usize = 4_294_967_295;
 
-/// A slice behind a reference is written as its items without their count, as in the Rust crate, so nothing can read it
-/// by itself.
+/// A borrowed slice is written as its items without their count, as in the Rust crate, so no reader
+/// can read it alone.
 impl<'a, E: Env, T: Carried<E>> Carried<E> for &'a [T] {
     ghost shape = { λ e. run (T.shape e) };
 
@@ -226,7 +235,7 @@ impl<E: Env, T: PagableSerialize<E>, const N: usize> PagableSerialize<E> for [T;
     }
 }
 
-/// The items are collected in a `Vec` first, so reading an array takes memory.
+/// A reader collects the items in a `Vec` first, so reading an array allocates.
 impl<'de, E: Env, T: PagableDeserialize<'de, E> + Drop, const N: usize> PagableDeserialize<'de, E>
     for [T; N] {
     ghost read_causes = { reads_memory_or T.read_causes };

@@ -1,4 +1,4 @@
-//! Maps and sets: in order of their keys, in order of arrival, and in no order.
+//! Maps and sets: sorted by key, in order of insertion, and unordered.
 
 ghost use Rattle.std.specs.{BTreeMap.insert_entry, BTreeSet.insert_key, HashMap.spare, Prelude.{◌≡◌, ◌≤◌}};
 ghost use Rattle.pagable_value_spec.specs.{Outcomes.either, Hashed.{PutsAnywhere, hash_map_single}, Composite.MeansPair, Shape.{both, hash_map, placed_map, placed_set, sorted_map, sorted_set}};
@@ -17,7 +17,11 @@ use std::alloc::Global;
 use std::collections::{BTreeMap, BTreeSet, HashMap};
 use std::hash::Hash;
 
-/// Writes a key and its value, one after the other. A refusal is the key's, or else the value's.
+/// Writes a key and then its value.
+///
+/// # Errors
+///
+/// - an error of the key, else an error of the value.
 pub fn write_entry<E: Env, K: PagableSerialize<E>, V: PagableSerialize<E>, S: PagableSerializer<E>>(
     key: &K,
     value: &V,
@@ -31,7 +35,7 @@ pub fn write_entry<E: Env, K: PagableSerialize<E>, V: PagableSerialize<E>, S: Pa
     value.pagable_serialize(serializer)
 }
 
-/// An entry whose key is there already gives its value to the key that stands.
+/// An entry with a key that the map has replaces the value and keeps the old key.
 impl<K: Ord + Drop, V: Drop> Collects<(K, V)> for BTreeMap<K, V> {
     ghost held = { λ m. m.entries };
 
@@ -90,7 +94,7 @@ impl<
     }
 }
 
-/// An item that is there already changes nothing.
+/// An item that the set has changes nothing.
 impl<T: Ord + Drop> Collects<T> for BTreeSet<T> {
     ghost held = { λ s. s.keys };
 
@@ -142,7 +146,7 @@ impl<'de, E: Env, T: PagableOrdKey<E> + PagableDeserialize<'de, E> + Drop> Pagab
     }
 }
 
-/// An entry whose key is there already gives its value to the key that stands, in its place.
+/// An entry with a key that the map has replaces the value, and keeps the old key in its place.
 impl<K: Eq + Hash + Drop, V: Drop> Collects<(K, V)> for IndexMap<K, V> {
     ghost held = { λ m. m.entries };
 
@@ -204,7 +208,7 @@ impl<
     }
 }
 
-/// An item that is there already changes nothing, its place included.
+/// An item that the set has changes nothing, and keeps its place.
 impl<T: Eq + Hash + Drop> Collects<T> for IndexSet<T> {
     ghost held = { λ s. s.keys };
 
@@ -258,7 +262,7 @@ impl<'de, E: Env, T: PagableKey<E> + Hash + PagableDeserialize<'de, E> + Drop> P
     }
 }
 
-/// An entry whose key is there already gives its value to the key that stands.
+/// An entry with a key that the map has replaces the value and keeps the old key.
 impl<K: Eq + Hash + Drop, V: Drop> Collects<(K, V)> for HashMap<K, V> {
     ghost held = { λ m. m.entries };
 
@@ -280,7 +284,8 @@ impl<K: Eq + Hash + Drop, V: Drop> Collects<(K, V)> for HashMap<K, V> {
     }
 }
 
-/// A map means its entries whatever their order, so equal maps mean the same. It may be written in any order.
+/// A map means its entries in any order, so equal maps mean the same. It may be written in any
+/// order.
 impl<E: Env, K: PagableKey<E> + Hash, V: Carried<E>> Carried<E> for HashMap<K, V> {
     ghost shape = { λ e. hash_map (K.shape e) (V.shape e) };
 

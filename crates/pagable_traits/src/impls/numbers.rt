@@ -1,4 +1,4 @@
-//! Whole numbers, flags, characters, nothing, and spans of time.
+//! Whole numbers, flags, characters, the unit and durations.
 #![tactic(auto, using(crate::proofs::Parts::basic))]
 
 ghost use Rattle.std.specs.{Int.{w8, w16, w32, w64, w128}, Prelude.{◌≡◌, ◌++◌, ◌<◌, ◌^◌, OnOk, IfErr}};
@@ -362,7 +362,7 @@ impl<'de, E: Env> PagableDeserialize<'de, E> for () {
 
 const NANOS_OF_SECOND: u32 = 1_000_000_000;
 
-// Appends the whole seconds and the nanoseconds beside them.
+// Appends the duration's whole seconds, and the nanoseconds beside them.
 fn write_span(span: Duration, writer: &mut PagableVecFlavor) -> Result<(), Error>
     ensures ok { OnOk result (writer.new ≡ writer.old ++ duration_form (seconds_of span) (nanos_of span)) }
     ensures fits { seconds_of span < 2 ^ 64 }
@@ -373,7 +373,8 @@ fn write_span(span: Duration, writer: &mut PagableVecFlavor) -> Result<(), Error
     writer.write_u32(span.subsec_nanos())
 }
 
-// Reads seconds and nanoseconds, of which whole seconds are carried over: BadDuration where the seconds overflow.
+// Reads seconds and nanoseconds, and carries whole seconds over. Fails with `BadDuration` if the
+// seconds overflow.
 #[tactic(auto, unfolding(pagable_value_spec::specs::BasicValues::duration_at), using(crate::proofs::Parts::span_overflows, crate::proofs::Parts::span_read))]
 fn read_span<R: Reader>(reader: &mut R) -> Result<Duration, Error>
     ensures gives { Gives never (λ d. ((seconds_of d, nanos_of d), left (R.track reader.new))) result (duration_at (left (R.track reader.old))) }

@@ -1,4 +1,4 @@
-//! Texts, lent and boxed ones among them, and paths, which are texts here.
+//! Texts, borrowed and boxed ones too, and paths, which are texts here.
 
 ghost use Rattle.std.specs.{Prelude.◌≡◌, Box.boxed_str_bytes, String.string_bytes};
 ghost use Rattle.pagable_value_spec.specs.{CarriedTypes.path_text, Outcomes.{memory, long_or}, Shape.{text as text_shape}, Meaning.{text as text_meaning}, Cursor.Is};
@@ -10,8 +10,12 @@ use pagable_flavors::Error;
 use std::alloc::Global;
 use std::boxed::BoxedStr;
 
-/// Writes a text as a `String` is written: its length in bytes, and its bytes. TooLong above 4,294,967,295 bytes; else
-/// refused by want of memory alone.
+/// Writes a text as a `String` is written: its length in bytes, and its bytes.
+///
+/// # Errors
+///
+/// - `TooLong` above 4,294,967,295 bytes.
+/// - `OutOfMemory`.
 #[tactic(auto, using(pagable_codec::proofs::Writing::parts, crate::proofs::Parts::writes_str))]
 pub fn serialize_str<E: Env, S: PagableSerializer<E>>(
     text: &str,
@@ -81,7 +85,7 @@ impl<'de, E: Env> PagableDeserialize<'de, E> for String {
     }
 }
 
-/// A path as its text, which is written as a `String` is. Nothing is asked of the text.
+/// A path as a text, which is written as a `String` is. Any text will do.
 #[derive(Debug, PartialEq, Eq, PartialOrd, Ord, Hash, Drop)]
 pub struct PathText {
     pub text: String,
