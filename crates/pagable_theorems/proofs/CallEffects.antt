@@ -1,4 +1,4 @@
--- What trees feel of each call, by the call and its reply.
+-- The effect of each call on trees, by the call and its reply.
 use Rattle.pagable_theorems.proofs.Effects.{Effect, IsMine, beside, both-none, but, cached, cached-if, entry, fell, forgets, handed, handle, like, load-named, load-owns, moves, no-one, node, none}
 use Rattle.pagable_theorems.proofs.{Effects.{none-named, opens, own-handle, own-mode, own-named, owned-mine, shuts, stays, turned, with-key}, HandlesKept.{Goes, KnowsNext, NotLoads, a-handle, alike-away, begun}}
 use Rattle.pagable_theorems.proofs.{HandlesKept.{fell-away, found-changed, goes-then, good, quiet-goes}, Trees.{same-number, same_some}, Words.{Alike, ArcRef, Beginning, Blob, Bool, Call, Change, CloneCall}}

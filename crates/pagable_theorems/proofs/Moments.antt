@@ -1,4 +1,4 @@
--- The steps of whole operations over a pager are moments of a machine, where nobody else works: so what holds of chains holds of them.
+-- The steps of whole operations on a pager on which nobody else works are moments of a machine: so what holds of chains holds of them.
 use Rattle.pagable_theorems.proofs.{LoadResults.{After, after-then, rows-stay}, Chains.{IsGoingOn, goes, idle-goes}, HandlesKept.updated-at, CallEffects.calls-go, ReadingSteps.{caller-free, event-goes, walk-goes}, Trees.{same-number, same_some}}
 use Rattle.pagable_theorems.proofs.Words.{Alike, Bool, Call, Core, Event, EventReply, HandleNumber, HandleRow, Happens, HoldsSettled, IsLawful, IsMachineWhole, IsWellAsked, KeepsOpen, List, MachineState, Moment, None, Ok, OpenLoad, Option, Owner}
 use Rattle.pagable_theorems.proofs.Words.{PagerState, Reading, Reply, Represents, Result, Seen, Shelf, Site, Some, Task, Todo, Action, Tree, Values, WalkDoes, Walking, WellFormed, WorkerAnswer, WorkerReply}
