@@ -66,12 +66,12 @@ pub record IsReference (w : Core) (owner : Owner) (r : ArcRef) : Type 0 where
   pub fits : fits_mode r.kind.0 row.mode ≡ true
   pub typed : type_at w r.node.0 ≡ Some (type_of r.kind.0)
 
--- why a reference is refused, if its handle has this row; `first` is a cause to be checked before mode and type
+-- why a reference has a fault, if its handle has this row; `first` is a cause to be checked before mode and type
 abbrev pub row_fault : Core → ArcRef → Option Error → HandleRow → Option Error
 row_fault w r first row = if not (row.node.0 == r.node.0) then Some Error.NoSuchHandle else
     or_else first (if not (fits_mode r.kind.0 row.mode) then Some Error.WrongMode else refused_if (not (is_type (type_of r.kind.0) (type_at w r.node.0))) Error.WrongKind)
 
--- why one reference of a given value is refused; `seen` are the handles that its earlier references name
+-- why one reference of a given value has a fault; `seen` are the handles that its earlier references name
 abbrev pub reference_fault : Core → Owner → List ℕ → ArcRef → Option Error
 reference_fault w owner seen r = if_there (λ (row : HandleRow). row_fault w r (refused_if (not (is_owner owner row.owner) || is_in seen r.handle.0) Error.NotYours) row) (Some Error.NoSuchHandle) (row_at w r.handle)
 

@@ -16,7 +16,7 @@ pub enum Error {
     /// A varint has more bytes than its width allows, or its last byte is too large.
     #[error("a number has too many bytes, or its last byte is too large: read the type that was written")]
     BadVarint,
-    /// A byte that is neither 0 nor 1 stands where a flag is read.
+    /// A flag is read, and its byte is neither 0 nor 1.
     #[error("a flag is neither 0 nor 1: read the type that was written")]
     BadBool,
     /// A text isn't UTF-8.
