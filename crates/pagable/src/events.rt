@@ -59,7 +59,7 @@ fn make_call<E: Env<Node: NodeSet<E>>, S: PagableStorage<E>>(
         Call::NodeLive(node) => Reply::NodeType(pager.node_live(node)),
         Call::ScheduleForPaging(handle) => Reply::Done(pager.schedule_for_paging(handle)),
         Call::Pending => Reply::Length(pager.pending() as u64),
-        Call::TakePending(place) => Reply::PinnedOrLoading(pager.take_pending(place as usize)),
+        Call::TakePending(place) => Reply::TakenPending(pager.take_pending(place as usize)),
         Call::CacheGet(kind, key) => Reply::FromCache(pager.cache_get(kind, key)),
         Call::OnArcDeserialized(kind, key, handle) => {
             Reply::FromCache(pager.on_arc_deserialized(kind, key, handle))

@@ -1,8 +1,9 @@
 //! The writer and the reader of the wire format.
 //!
-//! [`PagableVecFlavor`] appends the form of each basic value to a vector of bytes, and [`PagableSlice`] reads such values from the front of a slice. Numbers of
-//! more than 8 bits are varints: seven bits a byte, low bits first, the top bit set on all bytes but the last. A writer writes the shortest form; a reader
-//! accepts longer ones, up to the greatest length of the width that it reads.
+//! [`PagableVecFlavor`] appends each basic value to a vector of bytes, and [`PagableSlice`] reads
+//! such values from the front of a slice. Numbers of more than 8 bits are varints: seven bits a
+//! byte, low bits first, the top bit set on all bytes but the last. A writer writes the shortest
+//! varint; a reader accepts longer ones, up to the greatest length for the width that it reads.
 #![tactic(auto)]
 
 pub mod reader;

@@ -1,4 +1,4 @@
-//! What reads basic values: what a deserializer lends.
+//! The trait of readers of basic values, which a deserializer lends.
 
 ghost use Rattle.{pagable_flavors.specs.Calls.Reads, pagable_value_spec.specs.{BasicValues.{bool_at, char_at, length_at, text_at}, Outcomes.{Gives, memory}, Numbers.{signed_at, unsigned_at}, Progress.GoesOn}};
 ghost use Rattle.pagable_value_spec.specs.Progress.{Track, left};
@@ -7,46 +7,73 @@ ghost use Rattle.std.specs.{Int.{w128, w16, w32, w64, w8}, Prelude.{length, ◌�
 use pagable_value_spec::Error;
 use std::alloc::Global;
 
-/// A reader of basic types, as `PagableSlice` is. A refusal is the first fault of the wire format, and leaves the
-/// place between the old one and the end; only texts take memory.
+/// A reader of basic values, as `PagableSlice` is.
+///
+/// A call that fails returns the first fault of the wire format and leaves the position between the
+/// old one and the end. Only texts allocate.
 pub trait Reader {
     ghost track: { Self → Track };
 
-    /// How many bytes were read.
+    /// Returns how many bytes have been read.
     fn position(&self) -> usize
         ensures place { result ≡ (track self.now).position }
         ensures within { result ≤ length (track self.now).all };
 
-    /// How many bytes are left.
+    /// Returns how many bytes are left.
     fn size_hint(&self) -> usize
         ensures bytes { result ≡ length (left (track self.now)) }
         ensures within { (track self.now).position ≤ length (track self.now).all };
 
-    /// Goes to a place that isn't past the end.
+    /// Moves to a position that isn't past the end.
     fn set_position(&mut self, position: usize)
         requires { position ≤ length (track self.old).all }
         ensures { track self.new ≡ record (track self.old) { position = position } };
 
-    /// A flag: BadBool where the byte is neither 0 nor 1.
+    /// Reads a flag.
+    ///
+    /// # Errors
+    ///
+    /// - `UnexpectedEnd` if no byte is left.
+    /// - `BadBool` if the byte is neither 0 nor 1.
     fn read_bool(&mut self) -> Result<bool, Error>
         ensures { Reads bool_at result (track self.old) (track self.new) };
 
     fn read_u8(&mut self) -> Result<u8, Error>
         ensures { Reads (unsigned_at w8) result (track self.old) (track self.new) };
 
-    /// BadVarint where the number has more than 3 bytes, or the third is above 3.
+    /// Reads a number of 16 bits.
+    ///
+    /// # Errors
+    ///
+    /// - `UnexpectedEnd` if the input ends inside the number.
+    /// - `BadVarint` if the number has more than 3 bytes, or its third is above 3.
     fn read_u16(&mut self) -> Result<u16, Error>
         ensures { Reads (unsigned_at w16) result (track self.old) (track self.new) };
 
-    /// BadVarint where it has more than 5 bytes, or the fifth is above 15.
+    /// Reads a number of 32 bits.
+    ///
+    /// # Errors
+    ///
+    /// - `UnexpectedEnd` if the input ends inside the number.
+    /// - `BadVarint` if the number has more than 5 bytes, or its fifth is above 15.
     fn read_u32(&mut self) -> Result<u32, Error>
         ensures { Reads (unsigned_at w32) result (track self.old) (track self.new) };
 
-    /// BadVarint where it has more than 10 bytes, or the tenth is above 1.
+    /// Reads a number of 64 bits.
+    ///
+    /// # Errors
+    ///
+    /// - `UnexpectedEnd` if the input ends inside the number.
+    /// - `BadVarint` if the number has more than 10 bytes, or its tenth is above 1.
     fn read_u64(&mut self) -> Result<u64, Error>
         ensures { Reads (unsigned_at w64) result (track self.old) (track self.new) };
 
-    /// BadVarint where it has more than 19 bytes, or the nineteenth is above 3.
+    /// Reads a number of 128 bits.
+    ///
+    /// # Errors
+    ///
+    /// - `UnexpectedEnd` if the input ends inside the number.
+    /// - `BadVarint` if the number has more than 19 bytes, or its nineteenth is above 3.
     fn read_u128(&mut self) -> Result<u128, Error>
         ensures { Reads (unsigned_at w128) result (track self.old) (track self.new) };
 
@@ -68,15 +95,32 @@ pub trait Reader {
     fn read_i128(&mut self) -> Result<i128, Error>
         ensures { Reads (signed_at w128) result (track self.old) (track self.new) };
 
-    /// A text of one character: BadChar where it has none or more, after the refusals of a text.
+    /// Reads a character, which is written as a text.
+    ///
+    /// # Errors
+    ///
+    /// - those of `read_string`, except `OutOfMemory`.
+    /// - `BadChar` if the text isn't exactly one character.
     fn read_char(&mut self) -> Result<char, Error>
         ensures { Reads char_at result (track self.old) (track self.new) };
 
-    /// A length: TooLong above 4,294,967,295.
+    /// Reads a length.
+    ///
+    /// # Errors
+    ///
+    /// - those of `read_u64`.
+    /// - `TooLong` if it is above 4,294,967,295.
     fn read_len(&mut self) -> Result<usize, Error>
         ensures { Reads length_at result (track self.old) (track self.new) };
 
-    /// A text: TooLong, then UnexpectedEnd, then BadUtf8.
+    /// Reads a text into a new string.
+    ///
+    /// # Errors
+    ///
+    /// - those of `read_len`.
+    /// - `UnexpectedEnd` if the input ends inside the text.
+    /// - `BadUtf8` if the text isn't UTF-8.
+    /// - `OutOfMemory` if the string can't be allocated.
     fn read_string(&mut self, alloc: Global) -> Result<String, Error>
         ensures gives { Gives memory (λ t. (string_bytes t, left (track self.new))) result (text_at (left (track self.old))) }
         ensures goes { GoesOn (track self.old) (track self.new) };

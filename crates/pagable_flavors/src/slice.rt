@@ -1,4 +1,4 @@
-//! Bytes that are read one after another.
+//! `PagableSlice`: a reader over a slice of bytes.
 
 ghost use Rattle.std.specs.Prelude.{◌≡◌, ◌≤◌, length, OnErr};
 ghost use Rattle.{pagable_flavors.specs.Calls.Reads, pagable_value_spec.specs.{BasicValues.bytes_at, Outcomes.{Gives, never}, Numbers.byte_at, Progress.{Track, left, GoesOn}}};
@@ -9,9 +9,10 @@ mod reading;
 use pagable_value_spec::Error;
 use std::marker::Model;
 
-/// A reader of bytes, which takes no memory. Contracts see all its bytes and how many of them were read.
+/// A reader of bytes, which never allocates. Contracts see all its bytes and how many of them it
+/// has read.
 ///
-/// A reading call that is refused leaves the reader somewhere between its old place and the end; the cursor calls `pop`,
+/// A reading call that fails leaves the position between the old one and the end; `pop`,
 /// `try_take_n` and `try_take_n_temp` leave it where it was.
 #[derive(Drop)]
 pub struct PagableSlice<'de> {
@@ -31,14 +32,14 @@ impl<'de> Model for PagableSlice<'de> {
 }
 
 impl<'de> PagableSlice<'de> {
-    /// A reader at the front of these bytes.
+    /// Creates a reader at the front of `bytes`.
     pub fn new(bytes: &'de [u8]) -> PagableSlice<'de>
         ensures { result ≡ record { all = bytes.now; position = 0 } }
     {
         PagableSlice { bytes, position: 0 }
     }
 
-    /// How many bytes were read.
+    /// Returns how many bytes have been read.
     pub fn position(&self) -> usize
         ensures place { result ≡ self.now.position }
         ensures within { result ≤ length self.now.all }
@@ -46,7 +47,7 @@ impl<'de> PagableSlice<'de> {
         self.position
     }
 
-    /// Goes to a place that isn't past the end, backwards or forwards.
+    /// Moves to a position that isn't past the end, backwards or forwards.
     pub fn set_position(&mut self, position: usize)
         requires { position ≤ length self.old.all }
         ensures { self.new ≡ record self.old { position = position } }
@@ -54,7 +55,7 @@ impl<'de> PagableSlice<'de> {
         self.position = position;
     }
 
-    /// How many bytes are left.
+    /// Returns how many bytes are left.
     pub fn size_hint(&self) -> usize
         ensures bytes { result ≡ length (left self.now) }
         ensures within { self.now.position ≤ length self.now.all }
@@ -62,14 +63,18 @@ impl<'de> PagableSlice<'de> {
         self.bytes.len() - self.position
     }
 
-    /// The bytes that are left.
+    /// Returns the bytes that are left.
     pub fn finalize(self) -> &'de [u8]
         ensures { result.now ≡ left self.entry }
     {
         &self.bytes[self.position..]
     }
 
-    /// The next byte. `UnexpectedEnd` where none is left.
+    /// Reads the next byte.
+    ///
+    /// # Errors
+    ///
+    /// - `UnexpectedEnd` if no byte is left: the position is unchanged.
     pub fn pop(&mut self) -> Result<u8, Error>
         ensures reads { Reads byte_at result self.old self.new }
         ensures err { OnErr result (self.new ≡ self.old) }
@@ -82,7 +87,11 @@ impl<'de> PagableSlice<'de> {
         Ok(byte)
     }
 
-    /// The next `count` bytes. `UnexpectedEnd` where fewer are left.
+    /// Takes the next `count` bytes, which stay where they are.
+    ///
+    /// # Errors
+    ///
+    /// - `UnexpectedEnd` if fewer are left: the position is unchanged.
     pub fn try_take_n(&mut self, count: usize) -> Result<&'de [u8], Error>
         ensures gives { Gives never (λ b. (b.now, left self.new)) result (bytes_at count (left self.old)) }
         ensures goes { GoesOn self.old self.new }
@@ -96,7 +105,7 @@ impl<'de> PagableSlice<'de> {
         Ok(taken)
     }
 
-    /// The same as `try_take_n`.
+    /// Does what `try_take_n` does.
     pub fn try_take_n_temp(&mut self, count: usize) -> Result<&'de [u8], Error>
         ensures gives { Gives never (λ b. (b.now, left self.new)) result (bytes_at count (left self.old)) }
         ensures goes { GoesOn self.old self.new }

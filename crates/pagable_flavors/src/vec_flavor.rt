@@ -1,4 +1,4 @@
-//! Bytes that are written one after another.
+//! `PagableVecFlavor`: a writer into a vector of bytes.
 
 ghost use Rattle.pagable_value_spec.specs.Outcomes.{memory};
 ghost use Rattle.std.specs.Prelude.{IfErr, List, OnErr, OnOk, [], drop, length, take, ◌++◌, ◌+◌, ◌∷◌, ◌≡◌, ◌≤◌};
@@ -9,12 +9,13 @@ use pagable_value_spec::Error;
 use std::alloc::Global;
 use std::marker::Model;
 
-/// The greatest length of a text and the greatest count of a list.
+/// The greatest length of a text and the greatest number of items of a list.
 pub(crate) const LONGEST: usize = 4_294_967_295;
 
-/// A writer, which contracts see as the bytes that were written.
+/// A writer, which contracts see as the bytes that it has written.
 ///
-/// A writing call that is refused leaves what stood before, with more at its end or nothing; `try_push` and `try_extend` leave nothing more.
+/// A writing call that fails may leave some bytes more at the end; `try_push` and `try_extend`
+/// leave none.
 #[derive(Drop)]
 pub struct PagableVecFlavor {
     bytes: Vec<u8>,
@@ -29,7 +30,7 @@ impl Model for PagableVecFlavor {
 }
 
 impl PagableVecFlavor {
-    /// A writer of no bytes yet, which takes no memory until it is written to.
+    /// Creates a writer without bytes, which allocates when it is first written to.
     pub fn new(alloc: Global) -> PagableVecFlavor
         ensures { result ≡ [] }
     {
@@ -37,21 +38,22 @@ impl PagableVecFlavor {
         PagableVecFlavor { bytes }
     }
 
-    /// The same as `new`.
+    /// Does what `new` does.
     pub fn default(alloc: Global) -> PagableVecFlavor
         ensures { result ≡ [] }
     {
         PagableVecFlavor::new(alloc)
     }
 
-    /// How many bytes were written.
+    /// Returns how many bytes have been written.
     pub fn position(&self) -> usize
         ensures { result ≡ length self.now }
     {
         self.bytes.len()
     }
 
-    /// Writes these bytes over those that stand from `pos` on. As many must stand there.
+    /// Overwrites the bytes from `pos` on with `bytes`. The caller makes sure that as many were
+    /// written there.
     pub fn write_at(&mut self, pos: usize, bytes: &[u8])
         requires { pos + length bytes.now ≤ length self.old }
         ensures { self.new ≡ take pos self.old ++ bytes.now ++ drop (pos + length bytes.now) self.old }
@@ -61,7 +63,11 @@ impl PagableVecFlavor {
         held[pos..end].copy_from_slice(bytes);
     }
 
-    /// Appends a byte. `OutOfMemory` where the writer can't grow.
+    /// Appends a byte.
+    ///
+    /// # Errors
+    ///
+    /// - `OutOfMemory` if the writer can't grow: nothing is written.
     pub fn try_push(&mut self, byte: u8) -> Result<(), Error>
         ensures ok { OnOk result (self.new ≡ self.old ++ byte ∷ []) }
         ensures only { IfErr result memory }
@@ -71,7 +77,11 @@ impl PagableVecFlavor {
         Ok(())
     }
 
-    /// Appends these bytes. `OutOfMemory` where the writer can't grow.
+    /// Appends these bytes.
+    ///
+    /// # Errors
+    ///
+    /// - `OutOfMemory` if the writer can't grow: nothing is written.
     pub fn try_extend(&mut self, bytes: &[u8]) -> Result<(), Error>
         ensures ok { OnOk result (self.new ≡ self.old ++ bytes.now) }
         ensures only { IfErr result memory }
@@ -81,7 +91,7 @@ impl PagableVecFlavor {
         Ok(())
     }
 
-    /// The bytes that were written.
+    /// Returns the bytes that were written.
     pub fn finalize(self) -> Vec<u8>
         ensures { result.items ≡ self }
     {

@@ -1,9 +1,9 @@
-//! Numbers with a sign as numbers without one: n becomes 2n, and -n - 1 becomes 2n + 1.
+//! Zigzag: numbers with a sign as numbers without one; n becomes 2n, and -n - 1 becomes 2n + 1.
 
 ghost use Rattle.pagable_value_spec.specs.Numbers.{from_zigzag, zigzag};
 ghost use Rattle.std.specs.Prelude.{◌≡◌};
 
-// The number without a sign that stands for this one.
+// Returns the number without a sign that encodes this one.
 pub(crate) fn encode(number: i64) -> u64
     ensures { result ≡ zigzag number }
 {
@@ -14,7 +14,7 @@ pub(crate) fn encode(number: i64) -> u64
     }
 }
 
-// The number that this one stands for.
+// Returns the number with a sign that this one encodes.
 pub(crate) fn decode(number: u64) -> i64
     ensures { result ≡ from_zigzag number }
 {
@@ -22,7 +22,7 @@ pub(crate) fn decode(number: u64) -> i64
     if number % 2 == 0 { half } else { -1 - half }
 }
 
-// The same for 128 bits.
+// Does what `encode` does, for 128 bits.
 pub(crate) fn encode_wide(number: i128) -> u128
     ensures { result ≡ zigzag number }
 {
@@ -33,7 +33,7 @@ pub(crate) fn encode_wide(number: i128) -> u128
     }
 }
 
-// The same for 128 bits.
+// Does what `decode` does, for 128 bits.
 pub(crate) fn decode_wide(number: u128) -> i128
     ensures { result ≡ from_zigzag number }
 {

@@ -1,4 +1,5 @@
--- What a blob asks for is told by kinds alone: with references of the same kinds it is read side by side, up to where one of the two readings asks for a reference that wasn't got.
+-- What a blob asks for depends on kinds alone: two readings with references of the same kinds run in parallel, up to where one of them asks for a reference
+-- that wasn't got.
 use Rattle.pagable_theorems.proofs.{Naturality.{Out, SameRest, Sober, both-faulty, both-given, both-refused, first-refused, typed_par}, Trees.{Along, reference-along}}
 use Rattle.pagable_load.specs.{Decoding.{AllAhead, AreAhead, AsksNext, Follows, Foresees, FramesGo, GoesFor, GotMore, IsAhead, IsAheadOf, KeptAt, LeftIf, NeedsNext, is_adoption, kinds_of, stacked}, LoadEnd.{LeadsOn, left_behind, left_in, many, to_do, weight, weight_on}}
 use Rattle.pagable_value_spec.specs.{Blob.Blob, Meaning.Meaning, Reading.{Rest, reference_at}, Cursor.{Answer, answer_at}, ReadSteps.◌>>=◌, declared.{error.Error.Error, numbers.ArcRef.ArcRef}}

@@ -1,4 +1,4 @@
--- A load's steps from its root's blob, which was fetched apart from it.
+-- A load's steps from its root's blob, which the caller has fetched.
 use Rattle.{pagable_load.specs.{Frames.{IsLoadOf, frames_of, reading_of}, PolledPin.{PinsFrom, with_root}, LoadSteps.{IsSameLoad, Runs}, declared.reading.Reading.Reading as Own}, pagable_value_spec.specs.Blob.Blob}
 use Rattle.pagable_value_spec.specs.declared.{error.Error.Error, numbers.HandleNumber.HandleNumber}
 use Rattle.pagable_pager_spec.specs.{Access.LoadRun, Loads.root_frame, Pager.PagerState, Refusals.OwnsLoad, World.{Core, Reading, Values}, declared.{events.LoadAnswer.LoadAnswer, handle_row.Owner.Owner}}

@@ -1,4 +1,4 @@
--- What a value that was read holds beside its references is what the handles of these pin, since nothing else was lent.
+-- What a decoded value holds beside its references is what their handles pin, since nothing else was lent.
 use Rattle.{pagable_load.{proofs.LoadSteps.{tells_all, tells_map}, specs.{ResolvedReferences.{Lends, LendsEach, lent_at, lent_by, lent_there}, AccessView.Tells}}, pagable_value_spec.specs.Cursor.{HoldsLent, IsOnlyLent, Standing}}
 use Rattle.{pagable_value_spec.specs.declared.{error.Error.Error, numbers.{ArcRef.ArcRef, HandleNumber.HandleNumber}}, pagable_pager_spec.specs.{Pager.{HoldsPinned, PagerState, ValueCall}, World.Values}}
 use Rattle.std.{proofs.{Common.{Err, List, None, Ok, Option, Result, Some, ap, arith, refl, slice_get, subst, sym, ℕ, ◌∙◌, ◌≡◌}, lemmas.Bool.Decides.nat_tests}, specs.{Option.option_map, Prelude.{IfOk, option_and_then}}}

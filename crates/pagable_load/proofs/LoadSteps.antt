@@ -1,4 +1,4 @@
--- What a load needs next, what the calls of its steps did, and whole pins and readings.
+-- What a load needs next, what the calls of its steps have done, and whole pins and reads.
 use Rattle.{either.specs.declared.Either.Either, pagable_core.specs.{Context.at_front, Data.blob_of}, pagable_load.specs.{Decoding.{IsReadAs, Needs}, Frames.{IsLoadOf, frame_of}}}
 use Rattle.pagable_load.specs.{Frames.{frames_of, onto, reading_of}, ResolvedReferences.{AreLater, AreStandIns, Lends, LendsEach, answer_at, lent_at, stand_in}, PinStart.{PinsFirst, Shares, SharesPinned, StartsPin, TakesBack, Unpins}}
 use Rattle.pagable_load.specs.{LoadSteps.{Drops, HasGone, IsSameLoad, Met, Runs, RunsOrGoes, Tries}, AccessView.{Acting, Acts, ActsThen, AdoptsValue, AsksFor, Brings, IsMade, TakesLazily, Tells}}

@@ -1,33 +1,34 @@
--- What an access tells: for whom it acts and in which environment; and of its pager's state, where that is told, what each call does to it.
+-- What an access tells: its owner and environment; and, if it tells its pager's state, what each call does to that.
 use Rattle.std.specs.Prelude.{Err, IfOk, IfSome, List, Ok, Option, Result, Some, ℕ, ◌≡◌}
 use Rattle.{either.specs.declared.Either.Either, pagable_codec.specs.declared.{env.Env.Ghosts as Environments, hash.KeyHash.Ghosts as Hashes, nodes.NodeSet.Ghosts as Nodes}}
 use Rattle.pagable_value_spec.specs.{Blob.Blob, declared.{error.Error.Error, numbers.{ArcRef.ArcRef, HandleNumber.HandleNumber, Kind.Kind, LoadNumber.LoadNumber, WorkerNumber.WorkerNumber}}}
 use Rattle.pagable_pager_spec.specs.{Access.Told, LoadCalls.{AdoptCall, AskCall, Given, LazyCall, from_cache, from_store}, Loads.ReadsRoot, Pager.{Moves, PagerState, WellFormed}, World.{Core, Reading, Values, row_at, seen_as}}
 use Rattle.pagable_pager_spec.specs.declared.{calls.Want.Want, handle_row.{HandleRow.HandleRow, Owner.Owner}}
 
--- whose calls they are, the environment of the values, and what was borrowed for changing
+-- the owner for whom the calls are made, the environment of the values, and the lender of the pager
 pub record Acting (E : Type 0) : Type 0 where
   pub me : Owner
   pub environment : E
   pub lender : ℕ
 
--- What an access does, by whom and where it acts, to the state, if that is told; and as whom it acts afterwards.
+-- What an access does to the state, if it is told, depending on owner and environment; and the owner and environment
+-- afterwards.
 pub record ActsThen {A S E : Type 0} (told : A → Option S) (by : A → Acting E) (old new : A) (after : Acting E → Acting E) (does : Acting E → S → S → Type 0) : Type 0 where
   pub step : Told (told old) (told new) (does (by old))
   pub acting : by new ≡ after (by old)
 
--- it acts as the same afterwards
+-- owner and environment stay
 abbrev pub Acts : {A S E : Type 0} → (A → Option S) → (A → Acting E) → A → A → (Acting E → S → S → Type 0) → Type 0
 Acts told by old new does = ActsThen told by old new (λ a. a) does
 
--- as a worker that has begun; and as the caller, once the worker has ended
+-- a worker, which has begun, is the owner; below: the caller is, after the worker has ended
 abbrev pub as_worker : {E : Type 0} → WorkerNumber → Acting E → Acting E
 as_worker n a = record a { me = Owner.Worker n }
 
 abbrev pub as_caller : {E : Type 0} → Acting E → Acting E
 as_caller a = record a { me = Owner.Caller }
 
--- the values of an environment
+-- the values of an environment, with the members of its node type
 abbrev pub values_at : {N E H K V : Type 0} → Nodes N E N H K V → Environments E N H K V → Hashes H → E → Values N
 values_at n e h environment = record {
   node_type = n.type_of;
@@ -44,13 +45,13 @@ values_at n e h environment = record {
 pub record Tells {S : Type 0} (s : Option S) (P : S → Type 0) : Type 0 where
   pub holds : IfSome s P
 
--- A call that may bring a value: what it does to the plain world, and which value may come where.
+-- A call that may bring a value into memory: what it does to the plain state, and which value it may bring where.
 pub record Brings {N E : Type 0} (v : Values N) (does : Core → Type 0) (comes : ℕ → N → Type 0) (s s' : PagerState N E) : Type 0 where
   pub step : does s'.core
   pub moves : Moves comes s s'
   pub whole : WellFormed v s'
 
--- the reference is of this kind, and names a live handle with its node
+-- the reference has this kind, and names a live handle and that handle's node
 pub record IsMade (w : Core) (kind : Kind) (r : ArcRef) : Type 0 where
   pub row : HandleRow
   pub live : row_at w r.handle ≡ Some row
@@ -74,17 +75,17 @@ abbrev pub IsFoundMade : {B : Type 0} → Core → Kind → Either ArcRef B → 
 IsFoundMade w kind (Either.Left r) = IsMade w kind r
 IsFoundMade w kind (Either.Right blob) = Unit {0}
 
--- a load asks for a reference, and gets one of the cache's, with its node, or a blob
+-- a load asks for a reference, and gets a handle of the cache's node, or a blob
 pub record AsksFor {B : Type 0} (see : B → Blob) (w : Core) (me : Owner) (l : LoadNumber) (kind : Kind) (key : ℕ) (r : Result (Either ArcRef B) Error) (w' : Core) : Type 0 where
   pub asked : AskCall w me l (Want.Nested kind key) (seen_as (found_as see) r) w'
   pub made : IfOk r (λ found. IsFoundMade w' kind found)
 
--- a load takes a reference that is read later, with its node
+-- a load takes a loose reference without reading it
 pub record TakesLazily (w : Core) (me : Owner) (l : LoadNumber) (kind : Kind) (key : ℕ) (r : Result ArcRef Error) (w' : Core) : Type 0 where
   pub taken : LazyCall w me l kind key (handle_of r) w'
   pub made : IfOk r (λ reference. IsMade w' kind reference)
 
--- a load adopts what it read, and gets a reference with its node
+-- a load makes a node of a value that it has read, and gets a reference to it
 pub record AdoptsValue {N : Type 0} (w : Core) (me : Owner) (l : LoadNumber) (kind : Kind) (key : ℕ) (x : N) (node_type : ℕ) (references : List ArcRef) (r : Result ArcRef (Error × N)) (w' : Core) : Type 0 where
   pub adopted : AdoptCall w me l kind key x node_type references (handle_of r) w'
   pub made : IfOk r (λ reference. IsMade w' kind reference)

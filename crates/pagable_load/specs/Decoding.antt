@@ -1,23 +1,23 @@
--- What decoding answers, in the words of loads; what a load needs next, in the words of the world; and what a blob asks for ahead.
+-- What decoding returns and what a load needs next, in terms of the specification; and what a blob asks for ahead.
 use Rattle.pagable_pager_spec.specs.{Loads.{is_faulty, need_of, needs_lazy, needs_nested, next_of, read_with, reads}, Basics.Types, World.{Frame, Reading, Values}, declared.events.LoadAnswer.LoadAnswer}
 use Rattle.std.specs.{Prelude.{Bool, Err, IsSome, List, None, Ok, Option, Result, Some, [], false, if◌then◌else◌, length, map, slice_get, true, ℕ, ◌++◌, ◌<◌, ◌∷◌, ◌≡◌, ◌⊎◌}, declared.{alloc.Global.Global, vec.Vec.Vec}}
 use Rattle.{pagable_load.specs.{Frames.reading_of, declared.{batch.Ahead.Ahead, decoding.Decoded.Decoded, reading.{Need.Need, Reading.Reading as Own}}}, pagable_value_spec.specs.{Blob.Blob, Height.is_eager, Meaning.Meaning, Reading.Rest}}
 use Rattle.{pagable_value_spec.specs.{Cursor.{Answer, GivesSome}, declared.{error.Error.Error, numbers.{ArcRef.ArcRef, Kind.Kind}}}, pagable_pager_spec.specs.Loads.{ReadsNode, ReadsRoot, RefusesBlob, asks}}
 
--- the value is of the type, and means what the blob reads as
+-- x is of the type t, and means what the blob reads as
 pub record IsReadAs {N : Type 0} (v : Values N) (t : ℕ) (blob : Blob) (got : List ArcRef) (x : N) : Type 0 where
   pub own : Meaning ArcRef
   pub read : next_of v.types t blob got ≡ reads own
   pub typed : v.node_type x ≡ t
   pub means : v.means x own
 
--- What decoding answers is what the blob asks for next, or a cause of the type's own.
+-- Decoding returns what the blob asks for next, or fails with a cause of the type's own.
 abbrev pub Answers : {N : Type 0} → Values N → ℕ → Blob → List ArcRef → Decoded N → Type 0
 Answers v t blob got (Decoded.Read x) = IsReadAs v t blob got x
 Answers v t blob got (Decoded.Wants kind key) = next_of v.types t blob got ≡ asks kind key
 Answers v t blob got (Decoded.Refused e) = (next_of v.types t blob got ≡ is_faulty e) ⊎ v.read_causes t e
 
--- of the value, where one was read
+-- P holds of the value, if one was read
 abbrev pub IfRead : {N : Type 0} → Decoded N → (N → Type 0) → Type 0
 IfRead (Decoded.Read x) P = P x
 IfRead d P = Unit {0}
@@ -44,12 +44,12 @@ FramesFor own (Need.Lazy kind key) = IsSome own.top
 FramesFor own (Need.Adopt x) = IsSome own.top × (0 < length own.below.items)
 FramesFor own need = Unit {0}
 
--- the need is the load's, and the blobs are there that it is of
+-- the need is what the load needs, and the frames for it exist
 pub record Needs {N : Type 0} (v : Values N) (own : Own) (need : Need N) : Type 0 where
   pub is : NeedIs v (reading_of own) need
   pub there : FramesFor own need
 
--- of the value that is to be adopted, or that ends the load
+-- P holds of the value that becomes a node or ends the load
 abbrev pub IfValue : {N : Type 0} → Need N → (N → Type 0) → Type 0
 IfValue (Need.Adopt x) P = P x
 IfValue (Need.End x) P = P x
@@ -60,27 +60,28 @@ IfValue need P = Unit {0}
 abbrev pub kinds_of : List ArcRef → List ℕ
 kinds_of references = map (λ (r : ArcRef). r.kind.0) references
 
--- with these references the blob asks next for one of this kind, under the key that is left
+-- with these references got, the blob asks next for one of this kind, whose key is the next one
 pub record AsksNext (types : Types) (t : ℕ) (blob : Blob) (got : List ArcRef) (kind : ℕ) : Type 0 where
   pub key : ℕ
   pub there : slice_get blob.keys (length got) ≡ Some key
   pub next : next_of types t blob got ≡ asks (record { 0 = kind }) key
 
--- References of these kinds are asked for, one after the other, whichever of each kind are got. Those that were got are the first of them.
+-- The blob asks for references of these kinds, one after the other, whichever references of the kinds it gets. Those
+-- that it has got are the first of them.
 pub record Foresees (types : Types) (f : Frame) (kinds : List ℕ) : Type 0 where
   pub ahead : List ℕ
   pub split : kinds ≡ kinds_of f.got ++ ahead
   pub each : (got : List ArcRef) (kind : ℕ) (more : List ℕ) → kinds ≡ kinds_of got ++ kind ∷ more → AsksNext types f.node_type f.blob got kind
 
--- a row tells nothing, or stands for the kinds that the blob asks for
+-- the row is empty, or has the kinds that the blob asks for
 abbrev pub IsAheadOf : Types → Frame → List ArcRef → Type 0
 IsAheadOf types f row = (row ≡ []) ⊎ Foresees types f (kinds_of row)
 
--- so it is of the innermost blob, if there is one
+-- so it is for the innermost blob, if there is one
 pub record IsAhead (types : Types) (frames : List Frame) (row : List ArcRef) : Type 0 where
   pub is : (f : Frame) (fs : List Frame) → frames ≡ f ∷ fs → IsAheadOf types f row
 
--- and so are these rows of the blobs, as far as there are some
+-- and so it is for each blob that has a row
 abbrev pub AreAhead : Types → List Frame → List (List ArcRef) → Type 0
 AreAhead types [] rows = Unit {0}
 AreAhead types (f ∷ fs) [] = Unit {0}
@@ -89,7 +90,8 @@ AreAhead types (f ∷ fs) (row ∷ rows) = IsAheadOf types f row × AreAhead typ
 pub record AllAhead (types : Types) (frames : List Frame) (rows : List (List ArcRef)) : Type 0 where
   pub are : AreAhead types frames rows
 
--- these rows, the last of them first, on those; and those of all blobs, the innermost first
+-- the rows of the vectors, the last vector's first, before these rows; below: the rows of all blobs, the innermost
+-- first
 unfoldable pub stacked : List (List ArcRef) → List (Vec ArcRef Global) → List (List ArcRef)
 stacked rows [] = rows
 stacked rows (x ∷ xs) = stacked (x.items ∷ rows) xs
@@ -97,35 +99,35 @@ stacked rows (x ∷ xs) = stacked (x.items ∷ rows) xs
 abbrev pub rows_of : Ahead → List (List ArcRef)
 rows_of a = a.top.items ∷ stacked [] a.below.items
 
--- the load needs a reference of this kind, at once or later
+-- the load needs a reference of this kind and key, to be loaded or not
 pub record NeedsNext (types : Types) (frames : List Frame) (kind : Kind) (key : ℕ) : Type 0 where
   pub is : need_of types frames ≡ (if is_eager kind.0 then needs_nested kind key else needs_lazy kind key)
 
--- the row stays, and has one of this kind at this place; or nothing is known any more
+-- the row stays, and has this kind at this place; or it is emptied
 abbrev pub KeptAt : ℕ → Kind → List ArcRef → List ArcRef → Type 0
 KeptAt place kind old new = (new ≡ []) ⊎ ((new ≡ old) × ((r : ArcRef) × (slice_get old place ≡ Some r) × (kind.0 ≡ r.kind.0)))
 
--- the innermost blob's row is gone if it was read; where it was the only one, nothing is known
+-- the innermost blob's row is removed, if the blob was read; if it was the only row, an empty one is left
 abbrev pub LeftIf : Bool → List (List ArcRef) → List (List ArcRef) → Type 0
 LeftIf false old new = new ≡ old
 LeftIf true old new = ((row : List ArcRef) × (old ≡ row ∷ new)) ⊎ (new ≡ [] ∷ [])
 
--- ---- what a load's step does to its blobs, where it ends nothing
+-- ---- what a load's step does to its frames, if it doesn't end the load
 
--- the innermost blob has got this reference besides
+-- the innermost frame has got this reference in addition
 pub record GotMore (old new : List Frame) (r : ArcRef) : Type 0 where
   pub f : Frame
   pub fs : List Frame
   pub was : old ≡ f ∷ fs
   pub is : new ≡ record f { got = f.got ++ r ∷ [] } ∷ fs
 
--- a blob came, of which nothing was got
+-- there is a new frame, which has got nothing yet
 pub record CameNew (old new : List Frame) : Type 0 where
   pub f : Frame
   pub is : new ≡ f ∷ old
   pub none : f.got ≡ []
 
--- the innermost blob was read, and the one below it has got a reference for it
+-- the innermost frame is removed, and the one below it has got a reference
 pub record CameBack (old new : List Frame) : Type 0 where
   pub top : Frame
   pub below : List Frame
@@ -137,20 +139,20 @@ abbrev pub FramesGo : Bool → List Frame → List Frame → Type 0
 FramesGo true old new = CameBack old new
 FramesGo false old new = CameNew old new ⊎ ((r : ArcRef) × GotMore old new r)
 
--- a need for a node of the innermost blob
+-- the need is for a node of the innermost blob's value
 abbrev pub is_adoption : {N : Type 0} → Need N → Bool
 is_adoption (Need.Adopt x) = true
 is_adoption need = false
 
--- the need was met, and the load goes on
+-- if the load goes on, the frames have changed as the need says
 pub record GoesFor {N : Type 0} (need : Need N) (answer : Option (LoadAnswer N)) (old new : List Frame) : Type 0 where
   pub goes : answer ≡ None → FramesGo (is_adoption need) old new
 
--- what was ahead of the blobs is so of those that there are then
+-- if the rows fit the old frames, the new rows fit the new ones
 pub record Follows (was_read : Bool) (new : List Frame) (rows rows' : List (List ArcRef)) : Type 0 where
   pub follows : (types : Types) (old : List Frame) → FramesGo was_read old new → AllAhead types old rows → AllAhead types new rows'
 
--- a step that gets a reference, or the root's blob, ends nothing
+-- a step that gets a reference, or the root's blob, doesn't end the load
 abbrev pub goes_on_with : {N X : Type 0} → Result X Error → Result (Option (LoadAnswer N)) Error
 goes_on_with (Ok x) = Ok None
 goes_on_with (Err e) = Err e

@@ -1,4 +1,4 @@
--- The blobs of a load, as the world knows them.
+-- The frames of a load, as the specification has them.
 use Rattle.std.specs.{Arc.arc_value, Prelude.{Bool, List, None, Option, Some, [], false, true, ◌∷◌, ◌≡◌}}
 use Rattle.{pagable_core.specs.Data.blob_of, pagable_load.specs.declared.reading.{Frame.Frame as Held, Reading.Reading as Own}, pagable_pager_spec.specs.{Refusals.OwnsLoad, World.{Core, Frame, OpenLoad}}}
 use Rattle.pagable_pager_spec.specs.{World.{Reading, Root, of_cell, of_key}, declared.handle_row.Owner.Owner}
@@ -6,7 +6,7 @@ use Rattle.pagable_pager_spec.specs.{World.{Reading, Root, of_cell, of_key}, dec
 abbrev pub frame_of : Held → Frame
 frame_of f = record { kind = f.kind; key = f.key; node_type = f.node_type; blob = blob_of (arc_value f.blob); got = f.got.items }
 
--- these, the last of them first, on those
+-- the frames of the list, the last one's first, before these frames
 unfoldable pub onto : List Frame → List Held → List Frame
 onto below [] = below
 onto below (f ∷ fs) = onto (frame_of f ∷ below) fs
@@ -22,7 +22,7 @@ abbrev pub is_cell : Root → Bool
 is_cell (of_cell node t h) = true
 is_cell of_key = false
 
--- the load is open and the owner's, and is what its own side says of it
+-- the load is open, `me` owns it, and it has the key and the sort that `r` says
 pub record IsLoadOf (w : Core) (me : Owner) (r : Own) : Type 0 where
   pub load : OpenLoad
   pub owned : OwnsLoad w me r.load load

@@ -1,8 +1,8 @@
--- Why a load comes to an end, whatever it meets: each step lowers a number. And what ends it.
+-- Why every load ends: each step lowers a number. And how it ends.
 use Rattle.std.specs.Prelude.{ℕ, ◌≡◌, ◌+◌, ◌-◌, ◌*◌, ◌<◌, ◌^◌, Bool, true, false, zero, suc, List, [], ◌∷◌, length, Option, Some, None, Result, Ok, Err}
 use Rattle.{pagable_value_spec.specs.declared.error.Error.Error, pagable_pager_spec.specs.{declared.events.LoadAnswer.LoadAnswer, World.Frame}}
 
--- how many references a blob has still to get; and so behind the one that it waits for
+-- how many references a blob still has to get; below: after the one that it waits for
 abbrev pub left_in : Frame → ℕ
 left_in f = length f.blob.keys - length f.got
 
@@ -13,12 +13,12 @@ left_behind f = length f.blob.keys - (length f.got + 1)
 abbrev pub many : ℕ
 many = 2 ^ 64
 
--- what a reference weighs over so many levels: more than all of a blob of one level less
+-- the weight of a reference that may have k levels below it: more than all references of a blob with a level less
 unfoldable pub weight : ℕ → ℕ
 weight zero = 1
 weight (suc k) = weight k * many
 
--- a reference of the blob that stands on these, the root's the most
+-- the weight of a reference of a blob above these frames, greatest for the root's
 abbrev pub weight_on : List Frame → ℕ
 weight_on fs = weight (129 - length fs)
 
@@ -26,12 +26,12 @@ abbrev pub waiting : List Frame → ℕ
 waiting [] = 0
 waiting (f ∷ fs) = left_behind f * weight_on fs + waiting fs + 1
 
--- all that is still to get, of the innermost blob and of those that wait
+-- the weight of all that is still to get, for the innermost blob and for those that wait
 abbrev pub to_do : List Frame → ℕ
 to_do [] = weight 129 * many
 to_do (f ∷ fs) = left_in f * weight_on fs + waiting fs + 1
 
--- a load of a cell ends with a pin, one of a key with a value; and a step that ends nothing leaves less to do
+-- a load of a cell ends with a pin, one of a key with a value; a step that doesn't end the load leaves less to do
 abbrev pub Leads : {N : Type 0} → Bool → List Frame → List Frame → Result (Option (LoadAnswer N)) Error → Type 0
 Leads for_cell old new (Ok None) = to_do new < to_do old
 Leads for_cell old new (Ok (Some (LoadAnswer.Pinned k))) = for_cell ≡ true

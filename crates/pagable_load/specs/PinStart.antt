@@ -1,14 +1,14 @@
--- A pin that begins, and one that was begun and is taken back.
+-- The begin of a pin, and how a pin is undone.
 use Rattle.std.specs.{Option.option_map, Prelude.{Bool, Err, IfErr, IfOk, Ok, Option, Result, Some, false, true, ◌≡◌, ◌⊎◌}}
 use Rattle.{pagable_load.specs.declared.access.PinStart.PinStart, pagable_value_spec.specs.declared.{error.Error.Error, numbers.HandleNumber.HandleNumber}, pagable_theorems.specs.TreeSteps.HasPin, pagable_pager_spec.specs.Access.{Called, IsValueOf, PinRun}}
 use Rattle.pagable_pager_spec.specs.{Calls.{PinCall, ReleaseCall, UnpinCall}, Events.reading_of_load, Kinds.is_unpinned, LoadCalls.BeginCall, Pager.{PagerState, ValueCall}, Basics.if_there}
 use Rattle.pagable_pager_spec.specs.{Refusals.live_fault, Workers.fresh, World.{Core, Values, row_at}, declared.{pinning.{Beginning.Beginning, Pinning.Pinning}, handle_row.{HandleRow.HandleRow, Owner.Owner}}}
 
--- whether the handle is live, loose and pins nothing
+-- whether the handle is live, loose and unpinned
 abbrev pub is_unpinned_at : Core → HandleNumber → Bool
 is_unpinned_at w h = if_there (λ (row : HandleRow). is_unpinned row.mode) false (row_at w h)
 
--- a pin, and whether the handle pinned nothing before; or a load of its cell, which is of this type
+-- a pin, and whether the handle was unpinned before; or a load of its cell, which is of this type
 abbrev pub Starts : Core → Owner → HandleNumber → PinStart → Core → Type 0
 Starts w me h (PinStart.Pinned k was_unpinned) w' = PinCall w me h (Ok (Pinning.Pinned k)) w' × (was_unpinned ≡ is_unpinned_at w h)
 Starts w me h (PinStart.Load l key t) w' = BeginCall w me h (Ok (Beginning.Load l key)) w' × (is_unpinned_at w h ≡ true) × (reading_of_load l (w'.loads l.0) ≡ Some (fresh l t))
@@ -17,22 +17,22 @@ pub record StartsPin (w : Core) (me : Owner) (h : HandleNumber) (r : Result PinS
   pub starts : IfOk r (λ p. Starts w me h p w')
   pub refused : IfErr r (λ e. PinCall w me h (Err e) w' ⊎ BeginCall w me h (Err e) w')
 
--- The value of a handle's node, where the handle pins it. Memory may be wanting to share it.
+-- The value of a handle's node, if the handle pins it. Memory may run out.
 pub record Shares {N E X : Type 0} (see : X → N) (s : PagerState N E) (h : HandleNumber) (r : Result (Option X) Error) : Type 0 where
   pub given : IfOk r (λ found. ValueCall s h (Ok (option_map see found)))
   pub refused : IfErr r (λ e. (live_fault (row_at s.core h) ≡ Some e) ⊎ (e ≡ Error.OutOfMemory))
 
--- The value that a new pin shares. Where the handle pins, only want of memory refuses it.
+-- The value that a new pin shares. If the handle pins, the call fails only with OutOfMemory.
 pub record SharesPinned {N E X : Type 0} (see : X → N) (s : PagerState N E) (k : HandleNumber) (r : Result X Error) : Type 0 where
   pub given : IfOk r (λ x. IsValueOf s k (see x))
   pub refused : IfErr r (λ e. HasPin s.core k → e ≡ Error.OutOfMemory)
 
--- a pin with its loads; and whether the handle pinned nothing before
+-- a pin with its load, and whether the handle was unpinned before
 pub record PinsFirst {N E : Type 0} (v : Values N) (s : PagerState N E) (h : HandleNumber) (r : Result (HandleNumber × Bool) Error) (s' : PagerState N E) : Type 0 where
   pub pinned : IfOk r (λ a. PinRun v s h (Ok a.0) s' × (a.1 ≡ is_unpinned_at s.core h))
   pub refused : IfErr r (λ e. PinRun v s h (Err e) s')
 
--- the handle lets its pin go, if it pinned nothing before, and the new one is given up
+-- the loose handle is unpinned, if it was before; below: and the new handle is released
 abbrev pub Unpins : {N E : Type 0} → Values N → Bool → HandleNumber → PagerState N E → PagerState N E → Type 0
 Unpins v true h s low = (told : Result (Unit {0}) Error) × Called v (λ w'. UnpinCall s.core Owner.Caller h told w') s low
 Unpins v false h s low = low ≡ s

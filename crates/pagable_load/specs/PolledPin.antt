@@ -1,10 +1,10 @@
--- A pin that goes on in parts.
+-- A pin in parts.
 use Rattle.std.specs.Prelude.{Err, IfErr, IfOk, Ok, Result, [], ◌∷◌}
 use Rattle.{pagable_value_spec.specs.{Blob.Blob, declared.{error.Error.Error, numbers.HandleNumber.HandleNumber}}, pagable_pager_spec.specs.{Access.LoadRun, Loads.root_frame, Pager.PagerState, World.{Reading, Values}}}
 use Rattle.pagable_load.specs.{Frames.{IsLoadOf, reading_of}, declared.{access.PinStart.PinStart, pin.BegunPin.BegunPin, reading.Reading.Reading as Own}}
 use Rattle.pagable_pager_spec.specs.declared.{events.LoadAnswer.LoadAnswer, handle_row.Owner.Owner}
 
--- how the pin began, by the numbers alone
+-- how the pin began, as numbers only
 abbrev pub begun_as : BegunPin → PinStart
 begun_as (BegunPin.Pinned k was_unpinned) = PinStart.Pinned k was_unpinned
 begun_as (BegunPin.Reading r) = PinStart.Load r.reading.load r.reading.key r.reading.node_type
@@ -13,11 +13,11 @@ abbrev pub start_of : Result BegunPin Error → Result PinStart Error
 start_of (Ok b) = Ok (begun_as b)
 start_of (Err e) = Err e
 
--- the reading, once this blob is its root's
+-- the reading with this blob as its root's
 abbrev pub with_root : Own → Blob → Reading
 with_root own blob = record (reading_of own) { frames = root_frame own.key own.node_type blob ∷ [] }
 
--- The load's steps from its root's blob up to its end, if it is open and is what its own side says.
+-- The load's steps from its root's blob up to its end, if the load is open and is as `own` says.
 pub record PinsFrom {N E : Type 0} (v : Values N) (me : Owner) (own : Own) (blob : Blob) (s : PagerState N E) (r : Result HandleNumber Error) (t : PagerState N E) : Type 0 where
   pub pinned : IfOk r (λ k. IsLoadOf s.core me own → LoadRun v me (with_root own blob) s (LoadAnswer.Pinned k) t)
   pub refused : IfErr r (λ e. IsLoadOf s.core me own → LoadRun v me (with_root own blob) s (LoadAnswer.Refused e) t)

@@ -1,4 +1,4 @@
--- What those who answer from a list of got references stand for, and what a load lends to them.
+-- The look-ups in a list of references that were got, and the values that a load lends to a blob's reader.
 use Rattle.std.specs.{Option.option_map, Prelude.{Bool, Err, IfNone, IfSome, IsSome, List, None, Ok, Option, Result, Some, false, if◌then◌else◌, is_some, length, option_and_then, slice_get, true, ℕ, ◌<◌, ◌==◌, ◌≡◌, ◌≤◌, ◌⊎◌}}
 use Rattle.{pagable_pager_spec.specs.{Loads.answer_of, Pager.{PagerState, ValueCall}, Basics.if_there, Refusals.live_fault, World.row_at}, pagable_value_spec.specs.declared.{error.Error.Error, numbers.ArcRef.ArcRef}}
 use Rattle.pagable_value_spec.specs.{Height.is_eager, Refusals.may_refuse_reference}
@@ -6,28 +6,29 @@ use Rattle.pagable_value_spec.specs.{Height.is_eager, Refusals.may_refuse_refere
 abbrev pub answer_at : List ArcRef → ℕ → ℕ → ℕ → Result ArcRef Error
 answer_at got place key kind = answer_of (slice_get got place) kind
 
--- the value at a place of the list, which may be shorter
+-- the value at a place of the list, which may be shorter than the list of references
 abbrev pub lent_at : {A N : Type 0} → (A → N) → List (Option A) → ℕ → Option N
 lent_at see lent place = option_map see (option_and_then (λ o. o) (slice_get lent place))
 
--- the value at this place, if the reference stands there
+-- the value at this place, if the reference is the one there
 abbrev pub lent_by : {A N : Type 0} → (A → N) → List ArcRef → List (Option A) → ℕ → ArcRef → Option N
 lent_by see got lent place r = if if_there (λ (found : ArcRef). found.handle.0 == r.handle.0) false (slice_get got place) then lent_at see lent place else None
 
--- the reference that was got at this place with the value there, if there are both
+-- the reference that was got at this place with the value there, if both exist
 abbrev pub lent_there : {A N : Type 0} → (A → N) → List ArcRef → List (Option A) → ℕ → Option (ArcRef × N)
 lent_there see got lent place = option_and_then (λ r. option_map (λ x. (r, x)) (lent_at see lent place)) (slice_get got place)
 
--- The value that its handle pins, if it is read together with it; none where the handle pins none, or is gone.
+-- The value that the reference's handle pins, if the reference is loaded with its holder; none if it isn't, or if the
+-- handle pins none or is gone.
 pub record Lends {N E : Type 0} (s : PagerState N E) (r : ArcRef) (found : Option N) : Type 0 where
   pub value : IfSome found (λ x. (is_eager r.kind.0 ≡ true) × ValueCall s r.handle (Ok (Some x)))
   pub none : IfNone found ((is_eager r.kind.0 ≡ false) ⊎ ValueCall s r.handle (Ok None) ⊎ IsSome (live_fault (row_at s.core r.handle)))
 
--- none of the first of these is read together with its value
+-- none of the first `count` references is loaded with its holder
 abbrev pub AreLater : ℕ → List ArcRef → Type 0
 AreLater count got = (place : ℕ) (r : ArcRef) → place < count → slice_get got place ≡ Some r → is_eager r.kind.0 ≡ false
 
--- each reference lends its own, by its place, and nothing else is lent
+-- each reference lends its own value, by its place, and nothing else is lent
 pub record LendsEach {A N E : Type 0} (see : A → N) (s : PagerState N E) (got : List ArcRef) (lent : List (Option A)) : Type 0 where
   pub each : (place : ℕ) (r : ArcRef) → slice_get got place ≡ Some r → Lends s r (lent_at see lent place)
   pub few : length lent ≤ length got
@@ -43,11 +44,11 @@ may_refuse (Some r) kind e is = choice (r.kind.0 == kind) r e is
 abbrev pub stand_in : ℕ → ArcRef
 stand_in kind = record { kind = record { 0 = kind }; node = record { 0 = 0 }; handle = record { 0 = 0 } }
 
--- the first of these are stand-ins
+-- the first `count` references are stand-ins
 abbrev pub AreStandIns : ℕ → List ArcRef → Type 0
 AreStandIns count got = (place : ℕ) (r : ArcRef) → place < count → slice_get got place ≡ Some r → r.handle.0 ≡ 0
 
--- what was found at a place; and where it is noted what is asked for, a stand-in for what wasn't got
+-- what was got at a place; when references are noted, a stand-in for what wasn't got
 abbrev pub found_or : Bool → Option ArcRef → ℕ → Option ArcRef
 found_or false found kind = found
 found_or true (Some r) kind = Some r

@@ -1,4 +1,4 @@
--- What a worker's calls of an access do, in the words of the world.
+-- What a worker's calls of an access do, in terms of the specification.
 use Rattle.std.specs.Prelude.{Err, IfErr, IfOk, None, Ok, OnOk, Option, Result, Some, length, true, ℕ, ◌≡◌, ◌≤◌, ◌⊎◌}
 use Rattle.std.specs.Arc.{arc_value}
 use Rattle.{pagable_load.specs.{PinStart.Shares, declared.access.{TakenValue.TakenValue, WorkerNode.WorkerNode}}, pagable_value_spec.specs.Blob.{Blob, key_of}}
@@ -8,12 +8,12 @@ use Rattle.{pagable_value_spec.specs.declared.numbers.WorkerNumber.WorkerNumber,
 use Rattle.pagable_pager_spec.specs.{Kinds.{HasNoKinds, loose_kind}, LoadCalls.BeginCall, Pager.PagerState, Refusals.WorkerFault, Workers.{PinRefused, PinsAtOnce, RowIs}, World.{Alike, Core, Values}}
 use Rattle.pagable_pager_spec.specs.declared.{pinning.Beginning.Beginning, handle_row.{HandleRow.HandleRow, Owner.Owner}}
 
--- why something was refused, if it was
+-- the error of a result, if it is one
 abbrev pub fault_in : {X : Type 0} → Result X Error → Option Error
 fault_in (Ok x) = None
 fault_in (Err e) = Some e
 
--- the clone's value is away under this key, and a load of it begins
+-- the clone's value isn't in memory, its key is `key`, and a load of it begins
 abbrev pub BeginsAt : Core → Owner → ArcRef → HandleNumber → LoadNumber → ℕ → Core → Type 0
 BeginsAt w me r through l key w' = RowIs w r.handle true × ((mid : Core) × CloneCall w me r.handle (Ok through) mid × BeginCall mid me through (Ok (Beginning.Load l key)) w')
 
@@ -21,7 +21,7 @@ abbrev pub Takes : Core → Owner → ArcRef → PinnedOrLoading → Core → Ty
 Takes w me r (PinnedOrLoading.Held through k) w' = PinsAtOnce w me r through k w'
 Takes w me r (PinnedOrLoading.Begun through l key) w' = BeginsAt w me r through l key w'
 
--- a reference that was claimed is cloned and pinned for its worker, or a load of its cell begins
+-- the handle of a claimed reference is cloned and pinned for the worker, or a load of its cell begins
 pub record TakesReference (w : Core) (me : Owner) (r : ArcRef) (result : Result PinnedOrLoading Error) (w' : Core) : Type 0 where
   pub takes : IfOk result (λ t. Takes w me r t w')
   pub refused : IfErr result (λ e. PinRefused w me r e w')
@@ -31,28 +31,29 @@ abbrev pub taken_of : {N : Type 0} → TakenValue N → PinnedOrLoading
 taken_of (TakenValue.Held through pin value) = PinnedOrLoading.Held through pin
 taken_of (TakenValue.Begun through l key) = PinnedOrLoading.Begun through l key
 
--- the value that is pinned is shared, or why it isn't
+-- the value of the pinned node is shared, or sharing it fails
 abbrev pub SharesTaken : {N E : Type 0} → PagerState N E → TakenValue N → Type 0
 SharesTaken s (TakenValue.Held through pin value) = Shares arc_value s pin value
 SharesTaken s (TakenValue.Begun through l key) = Unit {0}
 
--- the key is set through the handle, if there is one
+-- the key is set by the handle, if there is one
 abbrev pub SetsThrough : {N E : Type 0} → Values N → Owner → Option HandleNumber → ℕ → Result (Unit {0}) Error → PagerState N E → PagerState N E → Type 0
 SetsThrough v me None key r s t = (r ≡ Ok tt) × (t ≡ s)
 SetsThrough v me (Some h) key r s t = Called v (λ w'. SetKeyCall s.core me h key r w') s t
 
--- The key of a worker's node is set, if it gets one, and then the worker's handles there are given up. Where the key is refused, that is all.
+-- The key of a worker's node is set, if it gets one, and then the worker's handles of the node are released. If setting
+-- the key fails, nothing more happens.
 pub record ClosesNode {N E : Type 0} (v : Values N) (me : Owner) (at : WorkerNode) (key : ℕ) (r : Result (Unit {0}) Error) (s t : PagerState N E) : Type 0 where
   pub closes : OnOk r ((mid : PagerState N E) × SetsThrough v me at.loose key (Ok tt) s mid × Called v (λ w'. FallsAnyhow mid.core mid.core (is_workers_at mid.core at.worker.0 at.node.0) w') mid t)
   pub refused : IfErr r (λ e. SetsThrough v me at.loose key (Err e) s t)
 
--- The blob of a worker's node is stored, and the node closed with its key. What is refused ends it.
+-- The blob of a worker's node is stored, and the node is closed with its key. The first error ends it.
 pub record StoresNode {N E : Type 0} (v : Values N) (me : Owner) (at : WorkerNode) (blob : Blob) (r : Result ℕ Error) (s t : PagerState N E) : Type 0 where
   pub stores : IfOk r (λ key. (mid : PagerState N E) × Called v (λ w'. StoreCall (key_of v.hash) s.core blob (Ok key) w') s mid × ClosesNode v me at key (Ok tt) mid t)
   pub refused : IfErr r (λ e. Called v (λ w'. StoreCall (key_of v.hash) s.core blob (Err e) w') s t
       ⊎ ((key : ℕ) × (mid : PagerState N E) × Called v (λ w'. StoreCall (key_of v.hash) s.core blob (Ok key) w') s mid × ClosesNode v me at key (Err e) mid t))
 
--- the entry at this place moves to a new worker, and is a loose reference to its cell
+-- the entry at this place moves to a new worker, as a loose reference to its cell
 pub record StartsEntry {N E : Type 0} (v : Values N) (s : PagerState N E) (place : ℕ) (n : WorkerNumber) (r : ArcRef) (t : PagerState N E) : Type 0 where
   pub h : HandleNumber
   pub row : HandleRow
@@ -67,7 +68,7 @@ EntryFault w place e = ((e ≡ Error.NoSuchHandle) × (length w.list ≤ place))
     ⊎ ((e ≡ Error.WrongKind) × ((h : HandleNumber) × (row : HandleRow) × (type : ℕ) × IsEntry w place h row type × HasNoKinds type))
     ⊎ WorkerFault w e
 
--- no worker begins for an entry, and nothing changes
+-- no worker begins for the entry, and nothing changes
 pub record RefusesEntry {N E : Type 0} (v : Values N) (s : PagerState N E) (place : ℕ) (e : Error) (t : PagerState N E) : Type 0 where
   pub why : EntryFault s.core place e
   pub stays : Called v (λ w'. Alike s.core w') s t

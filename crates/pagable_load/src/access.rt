@@ -1,5 +1,5 @@
-//! An access to a pager: its calls, each one step, over a pager that is lent or behind a lock; and what a page-out worker asks of it besides, each call one step for the worker. Loads and page-out
-//! workers step over it.
+//! `Access`: the calls of a pager for one owner, over a pager that is lent or behind a lock; and
+//! `WorkerAccess`: what a page-out worker calls besides. Each call is one step.
 
 ghost use Rattle.std.specs.{Arc.arc_value, Prelude.{IfErr, IfNone, IfOk, IfSome, length, Option, ◌≡◌, ◌≤◌}};
 ghost use Rattle.{pagable_core.specs.Data.blob_of, pagable_load.specs.{PinStart.{Shares, StartsPin}, AccessView.{Acting, Acts, ActsThen, AdoptsValue, as_caller, as_worker, AsksFor, Brings}}};
@@ -23,42 +23,72 @@ use std::sync::Arc;
 /// How a pin of a loose handle begins.
 #[derive(Clone, Copy)]
 pub enum PinStart {
-    /// The value is in memory, and this is a new Pinned handle; and whether the loose one pinned nothing before.
+    /// The value is in memory: the new Pinned handle, and whether the loose handle was unpinned
+    /// before.
     Pinned(HandleNumber, bool),
-    /// The value isn't in memory, and a load has begun, which reads it under this key as a value of this type.
+    /// The value isn't in memory, and a load of it has begun: its number, its key, and the type of
+    /// the value.
     Load(LoadNumber, DataKey, u32),
 }
 
-/// The calls of a pager for one owner: the caller, or a page-out worker. Where the pager's plain state is told, each call says what it does to it; behind a lock nothing is told. No call exchanges for whom
-/// it acts, nor where.
+/// The calls of a pager for one owner: the caller, or a page-out worker. If the access tells the
+/// pager's plain state, each call's clause says what the call does to it; an access behind a lock
+/// tells nothing. Apart from `worker_begin`, `worker_listed` and `worker_end`, no call changes the
+/// owner, the environment or the lender.
 pub trait Access<E: Env<Node: NodeSet<E>>> {
-    // The pager's plain state, if it is told.
+    // The pager's plain state, if the access tells it.
     ghost told: { Self → Option (PagerState E.Node E) };
 
-    // For whom it acts, in which environment, and what it has borrowed for changing.
+    // The owner for whom the access makes calls, the environment, and the lender of the pager.
     ghost acting: { Self → Acting E };
 
-    /// The environment.
+    /// Returns the environment.
     fn env(&self) -> &E
         ensures { result.now ≡ (acting self.now).environment };
 
-    /// Lends the context of the one session of all values that are read and written over this pager's storage. Which values it keeps no clause says.
+    /// Lends the context of the one session of all values that are read and written over this
+    /// pager's storage. No clause says which values it keeps.
     fn session_context(&self) -> &SessionOf<E>;
 
-    /// A pin of a loose handle, where its value is in memory, and else a load of its cell. Refused with NoSuchHandle, NotYours, WrongMode, NumbersSpent and OutOfMemory.
+    /// Pins a loose handle if its value is in memory; otherwise begins a load of its cell.
+    ///
+    /// # Errors
+    ///
+    /// - `NoSuchHandle` if the handle isn't live: nothing changes.
+    /// - `NotYours` if another than this owner has it: nothing changes.
+    /// - `WrongMode` if it isn't loose: nothing changes.
+    /// - `NumbersSpent` if no number is left for a handle or a load: nothing changes.
+    /// - `OutOfMemory` if a handle or a load can't be allocated: nothing changes.
     fn begin_pin(&mut self, handle: HandleNumber) -> Result<PinStart, Error>
         ensures { Acts told acting self.old self.new (λ a s t. Called (values_at E.Node.NodeSet E.Env E.Hash.KeyHash a.environment) (λ w'. StartsPin s.core a.me handle result w') s t) };
 
-    /// The value that a handle pins, shared; or None where the handle pins none. Refused with NoSuchHandle, and with OutOfMemory where it can't be shared.
+    /// Shares the value that a handle pins; returns None if the handle pins none.
+    ///
+    /// # Errors
+    ///
+    /// - `NoSuchHandle` if the handle isn't live.
+    /// - `OutOfMemory` if the value can't be shared.
     fn share(&self, handle: HandleNumber) -> Result<Option<Arc<E::Node>>, Error>
         ensures { Tells (told self.now) (λ s. Shares arc_value s handle result) };
 
-    /// Stores a blob, and answers its key. Refused with OutOfMemory, Storage, KeyTaken and Closed.
+    /// Stores a blob and returns its key.
+    ///
+    /// # Errors
+    ///
+    /// - `OutOfMemory` if an allocation fails: the blob isn't stored.
+    /// - `Storage` if the storage fails: the blob isn't stored.
+    /// - `KeyTaken` if another blob is stored under the key.
+    /// - `Closed` if the storage is closed.
     fn store(&mut self, alloc: Global, blob: PagableData) -> Result<DataKey, Error>
         ensures key { IfOk result (λ key. key ≡ key_of E.Hash.digest (blob_of blob)) }
         ensures acts { Acts told acting self.old self.new (λ a s t. Called (values_at E.Node.NodeSet E.Env E.Hash.KeyHash a.environment) (λ w'. StoreCall (key_of E.Hash.digest) s.core (blob_of blob) result w') s t) };
 
-    /// Stores a blob under its key, which the caller has made, as before it takes a lock round the pager. Refused as `store`.
+    /// Stores a blob under its key, which the caller has computed, for example before it takes the
+    /// pager's lock.
+    ///
+    /// # Errors
+    ///
+    /// - those of `store`.
     fn store_keyed(
         &mut self,
         alloc: Global,
@@ -69,30 +99,69 @@ pub trait Access<E: Env<Node: NodeSet<E>>> {
         ensures key { IfOk result (λ answer. answer ≡ key_of E.Hash.digest (blob_of blob)) }
         ensures acts { Acts told acting self.old self.new (λ a s t. Called (values_at E.Node.NodeSet E.Env E.Hash.KeyHash a.environment) (λ w'. StoreCall (key_of E.Hash.digest) s.core (blob_of blob) result w') s t) };
 
-    /// The cell of a loose handle gets a key. Refused with NoSuchHandle and NotYours, and nothing changes; NumbersSpent and OutOfMemory say that a cell
-    /// couldn't be listed: the key is set all the same.
+    /// Sets the key of a loose handle's cell, and drops the cell's value if nothing pins it. Does
+    /// nothing if the handle isn't loose.
+    ///
+    /// # Errors
+    ///
+    /// - `NoSuchHandle` if the handle isn't live: nothing changes.
+    /// - `NotYours` if another than this owner has it: nothing changes.
+    /// - `NumbersSpent` or `OutOfMemory` if a cell that has to be listed isn't: the key is set all
+    ///   the same.
     fn set_data_key(&mut self, handle: HandleNumber, key: DataKey) -> Result<(), Error>
         ensures { Acts told acting self.old self.new (λ a s t. Called (values_at E.Node.NodeSet E.Env E.Hash.KeyHash a.environment) (λ w'. SetKeyCall s.core a.me handle key result w') s t) };
 
-    /// A loose handle lets its pin go. Refused with NoSuchHandle, NotYours and WrongMode, and nothing changes; NumbersSpent and OutOfMemory say that a cell
-    /// couldn't be listed: the pin is let go all the same.
+    /// Unpins a loose handle. Does nothing if it is unpinned already.
+    ///
+    /// # Errors
+    ///
+    /// - `NoSuchHandle` if the handle isn't live: nothing changes.
+    /// - `NotYours` if another than this owner has it: nothing changes.
+    /// - `WrongMode` if it isn't loose: nothing changes.
+    /// - `NumbersSpent` or `OutOfMemory` if a cell that has to be listed isn't: the handle is
+    ///   unpinned all the same.
     fn unpin(&mut self, handle: HandleNumber) -> Result<(), Error>
         ensures { Acts told acting self.old self.new (λ a s t. Called (values_at E.Node.NodeSet E.Env E.Hash.KeyHash a.environment) (λ w'. UnpinCall s.core a.me handle result w') s t) };
 
-    /// A handle is given up. Refused with NoSuchHandle and NotYours, and nothing changes; NumbersSpent and OutOfMemory as of `unpin`.
+    /// Releases a handle.
+    ///
+    /// # Errors
+    ///
+    /// - `NoSuchHandle` if the handle isn't live: nothing changes.
+    /// - `NotYours` if another than this owner has it: nothing changes.
+    /// - `NumbersSpent` or `OutOfMemory` if a cell that has to be listed isn't: the handle is
+    ///   released all the same.
     fn release(&mut self, handle: HandleNumber) -> Result<(), Error>
         ensures { Acts told acting self.old self.new (λ a s t. Called (values_at E.Node.NodeSet E.Env E.Hash.KeyHash a.environment) (λ w'. ReleaseCall s.core a.me handle result w') s t) };
 
-    /// A load of a key begins. Refused with NumbersSpent and OutOfMemory.
+    /// Begins a load of a key.
+    ///
+    /// # Errors
+    ///
+    /// - `NumbersSpent` if no number is left for a load: nothing changes.
+    /// - `OutOfMemory` if the load can't be allocated: nothing changes.
     fn load_key(&mut self, key: DataKey) -> Result<LoadNumber, Error>
         ensures { Acts told acting self.old self.new (λ a s t. Called (values_at E.Node.NodeSet E.Env E.Hash.KeyHash a.environment) (λ w'. BeginKeyCall s.core a.me key (seen_as (λ l. Beginning.Load l key) result) w') s t) };
 
-    /// The blob of the load's own key. Refused with NoSuchHandle and NotYours, and as the storage refuses it.
+    /// Fetches the blob of the load's own key.
+    ///
+    /// # Errors
+    ///
+    /// - `NoSuchHandle` if the load isn't open.
+    /// - `NotYours` if another than this owner began it.
+    /// - `NoData`, `OutOfMemory` or `Storage`, as the storage fails.
     fn load_root(&mut self, alloc: Global, load: LoadNumber) -> Result<Arc<PagableData>, Error>
         ensures { Acts told acting self.old self.new (λ a s t. Called (values_at E.Node.NodeSet E.Env E.Hash.KeyHash a.environment) (λ w'. AskCall s.core a.me load Want.Root (seen_as (λ d. from_store (blob_of (arc_value d))) result) w') s t) };
 
-    /// A reference: a handle of the node that the cache gives, which the load owns, or else the blob. Refused with NoSuchHandle and NotYours; with NumbersSpent
-    /// and OutOfMemory where a handle can't be made; and as the storage refuses the blob.
+    /// Fetches what a reference needs: a handle of the node that the cache has, which the load
+    /// owns, or the blob if the cache has none.
+    ///
+    /// # Errors
+    ///
+    /// - `NoSuchHandle` if the load isn't open.
+    /// - `NotYours` if another than this owner began it.
+    /// - `NumbersSpent` or `OutOfMemory` if the handle can't be made.
+    /// - `NoData`, `OutOfMemory` or `Storage`, as the storage fails.
     fn load_nested(
         &mut self,
         alloc: Global,
@@ -102,8 +171,15 @@ pub trait Access<E: Env<Node: NodeSet<E>>> {
     ) -> Result<Either<ArcRef, Arc<PagableData>>, Error>
         ensures { Acts told acting self.old self.new (λ a s t. Called (values_at E.Node.NodeSet E.Env E.Hash.KeyHash a.environment) (λ w'. AsksFor (λ d. blob_of (arc_value d)) s.core a.me load kind key result w') s t) };
 
-    /// A reference through a loose handle, of which nothing is read: a handle, which the load owns, of the cell that the cache gives, or of a new one. Refused
-    /// with NoSuchHandle, NotYours, WrongKind where the kind isn't a loose one, NumbersSpent and OutOfMemory.
+    /// Takes a reference through a loose handle without reading it: returns a handle, which the
+    /// load owns, of the cell that the cache has, or of a new cell.
+    ///
+    /// # Errors
+    ///
+    /// - `NoSuchHandle` if the load isn't open: nothing changes.
+    /// - `NotYours` if another than this owner began it: nothing changes.
+    /// - `WrongKind` if the kind isn't a loose one: nothing changes.
+    /// - `NumbersSpent` or `OutOfMemory` if the handle or the cell can't be made: nothing changes.
     fn load_lazy(
         &mut self,
         alloc: Global,
@@ -113,8 +189,19 @@ pub trait Access<E: Env<Node: NodeSet<E>>> {
     ) -> Result<ArcRef, Error>
         ensures { Acts told acting self.old self.new (λ a s t. Called (values_at E.Node.NodeSet E.Env E.Hash.KeyHash a.environment) (λ w'. TakesLazily s.core a.me load kind key result w') s t) };
 
-    /// What a load read becomes a node with a handle, which the load owns; where the cache gives a node, the load gets a handle of that one, and the value is
-    /// dropped. A refusal gives the value back: NoSuchHandle, NotYours, WrongMode, WrongKind, NumbersSpent and OutOfMemory.
+    /// Makes a node of a value that the load has read, with a handle, which the load owns. If the
+    /// cache has a node under the kind and key, drops the value and makes a handle of that node.
+    ///
+    /// # Errors
+    ///
+    /// Each error hands the value back, and nothing changes.
+    ///
+    /// - `NoSuchHandle` if the load isn't open, or a reference's handle isn't live.
+    /// - `NotYours` if another than this owner began the load, or the load doesn't own a
+    ///   reference's handle.
+    /// - `WrongMode` if the kind is a loose one, or a reference's mode doesn't fit its kind.
+    /// - `WrongKind` if the value's type isn't the kind's, or a reference's type isn't its kind's.
+    /// - `NumbersSpent` or `OutOfMemory` if the handle or the node can't be made.
     fn load_adopt(
         &mut self,
         alloc: Global,
@@ -125,8 +212,22 @@ pub trait Access<E: Env<Node: NodeSet<E>>> {
     ) -> Result<ArcRef, (Error, E::Node)>
         ensures { Acts told acting self.old self.new (λ a s t. Brings (values_at E.Node.NodeSet E.Env E.Hash.KeyHash a.environment) (λ w'. AdoptsValue s.core a.me load kind key node (E.Node.type_of node) (E.Node.refs_of node) result w') (λ n x. (x ≡ node) × IsNewNode s.core n) s t) };
 
-    /// A load of a cell ends with a pin of it, the value in memory. It is asked that the value is what the load's root was read as, whether or not the access tells its state. A refusal that leaves the load open gives the value back; where the caller's handle is gone or
-    /// another's, the load is closed. Refused with NoSuchHandle, NotYours, WrongMode, WrongKind, NumbersSpent and OutOfMemory.
+    /// Ends a load of a cell: pins the cell, which gets the value if it has none, and returns the
+    /// new Pinned handle. The caller makes sure that the value is what the load's root was read as,
+    /// even if the access doesn't tell its state.
+    ///
+    /// # Errors
+    ///
+    /// An error that leaves the load open hands the value back. If the handle that began the load
+    /// is gone or has another owner, the call closes the load and drops the value.
+    ///
+    /// - `NoSuchHandle` if the load isn't open, the handle that began it is gone, or a reference's
+    ///   handle isn't live.
+    /// - `NotYours` if another than this owner began the load or has that handle, or the load
+    ///   doesn't own a reference's handle.
+    /// - `WrongMode` if it is a load of a key, or a reference's mode doesn't fit its kind.
+    /// - `WrongKind` if the value's type isn't the cell's, or a reference's type isn't its kind's.
+    /// - `NumbersSpent` or `OutOfMemory` if the pin can't be made.
     fn load_end(
         &mut self,
         alloc: Global,
@@ -136,36 +237,51 @@ pub trait Access<E: Env<Node: NodeSet<E>>> {
         requires { IsReadBy (values_at E.Node.NodeSet E.Env E.Hash.KeyHash (acting self.old).environment) load value }
         ensures { Acts told acting self.old self.new (λ a s t. Brings (values_at E.Node.NodeSet E.Env E.Hash.KeyHash a.environment) (λ w'. EndCall s.core a.me load value (E.Node.type_of value) (E.Node.refs_of value) result w') (λ n x. (x ≡ value) × IsCellOf s.core load n) s t) };
 
-    /// A load of a key hands the named handles over, gives up the rest and is closed. Refused with NoSuchHandle, NotYours and WrongMode; then nothing changes.
+    /// Ends a load of a key: hands the named handles to this owner, and releases the load's other
+    /// ones.
+    ///
+    /// # Errors
+    ///
+    /// - `NoSuchHandle` if the load isn't open, or a named handle isn't live: nothing changes.
+    /// - `NotYours` if another than this owner began the load, or the load doesn't own a named
+    ///   handle, or a handle is named twice: nothing changes.
+    /// - `WrongMode` if it is a load of a cell: nothing changes.
     fn load_take(&mut self, load: LoadNumber, named: &[HandleNumber]) -> Result<(), Error>
         ensures { Acts told acting self.old self.new (λ a s t. Called (values_at E.Node.NodeSet E.Env E.Hash.KeyHash a.environment) (λ w'. HandOverCall s.core a.me load named.now result w') s t) };
 
-    /// A load is given up, with all that it owns. Refused with NoSuchHandle and NotYours, and nothing changes; NumbersSpent and OutOfMemory say that a cell couldn't
-    /// be listed: the load is given up all the same.
+    /// Drops a load, and releases all that it owns.
+    ///
+    /// # Errors
+    ///
+    /// - `NoSuchHandle` if the load isn't open: nothing changes.
+    /// - `NotYours` if another than this owner began it: nothing changes.
+    /// - `NumbersSpent` or `OutOfMemory` if a cell that has to be listed isn't: the load is dropped
+    ///   all the same.
     fn load_drop(&mut self, load: LoadNumber) -> Result<(), Error>
         ensures { Acts told acting self.old self.new (λ a s t. Called (values_at E.Node.NodeSet E.Env E.Hash.KeyHash a.environment) (λ w'. DropCall s.core a.me load result w') s t) };
 }
 
-/// What a worker got of a reference that it claimed.
+/// What a worker gets for a reference that it has claimed.
 #[derive(Clone, Copy)]
 pub enum PinnedOrLoading {
-    /// A handle of the reference's mode, and the handle that pins the node.
+    /// A clone of the reference's handle, and the handle that pins the node.
     Held(HandleNumber, HandleNumber),
-    /// A handle of the reference's mode, and the load of its cell that has begun, under this key.
+    /// A clone of the reference's handle, and the load of its cell that has begun, with its key.
     Begun(HandleNumber, LoadNumber, DataKey),
 }
 
-/// What a worker got of a reference that it claimed, with the value that it pins.
+/// What a worker gets for a reference that it has claimed, with the value of the pinned node.
 #[derive(Drop)]
 pub enum TakenValue<N> {
-    /// A handle of the reference's mode, the handle that pins the node, and what sharing its value answered.
+    /// A clone of the reference's handle, the handle that pins the node, and the result of sharing
+    /// its value.
     Held(HandleNumber, HandleNumber, Result<Option<Arc<N>>, Error>),
-    /// A handle of the reference's mode, and the load of its cell that has begun, under this key.
+    /// A clone of the reference's handle, and the load of its cell that has begun, with its key.
     Begun(HandleNumber, LoadNumber, DataKey),
 }
 
-/// A node at which a worker has handles; and the one of them through which the node's cell gets its key, where the
-/// reference that was claimed is a loose one.
+/// A node of which a worker has handles; and, if the claimed reference is a loose one, the worker's
+/// loose handle by which the node's cell gets its key.
 #[derive(Clone, Copy)]
 pub struct WorkerNode {
     pub worker: WorkerNumber,
@@ -175,20 +291,30 @@ pub struct WorkerNode {
 
 /// The calls of a pager for one worker.
 pub trait WorkerAccess<E: Env<Node: NodeSet<E>>>: Access<E> {
-    /// Whether a reference can be claimed, whoever owns its handle. Refused with NoSuchHandle where the handle isn't live or isn't at the reference's node, and with
-    /// WrongMode and WrongKind where mode or type don't fit the kind.
+    /// Checks whether a reference can be claimed, whoever owns its handle.
+    ///
+    /// # Errors
+    ///
+    /// - `NoSuchHandle` if the handle isn't live, or isn't of the reference's node.
+    /// - `WrongMode` if its mode doesn't fit the kind.
+    /// - `WrongKind` if the node's type doesn't fit the kind.
     fn check_reference(&self, reference: ArcRef) -> Result<(), Error>
         ensures { Tells (Self.told self.now) (λ s. fault_in result ≡ claim_fault s.core reference) };
 
-    /// Clones a reference's handle for the worker and pins the clone, or begins a load by it. Refused as the clone, the pin and the load's begin are.
+    /// Clones a reference's handle for the worker and pins the clone, or begins a load by it.
+    ///
+    /// # Errors
+    ///
+    /// - those of cloning the handle, of pinning the clone, and of the load's begin.
     fn take_reference(&mut self, reference: ArcRef) -> Result<PinnedOrLoading, Error>
         ensures { Acts Self.told Self.acting self.old self.new (λ a s t. Called (values_at E.Node.NodeSet E.Env E.Hash.KeyHash a.environment) (λ w'. TakesReference s.core a.me reference result w') s t) };
 
-    /// Takes a reference as `take_reference` does, and shares the value that is pinned then. Where that can't be shared,
-    /// the handles are there all the same.
+    /// Does what `take_reference` does, and shares the value that is pinned then. If the value
+    /// can't be shared, the worker has the handles all the same.
     ///
     /// # Errors
-    /// - as `take_reference`.
+    ///
+    /// - those of `take_reference`.
     fn take_value(&mut self, reference: ArcRef) -> Result<TakenValue<E::Node>, Error>
         ensures takes { Acts Self.told Self.acting self.old self.new (λ a s t. Called (values_at E.Node.NodeSet E.Env E.Hash.KeyHash a.environment) (λ w'. TakesReference s.core a.me reference (seen_as taken_of result) w') s t) }
         ensures shares { IfOk result (λ taken. Tells (Self.told self.new) (λ s. SharesTaken s taken)) }
@@ -203,14 +329,15 @@ pub trait WorkerAccess<E: Env<Node: NodeSet<E>>>: Access<E> {
         }
     }
 
-    /// All handles of a worker at a node are given up.
+    /// Releases all handles that a worker has of a node.
     fn give_up(&mut self, worker: WorkerNumber, node: NodeNumber)
         ensures { Acts Self.told Self.acting self.old self.new (λ a s t. Called (values_at E.Node.NodeSet E.Env E.Hash.KeyHash a.environment) (λ w'. FallsAnyhow s.core s.core (is_workers_at s.core worker.0 node.0) w') s t) };
 
-    /// Sets the key of a cell through its loose handle, where there is one; else it does nothing.
+    /// Sets the key of a cell by its loose handle, if there is one; otherwise does nothing.
     ///
     /// # Errors
-    /// - as `set_data_key`.
+    ///
+    /// - those of `set_data_key`.
     fn set_key_through(&mut self, loose: Option<HandleNumber>, key: DataKey) -> Result<(), Error>
         ensures { Acts Self.told Self.acting self.old self.new (λ a s t. SetsThrough (values_at E.Node.NodeSet E.Env E.Hash.KeyHash a.environment) a.me loose key result s t) }
     {
@@ -220,10 +347,12 @@ pub trait WorkerAccess<E: Env<Node: NodeSet<E>>>: Access<E> {
         }
     }
 
-    /// Sets the key of a worker's node, if it is to get one, and gives up all handles that the worker has there.
+    /// Sets the key of a worker's node, if it is to get one, and releases all handles that the
+    /// worker has of the node.
     ///
     /// # Errors
-    /// - as `set_data_key`: the handles are still there.
+    ///
+    /// - those of `set_data_key`: the worker keeps its handles.
     fn close_node(&mut self, at: WorkerNode, key: DataKey) -> Result<(), Error>
         ensures { Acts Self.told Self.acting self.old self.new (λ a s t. ClosesNode (values_at E.Node.NodeSet E.Env E.Hash.KeyHash a.environment) a.me at key result s t) }
     {
@@ -232,11 +361,13 @@ pub trait WorkerAccess<E: Env<Node: NodeSet<E>>>: Access<E> {
         Ok(())
     }
 
-    /// Stores the blob of a worker's node, and does with its key what `close_node` does; answers the key.
+    /// Stores the blob of a worker's node, does with its key what `close_node` does, and returns
+    /// the key.
     ///
     /// # Errors
-    /// - as `store`: no key is set, and the worker's handles are still there.
-    /// - as `close_node`: the blob is stored.
+    ///
+    /// - those of `store`: no key is set, and the worker keeps its handles.
+    /// - those of `close_node`: the blob is stored.
     fn store_node(
         &mut self,
         alloc: Global,
@@ -251,10 +382,12 @@ pub trait WorkerAccess<E: Env<Node: NodeSet<E>>>: Access<E> {
         Ok(key)
     }
 
-    /// Does what `store_node` does, by a blob's key that the caller has made, as before it takes a lock round the pager.
+    /// Does what `store_node` does, with a key that the caller has computed, for example before it
+    /// takes the pager's lock.
     ///
     /// # Errors
-    /// - as `store_node`.
+    ///
+    /// - those of `store_node`.
     fn store_node_keyed(
         &mut self,
         alloc: Global,
@@ -271,36 +404,58 @@ pub trait WorkerAccess<E: Env<Node: NodeSet<E>>>: Access<E> {
         Ok(stored)
     }
 
-    /// A loose unpinned handle moves to the list's end. Refused with NoSuchHandle, NotYours, WrongMode and OutOfMemory.
+    /// Puts a loose unpinned handle at the end of the list; after the storage was closed, releases
+    /// it.
+    ///
+    /// # Errors
+    ///
+    /// - `NoSuchHandle` if the handle isn't live: nothing changes.
+    /// - `NotYours` if another than this owner has it: nothing changes.
+    /// - `WrongMode` if it isn't loose and unpinned: nothing changes.
+    /// - `OutOfMemory` if the list can't grow: nothing changes.
     fn schedule_for_paging(&mut self, handle: HandleNumber) -> Result<(), Error>
         ensures { Acts Self.told Self.acting self.old self.new (λ a s t. Called (values_at E.Node.NodeSet E.Env E.Hash.KeyHash a.environment) (λ w'. ScheduleCall s.core a.me handle result w') s t) };
 
-    /// A worker begins, and the calls are its own from now on. Refused with NumbersSpent and OutOfMemory; then nothing changes.
+    /// Begins a worker, who is the owner from now on.
+    ///
+    /// # Errors
+    ///
+    /// - `NumbersSpent` if no number is left for a worker: nothing changes.
+    /// - `OutOfMemory` if the worker can't be allocated: nothing changes.
     fn worker_begin(&mut self) -> Result<WorkerNumber, Error>
         ensures begins { IfOk result (λ n. ActsThen Self.told Self.acting self.old self.new (as_worker n) (λ a s t. WorkerStarts (values_at E.Node.NodeSet E.Env E.Hash.KeyHash a.environment) s.core s n.0 t)) }
         ensures refused { IfErr result (λ e. Acts Self.told Self.acting self.old self.new (λ a s t. WorkerFault s.core e × Called (values_at E.Node.NodeSet E.Env E.Hash.KeyHash a.environment) (λ w'. Alike s.core w') s t)) };
 
-    /// A worker begins for the entry at this place of the list, counted from 0, which moves to it; and the calls are its own from now on. Answers the reference that
-    /// it pages out: the entry's handle, as a loose one of its cell. Refused with NoSuchHandle where there is no such place, with WrongKind where the cell's type is
-    /// too great a number for its kinds, and with NumbersSpent and OutOfMemory; then nothing changes.
+    /// Begins a worker for the list entry at this place, counted from 0. The worker owns the entry
+    /// and is the owner of calls from now on. Returns the reference that the worker pages out: the
+    /// entry's handle, as a loose one of its cell.
+    ///
+    /// # Errors
+    ///
+    /// - `NoSuchHandle` if the list has no such place: nothing changes.
+    /// - `WrongKind` if the kinds of the cell's type would exceed 32 bits: nothing changes.
+    /// - `NumbersSpent` if no number is left for a worker: nothing changes.
+    /// - `OutOfMemory` if the worker can't be allocated: nothing changes.
     fn worker_listed(&mut self, place: usize) -> Result<(WorkerNumber, ArcRef), Error>
         ensures begins { IfOk result (λ b. ActsThen Self.told Self.acting self.old self.new (as_worker b.0) (λ a s t. StartsEntry (values_at E.Node.NodeSet E.Env E.Hash.KeyHash a.environment) s place b.0 b.1 t)) }
         ensures refused { IfErr result (λ e. Acts Self.told Self.acting self.old self.new (λ a s t. RefusesEntry (values_at E.Node.NodeSet E.Env E.Hash.KeyHash a.environment) s place e t)) };
 
-    /// A worker has answered: what it still has is given up, its loads are closed, and the calls are the caller's again.
+    /// Ends a worker: releases what it still owns and closes its loads. The caller is the owner of
+    /// calls again.
     fn worker_end(&mut self, worker: WorkerNumber)
         ensures { ActsThen Self.told Self.acting self.old self.new as_caller (λ a s t. Called (values_at E.Node.NodeSet E.Env E.Hash.KeyHash a.environment) (λ w'. WorkerEnds s.core worker.0 w') s t) };
 
-    /// How many entries the list has.
+    /// Returns how many entries the list has.
     fn pending(&self) -> usize
         ensures { Tells (Self.told self.now) (λ s. result ≡ length s.core.list) };
 
-    /// The key of the cell of the entry at this place of the list, which stays there; or None past the list's end.
+    /// Returns the key of the cell of the list entry at this place, which stays listed; None past
+    /// the list's end.
     fn entry_key(&self, place: usize) -> Option<OptionalDataKey>
         ensures some { IfSome result (λ key. Tells (Self.told self.now) (λ s. (h : Handle) × EntryHas s.core place h key)) }
         ensures none { IfNone result (Tells (Self.told self.now) (λ s. length s.core.list ≤ place)) };
 
-    /// The entry at this place of the list moves to the one who asks; or None past the list's end.
+    /// Takes the list entry at this place for the owner; returns None past the list's end.
     fn take_pending(&mut self, place: usize) -> Option<HandleNumber>
         ensures { Acts Self.told Self.acting self.old self.new (λ a s t. Called (values_at E.Node.NodeSet E.Env E.Hash.KeyHash a.environment) (λ w'. TakeCall s.core a.me place result w') s t) };
 }

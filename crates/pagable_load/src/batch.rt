@@ -1,5 +1,7 @@
-//! What is ahead of a load: the references that a blob asks for, one after the other, are known before they are got, and a blob below the innermost keeps its own. They are found by two readings with
-//! stand-ins for what wasn't got: one that notes what is asked for, and one that asks for the last of them with all that are before it.
+//! What is ahead of a load: the references that a blob will ask for, one after the other, are found
+//! before they are got, and each blob keeps its own. Two trial reads with stand-ins for the missing
+//! references find them: one notes what the reader asks for, and one checks the last of them with
+//! all that are before it.
 
 ghost use Rattle.std.specs.{Prelude.{false, IfSome, IsSome, [], length, true, ◌++◌, ◌∷◌, ◌≡◌, ◌⊎◌}};
 ghost use Rattle.pagable_load.specs.{Decoding.{Follows, IfValue, IsAhead, KeptAt, LeftIf, Needs, NeedsNext, rows_of}, Frames.frames_of, ResolvedReferences.AreStandIns, AccessView.{Tells, values_at}};
@@ -13,17 +15,18 @@ use pagable_value_spec::{ArcRef, DataKey, Kind};
 use std::alloc::Global;
 use std::mem::replace;
 
-/// What is ahead of a load's blobs, as far as it is known: of each a row of references of the kinds that it asks for, from its first on. An empty row tells nothing.
+/// What is known to be ahead of a load's blobs: for each blob a row of references of the kinds that
+/// it asks for, from its first reference on. An empty row says nothing.
 #[derive(Drop)]
 pub struct Ahead {
-    /// Of the innermost blob.
+    /// The row of the innermost blob.
     pub top: Vec<ArcRef>,
-    /// Of those that wait for it, the root's first.
+    /// The rows of the blobs that wait for it, the root's first.
     pub below: Vec<Vec<ArcRef>>,
 }
 
 impl Ahead {
-    /// Nothing is known.
+    /// Makes the rows of which nothing is known.
     #[tactic(auto, using(crate::proofs::Batches::leaving))]
     pub(crate) fn new(alloc: Global) -> Ahead
         ensures { rows_of result ≡ [] ∷ [] }
@@ -34,7 +37,8 @@ impl Ahead {
         }
     }
 
-    // A blob came, of which nothing is known. Where memory is wanting, nothing is known of those below it any more.
+    // Adds an empty row for a new innermost blob. If memory runs out, forgets the rows of the blobs
+    // below.
     fn enter(&mut self, alloc: Global)
         ensures top { self.new.top.items ≡ [] }
         ensures below { (self.new.below.items ≡ self.old.below.items ++ self.old.top ∷ []) ⊎ (self.new.below.items ≡ []) }
@@ -45,7 +49,7 @@ impl Ahead {
         }
     }
 
-    // If the innermost blob was read, the one below it is the innermost.
+    // Removes the innermost blob's row if that blob was read.
     #[tactic(auto, using(crate::proofs::Batches::leaving))]
     fn leave_if(&mut self, alloc: Global, was_read: bool)
         ensures { LeftIf was_read (rows_of self.old) (rows_of self.new) }
@@ -60,7 +64,8 @@ impl Ahead {
         self.top = row;
     }
 
-    // The innermost blob got a reference of this kind at this place; its row stays if that is of the row's kind.
+    // Keeps the innermost blob's row if it has this kind at this place, and empties it otherwise.
+    // The blob has just got a reference of the kind there.
     fn keep_if(&mut self, place: usize, kind: Kind)
         ensures top { KeptAt place kind self.old.top.items self.new.top.items }
         ensures below { self.new.below ≡ self.old.below }
@@ -72,7 +77,7 @@ impl Ahead {
     }
 }
 
-// Whether all of these stand for what wasn't got.
+// Returns whether all of these are stand-ins.
 fn are_stand_ins(noted: &[ArcRef]) -> bool
     ensures { result ≡ true → AreStandIns (length noted.now) noted.now }
 {
@@ -85,7 +90,7 @@ fn are_stand_ins(noted: &[ArcRef]) -> bool
 }
 
 impl Reading {
-    // Finds the row that is ahead of the innermost blob, with the values of what it has got.
+    // Finds the row of the innermost blob, with the values of the references that it has got.
     fn plan_batch<E: Env<Node: NodeSet<E>>, A: Access<E>>(
         &self,
         access: &A,
@@ -99,7 +104,8 @@ impl Reading {
         let blob = top.blob.as_ref();
         let got = top.got.as_slice();
         let lent = lend::<E, A>(access, alloc, got).ok()?;
-        // The blob's reader may ask otherwise than the blob is spelled: none of what it notes is trusted.
+        // (A reader may ask for something else than the blob's encoding says, so nothing that it
+        // notes is trusted.)
         let noting = Some(Vec::new(alloc));
         let (_read, noted) = read_got(
             access,
@@ -112,7 +118,7 @@ impl Reading {
         );
         let mut noted = noted?;
         let last = noted.pop()?;
-        // What stands for a reference that wasn't got has no value.
+        // (A stand-in has no value.)
         let none = value_of::<E, A>(access, stand_in_for(Kind(0))).ok()?;
         if none.is_some() || !are_stand_ins(noted.as_slice()) {
             return None;
@@ -138,7 +144,7 @@ impl Reading {
         None
     }
 
-    /// Finds the row that is ahead, if none is known and one is likely.
+    /// Finds the row of the innermost blob, if none is known and a row is likely to help.
     pub(crate) fn plan_batch_if_useful<E: Env<Node: NodeSet<E>>, A: Access<E>>(
         &self,
         access: &A,
@@ -153,7 +159,8 @@ impl Reading {
         };
         let got = top.got.as_slice();
         let left = top.blob.as_ref().arcs.len().saturating_sub(got.len());
-        // One is likely where the innermost blob begins, or has got a reference that is read later, and several are left.
+        // (It is likely if the blob begins or has got a loose reference last, and at least four
+        // references are left.)
         if !row.is_empty() || left < 4 || got.last().map_or(false, |r| is_read_at_once(r.kind)) {
             return;
         }
@@ -162,7 +169,7 @@ impl Reading {
         }
     }
 
-    // What the row tells that the load needs next: a reference of this kind, under this key.
+    // Returns the kind and key of the reference that the load needs next, if the row says so.
     fn told(&self, row: &[ArcRef]) -> Option<(Kind, DataKey)>
         ensures tells { IfSome result (λ k. (types : Types) → IsAhead types (frames_of self.now.top self.now.below.items) row.now → NeedsNext types (frames_of self.now.top self.now.below.items) k.0 k.1) }
         ensures top { IfSome result (λ k. IsSome self.now.top) }
@@ -178,7 +185,9 @@ impl Reading {
         Some((row[place].kind, keys[place]))
     }
 
-    /// What the load needs next. The innermost blob is read for it only where its row doesn't tell. What a value that was read holds beside its references is what their handles pin.
+    /// Returns what the load needs next, and reads the innermost blob for it only if its row
+    /// doesn't say. What a value that was read holds beside its references is what their handles
+    /// pin.
     #[tactic(auto, using(crate::proofs::LoadSteps::tells_all))]
     pub(crate) fn needed<E: Env<Node: NodeSet<E>>, A: Access<E>>(
         &self,
@@ -199,8 +208,9 @@ impl Reading {
         Need::Lazy(kind, key)
     }
 
-    /// What is known ahead follows a step that got what was needed: the row of a blob that was read goes, a blob that came has none yet, and one that got a reference of another kind
-    /// than its row says loses its row.
+    /// Updates the rows after a step that got what was needed: removes the row of a blob that was
+    /// read, adds an empty one for a new blob, and empties the row of a blob that got a reference
+    /// of another kind than its row says.
     pub(crate) fn follow(&self, alloc: Global, ahead: &mut Ahead, was_read: bool)
         ensures { Follows was_read (frames_of self.now.top self.now.below.items) (rows_of ahead.old) (rows_of ahead.new) }
     {

@@ -1,4 +1,4 @@
-//! The reading of a cell, up to the blob of its root.
+//! A load of a cell up to the blob of its root.
 
 ghost use Rattle.std.specs.Prelude.{true, ◌≡◌};
 ghost use Rattle.{pagable_load.specs.Frames.reading_of, pagable_pager_spec.specs.Workers.fresh};
@@ -7,7 +7,7 @@ use crate::reading::Reading;
 use pagable_value_spec::{DataKey, LoadNumber};
 use std::alloc::Global;
 
-/// The reading of a cell, of which no blob has come yet. Its load is open.
+/// A load of a cell that has begun and has fetched no blob yet. The load is open.
 #[derive(Drop)]
 pub struct CellReading {
     pub(crate) reading: Reading,
@@ -16,7 +16,7 @@ pub struct CellReading {
 }
 
 impl CellReading {
-    /// Makes the reading of a load that has just begun, of a root of this key and type.
+    /// Makes the reading of a load that has just begun, with this key and type of its root.
     pub(crate) fn new(alloc: Global, load: LoadNumber, key: DataKey, node_type: u32) -> CellReading
         ensures load { result.reading.load ≡ load }
         ensures key { result.reading.key ≡ key }
@@ -27,14 +27,14 @@ impl CellReading {
         }
     }
 
-    /// Tells the key of the root's blob.
+    /// Returns the key of the root's blob.
     pub fn key(&self) -> DataKey
         ensures { result ≡ self.now.reading.key }
     {
         self.reading.key
     }
 
-    /// Tells the load.
+    /// Returns the load's number.
     pub fn load(&self) -> LoadNumber
         ensures { result ≡ self.now.reading.load }
     {

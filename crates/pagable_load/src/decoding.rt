@@ -1,4 +1,4 @@
-//! A blob is read from its front, with the references that were got so far.
+//! Reads a blob from its front, with the references that its load has got so far.
 
 ghost use Rattle.std.specs.{Arc.arc_value, Prelude.{IfOk, None, ◌≡◌}};
 ghost use Rattle.{pagable_core.specs.Data.blob_of, pagable_load.specs.{Decoding.{Decodes, IfRead, ReadsWith}, ResolvedReferences.{LendsEach, stand_in}, AccessView.{Tells, values_at}}};
@@ -11,7 +11,7 @@ use pagable_value_spec::{ArcRef, DataKey, Error, HandleNumber, Kind, NodeNumber}
 use std::alloc::Global;
 use std::sync::Arc;
 
-/// What stands for a reference of this kind that wasn't got.
+/// Returns the stand-in for a reference of this kind that the load hasn't got.
 pub(crate) fn stand_in_for(kind: Kind) -> ArcRef
     ensures { result ≡ stand_in kind.0 }
 {
@@ -22,15 +22,20 @@ pub(crate) fn stand_in_for(kind: Kind) -> ArcRef
     }
 }
 
-/// Answers for a blob's references from a list of those that were got so far, the first of the blob's first. One that wasn't got is refused with Storage of its kind, and one that was got as another
-/// kind with WrongKind. It lends the value of the reference that it answered last, from a list of values by the references' places, which may be shorter: each place has what the access shares by the
-/// reference there. Where it notes what is asked for, it answers for a reference that wasn't got with a stand-in of its kind, which lends nothing.
+/// The references of a blob that a load has got so far, as its reader looks them up, the blob's
+/// first reference first. For a reference that the load hasn't got yet, the look-up fails with
+/// `Storage` of the kind, by which `decode` learns what to fetch; for one that was got as another
+/// kind, with `WrongKind`.
+///
+/// The value of the reference that was looked up last can be borrowed: `lent` has the values by the
+/// references' places, and may be shorter. With `noted`, a look-up of a reference that wasn't got
+/// returns a stand-in of its kind, which lends nothing, and notes it.
 #[derive(Drop)]
 pub struct ResolvedReferences<'g, E: Env<Node: NodeSet<E>>, A: Access<E>> {
     access: &'g A,
     got: &'g [ArcRef],
     lent: &'g [Option<Arc<E::Node>>],
-    // The place of the reference that was answered last.
+    // The place of the reference that was looked up last.
     last: usize,
     noted: Option<Vec<ArcRef>>,
     ghost each: { ∥ Tells (A.told access.now) (λ s. LendsEach arc_value s got.now lent.now) ∥₁ },
@@ -99,15 +104,15 @@ impl<'g, E: Env<Node: NodeSet<E>>, A: Access<E>> References<E> for ResolvedRefer
 /// What a blob asks for next.
 #[derive(Drop)]
 pub enum Decoded<N: Drop> {
-    /// It is read, and this is its value.
+    /// Nothing: it was read, and this is its value.
     Read(N),
-    /// A reference of this kind, which stands under this key.
+    /// A reference of this kind, with this key.
     Wants(Kind, DataKey),
-    /// It is refused.
+    /// Nothing: it can't be read.
     Refused(Error),
 }
 
-/// Reads the blob, and gives back what was noted besides.
+/// Reads the blob as a value of this type, and returns also what the references noted.
 pub(crate) fn read_got<E: Env<Node: NodeSet<E>>, A: Access<E>>(
     access: &A,
     alloc: Global,
@@ -138,8 +143,9 @@ pub(crate) fn read_got<E: Env<Node: NodeSet<E>>, A: Access<E>>(
     (read, deserializer.finish().noted)
 }
 
-/// Reads a blob from its front as a value of this type, with the references that were got for it so far, whose values are lent by their places. Nothing that
-/// its reader did on an earlier way is trusted: what it asks for next is told by the blob alone. What the value holds beside its references is what their handles pin.
+/// Reads a blob from its front as a value of this type, with the references that its load has got
+/// so far, whose values are lent by their places. What it asks for next depends on the blob alone,
+/// and not on earlier reads. What the value holds beside its references is what their handles pin.
 #[tactic(auto, using(crate::proofs::LoadSteps::tells_all))]
 pub fn decode<E: Env<Node: NodeSet<E>>, A: Access<E>>(
     access: &A,

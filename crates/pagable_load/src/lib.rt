@@ -1,4 +1,5 @@
-//! Loads as machines of their own: each step makes one call of an access to a pager, which may be lent or locked.
+//! Loads, run step by step: each step makes at most one call of an access to a pager, which may be
+//! lent or behind a lock.
 #![tactic(auto)]
 
 pub mod access;

@@ -1,5 +1,5 @@
-//! A pin of a loose handle that goes on in parts: how it begins, and the reading of its cell, whose root's blob is
-//! fetched apart from it.
+//! A pin of a loose handle in parts: its begin, and the load of its cell, whose root's blob the
+//! caller fetches in between.
 
 ghost use Rattle.std.specs.{Arc.arc_value, Prelude.◌≡◌};
 ghost use Rattle.{pagable_core.specs.Data.blob_of, pagable_value_spec.specs.Blob.key_of, pagable_pager_spec.specs.Access.Called};
@@ -17,16 +17,19 @@ use std::sync::Arc;
 /// How a pin of a loose handle begins.
 #[derive(Drop)]
 pub enum BegunPin {
-    /// The value is in memory: the new Pinned handle, and whether the loose one pinned nothing before.
+    /// The value is in memory: the new Pinned handle, and whether the loose handle was unpinned
+    /// before.
     Pinned(HandleNumber, bool),
-    /// The value is in the storage alone, and has to be read.
+    /// The value is only in the storage: the load that has begun.
     Reading(CellReading),
 }
 
-/// Begins a pin of a loose handle: pins its cell where the value is in memory, and else begins the reading of it.
+/// Begins a pin of a loose handle: pins its cell if the value is in memory, and otherwise begins a
+/// load of it.
 ///
 /// # Errors
-/// - as `Access::begin_pin`: nothing is left of it.
+///
+/// - those of `Access::begin_pin`: nothing changes.
 pub fn begin_reading<E: Env<Node: NodeSet<E>>, A: Access<E>>(
     access: &mut A,
     alloc: Global,
@@ -45,11 +48,12 @@ pub fn begin_reading<E: Env<Node: NodeSet<E>>, A: Access<E>>(
 }
 
 impl CellReading {
-    /// Reads the cell's value from the root's blob, with all that it refers to and that is read together with it, and
-    /// ends the load with a pin of the cell. The blob has to be the one under the reading's key.
+    /// Reads the cell's value from the root's blob, with all that is loaded with it, ends the load
+    /// and returns the new Pinned handle. The blob has to be the one of the reading's key.
     ///
     /// # Errors
-    /// - as the steps of a load: the load is given up, with all that it owns.
+    ///
+    /// - those of a load's steps: the load is dropped, and all that it owns is released.
     #[tactic(auto, using(crate::proofs::LoadSteps::acts_map, crate::proofs::FromRoot::rooting))]
     pub fn read<E: Env<Node: NodeSet<E>>, A: Access<E>>(
         self,

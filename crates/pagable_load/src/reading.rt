@@ -1,4 +1,5 @@
-//! How far a load is: the blobs that it reads, what it needs next, and the values of the references that were got, which it lends to the reader of its innermost blob.
+//! The progress of a load: the blobs that it reads, what it needs next, and the values of the
+//! references that it has got, which it lends to the reader of its innermost blob.
 
 ghost use Rattle.std.specs.{Arc.arc_value, Option.option_map, Prelude.{true, IfErr, IfOk, IsSome, OnOk, [], length, vec_capacity, vec_len, ◌++◌, ◌<◌, ◌^◌, ◌∷◌, ◌≡◌, ◌≤◌}};
 ghost use Rattle.{pagable_core.specs.Data.blob_of, pagable_load.specs.{Frames.{frame_of, frames_of, onto, reading_of}, ResolvedReferences.{AreLater, Lends, LendsEach}, LoadSteps.{IsSameLoad, TakenOff, TakenTwo}}};
@@ -13,7 +14,8 @@ use pagable_value_spec::{ArcRef, DataKey, Error, HandleNumber, Kind, LoadNumber}
 use std::alloc::Global;
 use std::sync::Arc;
 
-/// A blob that a load has got and reads: the kind as which its node will stand, its key, the type of its value, and the references that were got for it so far, in the order in which they are read.
+/// A blob that a load is reading: the kind that its node will have, its key, the type of its value,
+/// and the references that were got for it so far, in the order in which they are read.
 #[derive(Drop)]
 pub struct Frame {
     pub kind: Kind,
@@ -24,7 +26,8 @@ pub struct Frame {
 }
 
 impl Frame {
-    /// Makes the frame of a root's blob. A root is no reference and becomes no node of its own, so nothing asks for the kind that stands there.
+    /// Makes the frame of a root's blob. A root becomes no node of its own, so its kind has no
+    /// meaning.
     pub fn of_root(alloc: Global, key: DataKey, node_type: u32, blob: Arc<PagableData>) -> Frame
         ensures { frame_of result ≡ root_frame key node_type (blob_of (arc_value blob)) }
     {
@@ -38,16 +41,17 @@ impl Frame {
     }
 }
 
-/// A load's own side: its number, the key and the type of its root, whether it is a load of a cell, the blobs that it reads, and its steps.
+/// The progress of a load: its number, the key and the type of its root, whether it is a load of a
+/// cell, the blobs that it reads, and how many steps it has made.
 #[derive(Drop)]
 pub struct Reading {
     pub load: LoadNumber,
     pub key: DataKey,
     pub node_type: u32,
     pub for_cell: bool,
-    /// The innermost blob; none before the root's came.
+    /// The innermost blob; None before the root's is fetched.
     pub top: Option<Frame>,
-    /// Those above it, the root's first.
+    /// The blobs that wait for it, the root's first.
     pub below: Vec<Frame>,
     pub steps: u64,
 }
@@ -57,20 +61,20 @@ pub struct Reading {
 pub enum Need<N: Drop> {
     /// The blob of its own key.
     Root,
-    /// A reference that is read together with the value: the cache's node, or a blob.
+    /// A reference that is loaded with the value: a node of the cache, or a blob.
     Nested(Kind, DataKey),
-    /// A reference that is read later.
+    /// A loose reference, which isn't loaded.
     Lazy(Kind, DataKey),
-    /// A node of this value, for the blob below.
+    /// A node for this value of the innermost blob.
     Adopt(N),
-    /// The root is read: the value that the cell, or else the caller, gets.
+    /// Nothing more: this is the root's value, for the cell or the caller.
     End(N),
-    /// The innermost blob is refused.
+    /// Nothing: the innermost blob can't be read.
     Refuse(Error),
 }
 
 impl<N: Drop> Need<N> {
-    /// Whether its innermost blob was read, and becomes a node.
+    /// Returns whether the innermost blob was read and becomes a node.
     pub(crate) fn is_adoption(&self) -> bool
         ensures { result ≡ is_adoption self.now }
     {
@@ -78,7 +82,7 @@ impl<N: Drop> Need<N> {
     }
 }
 
-/// Whether a reference of this kind is read together with the value that holds it.
+/// Returns whether a reference of this kind is loaded with the value that holds it.
 pub(crate) fn is_read_at_once(kind: Kind) -> bool
     ensures { result ≡ is_eager kind.0 }
 {
@@ -86,7 +90,7 @@ pub(crate) fn is_read_at_once(kind: Kind) -> bool
 }
 
 impl Reading {
-    /// A load that has just begun, of a root of this key and type.
+    /// Makes the progress of a load that has just begun, with this key and type of its root.
     pub fn new(
         alloc: Global,
         load: LoadNumber,
@@ -110,7 +114,8 @@ impl Reading {
     }
 }
 
-/// The value of a reference that is read together with it. What its handle doesn't share isn't lent, and its reader refuses it. Refused with OutOfMemory.
+/// Shares the value of a reference that is loaded with its holder; None for any other, and for one
+/// whose handle shares none. Fails with OutOfMemory only.
 #[tactic(auto, using(crate::proofs::LoadSteps::sharing))]
 pub(crate) fn value_of<E: Env<Node: NodeSet<E>>, A: Access<E>>(
     access: &A,
@@ -131,7 +136,7 @@ pub(crate) fn value_of<E: Env<Node: NodeSet<E>>, A: Access<E>>(
     }
 }
 
-// Whether none of these is read together with what holds it.
+// Returns whether none of these is loaded with its holder.
 fn are_read_later(got: &[ArcRef]) -> bool
     ensures { result ≡ true → AreLater (length got.now) got.now }
 {
@@ -143,7 +148,8 @@ fn are_read_later(got: &[ArcRef]) -> bool
     true
 }
 
-// The values of these references, each at its reference's place; no list is made where none of them is read together with its value. Refused with OutOfMemory.
+// Shares the values of these references, by their places; returns no list if none of them is loaded
+// with its holder. Fails with OutOfMemory only.
 pub(crate) fn lend<E: Env<Node: NodeSet<E>>, A: Access<E>>(
     access: &A,
     alloc: Global,
@@ -164,8 +170,10 @@ pub(crate) fn lend<E: Env<Node: NodeSet<E>>, A: Access<E>>(
 }
 
 impl Reading {
-    /// What the load needs next. The innermost blob is read from its front for it, with the values of the references that it has got, and nothing else is touched. Want of memory for these refuses the
-    /// blob. What a value that was read holds beside its references is what their handles pin.
+    /// Returns what the load needs next. It reads the innermost blob from its front, with the
+    /// values of the references that the load has got, and changes nothing. If memory for these
+    /// values runs out, the blob can't be read. What a value that was read holds beside its
+    /// references is what their handles pin.
     #[tactic(auto, using(crate::proofs::LoadSteps::needing, crate::proofs::LoadSteps::tells_all))]
     pub fn next<E: Env<Node: NodeSet<E>>, A: Access<E>>(
         &self,
@@ -203,10 +211,11 @@ impl Reading {
     }
 }
 
-// ---- the blobs of a load, the innermost apart from those below it
+// ---- the blobs of a load: the innermost apart from those that wait for it
 
 impl Reading {
-    /// Takes the innermost blob off, with a place for one more reference, and makes a place for it below. Refused with OutOfMemory.
+    /// Takes the innermost blob, and reserves room for one more reference in it and for one more
+    /// blob below. Fails with OutOfMemory only.
     pub(crate) fn pop_frame(&mut self) -> Result<Frame, Error>
         requires { IsSome self.old.top }
         ensures ok { IfOk result (λ top. TakenOff self.old self.new top) }
@@ -219,7 +228,8 @@ impl Reading {
         Ok(top)
     }
 
-    /// Takes the innermost blob off, and the one below it with a place for one more reference. Refused with OutOfMemory.
+    /// Takes the innermost blob and the one below it, and reserves room for one more reference in
+    /// the latter. Fails with OutOfMemory only.
     #[tactic(auto, using(crate::proofs::LoadSteps::stacking))]
     pub(crate) fn pop_two_frames(&mut self) -> Result<(Frame, Frame), Error>
         requires top { IsSome self.old.top }
@@ -234,7 +244,7 @@ impl Reading {
         Ok((top, under))
     }
 
-    /// The blob is the innermost, and has got one more reference.
+    /// Puts the blob back as the innermost one, with one more reference.
     pub(crate) fn push_resolved(&mut self, mut top: Frame, reference: ArcRef)
         requires { vec_len top.got < vec_capacity top.got }
         ensures gets { frames_of self.new.top self.new.below.items ≡ record (frame_of top) { got = top.got.items ++ reference ∷ [] } ∷ onto [] self.old.below.items }
@@ -244,7 +254,7 @@ impl Reading {
         self.top = Some(top);
     }
 
-    /// The root's blob is the only one.
+    /// Makes the root's blob the only one.
     #[tactic(auto, using(crate::proofs::LoadSteps::stacking))]
     pub(crate) fn put_root(&mut self, alloc: Global, blob: Arc<PagableData>)
         ensures few { length (blob_of (arc_value blob)).keys < 2 ^ 63 }
@@ -257,7 +267,8 @@ impl Reading {
         self.top = Some(Frame::of_root(alloc, self.key, self.node_type, blob));
     }
 
-    /// A reference's blob is the innermost, over the one that asked for it. Refused with TooDeep where it would be the 129th below the root.
+    /// Makes a reference's blob the innermost, above the one that asked for it. Fails with TooDeep
+    /// if it would be the 129th below the root.
     #[tactic(auto, using(crate::proofs::LoadSteps::stacking))]
     pub(crate) fn put_blob(
         &mut self,
@@ -292,7 +303,7 @@ impl Reading {
     }
 }
 
-/// The handles of references, in their order. Refused with OutOfMemory.
+/// Collects the handles of references, in order. Fails with OutOfMemory only.
 pub(crate) fn all_handles(alloc: Global, references: &[ArcRef]) -> Result<Vec<HandleNumber>, Error>
     ensures ok { IfOk result (λ handles. handles.items ≡ handles_of references.now) }
     ensures only { IfErr result (λ e. e ≡ Error.OutOfMemory) }

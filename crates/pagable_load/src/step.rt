@@ -1,4 +1,5 @@
-//! A load's steps, over an access to a pager, and a load that is driven to its end. And whole operations over an access: a pin, with the load that it may need, and the reading of a key.
+//! A load's steps over an access to a pager, and a load that is run to its end. And whole
+//! operations over an access: a pin, with the load that it may need, and the read of a key.
 
 ghost use Rattle.std.specs.{Arc.arc_value, Prelude.{[], IfNone, IfOk, IfSome, IsSome, length, Ok, Some, true, ◌<◌, ◌≡◌}};
 ghost use Rattle.pagable_load.specs.{Decoding.{AllAhead, FramesGo, goes_on_with, GoesFor, GotMore, IfValue, Needs, rows_of}, LoadEnd.LeadsOn, Frames.{frames_of, reading_of}, PinStart.{PinsFirst, SharesPinned, Unpins}, LoadSteps.Drops};
@@ -16,7 +17,8 @@ use std::alloc::Global;
 use std::sync::Arc;
 
 impl Reading {
-    /// Takes a reference that is read later, by a step that isn't counted yet, and answers it.
+    /// Takes a loose reference without reading it, as a step that isn't counted yet, and returns
+    /// it.
     pub(crate) fn take_lazy<E: Env<Node: NodeSet<E>>, A: Access<E>>(
         &mut self,
         access: &mut A,
@@ -38,7 +40,7 @@ impl Reading {
         Ok(taken)
     }
 
-    // What the innermost blob was read as becomes a node for the blob below it.
+    // Makes a node of the innermost blob's value, for the blob below it.
     #[tactic(auto, using(crate::proofs::Batches::node_leads))]
     fn step_adopt<E: Env<Node: NodeSet<E>>, A: Access<E>>(
         &mut self,
@@ -66,7 +68,8 @@ impl Reading {
         }
     }
 
-    // The root was read: its cell gets the value, and is pinned; or the caller gets it, with its handles.
+    // Ends the load with the root's value: the cell gets it and is pinned, or the caller gets it
+    // with its handles.
     #[tactic(auto, using(crate::proofs::LoadSteps::acts_map, crate::proofs::LoadSteps::hands_over))]
     fn finish<E: Env<Node: NodeSet<E>>, A: Access<E>>(
         &mut self,
@@ -104,7 +107,7 @@ impl Reading {
         Ok(Some(LoadAnswer::Read(value)))
     }
 
-    // Meets what the load needs, by one call of the access at most.
+    // Does what the load needs, by at most one call of the access.
     fn meet<E: Env<Node: NodeSet<E>>, A: Access<E>>(
         &mut self,
         access: &mut A,
@@ -151,7 +154,7 @@ impl Reading {
         }
     }
 
-    // A refusal was met: the load is given up, with all that it owns.
+    // Drops the load, since a step failed, and releases all that it owns.
     pub(crate) fn give_up<E: Env<Node: NodeSet<E>>, A: Access<E>>(&mut self, access: &mut A)
         ensures acts { Acts A.told A.acting access.old access.new (λ a s t. Drops (values_at E.Node.NodeSet E.Env E.Hash.KeyHash a.environment) a.me self.old.load s t) }
         ensures none { frames_of self.new.top self.new.below.items ≡ [] }
@@ -161,7 +164,8 @@ impl Reading {
         self.top = None;
     }
 
-    // Ends the load where nothing is left to get, by a step that isn't counted yet; else meets what it needs.
+    // Ends the load if nothing is left to get, as a step that isn't counted yet; otherwise does
+    // what it needs.
     fn end_or_meet<E: Env<Node: NodeSet<E>>, A: Access<E>>(
         &mut self,
         access: &mut A,
@@ -178,9 +182,11 @@ impl Reading {
         }
     }
 
-    /// Makes the load's next step: one call of the access, and before that what was read of its innermost blob, with the values of its references, which are
-    /// shared for it. Answers what ended the load, or None while there is more. A step that is refused gives the load up, with all that it owns. That the load
-    /// is open, and is the one that this reading began with, is what the clause asks of a state that is told.
+    /// Makes the load's next step: reads what it can of its innermost blob, with the shared values
+    /// of the blob's references, and makes one call of the access. Returns how the load ended, or
+    /// None if it goes on. If the step fails, the load is dropped, and all that it owns is
+    /// released. If the access tells its state, the clause asks that the load is open and is the
+    /// one with which this reading began.
     #[tactic(auto, using(crate::proofs::LoadSteps::giving_up))]
     pub fn step<E: Env<Node: NodeSet<E>>, A: Access<E>>(
         &mut self,
@@ -204,7 +210,7 @@ impl Reading {
         }
     }
 
-    // Gets the blob of the load's own key, by a step that isn't counted yet.
+    // Fetches the blob of the load's own key, as a step that isn't counted yet.
     fn get_root<E: Env<Node: NodeSet<E>>, A: Access<E>>(
         &mut self,
         access: &mut A,
@@ -224,7 +230,7 @@ impl Reading {
         }
     }
 
-    // Makes the step that gets the root's blob.
+    // Makes the step that fetches the root's blob.
     #[tactic(auto, using(crate::proofs::LoadSteps::giving_up))]
     fn step_root<E: Env<Node: NodeSet<E>>, A: Access<E>>(
         &mut self,
@@ -250,7 +256,7 @@ impl Reading {
         }
     }
 
-    // Whether the innermost blob refers to something.
+    // Returns whether the innermost blob has references.
     fn has_references(&self) -> bool {
         match &self.top {
             Some(top) => !top.blob.as_ref().arcs.is_empty(),
@@ -258,8 +264,9 @@ impl Reading {
         }
     }
 
-    // Makes the first steps of a load that has just begun: the one that gets its root's blob, and where that refers to
-    // nothing the one that ends it. Answers what ended it, or None while there is more.
+    // Makes the first steps of a load that has just begun: the one that fetches its root's blob
+    // and, if that has no references, the one that ends the load. Returns how the load ended, or
+    // None if it goes on.
     fn run_first<E: Env<Node: NodeSet<E>>, A: Access<E>>(
         &mut self,
         access: &mut A,
@@ -282,7 +289,8 @@ impl Reading {
         self.step(access, alloc)
     }
 
-    // Makes the load's next step, as `step` does, and reads the innermost blob for it only where what is ahead doesn't tell what is needed.
+    // Makes the load's next step, as `step` does, but reads the innermost blob only if `ahead`
+    // doesn't say what is needed.
     #[tactic(auto, using(crate::proofs::LoadSteps::giving_up))]
     fn step_on<E: Env<Node: NodeSet<E>>, A: Access<E>>(
         &mut self,
@@ -313,8 +321,9 @@ impl Reading {
         }
     }
 
-    /// Makes the load's steps up to its end, and answers what ended it. A load of a cell ends with a pin, one of a key with its value; either may be refused.
-    /// What is ahead of a blob is got without reading it in between, where its reader doesn't need the values of its references to go on.
+    /// Makes the load's steps up to its end, and returns how it ended: a load of a cell with a pin,
+    /// a load of a key with its value, and either with an error. It gets several references of a
+    /// blob without reading the blob in between, if the reader doesn't need their values to go on.
     #[tactic(auto, using(crate::proofs::LoadSteps::driving))]
     pub fn run<E: Env<Node: NodeSet<E>>, A: Access<E>>(
         &mut self,
@@ -338,7 +347,7 @@ impl Reading {
 
 // ---- whole operations
 
-// Pins a loose handle's cell, and says whether the handle pinned nothing before.
+// Pins a loose handle's cell, and returns whether the handle was unpinned before.
 #[tactic(auto, using(crate::proofs::LoadSteps::acts_map, crate::proofs::LoadSteps::start_refused))]
 fn pin_first<E: Env<Node: NodeSet<E>>, A: Access<E>>(
     access: &mut A,
@@ -361,7 +370,7 @@ fn pin_first<E: Env<Node: NodeSet<E>>, A: Access<E>>(
     }
 }
 
-// A loose handle lets its pin go, if it pinned nothing before. What can't be listed then is let go all the same.
+// Unpins a loose handle if it was unpinned before. A cell that can't be listed then is ignored.
 fn unpin_again<E: Env<Node: NodeSet<E>>, A: Access<E>>(
     access: &mut A,
     handle: HandleNumber,
@@ -378,8 +387,10 @@ fn unpin_again<E: Env<Node: NodeSet<E>>, A: Access<E>>(
 /// Shares the value that a new pin holds.
 ///
 /// # Errors
-/// - NoSuchHandle: the handle pins nothing, which no pin is where the access tells its state.
-/// - OutOfMemory: the value can't be shared.
+///
+/// - `NoSuchHandle` if the handle pins nothing; for a pin that can't be, if the access tells its
+///   state.
+/// - `OutOfMemory` if the value can't be shared.
 #[tactic(auto, using(crate::proofs::LoadSteps::pinning))]
 pub fn share_pinned<E: Env<Node: NodeSet<E>>, A: Access<E>>(
     access: &A,
@@ -393,10 +404,12 @@ pub fn share_pinned<E: Env<Node: NodeSet<E>>, A: Access<E>>(
     }
 }
 
-/// Pins as `pin_over` does, and tells too whether the loose handle pinned nothing before: who takes the pin back unpins that one then.
+/// Does what `pin_over` does, and returns also whether the loose handle was unpinned before: who
+/// undoes the pin has to unpin the loose handle then.
 ///
 /// # Errors
-/// - as `pin_over`.
+///
+/// - those of `pin_over`.
 pub fn pin_with_state_over<E: Env<Node: NodeSet<E>>, A: Access<E>>(
     access: &mut A,
     alloc: Global,
@@ -416,8 +429,16 @@ pub fn pin_with_state_over<E: Env<Node: NodeSet<E>>, A: Access<E>>(
     }
 }
 
-/// Pins a loose handle's cell, reading its value from the storage where it isn't in memory, and answers the new Pinned handle and the value, shared. The access
-/// is the caller's. Refused as `begin_pin` and as a load's steps refuse it, and handles and counts are as before; and with OutOfMemory where the value can't be shared.
+/// Pins a loose handle's cell for the caller, loading its value if it isn't in memory, and returns
+/// the new Pinned handle and the shared value. The access has to be the caller's.
+///
+/// # Errors
+///
+/// Each error leaves handles and counts as before.
+///
+/// - those of `Access::begin_pin`.
+/// - those of a load's steps.
+/// - `OutOfMemory` if the value can't be shared.
 pub fn pin_over<E: Env<Node: NodeSet<E>>, A: Access<E>>(
     access: &mut A,
     alloc: Global,
@@ -430,8 +451,12 @@ pub fn pin_over<E: Env<Node: NodeSet<E>>, A: Access<E>>(
     Ok((pinned, value))
 }
 
-/// Reads a key as a value of this type, with all that it refers to and that is read together with it; the handles of its references are the caller's, as the
-/// access is. Refused as the begin of a load and its steps refuse it, and then nothing is left of it.
+/// Reads a key as a value of this type, with all that is loaded with it. The caller owns the
+/// handles of its references. The access has to be the caller's.
+///
+/// # Errors
+///
+/// - those of `Access::load_key` and of a load's steps: nothing is left of the load.
 #[tactic(auto, using(crate::proofs::LoadSteps::acts_map, crate::proofs::LoadSteps::key_refused))]
 pub fn read_over<E: Env<Node: NodeSet<E>>, A: Access<E>>(
     access: &mut A,

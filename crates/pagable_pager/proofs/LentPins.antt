@@ -1,4 +1,4 @@
--- Pins by a lent pager: a load's steps from its root's blob, the value that a new pin shares, and what is told of an access as long as the storage is honest.
+-- Pins on a lent pager: a load's steps from its root's blob, the value that a new pin shares, and what an access tells as long as the storage is honest.
 use Rattle.pagable_pager.{proofs.Leaf.{dropped-run, loads-pinned, loads-refused, pinned-run}, specs.Leaf.{EndsCell, LeafBegun, LeafDropped, LeafFetched, LeafLoads, LeafPinned, PinsAway, SharesNew, rooted_reading}}
 use Rattle.{pagable_leaf.specs.declared.leaf.Leaf.Leaf, pagable_load.{proofs.LoadSteps.{taken_back, takes_back}, specs.{Decoding.IsReadAs, Frames.{IsLoadOf, reading_of}, PinStart.{SharesPinned, TakesBack, is_unpinned_at}, LoadSteps.Runs, AccessView.Acting}}}
 use Rattle.{pagable_load.specs.declared.reading.Reading.Reading as Own, pagable_value_spec.specs.{Blob.Blob, declared.{error.Error.Error, numbers.{HandleNumber.HandleNumber, LoadNumber.LoadNumber}}}}

@@ -1,10 +1,10 @@
--- Cells that are pinned at once, and the loads of them that this stands for.
+-- Cells that are pinned without a load's row, and the loads that have the same effect.
 use Rattle.{pagable_leaf.specs.declared.leaf.Leaf.Leaf, pagable_load.specs.{PinStart.{PinsFirst, is_unpinned_at}, LoadSteps.Runs, AccessView.Brings, declared.reading.Reading.Reading as Own}, pagable_value_spec.specs.{Blob.Blob, declared.numbers.{HandleNumber.HandleNumber, LoadNumber.LoadNumber}}}
 use Rattle.pagable_pager_spec.specs.{Access.{Called, LoadRun, PinRun, PinsOver}, Calls.FetchCall, LoadCalls.{BeginCall, EndCall, LoadCloses}, Loads.root_frame, Pager.{IsCellOf, PagerState}, World.{Alike, Reading, Values, of_cell}}
 use Rattle.{pagable_value_spec.specs.declared.error.Error.Error, pagable_pager_spec.specs.declared.{pinning.Beginning.Beginning, events.LoadAnswer.LoadAnswer, handle_row.Owner.Owner}}
 use Rattle.std.specs.Prelude.{Err, IfErr, IfOk, None, Ok, Option, Result, Some, [], true, ℕ, ◌∷◌, ◌≡◌, ◌⊎◌}
 
--- the blob of the cell has come, and no value with it
+-- the cell's blob was fetched, and no value was brought into memory
 pub record LeafFetched {N E : Type 0} (v : Values N) (s : PagerState N E) (leaf : Leaf) (blob : Blob) (s' : PagerState N E) : Type 0 where
   pub fetched : Called v (λ w'. FetchCall s.core leaf.key (Ok blob) w') s s'
   pub values : (n : ℕ) → s'.values n ≡ s.values n
@@ -15,21 +15,21 @@ pub record LeafBegun {N E : Type 0} (v : Values N) (s : PagerState N E) (leaf : 
   pub begins : Called v (λ w'. BeginCall s.core Owner.Caller leaf.row.number (Ok (Beginning.Load l leaf.key)) w') s s'
   pub opened : s'.core.loads l.0 ≡ Some (record { owner = Owner.Caller; key = leaf.key; root = of_cell leaf.row.node leaf.node_type leaf.row.number })
 
--- it began and ended with this value
+-- a load began and ended with this value
 pub record LeafPinned {N E : Type 0} (v : Values N) (s : PagerState N E) (leaf : Leaf) (x : N) (k : HandleNumber) (s' : PagerState N E) : Type 0 where
   pub l : LoadNumber
   pub mid : PagerState N E
   pub begun : LeafBegun v s leaf l mid
   pub ends : Brings v (λ w'. EndCall mid.core Owner.Caller l x (v.node_type x) (v.references x) (Ok k) w') (λ n y. (y ≡ x) × IsCellOf mid.core l n) mid s'
 
--- it began and was given up
+-- a load began and was dropped
 pub record LeafDropped {N E : Type 0} (v : Values N) (s : PagerState N E) (leaf : Leaf) (s' : PagerState N E) : Type 0 where
   pub l : LoadNumber
   pub mid : PagerState N E
   pub begun : LeafBegun v s leaf l mid
   pub closes : Called v (λ w'. LoadCloses mid.core l (Ok tt) w') mid s'
 
--- memory is wanting, and it began and was given up all the same
+-- memory ran out; the effect is that of a load that began and was dropped
 pub record LeafUnbegun {N E : Type 0} (v : Values N) (s : PagerState N E) (leaf : Leaf) (s' : PagerState N E) : Type 0 where
   pub between : PagerState N E
   pub stays : Called v (λ w'. Alike s.core w') s between
@@ -40,18 +40,18 @@ pub record LeafUnbegun {N E : Type 0} (v : Values N) (s : PagerState N E) (leaf 
 abbrev pub rooted_reading : LoadNumber → ℕ → ℕ → Blob → Reading
 rooted_reading l key t blob = record { load = l; node_type = t; frames = root_frame key t blob ∷ []; steps = 1 }
 
--- what ends a cell's load from there
+-- how a cell's load ends, from there
 pub record EndsCell {N E : Type 0} (v : Values N) (me : Owner) (own : Own) (s : PagerState N E) (r : Result HandleNumber Error) (t : PagerState N E) : Type 0 where
   pub pinned : IfOk r (λ k. Runs v me own s (LoadAnswer.Pinned k) t)
   pub refused : IfErr r (λ e. Runs v me own s (LoadAnswer.Refused e) t)
 
--- A load of the cell began, got its root's blob, and came to its end; or memory was wanting for it.
+-- A load of the cell began, got its root's blob, and ended; or memory for it ran out.
 pub record LeafLoads {N E : Type 0} (v : Values N) (s : PagerState N E) (leaf : Leaf) (blob : Blob) (r : Result HandleNumber Error) (s' : PagerState N E) : Type 0 where
   pub pinned : IfOk r (λ k. (l : LoadNumber) × (mid : PagerState N E) × LeafBegun v s leaf l mid × LoadRun v Owner.Caller (rooted_reading l leaf.key leaf.node_type blob) mid (LoadAnswer.Pinned k) s')
   pub refused : IfErr r (λ e. ((l : LoadNumber) × (mid : PagerState N E) × LeafBegun v s leaf l mid × LoadRun v Owner.Caller (rooted_reading l leaf.key leaf.node_type blob) mid (LoadAnswer.Refused e) s')
       ⊎ ((e ≡ Error.OutOfMemory) × LeafUnbegun v s leaf s'))
 
--- pinned by a load from its begin to its end, by a handle that pinned nothing before; or nothing was done
+-- the cell was pinned by a whole load, by a handle that was unpinned before; or nothing was done
 abbrev pub GoesAway : {N E : Type 0} → Values N → PagerState N E → HandleNumber → Option HandleNumber → PagerState N E → Type 0
 GoesAway v s h None s' = s' ≡ s
 GoesAway v s h (Some k) s' = PinRun v s h (Ok k) s' × (is_unpinned_at s.core h ≡ true)
@@ -60,6 +60,6 @@ pub record PinsAway {N E : Type 0} (v : Values N) (s : PagerState N E) (h : Hand
   pub goes : IfOk r (λ found. GoesAway v s h found s')
   pub refused : IfErr r (λ e. PinRun v s h (Err e) s')
 
--- What follows on a pin from a handle that pinned nothing before: its value, or it is taken back.
+-- What follows a pin by a handle that was unpinned before: its value is shared, or the pin is undone.
 pub record SharesNew {N E : Type 0} (v : Values N) (h k : HandleNumber) (s : PagerState N E) (r : Result (HandleNumber × N) Error) (t : PagerState N E) : Type 0 where
   pub shares : (was : PagerState N E) → PinsFirst v was h (Ok (k, true)) s → PinsOver v was h r t

@@ -1,4 +1,4 @@
--- What contracts see of a pager and its open loads, and the plain state that it tells.
+-- What contracts see of a pager and its open loads, and the plain state that they derive from it.
 use Rattle.std.specs.declared.sync.Arc.{Arc}
 use Rattle.std.specs.{Arc.arc_value, Global.Global, Option.option_map, Prelude.{Bool, IsTrue, None, Option, Some, false, true, ℕ, ◌+◌, ◌≡◌}}
 use Rattle.{either.specs.declared.Either.Either, pagable_value_spec.specs.declared.numbers.{ArcRef.ArcRef, HandleNumber.HandleNumber, LoadNumber.LoadNumber, WorkerNumber.WorkerNumber}}
@@ -12,7 +12,7 @@ use Rattle.pagable_tables.specs.Core as tables
 abbrev pub ValuesByNode : Type 0 → Type 0
 ValuesByNode N = NumberTable (Arc N Global)
 
--- the tables, the values in memory by the numbers of their nodes, the storage and the environment
+-- the tables, the values in memory by the numbers of their nodes, the storage, and the environment
 pub record PagerView (N S E : Type 0) : Type 0 where
   pub tables : Tables
   pub values : ValuesByNode N
@@ -23,18 +23,18 @@ pub record PagerView (N S E : Type 0) : Type 0 where
 abbrev pub value_in : {N : Type 0} → ValuesByNode N → ℕ → Option N
 value_in values n = option_map arc_value (row_by values n)
 
--- the values, with this one at its node if it comes
+-- the values, with x at the node n if it comes
 abbrev pub with_value : {N : Type 0} → Bool → ℕ → N → (ℕ → Option N) → ℕ → Option N
 with_value true n x values = updated n (Some x) values
 with_value false n x values = values
 
--- What a storage tells: what it holds under each key, whether it was closed, and how often it failed.
+-- The view of a storage: what it holds under each key, whether it is closed, and how often it has failed.
 pub record Telling (S : Type 0) : Type 0 where
   pub stored : S → ℕ → Option Blob
   pub closed : S → Bool
   pub failed : S → ℕ
 
--- the plain world, and the plain state
+-- the pager's plain state; below: with counts, values and environment
 abbrev pub core_in : {N S E : Type 0} → Telling S → PagerView N S E → Core
 core_in tells p = core_of p.tables (tells.stored p.storage) (tells.closed p.storage) (tells.failed p.storage)
 
@@ -44,7 +44,8 @@ state_in tells p = record { core = core_in tells p; counts = λ n. pins_in (coun
 abbrev pub telling : {S : Type 0} → (S → ℕ → Option Blob) → (S → Bool) → (S → ℕ) → Telling S
 telling stored closed failed = record { stored = stored; closed = closed; failed = failed }
 
--- the tables are whole, what loads own has come since they began, and the plain state is well-formed for what the environment says of values
+-- The tables satisfy their invariant; the handles that loads and workers own are in their ranges; and the plain state
+-- satisfies the invariant for the environment's values.
 pub record IsPager {N S E : Type 0} (tells : Telling S) (says : E → Values N) (p : PagerView N S E) : Type 0 where
   pub tables : tables.IsWhole p.tables
   pub later : AreLater p.tables
@@ -62,13 +63,13 @@ pub record OnlyStorage {N S E : Type 0} (old new : PagerView N S E) : Type 0 whe
   pub values : new.values ≡ old.values
   pub environment : new.environment ≡ old.environment
 
--- storage and environment are the same, and each value that is there was there before
+-- storage and environment are the same, and each value that is in memory was there before
 pub record OnlyLess {N S E : Type 0} (old new : PagerView N S E) : Type 0 where
   pub values : (n : ℕ) (x : N) → value_in new.values n ≡ Some x → value_in old.values n ≡ Some x
   pub storage : new.storage ≡ old.storage
   pub environment : new.environment ≡ old.environment
 
--- the environment is the same, and each value that is there was there before
+-- the environment is the same, and each value that is in memory was there before
 pub record FewerValues {N S E : Type 0} (old new : PagerView N S E) : Type 0 where
   pub values : (n : ℕ) (x : N) → value_in new.values n ≡ Some x → value_in old.values n ≡ Some x
   pub environment : new.environment ≡ old.environment
@@ -78,12 +79,12 @@ pub record SameValues {N S E : Type 0} (old new : PagerView N S E) : Type 0 wher
   pub values : new.values ≡ old.values
   pub environment : new.environment ≡ old.environment
 
--- what a load's asking gives, as it is seen
+-- what a load's fetch returns, with the blob viewed by `see`
 abbrev pub given_as : {B : Type 0} → (B → Blob) → Either HandleNumber B → Given
 given_as see (Either.Left k) = from_cache k
 given_as see (Either.Right blob) = from_store (see blob)
 
--- the blob of a load's own key is never the cache's to give
+-- a fetch of the load's own blob never returns a handle of the cache's
 abbrev pub FitsWant : {B : Type 0} → Want → Either HandleNumber B → Type 0
 FitsWant Want.Root (Either.Left k) = ⊥
 FitsWant want given = Unit {0}
@@ -94,24 +95,25 @@ is_at_work w Owner.Caller = true
 is_at_work w (Owner.Worker v) = w.workers v.0
 is_at_work w _ = false
 
--- the same workers are at work, and the storage is closed where it was
+-- the same workers are at work, and the storage is closed exactly if it was
 pub record KeepsWorkers (w w' : Core) : Type 0 where
   pub workers : w'.workers ≡ w.workers
   pub closed : w'.closed ≡ w.closed
 
--- a call's step in the plain world, and what else it may change
+-- a call's step in the plain state, and what it leaves unchanged
 pub record Calls {N S E : Type 0} (Only : PagerView N S E → PagerView N S E → Type 0) (tells : Telling S) (old : PagerView N S E) (makes : Core → Core → Type 0) (new : PagerView N S E) : Type 0 where
   pub step : makes (core_in tells old) (core_in tells new)
   pub only : Only old new
 
--- What a call asks of the storage: its step in the plain world, as long as the storage is honest afterwards. Whatever the storage is, nothing else changes, it is closed where it was, and doubt doesn't go away.
+-- A call of the storage: its step in the plain state, if the storage is honest afterwards. In any case nothing else
+-- changes, the storage is closed exactly if it was, and a storage that is honest afterwards was honest before.
 pub record AsksStorage {N S E : Type 0} (is_honest : S → Bool) (tells : Telling S) (old : PagerView N S E) (makes : Core → Core → Type 0) (new : PagerView N S E) : Type 0 where
   pub step : IsTrue (is_honest new.storage) → makes (core_in tells old) (core_in tells new)
   pub honest : IsTrue (is_honest new.storage) → IsTrue (is_honest old.storage)
   pub closed : tells.closed new.storage ≡ tells.closed old.storage
   pub only : OnlyStorage old new
 
--- the same of a call by which no value comes, and after which the pager is whole
+-- a call that brings no value into memory, and keeps the pager's invariant
 pub record Settles {N S E : Type 0} (Only : PagerView N S E → PagerView N S E → Type 0) (tells : Telling S) (says : E → Values N) (old : PagerView N S E) (makes : Core → Core → Type 0)
     (new : PagerView N S E) : Type 0 where
   pub called : Called (says old.environment) (makes (core_in tells old)) (state_in tells old) (state_in tells new)
@@ -119,19 +121,19 @@ pub record Settles {N S E : Type 0} (Only : PagerView N S E → PagerView N S E 
 
 -- ---- what an open load reads
 
--- the type of the value of the cell that a load is of
+-- the type of the cell's value, if it is a load of a cell
 abbrev pub type_of_root : Root → Option ℕ
 type_of_root (of_cell node t h) = Some t
 type_of_root of_key = None
 
--- an open load of the caller's reads this key, for a cell of this type or for none
+-- an open load of the caller's reads this key, for a cell of this type or for the caller
 pub record ReadsAs (w : Core) (l : LoadNumber) (key : ℕ) (t : Option ℕ) : Type 0 where
   pub load : OpenLoad
   pub owned : OwnsLoad w Owner.Caller l load
   pub key_is : load.key ≡ key
   pub type_is : type_of_root load.root ≡ t
 
--- the entry at this place moves to a new worker, and is a loose reference to its cell
+-- the entry at this place moves to a new worker, as a loose reference to its cell
 pub record TakesEntry (w : Core) (place : ℕ) (n : WorkerNumber) (r : ArcRef) (w' : Core) : Type 0 where
   pub h : HandleNumber
   pub row : HandleRow

@@ -1,4 +1,5 @@
-//! A pager that is lent, as an access, and as that of a page-out worker; and the cache of one.
+//! `Lent`: a lent pager as an access, for the caller or for a page-out worker; and the cache of a
+//! pager.
 #![tactic(auto, using(crate::proofs::Invariant::lending))]
 
 ghost use Rattle.std.specs.{Arc.arc_value, Prelude.{IfErr, IfOk, IsTrue, true, ◌≡◌, ◌≤◌}};
@@ -25,7 +26,8 @@ use pagable_value_spec::{
 use std::alloc::Global;
 use std::sync::Arc;
 
-/// The caller's access to a pager that is lent, or that of a worker at work. It tells the pager's state as long as the storage is honest.
+/// An access to a lent pager, for the caller or for a worker at work. It tells the pager's state as
+/// long as the storage is honest.
 #[derive(Drop)]
 pub struct Lent<'a, E: Env<Node: NodeSet<E>>, S: PagableStorage<E>> {
     pager: &'a mut Pager<E, S>,
@@ -34,7 +36,7 @@ pub struct Lent<'a, E: Env<Node: NodeSet<E>>, S: PagableStorage<E>> {
 }
 
 impl<'a, E: Env<Node: NodeSet<E>>, S: PagableStorage<E>> Lent<'a, E, S> {
-    /// The access to this pager, as it stands.
+    /// Creates the caller's access to this pager.
     pub fn new(pager: &'a mut Pager<E, S>) -> Lent<'a, E, S>
         ensures lent { result.pager.ghost_name ≡ pager.entry.ghost_name }
         ensures same { result.pager.now ≡ pager.old }
@@ -46,7 +48,7 @@ impl<'a, E: Env<Node: NodeSet<E>>, S: PagableStorage<E>> Lent<'a, E, S> {
         }
     }
 
-    /// The access of a worker who is at work.
+    /// Creates the access of a worker. The caller makes sure that the worker is at work.
     pub fn for_worker(pager: &'a mut Pager<E, S>, worker: WorkerNumber) -> Lent<'a, E, S>
         requires { (core_in (telling S.stored S.is_closed S.failed) pager.old).workers worker.0 ≡ true }
         ensures lent { result.pager.ghost_name ≡ pager.entry.ghost_name }
@@ -59,11 +61,13 @@ impl<'a, E: Env<Node: NodeSet<E>>, S: PagableStorage<E>> Lent<'a, E, S> {
         }
     }
 
-    /// Gives the access of an owner who is the caller or a worker, and asks the pager itself whether the worker is at work: behind a lock nothing
-    /// else tells.
+    /// Creates the access of an owner, the caller or a worker, and looks up in the pager whether
+    /// the worker is at work: a caller behind a lock can't know it otherwise.
     ///
     /// # Errors
-    /// - NotYours: the worker isn't at work, or the owner is neither the caller nor a worker. Nothing changes.
+    ///
+    /// - `NotYours` if the worker isn't at work, or the owner is neither the caller nor a worker:
+    ///   nothing changes.
     pub fn for_owner(pager: &'a mut Pager<E, S>, me: Owner) -> Result<Lent<'a, E, S>, Error>
         ensures lent { IfOk result (λ l. l.pager.ghost_name ≡ pager.entry.ghost_name) }
         ensures same { IfOk result (λ l. l.pager.now ≡ pager.old) }
@@ -84,19 +88,21 @@ impl<'a, E: Env<Node: NodeSet<E>>, S: PagableStorage<E>> Lent<'a, E, S> {
 }
 
 impl<'a, E: Env<Node: NodeSet<E>>, S: PagableStorage<E>> Lent<'a, E, S> {
-    /// Computes whether all that the pager keeps is in step, as `Pager::is_sound`.
+    /// Computes whether all that the pager keeps is consistent, as `Pager::is_sound` does.
     pub fn is_sound(&self) -> bool
         ensures { result ≡ is_sound self.now.pager.now.tables self.now.pager.now.values }
     {
         self.pager.is_sound()
     }
 
-    /// Pins the cell of a loose handle of the caller's whose value isn't in memory: at once where its blob refers to nothing, which leaves what a load
-    /// does that begins, gets the blob, reads it and ends; and else by such a load. None where nothing was done, as where the value is in memory.
+    /// Pins the cell of a loose handle of the caller's, if its value isn't in memory. If the cell's
+    /// blob has no references, pins without the steps of a load, with the same result; otherwise
+    /// runs a load. Returns None if it did nothing, as when the value is in memory.
     ///
     /// # Errors
-    /// - OutOfMemory: there is no room for the handle, the blob or its value. No load is left.
-    /// - as the storage refuses the blob, and as the load's steps refuse it. No load is left.
+    ///
+    /// - `OutOfMemory` if there is no room for the handle, the blob or its value: no load is left.
+    /// - those of fetching the blob and of the load's steps: no load is left.
     pub(crate) fn pin_away(
         &mut self,
         alloc: Global,
@@ -123,7 +129,7 @@ impl<'a, E: Env<Node: NodeSet<E>>, S: PagableStorage<E>> Lent<'a, E, S> {
         Ok(Some(pinned))
     }
 
-    // Begins a load of the cell, whose blob has come, and makes its steps up to its end.
+    // Begins a load of the cell, whose blob was fetched, and makes its steps up to its end.
     fn pin_by_load(
         &mut self,
         alloc: Global,
@@ -148,7 +154,7 @@ impl<'a, E: Env<Node: NodeSet<E>>, S: PagableStorage<E>> Lent<'a, E, S> {
     }
 }
 
-// What a call has answered, with what is true of the pager after it.
+// Returns a call's result, and states the pager's invariant after the call.
 fn settled<E: Env<Node: NodeSet<E>>, S: PagableStorage<E>, X: Drop>(
     answer: X,
     pager: &Pager<E, S>,
@@ -386,7 +392,8 @@ impl<'a, E: Env<Node: NodeSet<E>>, S: PagableStorage<E>> WorkerAccess<E> for Len
     }
 }
 
-/// The cell of a kind and a key, with a handle of the node that the cache knows under them, if it knows one.
+/// The cell of a kind and a key, with a handle of the node that the cache has under them, if there
+/// is one.
 #[derive(Clone, Copy)]
 pub struct ArcCell {
     pub kind: Kind,
@@ -394,14 +401,15 @@ pub struct ArcCell {
     pub handle: Option<HandleNumber>,
 }
 
-/// The cache of a pager, which it borrows: which node is known under a kind and a key. It owns no handle. Each call is the pager's own.
+/// The cache of a borrowed pager: nodes by kind and key. It owns no handle. Each call is the
+/// pager's own.
 #[derive(Drop)]
 pub struct DeserializedArcCache<'a, E: Env<Node: NodeSet<E>>, S: PagableStorage<E>> {
     pager: &'a mut Pager<E, S>,
 }
 
 impl<'a, E: Env<Node: NodeSet<E>>, S: PagableStorage<E>> DeserializedArcCache<'a, E, S> {
-    /// The cache of this pager, as it stands.
+    /// Creates the cache of this pager.
     pub fn new(pager: &'a mut Pager<E, S>) -> DeserializedArcCache<'a, E, S>
         ensures lent { result.pager.ghost_name ≡ pager.entry.ghost_name }
         ensures same { result.pager.now ≡ pager.old }
@@ -409,7 +417,11 @@ impl<'a, E: Env<Node: NodeSet<E>>, S: PagableStorage<E>> DeserializedArcCache<'a
         DeserializedArcCache { pager }
     }
 
-    /// A new handle of the node that is known, as `cache_get` answers it. Refused with NumbersSpent and OutOfMemory.
+    /// Returns a new handle of the cached node, as `Pager::cache_get` does.
+    ///
+    /// # Errors
+    ///
+    /// - those of `Pager::cache_get`.
     pub fn get(&mut self, kind: Kind, key: DataKey) -> Result<Option<HandleNumber>, Error>
         ensures lent { self.new.pager.ghost_name ≡ self.old.pager.ghost_name }
         ensures calls { Calls OnlyTables (telling S.stored S.is_closed S.failed) self.old.pager.now (λ w w'. RecallCall w Owner.Caller kind key result w') self.new.pager.now }
@@ -417,7 +429,11 @@ impl<'a, E: Env<Node: NodeSet<E>>, S: PagableStorage<E>> DeserializedArcCache<'a
         self.pager.cache_get(kind, key)
     }
 
-    /// The cell of a kind and a key, with what `get` answers. A cell that holds nothing takes no room. Refused as `get`.
+    /// Returns what `get` returns, with its kind and key. Nothing is stored for an empty cell.
+    ///
+    /// # Errors
+    ///
+    /// - those of `get`.
     pub fn get_or_create_cell(&mut self, kind: Kind, key: DataKey) -> Result<ArcCell, Error>
         ensures lent { self.new.pager.ghost_name ≡ self.old.pager.ghost_name }
         ensures place { IfOk result (λ cell. (cell.kind ≡ kind) × (cell.key ≡ key)) }
@@ -427,7 +443,11 @@ impl<'a, E: Env<Node: NodeSet<E>>, S: PagableStorage<E>> DeserializedArcCache<'a
         Ok(ArcCell { kind, key, handle })
     }
 
-    /// The cache learns a handle's node, or another handle is answered, as by the pager's call of this name; refused as that.
+    /// Caches a handle's node, or returns another handle, as `Pager::on_arc_deserialized` does.
+    ///
+    /// # Errors
+    ///
+    /// - those of `Pager::on_arc_deserialized`.
     pub fn on_arc_deserialized(
         &mut self,
         kind: Kind,
@@ -440,7 +460,7 @@ impl<'a, E: Env<Node: NodeSet<E>>, S: PagableStorage<E>> DeserializedArcCache<'a
         self.pager.on_arc_deserialized(kind, key, handle)
     }
 
-    /// The cache forgets all that it knows. It isn't refused.
+    /// Empties the cache. Never fails.
     pub fn clear(&mut self) -> Result<(), Error>
         ensures lent { self.new.pager.ghost_name ≡ self.old.pager.ghost_name }
         ensures calls { Calls OnlyTables (telling S.stored S.is_closed S.failed) self.old.pager.now (λ w w'. ClearCall w result w') self.new.pager.now }

@@ -1,4 +1,5 @@
-//! The pager over the tables: values in memory while a handle pins them, in step with tables of who holds them, over a storage of blobs.
+//! The pager: values that are in memory while a handle pins them, in step with the tables of
+//! handles and nodes, over a storage of blobs.
 #![tactic(auto)]
 
 pub mod lent;

@@ -1,4 +1,5 @@
-//! The pager: values in memory, in step with tables of who holds them, over a storage of blobs; and loads, by steps.
+//! The pager: values in memory, in step with the tables of handles and nodes, over a storage of
+//! blobs; and loads, by steps.
 
 ghost use Rattle.std.specs.{Arc.arc_value, Option.option_map, Prelude.{IfErr, IfNone, IfOk, IsTrue, None, OnOk, Option, Some, false, nat_lt, true, ℕ, ◌≡◌}};
 ghost use Rattle.{futures.specs.{Poll.{IfReady, OnPending}, Task.{IsArmed, Keeps}}, pagable_pager.specs.Polling.PollCall};
@@ -10,7 +11,8 @@ ghost use Rattle.pagable_pager.specs.View.{AsksStorage, Calls, FewerValues, Fits
 ghost use Rattle.pagable_pager_spec.specs.{Calls.{CloseCall, FetchCall, FlushCall, StoreCall}, LoadCalls.{AskCall, BeginCall, BeginKeyCall, LazyCall}, Pager.{IsNew, ValueCall, WellFormed}};
 ghost use Rattle.pagable_pager_spec.specs.{Refusals.load_fault, World.{greatest, seen_as}};
 
-// What ends in `_by` is the call of that name for an owner, who is the caller or a worker at work.
+// A function whose name ends in `_by` is the call of that name for an owner: the caller, or a
+// worker at work.
 pub mod calls;
 pub mod insert;
 pub mod leaf;
@@ -32,7 +34,10 @@ use std::alloc::Global;
 use std::marker::Model;
 use std::sync::Arc;
 
-/// Shared values, their handles and their loads, over a storage of blobs. A call that is refused leaves all as it was and gives its value back, but where its own page says more.
+/// Shared values, their handles and their loads, over a storage of blobs.
+///
+/// A call that fails changes nothing and hands the value that it was given back, except where its
+/// own description says otherwise.
 #[derive(Drop)]
 pub struct Pager<E: Env<Node: NodeSet<E>>, S: PagableStorage<E>> {
     pub(crate) tables: Tables,
@@ -55,7 +60,7 @@ impl<E: Env<Node: NodeSet<E>>, S: PagableStorage<E>> Model for Pager<E, S> {
         (record { tables = p.tables; values = p.values; storage = p.storage; environment = environment_of p.setting }) };
 }
 
-/// The type of the cell's value, where it is a load of one.
+/// Returns the type of the cell's value, if it is a load of a cell.
 pub(crate) fn cell_type(root: LoadRoot) -> Option<u32>
     ensures { result ≡ type_of_root (root_in root) }
 {
@@ -66,7 +71,7 @@ pub(crate) fn cell_type(root: LoadRoot) -> Option<u32>
 }
 
 impl<E: Env<Node: NodeSet<E>>, S: PagableStorage<E>> Pager<E, S> {
-    /// A pager of nothing, over a storage as it stands. It takes no memory.
+    /// Creates an empty pager over a storage, which may hold blobs. It allocates nothing.
     pub fn new(alloc: Global, storage: S, env: E) -> Pager<E, S>
         ensures empty { IsNew (state_in (telling S.stored S.is_closed S.failed) result) }
         ensures storage { result.storage ≡ storage }
@@ -80,8 +85,9 @@ impl<E: Env<Node: NodeSet<E>>, S: PagableStorage<E>> Pager<E, S> {
         }
     }
 
-    /// Makes a pager of nothing, over a storage as it stands, whose environment and session stand outside it too, as they do outside the
-    /// lock of a pager that threads share. It takes no memory.
+    /// Creates an empty pager over a storage, which may hold blobs, with an environment and a
+    /// session that are also used outside of it, as they are outside the lock of a pager that
+    /// threads share. It allocates nothing.
     pub fn shared(alloc: Global, storage: S, setting: Arc<Setting<E>>) -> Pager<E, S>
         ensures empty { IsNew (state_in (telling S.stored S.is_closed S.failed) result) }
         ensures storage { result.storage ≡ storage }
@@ -95,7 +101,7 @@ impl<E: Env<Node: NodeSet<E>>, S: PagableStorage<E>> Pager<E, S> {
         }
     }
 
-    /// The value of a handle's node, where the handle pins it.
+    /// Lends the value of a handle's node, if the handle pins it. Fails with NoSuchHandle only.
     fn held(&self, handle: HandleNumber) -> Result<Option<&Arc<E::Node>>, Error>
         ensures { ValueCall (state_in (telling S.stored S.is_closed S.failed) self.now) handle (seen_as (option_map (λ x. arc_value x.now)) result) }
     {
@@ -106,7 +112,11 @@ impl<E: Env<Node: NodeSet<E>>, S: PagableStorage<E>> Pager<E, S> {
         }
     }
 
-    /// The value of a handle's node, where the handle pins it, and else None. Refused with NoSuchHandle.
+    /// Lends the value of a handle's node; returns None if the handle doesn't pin it.
+    ///
+    /// # Errors
+    ///
+    /// - `NoSuchHandle` if the handle isn't live.
     pub fn value(&self, handle: HandleNumber) -> Result<Option<&E::Node>, Error>
         ensures { ValueCall (state_in (telling S.stored S.is_closed S.failed) self.now) handle (seen_as (option_map (λ x. x.now)) result) }
     {
@@ -117,7 +127,12 @@ impl<E: Env<Node: NodeSet<E>>, S: PagableStorage<E>> Pager<E, S> {
         }
     }
 
-    /// The same value, shared. Refused with NoSuchHandle, and with OutOfMemory where the value can't be shared once more.
+    /// Shares the value of a handle's node; returns None if the handle doesn't pin it.
+    ///
+    /// # Errors
+    ///
+    /// - `NoSuchHandle` if the handle isn't live.
+    /// - `OutOfMemory` if the value can't be shared once more.
     pub fn share(&self, handle: HandleNumber) -> Result<Option<Arc<E::Node>>, Error>
         ensures { Shares arc_value (state_in (telling S.stored S.is_closed S.failed) self.now) handle result }
     {
@@ -128,40 +143,43 @@ impl<E: Env<Node: NodeSet<E>>, S: PagableStorage<E>> Pager<E, S> {
         }
     }
 
-    /// The environment.
+    /// Returns the environment.
     pub fn env(&self) -> &E
         ensures { result.now ≡ self.now.environment }
     {
         &self.setting.get().env
     }
 
-    /// Lends the context of the one session of all values that this pager's storage holds. Which values it keeps no clause says.
+    /// Lends the context of the one session of all values that this pager's storage holds. No
+    /// clause says which values it keeps.
     pub fn session_context(&self) -> &SessionOf<E> {
         &self.setting.get().session
     }
 
-    /// Tells whether no worker of a page-out is at work here, as between any two calls: only a machine has workers from one event to the next.
+    /// Returns whether no page-out worker is at work on this pager, as between any two calls: only a
+    /// machine has workers at work from one event to the next.
     pub fn is_at_rest(&self) -> bool
         ensures { result ≡ true → (v : ℕ) → (core_in (telling S.stored S.is_closed S.failed) self.now).workers v ≡ false }
     {
         self.tables.workers.is_empty()
     }
 
-    /// Tells whether this worker of a page-out is at work here.
+    /// Returns whether this page-out worker is at work on this pager.
     pub fn has_worker(&self, worker: WorkerNumber) -> bool
         ensures { result ≡ (core_in (telling S.stored S.is_closed S.failed) self.now).workers worker.0 }
     {
         self.tables.workers.get(&worker.0).is_some()
     }
 
-    /// The storage.
+    /// Returns the storage.
     pub fn storage(&self) -> &S
         ensures { result.now ≡ self.now.storage }
     {
         &self.storage
     }
 
-    /// Gives the storage back, as it stands; values, handles and loads are gone. It closes and flushes nothing.
+    /// Returns the storage and drops the pager with its values, handles and loads. It neither
+    /// closes nor flushes the storage.
     pub fn into_storage(self) -> S
     where
         E: Drop,
@@ -170,24 +188,32 @@ impl<E: Env<Node: NodeSet<E>>, S: PagableStorage<E>> Pager<E, S> {
         self.storage
     }
 
-    /// What is true of every pager: each kept count is the number of pinning handles, a value is in memory exactly while its node is pinned or has no key, and it owns the handles of its references.
+    /// States the invariant of every pager: each kept count is the number of pinning handles; a
+    /// value is in memory exactly if its node is pinned or has no key; and a value owns the handles
+    /// of its references.
     pub fn is_whole(&self)
         ensures { WellFormed (values_at E.Node.NodeSet E.Env E.Hash.KeyHash self.now.environment) (state_in (telling S.stored S.is_closed S.failed) self.now) }
     {
         let _tables = &self.tables;
     }
 
-    /// Computes whether all that the pager keeps is in step, for tests to ask: each live handle has a node and an owner
-    /// that has it once, each node counts its handles and has its value exactly while one pins it or it has no key, each
-    /// value owns the handles by which it refers, and list and cache name what was given. It takes time for each pair of
-    /// a node and a handle.
+    /// Computes whether all that the pager keeps is consistent, for tests: each live handle has a
+    /// node and an owner that has it once; each node counts its handles, and has its value exactly
+    /// if one pins it or it has no key; each value owns the handles of its references; and list and
+    /// cache name numbers that were given out. It takes time for each pair of a node and a handle.
     pub fn is_sound(&self) -> bool
         ensures { result ≡ is_sound self.now.tables self.now.values }
     {
         soundness::is_sound(&self.tables, &self.values)
     }
 
-    /// The blob under a key. Refused with NoData, OutOfMemory and Storage, as the storage refuses it.
+    /// Fetches the blob under a key.
+    ///
+    /// # Errors
+    ///
+    /// - `NoData` if the storage has no blob under the key.
+    /// - `OutOfMemory` if an allocation fails.
+    /// - `Storage` if the storage fails.
     pub fn fetch(&mut self, alloc: Global, key: DataKey) -> Result<Arc<PagableData>, Error>
         ensures asks { AsksStorage S.is_honest (telling S.stored S.is_closed S.failed) self.old (λ w w'. FetchCall w key (seen_as (λ d. blob_of (arc_value d)) result) w') self.new }
         ensures named { IfOk result (λ found. key_of E.Hash.digest (blob_of (arc_value found)) ≡ key) }
@@ -196,10 +222,12 @@ impl<E: Env<Node: NodeSet<E>>, S: PagableStorage<E>> Pager<E, S> {
         self.storage.fetch_data_blocking(alloc, key)
     }
 
-    /// Polls the fetch of the blob under a key. While it is pending, the storage has left a waker in `cx`, and nothing but the count of failures has changed.
+    /// Polls the fetch of the blob under a key. While it is pending, the storage keeps a waker of
+    /// `cx`, and only its count of failures may have changed.
     ///
     /// # Errors
-    /// - NoData, OutOfMemory, Storage: as the storage refuses it.
+    ///
+    /// - those of `fetch`.
     pub fn poll_fetch(
         &mut self,
         cx: &mut Context<'_>,
@@ -215,7 +243,14 @@ impl<E: Env<Node: NodeSet<E>>, S: PagableStorage<E>> Pager<E, S> {
         self.storage.fetch_data(cx, alloc, key)
     }
 
-    /// Stores a blob, and answers its key. Refused with OutOfMemory, Storage, KeyTaken and Closed, as the storage refuses it.
+    /// Stores a blob and returns its key.
+    ///
+    /// # Errors
+    ///
+    /// - `OutOfMemory` if an allocation fails: the blob isn't stored.
+    /// - `Storage` if the storage fails: the blob isn't stored.
+    /// - `KeyTaken` if another blob is stored under the key.
+    /// - `Closed` if the storage is closed.
     pub fn store(&mut self, alloc: Global, blob: PagableData) -> Result<DataKey, Error>
         ensures asks { AsksStorage S.is_honest (telling S.stored S.is_closed S.failed) self.old (λ w w'. StoreCall (key_of E.Hash.digest) w (blob_of blob) result w') self.new }
         ensures key { IfOk result (λ key. key ≡ key_of E.Hash.digest (blob_of blob)) }
@@ -224,7 +259,12 @@ impl<E: Env<Node: NodeSet<E>>, S: PagableStorage<E>> Pager<E, S> {
         self.storage.store_data(alloc, blob)
     }
 
-    /// Stores a blob under its key, which the caller has made, as before it takes a lock round the pager. Refused as `store` is.
+    /// Stores a blob under its key, which the caller has computed, for example before it takes the
+    /// pager's lock.
+    ///
+    /// # Errors
+    ///
+    /// - those of `store`.
     pub fn store_keyed(
         &mut self,
         alloc: Global,
@@ -239,7 +279,12 @@ impl<E: Env<Node: NodeSet<E>>, S: PagableStorage<E>> Pager<E, S> {
         self.storage.store_keyed(alloc, key, blob)
     }
 
-    /// Has the storage write what it has held back: then all that is stored is made sure of. Refused with OutOfMemory and Storage.
+    /// Makes the storage write what it has held back: afterwards all that is stored is persistent.
+    ///
+    /// # Errors
+    ///
+    /// - `OutOfMemory` if an allocation fails.
+    /// - `Storage` if the storage fails.
     pub fn flush(&mut self) -> Result<(), Error>
         ensures asks { AsksStorage S.is_honest (telling S.stored S.is_closed S.failed) self.old (λ w w'. FlushCall w result w') self.new }
         ensures sure { IsTrue (S.is_honest self.new.storage) → OnOk result (S.flushed self.new.storage ≡ S.stored self.new.storage) }
@@ -248,8 +293,9 @@ impl<E: Env<Node: NodeSet<E>>, S: PagableStorage<E>> Pager<E, S> {
         self.storage.flush()
     }
 
-    /// Closes the storage, which lets all blobs go. The list gives up all entries, with all that goes with them, and the cache forgets all that it knows; from then
-    /// on nothing is listed or known. It isn't refused, and takes no memory.
+    /// Closes the storage, which drops all blobs. Releases all list entries, with all that follows,
+    /// and empties the cache; from then on nothing is listed or cached. Never fails, and allocates
+    /// nothing.
     pub fn close(&mut self) -> Result<(), Error>
         ensures calls { Calls FewerValues (telling S.stored S.is_closed S.failed) self.old (λ w w'. CloseCall w result w') self.new }
         ensures honest { IsTrue (S.is_honest self.new.storage) → IsTrue (S.is_honest self.old.storage) }
@@ -259,7 +305,12 @@ impl<E: Env<Node: NodeSet<E>>, S: PagableStorage<E>> Pager<E, S> {
         Ok(())
     }
 
-    /// A load of a key, without a cell. Refused with NumbersSpent and OutOfMemory.
+    /// Begins a load of a key, without a cell.
+    ///
+    /// # Errors
+    ///
+    /// - `NumbersSpent` if no number is left for a load.
+    /// - `OutOfMemory` if the load can't be allocated.
     pub fn load_key(&mut self, key: DataKey) -> Result<Beginning, Error>
         ensures { Calls OnlyTables (telling S.stored S.is_closed S.failed) self.old (λ w w'. BeginKeyCall w Owner.Caller key result w') self.new }
     {
@@ -273,8 +324,16 @@ impl<E: Env<Node: NodeSet<E>>, S: PagableStorage<E>> Pager<E, S> {
         load::load_key(&mut self.tables, me, key)
     }
 
-    /// A load of a loose handle's cell, with an unpinned clone of the handle; or InMemory, where the value needn't be read. Refused with NoSuchHandle, NotYours,
-    /// WrongMode where the handle isn't loose, NumbersSpent and OutOfMemory.
+    /// Begins a load of a loose handle's cell, which owns an unpinned clone of the handle. Returns
+    /// `InMemory` and changes nothing if the value is in memory.
+    ///
+    /// # Errors
+    ///
+    /// - `NoSuchHandle` if the handle isn't live.
+    /// - `NotYours` if another than the caller has it.
+    /// - `WrongMode` if it isn't loose.
+    /// - `NumbersSpent` if no number is left for the load or the clone.
+    /// - `OutOfMemory` if the load or the clone can't be allocated.
     pub fn load_begin(&mut self, handle: HandleNumber) -> Result<Beginning, Error>
         ensures { Calls OnlyTables (telling S.stored S.is_closed S.failed) self.old (λ w w'. BeginCall w Owner.Caller handle result w') self.new }
     {
@@ -292,7 +351,8 @@ impl<E: Env<Node: NodeSet<E>>, S: PagableStorage<E>> Pager<E, S> {
         load::load_begin(&mut self.tables, me, handle)
     }
 
-    /// A handle of the load's, of the node that the cache gives; or None where it gives none.
+    /// Makes a handle of the node that the cache has, for the load; returns None if the cache has
+    /// none.
     fn load_known(
         &mut self,
         me: Owner,
@@ -307,8 +367,15 @@ impl<E: Env<Node: NodeSet<E>>, S: PagableStorage<E>> Pager<E, S> {
         load::load_known(&mut self.tables, me, load, kind, key)
     }
 
-    /// What a load asks for: the blob of its own key; of a reference a handle of the node that the cache gives, which the load owns, or else the blob. Refused with NoSuchHandle and NotYours; with
-    /// NumbersSpent and OutOfMemory where a handle can't be made; and with NoData, OutOfMemory and Storage, as the storage refuses a blob.
+    /// Fetches what a load needs next. `Root`: the blob of its key. `Nested`: a handle of the
+    /// cached node, which the load owns, or the blob if the cache has none.
+    ///
+    /// # Errors
+    ///
+    /// - `NoSuchHandle` if the load isn't open.
+    /// - `NotYours` if another than the caller began it.
+    /// - `NumbersSpent` or `OutOfMemory` if the handle can't be made.
+    /// - those of `fetch` for a blob.
     pub fn load_fetch(
         &mut self,
         alloc: Global,
@@ -350,8 +417,15 @@ impl<E: Env<Node: NodeSet<E>>, S: PagableStorage<E>> Pager<E, S> {
         }
     }
 
-    /// A reference through a loose handle, of which nothing is read: a handle, which the load owns, of the cell that the cache gives, or of a new one that has this
-    /// key and no value. Refused with NoSuchHandle, NotYours, WrongKind where the kind isn't a loose one, NumbersSpent and OutOfMemory.
+    /// Takes a reference through a loose handle without reading it: returns a handle, which the
+    /// load owns, of the cell that the cache has, or of a new cell with this key and no value.
+    ///
+    /// # Errors
+    ///
+    /// - `NoSuchHandle` if the load isn't open.
+    /// - `NotYours` if another than the caller began it.
+    /// - `WrongKind` if the kind isn't a loose one.
+    /// - `NumbersSpent` or `OutOfMemory` if the handle or the cell can't be made.
     pub fn load_lazy(
         &mut self,
         alloc: Global,
@@ -378,14 +452,20 @@ impl<E: Env<Node: NodeSet<E>>, S: PagableStorage<E>> Pager<E, S> {
         load::load_lazy(&mut self.tables, me, load, kind, key, lists, alloc)
     }
 
-    /// Whether a number is left for a load.
+    /// Returns whether a number is left for a load.
     pub fn has_load_number(&self) -> bool
         ensures { result ≡ nat_lt (core_in (telling S.stored S.is_closed S.failed) self.now).last.load greatest }
     {
         self.tables.last_load < u64::MAX
     }
 
-    /// What an open load of the caller's reads: its key; and as which type, where it is a load of a cell. Refused with NoSuchHandle and NotYours.
+    /// Returns the key that an open load of the caller's reads, and the type of its value if it is
+    /// a load of a cell.
+    ///
+    /// # Errors
+    ///
+    /// - `NoSuchHandle` if the load isn't open.
+    /// - `NotYours` if another than the caller began it.
     pub fn load_of(&self, load: LoadNumber) -> Result<(DataKey, Option<u32>), Error>
         ensures reads { IfOk result (λ r. ReadsAs (core_in (telling S.stored S.is_closed S.failed) self.now) load r.0 r.1) }
         ensures fault { IfErr result (λ e. load_fault (core_in (telling S.stored S.is_closed S.failed) self.now) Owner.Caller load ≡ Some e) }

@@ -1,4 +1,5 @@
-//! Pins of a lent pager, whose cells are read where their values aren't in memory. What they do is told as long as the storage is honest afterwards.
+//! Pins on a lent pager, which load the value if it isn't in memory. Their clauses hold as long as
+//! the storage is honest afterwards.
 
 ghost use Rattle.std.specs.{Arc.arc_value, Prelude.{IsTrue, true, ◌≡◌}};
 ghost use Rattle.{pagable_core.specs.Data.blob_of, pagable_load.specs.{Frames.reading_of, AccessView.{Acts, values_at}}};
@@ -16,7 +17,7 @@ use pagable_value_spec::{DataKey, Error, HandleNumber, LoadNumber};
 use std::alloc::Global;
 use std::sync::Arc;
 
-// The reading of a cell's load that has got its root's blob, by its first step.
+// Makes the reading of a cell's load that has got its root's blob, by its first step.
 #[tactic(auto, using(pagable_load::proofs::LoadSteps::stacking))]
 pub(crate) fn rooted(
     alloc: Global,
@@ -42,7 +43,7 @@ pub(crate) fn rooted(
     }
 }
 
-// Makes the steps of a cell's load up to its end.
+// Makes the steps of a cell's load up to its end, and returns the new Pinned handle.
 #[tactic(auto, using(pagable_load::proofs::LoadSteps::acts_map, crate::proofs::LentPins::ending))]
 pub(crate) fn read_rest<E: Env<Node: NodeSet<E>>, A: Access<E>>(
     access: &mut A,
@@ -60,7 +61,8 @@ pub(crate) fn read_rest<E: Env<Node: NodeSet<E>>, A: Access<E>>(
     }
 }
 
-// The new handle of a pin, from a handle that pinned nothing before, with its value; where that can't be shared, the pin is taken back.
+// Shares the value of a new pin, made by a handle that was unpinned before. If the value can't be
+// shared, undoes the pin.
 fn share_new<E: Env<Node: NodeSet<E>>, A: Access<E>>(
     access: &mut A,
     handle: HandleNumber,
@@ -79,7 +81,8 @@ fn share_new<E: Env<Node: NodeSet<E>>, A: Access<E>>(
     }
 }
 
-// A pin by a lent pager: the borrow checker takes a lent struct where its own type is asked, and not where any access is.
+// Pins by a lent pager. (The borrow checker accepts a lent struct where its own type is required,
+// but not where any access is.)
 fn pin_lent<'a, E: Env<Node: NodeSet<E>>, S: PagableStorage<E>>(
     lent: &mut Lent<'a, E, S>,
     alloc: Global,
@@ -98,8 +101,15 @@ fn pin_lent<'a, E: Env<Node: NodeSet<E>>, S: PagableStorage<E>>(
     share_new(lent, handle, pinned)
 }
 
-/// Pins a loose handle's cell, reading its value from the storage where it isn't in memory, with all that it refers to and that is read
-/// together with it. Answers the Pinned handle and the value, shared. A refusal leaves the handle as it was, and no load open.
+/// Pins a loose handle's cell; if its value isn't in memory, loads it with all that is loaded with
+/// it. Returns the Pinned handle and the shared value.
+///
+/// # Errors
+///
+/// Each error leaves the handle as it was, and no load open.
+///
+/// - those of `Pager::begin_pin` and of a load's steps.
+/// - `OutOfMemory` if the value can't be shared.
 pub fn pin<E: Env<Node: NodeSet<E>>, S: PagableStorage<E>>(
     alloc: Global,
     pager: &mut Pager<E, S>,

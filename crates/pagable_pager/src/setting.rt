@@ -1,4 +1,4 @@
-//! The setting of a pager.
+//! The environment and session of a pager, owned or shared.
 
 ghost use Rattle.std.specs.Prelude.{◌≡◌};
 ghost use Rattle.pagable_pager.specs.Setting.{environment_of};
@@ -7,7 +7,8 @@ use pagable_codec::Env;
 use pagable_core::Setting;
 use std::sync::Arc;
 
-/// Environment and session of a pager: its own, or one that stands outside the pager too, as it does outside a lock.
+/// Environment and session of a pager: its own, or shared with users outside of it, as outside a
+/// lock.
 #[derive(Drop)]
 pub(crate) enum PagerSetting<E: Env> {
     Owned(Setting<E>),

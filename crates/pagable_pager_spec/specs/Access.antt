@@ -1,5 +1,5 @@
--- Whole operations over an access to a pager and a table, which may tell its state: a pin, a reading, a page-out of an item and of the list. Each is
--- a run of the steps of one load or of one worker, up to its answer.
+-- Whole operations on a pager and a table: a pin, a read, a page-out of an item and of the list. Each is a run of the
+-- steps of one load or of one worker, up to its end.
 use Rattle.std.specs.Prelude.{[], Err, false, IfErr, IfOk, List, None, Ok, Option, Result, slice_get, Some, ℕ, ◌+◌, ◌∷◌, ◌≡◌, ◌⊎◌}
 use Rattle.pagable_pager_spec.specs.{Calls.{PinCall, ReleaseCall, TakeCall, UnpinCall}, Events.{Ends, entry_task, IsEntry, no_shelf, reading_of_load, with_entry_taken, with_worker}, Rightness.ReadIsRight}
 use Rattle.pagable_pager_spec.specs.{Kinds.{HasKinds, HasNoKinds}, LoadCalls.{BeginCall, BeginKeyCall}, Loads.{gone_on, ReadingDoes}, Pager.{HoldsItsNodes, HoldsPinned, Moves, PagerState, ReadingBrings, Represents, SameTrees}}
@@ -16,17 +16,17 @@ tells s None R = Unit {0}
 tells None (Some t) R = ⊥
 tells (Some s) (Some t) R = R s t
 
--- R holds between two states, where both are told: what is told afterwards was told before
+-- R holds between the two states, provided that both are known; and if the second is known, so is the first
 pub record Told {S : Type 0} (s t : Option S) (R : S → S → Type 0) : Type 0 where
   pub holds : tells s t R
 
--- A call of the pager: what it does to the plain world, and that no value comes by it.
+-- A call of the pager: what it does to the pager's plain state. It brings no value into memory.
 pub record Called {N E : Type 0} (v : Values N) (does : Core → Type 0) (s s' : PagerState N E) : Type 0 where
   pub step : does s'.core
   pub moves : Moves (λ n x. ⊥) s s'
   pub whole : WellFormed v s'
 
--- of the value that a load read, if it answers one
+-- P holds of the value that a load read, if the load ended with one
 abbrev pub IfReads : {N : Type 0} → Option (LoadAnswer N) → (N → Type 0) → Type 0
 IfReads (Some (LoadAnswer.Read x)) P = P x
 IfReads answer P = Unit {0}
@@ -34,12 +34,13 @@ IfReads answer P = Unit {0}
 pub record ReadingStep {N E : Type 0} (v : Values N) (me : Owner) (reading : Reading) (s : PagerState N E) (answer : Option (LoadAnswer N)) (frames : List Frame) (s' : PagerState N E) : Type 0 where
   pub does : ReadingDoes v s.core me reading answer frames s'.core
   pub moves : Moves (ReadingBrings v s.core reading) s s'
-  -- a value that comes holds its nodes' values, and one that is answered what the handles of its references pin
+  -- a value that is brought into memory holds its nodes' values; a value that is returned holds what its references'
+  -- handles pin
   pub holds : WellFormed v s → Moves (λ n x. HoldsItsNodes v s x) s s'
   pub answers : IfReads answer (HoldsPinned v s')
   pub whole : WellFormed v s'
 
--- a worker's step, from what it has to do to what it has to do then
+-- a worker's step: `todo` is the worker's list before the step, `next` its list after it
 pub record WalkStep {N E B W : Type 0} (m : Seen N B W) (n : ℕ) (todo : List Todo) (s : AccessState N E) (step : Action W) (next : List Todo) (s' : AccessState N E) : Type 0 where
   pub after : Site
   pub does : WalkDoes m n (record { core = s.pager.core; shelf = s.shelf; todo = todo }) step after
@@ -51,24 +52,24 @@ pub record WalkStep {N E B W : Type 0} (m : Seen N B W) (n : ℕ) (todo : List T
   pub writes : TookWrites m.values m.written_of s.pager step
   pub whole : WellFormed m.values s'.pager
 
--- a load's steps up to its end, which is this
+-- the steps of a load up to its end, which is `answer`
 pub data LoadRun {N E : Type 0} (v : Values N) (me : Owner) : Reading → PagerState N E → LoadAnswer N → PagerState N E → Type 0 where
   load-ends : (reading : Reading) (answer : LoadAnswer N) (s s' : PagerState N E) → ReadingStep v me reading s (Some answer) [] s' → LoadRun v me reading s answer s'
   load-goes-on : (reading : Reading) (frames : List Frame) (answer : LoadAnswer N) (s mid s' : PagerState N E) → ReadingStep v me reading s None frames mid → LoadRun v me (gone_on reading frames) mid answer s' → LoadRun v me reading s answer s'
 
--- a worker's steps up to its answer, which is this
+-- the steps of a worker up to its result, which is `answer`
 pub data WorkerRun {N E B W : Type 0} (m : Seen N B W) (n : ℕ) : List Todo → AccessState N E → List (Action W) → WorkerAnswer → AccessState N E → Type 0 where
   worker-ends : (todo next : List Todo) (step : Action W) (answer : WorkerAnswer) (s s' : AccessState N E) → WalkStep m n todo s step next s' → answer_after todo step ≡ Some answer → WorkerRun m n todo s (step ∷ []) answer s'
   worker-goes-on : (todo next : List Todo) (step : Action W) (steps : List (Action W)) (answer : WorkerAnswer) (s mid s' : AccessState N E) → WalkStep m n todo s step next mid → answer_after todo step ≡ None → WorkerRun m n next mid steps answer s'
       → WorkerRun m n todo s (step ∷ steps) answer s'
 
--- what is asked of each step of a run: no value in memory is written later, the types of its blobs are read back, and keys that are taken without being read
--- read as some value
+-- What is asked of each step of a load's run: no value in memory changes later, the types of the load's blobs can be
+-- read back, and each key that the load takes without reading it reads as some value.
 unfoldable pub LoadAsksWell : {N E : Type 0} {v : Values N} {me : Owner} {reading : Reading} {s s' : PagerState N E} {answer : LoadAnswer N} → LoadRun v me reading s answer s' → Type 0
 LoadAsksWell {v = v} (load-ends reading answer s s' step) = HoldsSettled v s' × TakesWell v s reading
 LoadAsksWell {v = v} (load-goes-on reading frames answer s mid s' step more) = HoldsSettled v mid × TakesWell v s reading × LoadAsksWell more
 
--- a load of the handle's cell begins, and this is its reading
+-- a load of the handle's cell begins, and `reading` is its progress
 pub record LoadStarts {N E : Type 0} (v : Values N) (s : PagerState N E) (h : HandleNumber) (reading : Reading) (s' : PagerState N E) : Type 0 where
   pub key : ℕ
   pub begins : Called v (λ w'. BeginCall s.core Owner.Caller h (Ok (Beginning.Load reading.load key)) w') s s'
@@ -82,19 +83,19 @@ pub data PinRun {N E : Type 0} (v : Values N) (s : PagerState N E) (h : HandleNu
   load-pins : (k : HandleNumber) (reading : Reading) (mid s' : PagerState N E) → LoadStarts v s h reading mid → LoadRun v Owner.Caller reading mid (LoadAnswer.Pinned k) s' → PinRun v s h (Ok k) s'
   load-fails : (e : Error) (reading : Reading) (mid s' : PagerState N E) → LoadStarts v s h reading mid → LoadRun v Owner.Caller reading mid (LoadAnswer.Refused e) s' → PinRun v s h (Err e) s'
 
--- the value of the handle's node, which the pin shares
+-- x is the value of the handle's node
 pub record IsValueOf {N E : Type 0} (s : PagerState N E) (k : HandleNumber) (x : N) : Type 0 where
   pub row : HandleRow
   pub live : row_at s.core k ≡ Some row
   pub held : s.values row.node.0 ≡ Some x
 
--- The handle was unpinned before, and its pin is let go again; or it was pinned, and stays so.
+-- The handle was unpinned before the pin, and is unpinned again; or it was pinned, and stays so.
 abbrev pub IsUnpinnedBack : {N E : Type 0} → Values N → Core → HandleNumber → PagerState N E → PagerState N E → Type 0
 IsUnpinnedBack v before h s s' =
     ((row : HandleRow) × (told : Result (Unit {0}) Error) × (row_at before h ≡ Some row) × (row.mode ≡ Mode.LooseUnpinned) × Called v (λ w'. UnpinCall s.core Owner.Caller h told w') s s')
     ⊎ ((row : HandleRow) × (row_at before h ≡ Some row) × (row.mode ≡ Mode.LoosePinned) × Called v (λ w'. Alike s.core w') s s')
 
--- a pin whose value couldn't be shared for want of memory is taken back
+-- a pin that is undone since there was no memory to share its value
 pub record PinTakenBack {N E : Type 0} (v : Values N) (s : PagerState N E) (h : HandleNumber) (s' : PagerState N E) : Type 0 where
   pub k : HandleNumber
   pub mid : PagerState N E
@@ -104,7 +105,7 @@ pub record PinTakenBack {N E : Type 0} (v : Values N) (s : PagerState N E) (h : 
   pub unpins : IsUnpinnedBack v s.core h mid low
   pub releases : Called v (λ w'. ReleaseCall low.core Owner.Caller k told w') low s'
 
--- The answer of a pin, and what it leaves: its handle's value, or a refusal.
+-- What a pin returns, and what it leaves: a handle with its node's value, or an error.
 pub record PinsOver {N E : Type 0} (v : Values N) (s : PagerState N E) (h : HandleNumber) (r : Result (HandleNumber × N) Error) (s' : PagerState N E) : Type 0 where
   pub pins : IfOk r (λ a. PinRun v s h (Ok a.0) s' × IsValueOf s' a.0 a.1)
   pub refused : IfErr r (λ e. PinRun v s h (Err e) s' ⊎ ((e ≡ Error.OutOfMemory) × PinTakenBack v s h s'))
@@ -117,15 +118,15 @@ pub data ReadRun {N E : Type 0} (v : Values N) (s : PagerState N E) (key t : ℕ
   load-reads : (x : N) (l : LoadNumber) (mid s' : PagerState N E) → KeyStarts v s key l mid → LoadRun v Owner.Caller (fresh l t) mid (LoadAnswer.Read x) s' → ReadRun v s key t (Ok x) s'
   reading-fails : (e : Error) (l : LoadNumber) (mid s' : PagerState N E) → KeyStarts v s key l mid → LoadRun v Owner.Caller (fresh l t) mid (LoadAnswer.Refused e) s' → ReadRun v s key t (Err e) s'
 
--- The answer of a reading of a key as a value of a type, and what it leaves.
+-- What a read of a key as a value of a type returns, and what it leaves.
 pub record ReadsOver {N E : Type 0} (v : Values N) (s : PagerState N E) (key t : ℕ) (r : Result N Error) (s' : PagerState N E) : Type 0 where
   pub run : ReadRun v s key t r s'
 
--- each claim of a table has a result, so that nobody waits on it
+-- each claim on the table has a result, so that no worker waits for one
 abbrev pub AllHaveResults : Shelf → Type 0
 AllHaveResults shelf = (i : Identity) (slot : Slot) → shelf.slots i ≡ Some slot → is_open_slot (Some slot) ≡ false
 
--- a worker is at work, under the next number, over this pager
+-- a worker begins, under the next number; `core` is the pager's state without it
 pub record WorkerStarts {N E : Type 0} (v : Values N) (core : Core) (s : PagerState N E) (n : ℕ) (s' : PagerState N E) : Type 0 where
   pub next : n ≡ s.core.last.worker + 1
   pub begins : Called v (λ w'. Alike (with_worker core) w') s s'
@@ -135,26 +136,27 @@ pub data ItemRun {N E B W : Type 0} (m : Seen N B W) (s : AccessState N E) (item
   item-is-walked : (n : ℕ) (steps : List (Action W)) (answer : WorkerAnswer) (mid : PagerState N E) (s' : AccessState N E) → WorkerStarts m.values s.pager.core s.pager n mid
       → WorkerRun m n (first_todo (of_item item)) (record { pager = mid; shelf = s.shelf }) steps answer s' → ItemRun m s item answer s'
 
--- The answer of a page-out of an item on a table, and what it leaves.
+-- What a page-out of an item on a table returns, and what it leaves.
 pub record PagesOutItemOver {N E B W : Type 0} (m : Seen N B W) (s : AccessState N E) (item : Written) (answer : WorkerAnswer) (s' : AccessState N E) : Type 0 where
   pub run : ItemRun m s item answer s'
   pub all_have_results : AllHaveResults s'.shelf
 
--- the cell of the entry at this place has this key, or none
+-- the list has the handle h at this place, and h's cell has this key, or none
 pub record EntryHas (w : Core) (place : ℕ) (h : HandleNumber) (key : OptionalDataKey) : Type 0 where
   pub row : HandleRow
   pub listed : slice_get w.list place ≡ Some h
   pub live : row_at w h ≡ Some row
   pub keyed : key_at w row.node.0 ≡ key
 
--- an entry is paged out on a table of its own, which nothing is told of afterwards
+-- a list entry is paged out on a table of its own, which is dropped afterwards
 pub data EntryRun {N E B W : Type 0} (m : Seen N B W) (s : PagerState N E) (place : ℕ) : WorkerAnswer → PagerState N E → Type 0 where
   entry-is-refused : (h : HandleNumber) (row : HandleRow) (t : ℕ) (s' : PagerState N E) → IsEntry s.core place h row t → HasNoKinds t → Called m.values (λ w'. Alike s.core w') s s' → EntryRun m s place (WorkerAnswer.Failed Error.WrongKind) s'
   no-entry-worker : (e : Error) (s' : PagerState N E) → WorkerFault s.core e → Called m.values (λ w'. Alike s.core w') s s' → EntryRun m s place (WorkerAnswer.Failed e) s'
   entry-is-walked : (h : HandleNumber) (row : HandleRow) (t n : ℕ) (steps : List (Action W)) (answer : WorkerAnswer) (mid : PagerState N E) (s' : AccessState N E) → IsEntry s.core place h row t → HasKinds t
       → WorkerStarts m.values (with_entry_taken s.core place h (record { 0 = n })) s n mid → WorkerRun m n (first_todo (entry_task h row t)) (record { pager = mid; shelf = no_shelf }) steps answer s' → EntryRun m s place answer s'.pager
 
--- A page-out of so many entries, from the last to the first: one whose cell has a key is taken and released, another is paged out, and the first failure is the end.
+-- A page-out of the list's first i entries, from the last of them to the first. An entry whose cell has a key is taken
+-- and released; any other is paged out. The first failure ends it.
 pub data ListRun {N E B W : Type 0} (m : Seen N B W) : ℕ → PagerState N E → Result (Unit {0}) WorkerAnswer → PagerState N E → Type 0 where
   no-more : (s : PagerState N E) → ListRun m 0 s (Ok tt) s
   skips : (i place key : ℕ) (h : HandleNumber) (told : Result (Unit {0}) Error) (answer : Result (Unit {0}) WorkerAnswer) (s mid low s' : PagerState N E) → i ≡ place + 1 → EntryHas s.core place h (OptionalDataKey.Some key)
@@ -163,17 +165,18 @@ pub data ListRun {N E B W : Type 0} (m : Seen N B W) : ℕ → PagerState N E �
       → ListRun m place mid answer s' → ListRun m i s answer s'
   fails : (i place : ℕ) (h : HandleNumber) (e : Error) (s s' : PagerState N E) → i ≡ place + 1 → EntryHas s.core place h OptionalDataKey.None → EntryRun m s place (WorkerAnswer.Failed e) s' → ListRun m i s (Err (WorkerAnswer.Failed e)) s'
 
--- for each choice of trees that the pager stood for there is one, the same for the nodes that were there, that it stands for now, and P holds
+-- whatever trees the pager stood for before, it stands for some trees now, which are the same for the nodes that
+-- existed before, and P holds of both
 abbrev pub LeadsToTrees : {N E : Type 0} → Values N → PagerState N E → PagerState N E → ((ℕ → Tree) → (ℕ → Tree) → Type 0) → Type 0
 LeadsToTrees v s s' P = IsLawful v → HoldsSettled v s → (trees : ℕ → Tree) → Represents v s trees → (trees' : ℕ
     → Tree) × SameTrees s.core.last.node trees trees' × Represents v s' trees' × P trees trees'
 
--- The law of loads that end with a pin: the value of its handle's node stands for the node's tree.
+-- The law of loads that end with a pin: the value of the pinned node stands for the node's tree.
 abbrev pub PinLaw : {N : Type 0} → (E : Type 0) → Values N → Type 0
 PinLaw {N} E v = (s mid s' : PagerState N E) (h k : HandleNumber) (reading : Reading) (x : N) (row : HandleRow) (run : LoadRun v Owner.Caller reading mid (LoadAnswer.Pinned k) s')
     → WellFormed v s → LoadStarts v s h reading mid → LoadAsksWell run → row_at s'.core k ≡ Some row → s'.values row.node.0 ≡ Some x → LeadsToTrees v s s' (λ trees trees'. ValueStands v s' x (trees' row.node.0))
 
--- The law of loads that read a key: their value stands for the tree that the key reads as.
+-- The law of loads that read a key: the value that they return stands for the tree that the key reads as.
 abbrev pub ReadLaw : {N : Type 0} → (E : Type 0) → Values N → Type 0
 ReadLaw {N} E v = (s mid s' : PagerState N E) (key t : ℕ) (l : LoadNumber) (x : N) (run : LoadRun v Owner.Caller (fresh l t) mid (LoadAnswer.Read x) s')
     → WellFormed v s → KeyStarts v s key l mid → LoadAsksWell run → IsSettled v x → LeadsToTrees v s s' (λ trees trees'. ReadIsRight v s' key x)

@@ -1,4 +1,5 @@
--- The plain types of which the world speaks, from one place; and words on lists, and on functions of a number.
+-- The types that the specification of the pager uses, re-exported here; and functions on lists, and on functions of a
+-- number.
 use Rattle.std.specs.Prelude.{[], Bool, false, if◌then◌else◌, List, map, None, Option, slice_get, Some, sum_by, ℕ, ◌==◌, ◌||◌, ◌∷◌, ◌≡◌}
 pub use Rattle.pagable_value_spec.specs.{Blob.Blob, declared.{data_key.OptionalDataKey.OptionalDataKey, error.Error.Error, numbers.{ArcRef.ArcRef, HandleNumber.HandleNumber, Identity.Identity, Kind.Kind}}}
 pub use Rattle.pagable_value_spec.specs.{declared.numbers.{LoadNumber.LoadNumber, NodeNumber.NodeNumber, WorkerNumber.WorkerNumber}, Height.{above, deepest_path, height, is_eager, is_loose_kind}}
@@ -7,11 +8,11 @@ pub use Rattle.pagable_pager_spec.specs.declared.{pinning.{Beginning.Beginning, 
 pub use Rattle.pagable_pager_spec.specs.declared.events.{EventReply.EventReply, LoadAnswer.LoadAnswer, LoadReply.LoadReply, PinStep.PinStep, TableNumber.TableNumber, Action.Action, WorkerAnswer.WorkerAnswer}
 pub use Rattle.pagable_pager_spec.specs.declared.{events.WorkerReply.WorkerReply, handle_row.{HandleRow.HandleRow, Owner.Owner}, mode.Mode.Mode}
 
--- 1 for true, so that rows are counted by a sum
+-- 1 for true and 0 for false, so that a sum counts rows
 abbrev pub one : Bool → ℕ
 one b = if b then 1 else 0
 
--- x stands in the list
+-- the list contains x
 abbrev pub Among : {X : Type 0} → List X → X → Type 0
 Among xs x = (i : ℕ) × (slice_get xs i ≡ Some x)
 
@@ -19,7 +20,7 @@ Among xs x = (i : ℕ) × (slice_get xs i ≡ Some x)
 abbrev pub times : {X : Type 0} → (X → Bool) → List X → ℕ
 times test xs = sum_by (λ x. one (test x)) xs
 
--- the list in which f was done to the elements that pass the test
+-- the list with f applied to the elements that pass the test
 abbrev pub changed : {X : Type 0} → (X → Bool) → (X → X) → List X → List X
 changed test f xs = map (λ x. if test x then f x else x) xs
 
@@ -27,11 +28,11 @@ unfoldable pub is_in : List ℕ → ℕ → Bool
 is_in [] q = false
 is_in (x ∷ xs) q = (x == q) || is_in xs q
 
--- the function with another value at one number
+-- the function with the value x at n
 abbrev pub updated : {X : Type 0} → ℕ → X → (ℕ → X) → ℕ → X
 updated n x f q = if q == n then x else f q
 
--- what f says of what there is, or else this
+-- f of the value if there is one, and y otherwise
 abbrev pub if_there : {X Y : Type 0} → (X → Y) → Y → Option X → Y
 if_there f y None = y
 if_there f y (Some x) = f x
@@ -40,6 +41,6 @@ abbrev pub or_else : {X : Type 0} → Option X → Option X → Option X
 or_else (Some x) y = Some x
 or_else None y = y
 
--- the two functions say the same of every number
+-- the two functions have the same value at every number
 abbrev pub SameAt : {X : Type 0} → (ℕ → X) → (ℕ → X) → Type 0
 SameAt f g = (q : ℕ) → g q ≡ f q

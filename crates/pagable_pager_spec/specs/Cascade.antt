@@ -1,4 +1,6 @@
--- Handles are given up, with all that goes with them, and cells that lose their last pin are listed. There is one way for all calls and steps: the least set that holds the given handles falls.
+-- The release of handles with all that follows from it: values that are dropped release the handles that they own, and
+-- cells that lose their last pin are listed. All calls and steps release in this one way: the least closed set that
+-- contains the given handles.
 use Rattle.std.specs.Prelude.{ℕ, ◌≡◌, ◌+◌, ◌<◌, ◌≤◌, ◌==◌, ◌&&◌, ◌⊎◌, ◌++◌, Bool, true, false, not, if◌then◌else◌, List, [], ◌∷◌, filter, map, length, Result, IfOk, IfErr, nat_lt, nat_eq, None}
 use Rattle.pagable_pager_spec.specs.{Basics.{Error, HandleNumber, HandleRow, times, Owner, Mode}, Kinds.{is_owned_by, owner_value, is_at, is_pin, held, pins, sharing, has_key}}
 use Rattle.pagable_pager_spec.specs.World.{Core, greatest, key_at, Alike}
@@ -6,7 +8,8 @@ use Rattle.pagable_pager_spec.specs.World.{Core, greatest, key_at, Alike}
 abbrev pub is_outside : (ℕ → Bool) → HandleRow → Bool
 is_outside s h = not (s h.number.0)
 
--- how many handles outside the set the node has, how many pin it, and how many its value owns
+-- how many handles outside the set s the node has; below: how many of these pin it, and how many its value owns outside
+-- s
 abbrev pub held_outside : List HandleRow → (ℕ → Bool) → ℕ → ℕ
 held_outside rows s n = times (λ h. is_at n h && is_outside s h) rows
 
@@ -16,26 +19,27 @@ pins_outside rows s n = times (λ h. is_pin n h && is_outside s h) rows
 abbrev pub owned_outside : List HandleRow → (ℕ → Bool) → ℕ → ℕ
 owned_outside rows s n = times (λ h. is_owned_by (owner_value n) h && is_outside s h) rows
 
--- The node's value goes where the handles of the set go and these entries come to the list: a node with a key loses it with its last pin, a shared
--- node or a cell without a key with its last handle, unless an entry of the list comes for it.
+-- Whether the node's value is dropped if the handles of the set s are released and these entries are added to the list:
+-- a node with a key loses its value with its last pin; a shared node or a cell without a key loses it with its last
+-- handle, unless one of the new entries is a handle of it.
 abbrev pub loses_value : List HandleRow → (ℕ → Bool) → List HandleRow → (ℕ → Bool) → ℕ → Bool
 loses_value rows keyed entries s n = if keyed n then nat_eq (pins_outside rows s n) 0 else nat_eq (held n entries) 0 && nat_eq (held_outside rows s n) 0
 
--- no more follows: of each value that goes, all handles that it owns are in the set
+-- nothing more follows: if a value is dropped, all handles that it owns are in the set
 abbrev pub IsClosed : List HandleRow → (ℕ → Bool) → List HandleRow → (ℕ → Bool) → Type 0
 IsClosed rows keyed entries s = (n : ℕ) → loses_value rows keyed entries s n ≡ true → owned_outside rows s n ≡ 0
 
--- each live handle in the one set is in the other
+-- each live handle in s is in t
 abbrev pub IsWithin : List HandleRow → (ℕ → Bool) → (ℕ → Bool) → Type 0
 IsWithin rows s t = times (λ h. s h.number.0 && not (t h.number.0)) rows ≡ 0
 
--- the least closed set that holds the given handles
+-- s is the least closed set that contains the given handles
 pub record IsLeast (rows : List HandleRow) (keyed : ℕ → Bool) (entries : List HandleRow) (given s : ℕ → Bool) : Type 0 where
   pub holds : IsWithin rows given s
   pub closed : IsClosed rows keyed entries s
   pub least : (t : ℕ → Bool) → IsWithin rows given t → IsClosed rows keyed entries t → IsWithin rows s t
 
--- new entries of the list have the numbers above the last one given, in their order, and are unpinned handles
+-- new list entries: unpinned handles with consecutive numbers above the last one given out
 abbrev pub AreNewEntries : ℕ → List HandleRow → Type 0
 AreNewEntries last [] = Unit {0}
 AreNewEntries last (h ∷ hs) = (h.number.0 ≡ last + 1) × (h.mode ≡ Mode.LooseUnpinned) × (h.owner ≡ Owner.List) × AreNewEntries (last + 1) hs
@@ -43,7 +47,8 @@ AreNewEntries last (h ∷ hs) = (h.number.0 ≡ last + 1) × (h.mode ≡ Mode.Lo
 abbrev pub is_keyed : Core → ℕ → Bool
 is_keyed w n = has_key (key_at w n)
 
--- A cell without a key has lost its last pin. It must be listed, if the storage is open. Before is the world that the call found.
+-- A cell without a key has lost its last pin, so it must be listed if the storage is open. `before` is the state that
+-- the call found.
 pub record MustList (before w w' : Core) (n : ℕ) : Type 0 where
   pub pinned : 0 < pins n before.rows
   pub unpinned : pins n w'.rows ≡ 0
@@ -51,17 +56,18 @@ pub record MustList (before w w' : Core) (n : ℕ) : Type 0 where
   pub unshared : sharing n before.rows ≡ 0
   pub stands_open : w.closed ≡ false
 
--- the vector of handles had no place left, or the list had none by then
+-- there was no room for one more row, or none for one more entry
 abbrev pub IsPlaceWanting : Core → Core → Type 0
 IsPlaceWanting w w' = (w.places.handles ≤ length w.rows) ⊎ (w.places.entries ≤ length w'.list)
 
--- what is answered then: memory is wanting only where a number was left at first
+-- the error for an entry that couldn't be added: NumbersSpent, or OutOfMemory if a number was left at first
 abbrev pub IsListRefusal : Core → Core → Error → Type 0
 IsListRefusal w w' Error.NumbersSpent = greatest ≤ w'.last.handle
 IsListRefusal w w' Error.OutOfMemory = IsPlaceWanting w w' × (w.last.handle < greatest)
 IsListRefusal w w' _ = ⊥
 
--- what the answer tells of the listing: all that must be listed is, or some cell isn't
+-- what the result says about the listing: Ok means that every cell that must be listed is; an error means that some
+-- cell isn't
 pub record TellsListing (before w : Core) (entries : List HandleRow) (r : Result (Unit {0}) Error) (w' : Core) : Type 0 where
   pub all : IfOk r (λ u. (n : ℕ) → MustList before w w' n → held n entries ≡ 1)
   pub not_all : IfErr r (λ e. (n : ℕ) × MustList before w w' n × (held n entries ≡ 0) × IsListRefusal w w' e)
@@ -69,7 +75,8 @@ pub record TellsListing (before w : Core) (entries : List HandleRow) (r : Result
 abbrev pub left_rows : (ℕ → Bool) → List HandleRow → List HandleRow
 left_rows gone rows = filter (λ h. not (gone h.number.0)) rows
 
--- the rows that are left and the new entries, of which the list has each at its end; and the cells that still have a handle
+-- The state after the release: the rows that are left and the new entries; the cells that still have a handle; and the
+-- list, with its released entries removed and the new ones at its end.
 abbrev pub fallen : Core → (ℕ → Bool) → List HandleRow → Core
 fallen w gone entries = record w {
   rows = left_rows gone w.rows ++ entries;
@@ -78,12 +85,14 @@ fallen w gone entries = record w {
   last = record w.last { handle = w.last.handle + length entries };
 }
 
--- The given handles go from the world w, in which a call has done what it does directly, and with them the least set.
+-- The given handles, and the least closed set that contains them, are released from the state w, which is the state
+-- after the call's direct effect.
 pub record Falls (before w : Core) (given : ℕ → Bool) (r : Result (Unit {0}) Error) (w' : Core) : Type 0 where
   pub gone : ℕ → Bool
   pub entries : List HandleRow
   pub set : IsLeast w.rows (is_keyed w) entries given gone
-  -- an entry comes for a cell that must be listed, one for each; and where none comes no number is left, or no place
+  -- each new entry is of a cell that must be listed, one for each; if such a cell has none, no number was left, or no
+  -- room
   pub new : AreNewEntries w.last.handle entries
   pub only : (n : ℕ) → 0 < held n entries → MustList before w w' n × (held n entries ≡ 1)
   pub each : (n : ℕ) → MustList before w w' n → (held n entries ≡ 1) ⊎ (greatest ≤ w'.last.handle) ⊎ IsPlaceWanting w w'
@@ -91,7 +100,7 @@ pub record Falls (before w : Core) (given : ℕ → Bool) (r : Result (Unit {0})
   pub within : w.last.handle + length entries ≤ greatest
   pub leaves : Alike (fallen w gone entries) w'
 
--- given up, whatever the listing came to
+-- released, whatever the listing's result was
 pub record FallsAnyhow (before w : Core) (given : ℕ → Bool) (w' : Core) : Type 0 where
   pub told : Result (Unit {0}) Error
   pub falls : Falls before w given told w'

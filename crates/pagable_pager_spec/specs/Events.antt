@@ -1,4 +1,5 @@
--- One call of the pager: the step of its plain world that it is, by the call alone, with a reply of the call's type. One event: a call, a load's step, or a worker's.
+-- One call of the pager: its effect on the plain state, and a reply of the call's type. One event: a call, or one step
+-- of a load or of a worker.
 use Rattle.std.specs.{Prelude.{◌≡◌, length, ℕ, Bool, Option, Result, ◌+◌, ◌<◌, ◌≤◌, ◌⊎◌, if◌then◌else◌, true, List, Some, None, is_some, IfOk, IfErr, slice_get, is_none}, List.remove}
 use Rattle.pagable_pager_spec.specs.Basics.{Mode, Blob, Error, HandleNumber, WorkerNumber, Owner, Call, Found, Reply, Beginning, TableNumber, LoadReply, WorkerReply, EventReply, LoadNumber, HandleRow}
 use Rattle.pagable_pager_spec.specs.{Basics.{LoadAnswer, WorkerAnswer, Event, SameAt, updated, if_there, or_else}, Kinds.{loose_kind, HasKinds, HasNoKinds}, World.{Core, Alike, Seen, digest, seen_as}}
@@ -8,7 +9,7 @@ use Rattle.pagable_pager_spec.specs.Calls.{CountCall, KeyCall, AwayCall, NodeCal
 use Rattle.pagable_pager_spec.specs.{Calls.{FlushCall, CloseCall, moved}, LoadCalls.{BeginCall, BeginKeyCall, Given, from_cache, from_store, AskCall, AdoptCall, LazyCall, EndCall, HandOverCall, DropCall}}
 use Rattle.pagable_pager_spec.specs.{Loads.{ReadingDoes, gone_on}, Workers.{Site, WalkDoes, WorkerEnds, first_todo, fresh, answer_after, is_counted}}
 
--- what was found, with the blob as it is seen
+-- what was found, with the blob as `Blob`
 abbrev pub given_of : {B : Type 0} → (B → Blob) → Found B → Given
 given_of f (Found.Cached k) = from_cache k
 given_of f (Found.Blob b) = from_store (f b)
@@ -31,7 +32,7 @@ Does m w me (Call.NodeOf h) (Reply.Node r) w' = NodeCall w h r × Alike w w'
 Does m w me (Call.NodeLive n) (Reply.NodeType t) w' = TypeCall w n t × Alike w w'
 Does m w me (Call.ScheduleForPaging h) (Reply.Done r) w' = ScheduleCall w me h r w'
 Does m w me Call.Pending (Reply.Length n) w' = (n ≡ length w.list) × Alike w w'
-Does m w me (Call.TakePending i) (Reply.PinnedOrLoading h) w' = TakeCall w me i h w'
+Does m w me (Call.TakePending i) (Reply.TakenPending h) w' = TakeCall w me i h w'
 Does m w me (Call.CacheGet kind key) (Reply.FromCache r) w' = RecallCall w me kind key r w'
 Does m w me (Call.OnArcDeserialized kind key h) (Reply.FromCache r) w' = OfferCall w me kind key h r w'
 Does m w me Call.CacheClear (Reply.Done r) w' = ClearCall w r w'
@@ -51,11 +52,11 @@ Does m w me Call.Room (Reply.Length n) w' = (n ≡ room_of w) × Alike w w'
 Does m w me Call.Close (Reply.Done r) w' = CloseCall w r w'
 Does m w me call reply w' = ⊥
 
--- The world may give this reply to the call of this one who asks, and go on to the new world.
+-- In the state w the call of `me` may return this reply and lead to the state w'.
 pub record CallStep {N B W : Type 0} (m : Seen N B W) (w : Core) (me : Owner) (call : Call N B) (reply : Reply N B) (w' : Core) : Type 0 where
   pub does : Does m w me call reply w'
 
--- the readings of open loads are these, and a load that was closed has none
+-- the loads' readings are these, except that a closed load has none
 abbrev pub ReadingsAre : (ℕ → Option Reading) → World → Type 0
 ReadingsAre readings u' = (l : ℕ) → u'.work.readings l ≡ if_there (λ load. readings l) None (u'.core.loads l)
 
@@ -81,14 +82,15 @@ reading_of_root l of_key = None
 abbrev pub reading_of_load : LoadNumber → Option OpenLoad → Option Reading
 reading_of_load l load = if_there (λ (load : OpenLoad). reading_of_root l load.root) None load
 
--- how far the load is: at its first step a load of a cell has just begun; a load of a key that a call began is read by nobody
+-- The load's reading: a load of a cell has a fresh one before its first step. A load of a key that a plain call began
+-- has none, and the machine makes no steps of it.
 abbrev pub reading_at : World → LoadNumber → Option Reading
 reading_at u l = or_else (u.work.readings l.0) (reading_of_load l (u.core.loads l.0))
 
 abbrev pub step_fault : World → LoadNumber → Option Error
 step_fault u l = earlier (load_fault u.core Owner.Caller l) (refused_if (is_none (reading_at u l)) Error.WrongMode)
 
--- the load's reading after a step: with its frames, or gone
+-- the load's reading after a step: with its new frames, or None if it has ended
 abbrev pub reading_after : {N : Type 0} → Option (LoadAnswer N) → Reading → List Frame → Option Reading
 reading_after None reading frames = Some (gone_on reading frames)
 reading_after (Some answer) reading frames = None
@@ -112,7 +114,7 @@ abbrev pub begun_readings : Beginning → ℕ → (ℕ → Option Reading) → �
 begun_readings Beginning.InMemory t readings = readings
 begun_readings (Beginning.Load l key) t readings = updated l.0 (Some (fresh l t)) readings
 
--- a load of a key begins, which is read as a value of this type
+-- a load of a key begins, which is to be read as a value of this type
 pub record KeyStarted (u : World) (key t : ℕ) (r : Result Beginning Error) (u' : World) : Type 0 where
   pub step : BeginKeyCall u.core Owner.Caller key r u'.core
   pub begun : IfOk r (λ b. ReadingsAre (begun_readings b t u.work.readings) u')
@@ -127,7 +129,7 @@ pub record WorkIs (shelves : ℕ → Shelf) (last : ℕ) (walkings : ℕ → Opt
   pub last_is : work.last_table ≡ last
   pub same_walkings : SameAt walkings work.walkings
 
--- a new table, under the next number, which is never wanting
+-- a new table, under the next number; numbers of tables never run out
 pub record Tabled (u : World) (r : Result TableNumber Error) (u' : World) : Type 0 where
   pub made : IfOk r (λ t. (t.0 ≡ u.work.last_table + 1) × Alike u.core u'.core × ReadingsAre u.work.readings u' × WorkIs (updated t.0 no_shelf u.work.shelves) t.0 u.work.walkings u'.work)
   pub refused : IfErr r (λ e. (e ≡ Error.OutOfMemory) × Stays u u')
@@ -145,7 +147,7 @@ with_worker w = record w { workers = updated (w.last.worker + 1) true w.workers;
 abbrev pub new_walking : TableNumber → Task → Walking
 new_walking t task = record { table = t.0; task = task; todo = first_todo task; steps = 0; answer = None }
 
--- a worker of this number starts on the table, and the pager becomes this
+-- a worker with the number v begins on the table, and the pager's state becomes `core` with this worker
 pub record Starts (u : World) (t : TableNumber) (task : Task) (core : Core) (v : WorkerNumber) (u' : World) : Type 0 where
   pub table : IsTable u t
   pub next : v.0 ≡ u.core.last.worker + 1
@@ -157,21 +159,22 @@ pub record StartedItem (u : World) (t : TableNumber) (task : Task) (r : Result W
   pub starts : IfOk r (λ v. Starts u t task u.core v u')
   pub refused : IfErr r (λ e. (((e ≡ Error.NoSuchHandle) × IsNoTable u t) ⊎ ((WorkerFault u.core e ⊎ (e ≡ Error.OutOfMemory)) × IsTable u t)) × Stays u u')
 
--- the entry at this place is of a cell of this type
+-- the list has the handle h at this place, and h's cell is of this type
 pub record IsEntry (w : Core) (i : ℕ) (h : HandleNumber) (row : HandleRow) (t : ℕ) : Type 0 where
   pub listed : slice_get w.list i ≡ Some h
   pub live : row_at w h ≡ Some row
   pub typed : type_at w row.node.0 ≡ Some t
 
--- the entry moves to the worker
+-- the entry moves from the list to the worker
 abbrev pub with_entry_taken : Core → ℕ → HandleNumber → WorkerNumber → Core
 with_entry_taken w i h v = record w { rows = moved (only_handle h) (Owner.Worker v) w.rows; list = remove w.list i }
 
--- what a worker for an entry does: the cell is paged out as a loose handle sees it
+-- the task of a worker for an entry: its cell, as a loose handle refers to it
 abbrev pub entry_task : HandleNumber → HandleRow → ℕ → Task
 entry_task h row t = of_entry h (record { kind = record { 0 = loose_kind t }; node = row.node })
 
--- A worker for an entry of the list, which moves to it. A cell whose type is too great a number for its kinds is refused.
+-- A worker begins for a list entry, which it owns from then on. It fails with WrongKind for a type whose kinds would
+-- exceed 32 bits.
 pub record StartedListed (u : World) (t : TableNumber) (i : ℕ) (r : Result WorkerNumber Error) (u' : World) : Type 0 where
   pub starts : IfOk r (λ v. (h : HandleNumber) × (row : HandleRow) × (type : ℕ) × IsEntry u.core i h row type × HasKinds type × Starts u t (entry_task h row type) (with_entry_taken u.core i h v) v u')
   pub refused : IfErr r (λ e. (((e ≡ Error.NoSuchHandle) × (IsNoTable u t ⊎ (length u.core.list ≤ i)))
@@ -182,12 +185,12 @@ pub record StartedListed (u : World) (t : TableNumber) (i : ℕ) (r : Result Wor
 abbrev pub steps_after : ℕ → Bool → ℕ
 steps_after n counted = if counted then one_more n else n
 
--- with its answer a worker ends
+-- a worker ends with its result; otherwise nothing more happens
 abbrev pub Ends : Option WorkerAnswer → ℕ → Core → Core → Type 0
 Ends None v w w' = Alike w w'
 Ends (Some answer) v w w' = WorkerEnds w v w'
 
--- a worker makes its next step, which changes the pager, its table and itself
+-- a worker makes its next step, which changes the pager, the worker's table and the worker
 pub record WorkerSteps {N B W : Type 0} (m : Seen N B W) (u : World) (v : WorkerNumber) (reply : WorkerReply W) (u' : World) : Type 0 where
   pub walking : Walking
   pub after : Site
@@ -200,7 +203,8 @@ pub record WorkerSteps {N B W : Type 0} (m : Seen N B W) (u : World) (v : Worker
   pub readings : ReadingsAre u.work.readings u'
   pub work : WorkIs (updated walking.table after.shelf u.work.shelves) u.work.last_table (updated v.0 (Some (record walking { todo = after.todo; steps = reply.steps; answer = reply.answer })) u.work.walkings) u'.work
 
--- a worker's next step; or there is no such worker, or it has answered, and nothing changes
+-- A worker makes its next step. If there is no such worker, or it has its result already, the call fails with
+-- NoSuchHandle, and nothing changes.
 pub record WorkerStepped {N B W : Type 0} (m : Seen N B W) (u : World) (v : WorkerNumber) (r : Result (WorkerReply W) Error) (u' : World) : Type 0 where
   pub moves : IfOk r (λ reply. WorkerSteps m u v reply u')
   pub refused : IfErr r (λ e. (e ≡ Error.NoSuchHandle) × (if_there (λ (walking : Walking). is_some walking.answer) true (u.work.walkings v.0) ≡ true) × Stays u u')
@@ -216,6 +220,6 @@ Happens m u (Event.WorkerListed t i) (EventReply.WorkerMade r) u' = StartedListe
 Happens m u (Event.WorkerStep v) (EventReply.WorkerMoved r) u' = WorkerStepped m u v r u'
 Happens m u event reply u' = ⊥
 
--- The world may give this reply to the event, and go on to the new world.
+-- In the state u the event may return this reply and lead to the state u'.
 pub record Step {N B W : Type 0} (m : Seen N B W) (u : World) (event : Event N B W) (reply : EventReply N B W) (u' : World) : Type 0 where
   pub happens : Happens m u event reply u'

@@ -1,32 +1,35 @@
--- A load's steps: a fetch, a lazily read cell or an adoption each, and in the end a pin, an answer or a refusal. What it does next is told by the innermost of its blobs.
+-- A load's steps: each fetches a blob, takes a cell without reading it, or makes a node; the last one pins, returns a
+-- value, or fails. The innermost of the load's blobs decides what the next step is.
 use Rattle.std.specs.Prelude.{[], Err, if◌then◌else◌, length, List, map, None, Ok, Option, Result, slice_get, Some, ℕ, ◌++◌, ◌+◌, ◌<◌, ◌==◌, ◌∷◌, ◌≡◌, ◌≤◌, ◌⊎◌}
 use Rattle.{pagable_value_spec.specs.{Reading.{read_typed, Rest}, Cursor.{Answer, handles_at}}, pagable_pager_spec.specs.LoadCalls.{AdoptCall, AskCall, EndCall, from_cache, from_store, HandOverCall}}
 use Rattle.pagable_pager_spec.specs.{LoadCalls.{LazyCall, LoadCloses}, Basics.{ArcRef, Blob, Error, HandleNumber, HandleRow, is_eager, Kind, LoadAnswer, longest_path, Meaning, Owner, type_of, Types, Want}}
 use Rattle.pagable_pager_spec.specs.World.{Alike, Core, Frame, of_cell, of_key, one_more, OpenLoad, Reading, Root, row_at, Values}
 
--- A reference that was got is answered as its own kind. One that wasn't is refused by a name that tells its kind, and that no reader has as a cause of its own.
+-- The look-up of a reference while a blob is read: a reference that the load has got is returned, if it has the right
+-- kind. For one that it hasn't got yet the look-up fails with Storage(kind), an error that no reader may add of its
+-- own: so it tells the load which kind to fetch next.
 abbrev pub answer_of : Option ArcRef → ℕ → Result ArcRef Error
 answer_of None kind = Err (Error.Storage kind)
 answer_of (Some r) kind = if r.kind.0 == kind then Ok r else Err Error.WrongKind
 
--- the answers to a blob's keys, from this place on
+-- the look-ups for a blob's keys, from this place on
 unfoldable pub answers_from : List ArcRef → ℕ → List ℕ → List Answer
 answers_from got place [] = []
 answers_from got place (key ∷ keys) = (λ kind. answer_of (slice_get got place) kind) ∷ answers_from got (place + 1) keys
 
--- what the blob reads as, as a value of the type, with these references
+-- what the blob reads as, as a value of the type t, if the load has got these references
 abbrev pub read_with : Types → ℕ → Blob → List ArcRef → Result (Meaning ArcRef × Rest Answer) Error
 read_with types t blob got = read_typed (handles_at 0 types.parts) (types.nodes t) (record { bytes = blob.bytes; refs = answers_from got 0 blob.keys })
 
 pub data Next : Type 0 where
-  -- the blob is read to its end, and means this
+  -- the blob can be read to its end, and means this
   reads : Meaning ArcRef → Next
-  -- a reference of this kind stands under this key
+  -- reading needs a reference of this kind, whose key is this
   asks : Kind → ℕ → Next
-  -- the blob is refused
+  -- reading the blob fails
   is_faulty : Error → Next
 
--- what comes next
+-- what follows if reading needs a reference: it is asked for, or no key is left
 abbrev pub asks_for : ℕ → Option ℕ → Next
 asks_for kind None = is_faulty Error.NoMoreKeys
 asks_for kind (Some key) = asks (record { 0 = kind }) key
@@ -39,11 +42,11 @@ next_by key (Err e) = is_faulty e
 abbrev pub next_of : Types → ℕ → Blob → List ArcRef → Next
 next_of types t blob got = next_by (slice_get blob.keys (length got)) (read_with types t blob got)
 
--- what the innermost blob of a load asks for next
+-- what the load's innermost blob needs next
 abbrev pub next_in : Types → Frame → Next
 next_in types frame = next_of types frame.node_type frame.blob frame.got
 
--- the value was read of the blob: it is of the blob's type, and means what the blob reads as
+-- x is what the blob reads as: of the blob's type, and with that meaning
 pub record IsDecoded {N : Type 0} (v : Values N) (frame : Frame) (x : N) : Type 0 where
   pub own : Meaning ArcRef
   pub read : next_in v.types frame ≡ reads own
@@ -51,15 +54,15 @@ pub record IsDecoded {N : Type 0} (v : Values N) (frame : Frame) (x : N) : Type 
   pub means : v.means x own
 
 pub data Need : Type 0 where
-  -- the blob of its own key
+  -- the blob of the load's own key
   needs_root : Need
-  -- a reference of this kind under this key, which is read together with the value, or isn't
+  -- a reference of this kind and key: one that is loaded with the value, or a loose one, which isn't
   needs_nested needs_lazy : Kind → ℕ → Need
-  -- a node of what the innermost blob reads as, for the blob below it
+  -- a node for the value of the innermost blob
   to_adopt : Need
-  -- nothing more: the root is read
+  -- nothing more: the root's value can be read
   to_end : Need
-  -- the innermost blob is refused
+  -- nothing: reading the innermost blob fails
   is_broken : Error → Need
 
 abbrev pub need_at : List Frame → Next → Need
@@ -72,19 +75,19 @@ abbrev pub need_of : Types → List Frame → Need
 need_of types [] = needs_root
 need_of types (top ∷ below) = need_at below (next_in types top)
 
--- the root's blob; no node is made of it, so its kind says nothing
+-- the frame of the root's blob; no node is made of it, so its kind has no meaning
 abbrev pub root_frame : ℕ → ℕ → Blob → Frame
 root_frame key t blob = record { kind = record { 0 = 3 }; key = key; node_type = t; blob = blob; got = [] }
 
 abbrev pub nested_frame : Kind → ℕ → Blob → Frame
 nested_frame kind key blob = record { kind = kind; key = key; node_type = type_of kind.0; blob = blob; got = [] }
 
--- the innermost frame has got one more reference: this handle, by its row
+-- the innermost frame has got one more reference: the handle of this row
 abbrev pub with_got : Kind → HandleRow → List Frame → List Frame
 with_got kind row [] = []
 with_got kind row (frame ∷ frames) = record frame { got = frame.got ++ record { kind = kind; node = row.node; handle = row.number } ∷ [] } ∷ frames
 
--- it has got its root's blob
+-- the load has fetched its root's blob
 pub record GetsRoot (w : Core) (me : Owner) (reading : Reading) (frames : List Frame) (w' : Core) : Type 0 where
   pub load : OpenLoad
   pub blob : Blob
@@ -93,7 +96,7 @@ pub record GetsRoot (w : Core) (me : Owner) (reading : Reading) (frames : List F
   pub asked : AskCall w me reading.load Want.Root (Ok (from_store blob)) w'
   pub goes : frames ≡ root_frame load.key reading.node_type blob ∷ []
 
--- it has got a handle by a call, where this was needed
+-- the load has got a handle by this call, where this was needed
 pub record GetsHandle (types : Types) (reading : Reading) (needed : Kind → ℕ → Need) (call : Kind → ℕ → HandleNumber → Type 0) (frames : List Frame) (w' : Core) : Type 0 where
   pub kind : Kind
   pub key : ℕ
@@ -104,15 +107,15 @@ pub record GetsHandle (types : Types) (reading : Reading) (needed : Kind → ℕ
   pub made : row_at w' k ≡ Some row
   pub goes : frames ≡ with_got kind row reading.frames
 
--- of a node that the cache knows
+-- the load has got a handle of a node that the cache has
 abbrev pub GetsCached : Types → Core → Owner → Reading → List Frame → Core → Type 0
 GetsCached types w me reading frames w' = GetsHandle types reading needs_nested (λ kind key k. AskCall w me reading.load (Want.Nested kind key) (Ok (from_cache k)) w') frames w'
 
--- of a cell of which nothing was read
+-- the load has got a handle of a cell without reading it
 abbrev pub GetsLazy : Types → Core → Owner → Reading → List Frame → Core → Type 0
 GetsLazy types w me reading frames w' = GetsHandle types reading needs_lazy (λ kind key k. LazyCall w me reading.load kind key (Ok k) w') frames w'
 
--- it has got the reference's blob, and the path isn't too long
+-- the load has fetched the blob of a reference, and the path isn't too long
 pub record GetsBlob (types : Types) (w : Core) (me : Owner) (reading : Reading) (frames : List Frame) (w' : Core) : Type 0 where
   pub kind : Kind
   pub key : ℕ
@@ -122,7 +125,7 @@ pub record GetsBlob (types : Types) (w : Core) (me : Owner) (reading : Reading) 
   pub asked : AskCall w me reading.load (Want.Nested kind key) (Ok (from_store blob)) w'
   pub goes : frames ≡ nested_frame kind key blob ∷ reading.frames
 
--- the innermost blob was read as this value, and below it stands another
+-- the innermost blob reads as x, and it isn't the root's
 pub record ReadsNode {N : Type 0} (v : Values N) (reading : Reading) (x : N) : Type 0 where
   pub top : Frame
   pub below : List Frame
@@ -130,7 +133,7 @@ pub record ReadsNode {N : Type 0} (v : Values N) (reading : Reading) (x : N) : T
   pub needs : need_of v.types reading.frames ≡ to_adopt
   pub decoded : IsDecoded v top x
 
--- what was read became a node
+-- the value of the innermost blob has become a node
 pub record MakesNode {N : Type 0} (v : Values N) (w : Core) (me : Owner) (reading : Reading) (frames : List Frame) (w' : Core) : Type 0 where
   pub x : N
   pub reads_node : ReadsNode v reading x
@@ -144,7 +147,7 @@ abbrev pub GoesOn : {N : Type 0} → Values N → Core → Owner → Reading →
 GoesOn v w me reading frames w' =
     GetsRoot w me reading frames w' ⊎ GetsCached v.types w me reading frames w' ⊎ GetsBlob v.types w me reading frames w' ⊎ GetsLazy v.types w me reading frames w' ⊎ MakesNode v w me reading frames w'
 
--- the root's blob was read as this value
+-- the root's blob reads as x
 pub record ReadsRoot {N : Type 0} (v : Values N) (reading : Reading) (x : N) : Type 0 where
   pub root : Frame
   pub frames : reading.frames ≡ root ∷ []
@@ -158,13 +161,13 @@ abbrev pub IsOfKey : Root → Type 0
 IsOfKey (of_cell node t h) = ⊥
 IsOfKey of_key = Unit {0}
 
--- the load is open, and is of this sort
+-- the load is open, and P holds of its root
 pub record LoadIs (w : Core) (reading : Reading) (P : Root → Type 0) : Type 0 where
   pub load : OpenLoad
   pub open_load : w.loads reading.load.0 ≡ Some load
   pub sort : P load.root
 
--- the load of a cell ends with a pin of it
+-- a load of a cell ends and pins the cell
 pub record EndsPinned {N : Type 0} (v : Values N) (w : Core) (me : Owner) (reading : Reading) (k : HandleNumber) (w' : Core) : Type 0 where
   pub x : N
   pub reads_root : ReadsRoot v reading x
@@ -174,17 +177,17 @@ pub record EndsPinned {N : Type 0} (v : Values N) (w : Core) (me : Owner) (readi
 abbrev pub handles_of : List ArcRef → List HandleNumber
 handles_of references = map (λ (r : ArcRef). r.handle) references
 
--- the load of a key hands over the references of the value that was read
+-- a load of a key ends and hands the references of the value to the caller
 pub record EndsRead {N : Type 0} (v : Values N) (w : Core) (me : Owner) (reading : Reading) (x : N) (w' : Core) : Type 0 where
   pub reads_root : ReadsRoot v reading x
   pub of_key_load : LoadIs w reading IsOfKey
   pub handed : HandOverCall w me reading.load (handles_of (v.references x)) (Ok tt) w'
 
--- by its blob, or by a cause that the type's own reader has; or since memory is wanting for what is read
+-- the innermost blob can't be read: it has a fault, the type's reader fails with a cause of its own, or memory runs out
 abbrev pub RefusesBlob : {N : Type 0} → Values N → Reading → Error → Type 0
 RefusesBlob v reading e = (need_of v.types reading.frames ≡ is_broken e) ⊎ ((top : Frame) × (below : List Frame) × (reading.frames ≡ top ∷ below) × v.read_causes top.node_type e) ⊎ (e ≡ Error.OutOfMemory)
 
--- by a fetch; or by the path that is too long, which is seen once the blob was fetched
+-- a fetch fails; or the path is too long, which is checked after the blob was fetched
 abbrev pub RefusesNested : Types → Core → Owner → Reading → Error → Core → Type 0
 RefusesNested types w me reading e w' = (kind : Kind)
     × (key : ℕ)
@@ -196,7 +199,7 @@ pub record RefusesNode {N : Type 0} (v : Values N) (w : Core) (me : Owner) (read
   pub reads_node : ReadsNode v reading x
   pub adopted : AdoptCall w me reading.load reads_node.top.kind reads_node.top.key x (v.node_type x) (v.references x) (Err (e, x)) w'
 
--- by its end, the load still being open
+-- the call that ends the load fails and leaves it open
 pub record RefusesRoot {N : Type 0} (v : Values N) (w : Core) (me : Owner) (reading : Reading) (e : Error) (w' : Core) : Type 0 where
   pub x : N
   pub reads_root : ReadsRoot v reading x
@@ -204,7 +207,7 @@ pub record RefusesRoot {N : Type 0} (v : Values N) (w : Core) (me : Owner) (read
       (LoadIs w reading IsOfCell × EndCall w me reading.load x (v.node_type x) (v.references x) (Err (e, Some x)) w')
       ⊎ (LoadIs w reading IsOfKey × HandOverCall w me reading.load (handles_of (v.references x)) (Err e) w')
 
--- a step met this refusal, and the load is still open
+-- a step fails with this error, and the load is still open
 abbrev pub Meets : {N : Type 0} → Values N → Core → Owner → Reading → Error → Core → Type 0
 Meets v w me reading e w' = (RefusesBlob v reading e × Alike w w')
     ⊎ ((reading.frames ≡ []) × AskCall w me reading.load Want.Root (Err e) w')
@@ -213,14 +216,14 @@ Meets v w me reading e w' = (RefusesBlob v reading e × Alike w w')
     ⊎ RefusesNode v w me reading e w'
     ⊎ RefusesRoot v w me reading e w'
 
--- It met a refusal: it is closed, and all that it owns is given up.
+-- A step failed: the load is closed, and what it owns is released.
 pub record GivesUp {N : Type 0} (v : Values N) (w : Core) (me : Owner) (reading : Reading) (e : Error) (w' : Core) : Type 0 where
   pub mid : Core
   pub meets : Meets v w me reading e mid
   pub told : Result (Unit {0}) Error
   pub closes : LoadCloses mid reading.load told w'
 
--- its end found that the caller's handle is gone, and closed it
+-- the call that ends the load found that the caller's handle is gone, and closed the load
 pub record EndsClosed {N : Type 0} (v : Values N) (w : Core) (me : Owner) (reading : Reading) (e : Error) (w' : Core) : Type 0 where
   pub x : N
   pub reads_root : ReadsRoot v reading x
@@ -235,10 +238,11 @@ Does v w me reading (Some (LoadAnswer.Pinned k)) frames w' = EndsPinned v w me r
 Does v w me reading (Some (LoadAnswer.Read x)) frames w' = EndsRead v w me reading x w' × (frames ≡ [])
 Does v w me reading (Some (LoadAnswer.Refused e)) frames w' = Fails v w me reading e w' × (frames ≡ [])
 
--- What a load's step answers, which blobs it reads afterwards, and what it does to the pager. It touches nothing else.
+-- What a load's step returns, which frames the load has afterwards, and what the step does to the pager. It changes
+-- nothing else.
 pub record ReadingDoes {N : Type 0} (v : Values N) (w : Core) (me : Owner) (reading : Reading) (answer : Option (LoadAnswer N)) (frames : List Frame) (w' : Core) : Type 0 where
   pub does : Does v w me reading answer frames w'
 
--- the reading after a step, with one step more
+-- the reading after one more step
 abbrev pub gone_on : Reading → List Frame → Reading
 gone_on reading frames = record reading { frames = frames; steps = one_more reading.steps }

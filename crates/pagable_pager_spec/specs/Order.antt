@@ -1,11 +1,12 @@
--- The order of a worker's steps: an automaton over what it has to do, which says nothing of pager and table. And how many steps workers and loads make at most.
+-- The order of a worker's steps: an automaton over the worker's list of what it has to do, independent of pager and
+-- table. And how many steps workers and loads make at most.
 use Rattle.std.specs.Prelude.{ℕ, ◌≡◌, ◌≤◌, ◌==◌, ◌&&◌, if◌then◌else◌, Bool, false, List, [], ◌∷◌, ◌++◌, Some, None, Ok, Err, ◌+◌, ◌*◌, ◌<◌, ◌⊎◌, max, true, map, length, sum_by, Option, IsSome}
 use Rattle.pagable_pager_spec.specs.Basics.{PinStep, Claim, Error, HandleNumber, Identity, type_of, Types, ArcRef, Kind, Meaning, Blob, Action, Event, EventReply, LoadReply, times, is_eager, longest_path}
 use Rattle.pagable_pager_spec.specs.{Kinds.identity_of, World.{Written, Frame, was_failed, Todo, to_start, to_pin, to_load, to_write, to_finish, to_item, to_set, to_publish, to_release, to_fail, Task}}
 use Rattle.pagable_pager_spec.specs.{World.{is_identity, of_item, of_entry, Walking}, Loads.{gone_on, Next, reads, asks, is_faulty, next_of}, Workers.{give, give_known, open_node, first_todo}}
 use Rattle.pagable_pager_spec.specs.Workers.{failing, failing_by, fresh}
 
--- the step that this reply tells of the worker
+-- the action of the worker v that this reply reports
 abbrev pub step_of : {N B W : Type 0} → ℕ → Event N B W → EventReply N B W → List (Action W)
 step_of v (Event.WorkerStep u) (EventReply.WorkerMoved (Ok reply)) = if u.0 == v then reply.action ∷ [] else []
 step_of v event reply = []
@@ -15,7 +16,7 @@ steps_of v (event ∷ more) (reply ∷ rest) = step_of v event reply ++ steps_of
 steps_of v [] rest = []
 steps_of v (event ∷ more) [] = []
 
--- the step may follow where this is to be done, and this is to be done then
+-- the action may happen if the list is the first one, and makes it the second
 abbrev pub Follows : {W : Type 0} → (W → Written) → List Todo → Action W → List Todo → Type 0
 Follows f (to_start r place ∷ below) (Action.Claim i (Ok Claim.Claimed)) next = (i ≡ identity_of r) × (next ≡ to_pin r place ∷ below)
 Follows f (to_start r place ∷ below) (Action.Claim i (Ok (Claim.Known key height))) next = (i ≡ identity_of r) × (next ≡ give_known r key height below)
@@ -45,7 +46,7 @@ abbrev pub Leads : {W : Type 0} → (W → Written) → List Todo → List (Acti
 Leads f todo [] last = last ≡ todo
 Leads f todo (step ∷ steps) last = (mid : List Todo) × Follows f todo step mid × Leads f mid steps last
 
--- the steps of a worker are in order if they lead from what its task has to do to something
+-- the actions are in order if they lead from the task's first list to some list
 pub record InOrder {W : Type 0} (f : W → Written) (task : Task) (steps : List (Action W)) : Type 0 where
   pub left : List Todo
   pub leads : Leads f (first_todo task) steps left
@@ -54,8 +55,8 @@ abbrev pub is_claim_of : {W : Type 0} → Identity → Action W → Bool
 is_claim_of i (Action.Claim j (Ok Claim.Claimed)) = is_identity i j
 is_claim_of i step = false
 
--- Whether the step is of this stage after a claim of the identity: 0 that a load begins, 1 that the node is pinned, 2 that it is written, 3 that it is stored, 4 that its key is set, 5 that it is
--- published, 6 that it is released.
+-- Whether the action is of this stage after a claim of the identity: 0 a load begins, 1 the node is pinned, 2 written,
+-- 3 stored, 4 its key is set, 5 published, 6 released.
 abbrev pub is_later_of : {W : Type 0} → ℕ → Identity → Action W → Bool
 is_later_of stage i (Action.Pin j (Ok (PinStep.LoadBegun l))) = stage == 0 && is_identity i j
 is_later_of stage i (Action.Pin j (Ok (PinStep.Held k))) = stage == 1 && is_identity i j
@@ -66,12 +67,12 @@ is_later_of stage i (Action.Publish j key height) = stage == 5 && is_identity i 
 is_later_of stage i (Action.Release j) = stage == 6 && is_identity i j
 is_later_of stage i step = false
 
--- an identity is claimed at most once, and after that each stage comes at most once
+-- each identity is claimed at most once, and then passes through each stage at most once
 pub record OnceEach {W : Type 0} (steps : List (Action W)) : Type 0 where
   pub claim : (i : Identity) → times (is_claim_of i) steps ≤ 1
   pub later : (stage : ℕ) (i : Identity) → times (is_later_of stage i) steps ≤ 1
 
--- the step was refused with this
+-- the action failed with this error
 abbrev pub MetError : {W : Type 0} → Action W → Error → Type 0
 MetError (Action.Claim i (Err e)) f = e ≡ f
 MetError (Action.Pin i (Err e)) f = e ≡ f
@@ -88,30 +89,32 @@ abbrev pub references_written : {W : Type 0} → (W → Written) → Action W �
 references_written f (Action.Write i (Ok out)) = length (f out).references
 references_written f step = 0
 
--- how many references the task has itself
+-- how many references the task itself has
 abbrev pub own_references : Task → ℕ
 own_references (of_item written) = length written.references
 own_references (of_entry h i) = 0
 
--- with all its steps so far: no worker has made more than its claims and references allow
+-- the number of a worker's steps is bounded by its claims and by the references that it has written
 abbrev pub IsBounded : {W : Type 0} → (W → Written) → Walking → List (Action W) → Type 0
 IsBounded f walking steps = walking.steps ≤ 8 * times is_claim steps + (own_references walking.task + sum_by (references_written f) steps) + 4
 
--- Some references of these kinds. What a blob asks for next depends on no more of those that were got.
+-- Some references of these kinds: what a blob needs next depends only on the kinds of the references that were got.
 abbrev pub some_of : List ℕ → List ArcRef
 some_of kinds = map (λ kind. record { kind = record { 0 = kind }; node = record { 0 = 0 }; handle = record { 0 = 0 } }) kinds
 
--- what a blob asks for next, where references of these kinds were got
+-- what a blob needs next if references of these kinds were got
 abbrev pub after_kinds : Types → ℕ → Blob → List ℕ → Next
 after_kinds types t blob kinds = next_of types t blob (some_of kinds)
 
 mutual
-  -- The reading of a key, as a value of a type, takes so many references, all unfolded, and its longest path has so many. It counts what the reading
-  -- takes: a repeated key of a map drops a reference that was read, which the tree doesn't have.
+  -- Reading the key as a value of the type t takes `many` references, counted on all paths (a node that is reached
+  -- twice counts twice), and its longest path has `longest`. The references of a repeated map key's dropped value count
+  -- too, though the tree doesn't have them.
   pub data Unfolds (types : Types) (store : ℕ → Option Blob) : ℕ → ℕ → ℕ → ℕ → Type 0 where
     unfolds : (t key many longest : ℕ) (blob : Blob) → store key ≡ Some blob → UnfoldsFrom types store t blob [] many longest → Unfolds types store t key many longest
 
-  -- the same where references of these kinds were got: the blob is read; or it takes one more, with all that it leads to; or one of which nothing is read
+  -- what is still to be taken of a blob if references of these kinds were got: nothing; one more reference and all that
+  -- it leads to; or one that is taken without being read
   pub data UnfoldsFrom (types : Types) (store : ℕ → Option Blob) : ℕ → Blob → List ℕ → ℕ → ℕ → Type 0 where
     ends-here : (t : ℕ) (blob : Blob) (kinds : List ℕ) (own : Meaning ArcRef) → after_kinds types t blob kinds ≡ reads own → UnfoldsFrom types store t blob kinds 0 0
     takes-next : (t child below rest deep longest : ℕ) (blob : Blob) (kinds : List ℕ) (kind : Kind) → after_kinds types t blob kinds ≡ asks kind child → is_eager kind.0 ≡ true → Unfolds types store (type_of kind.0) child below deep
@@ -119,14 +122,14 @@ mutual
     leaves-next : (t child rest longest : ℕ) (blob : Blob) (kinds : List ℕ) (kind : Kind) → after_kinds types t blob kinds ≡ asks kind child → is_eager kind.0 ≡ false
         → UnfoldsFrom types store t blob (kinds ++ kind.0 ∷ []) rest longest → UnfoldsFrom types store t blob kinds (1 + rest) longest
 
--- A path of so many references leads from the reading of a key, as a value of a type, to that of another: the first takes a reference, where all
--- before it were got, the second reads what stands under its key, and so on.
+-- A path of n references leads from reading the key `key` as type t to reading the key `last` as last_type: reading the
+-- first key needs a reference, after all before it were got; that reference's key is the next key; and so on.
 pub data LeadsDown (types : Types) (store : ℕ → Option Blob) : ℕ → ℕ → ℕ → ℕ → ℕ → Type 0 where
   is-there : (t key : ℕ) → LeadsDown types store t key 0 t key
   goes-down : (t key child n longer last_type last : ℕ) (blob : Blob) (kinds : List ℕ) (kind : Kind) → longer ≡ n + 1 → store key ≡ Some blob → after_kinds types t blob kinds ≡ asks kind child → is_eager kind.0 ≡ true
       → LeadsDown types store (type_of kind.0) child n last_type last → LeadsDown types store t key longer last_type last
 
--- the reading of the key comes to a blob that lies too deep, or one that enters a level too many
+-- reading the key reaches a blob that is too deep on its path, or one that enters a level too many
 pub record ReadsTooDeep (types : Types) (store : ℕ → Option Blob) (t key : ℕ) : Type 0 where
   pub n : ℕ
   pub last_type : ℕ
@@ -136,6 +139,6 @@ pub record ReadsTooDeep (types : Types) (store : ℕ → Option Blob) (t key : �
   pub is : store last ≡ Some blob
   pub deep : (longest_path < n) ⊎ ((kinds : List ℕ) × (after_kinds types last_type blob kinds ≡ is_faulty Error.TooDeep))
 
--- a load's step is within the bound, and the last that is within it ends the load
+-- a load's step is within the bound; if it reaches the bound, it ends the load
 abbrev pub IsWithinBound : {N : Type 0} → Types → (ℕ → Option Blob) → ℕ → ℕ → LoadReply N → Type 0
 IsWithinBound types store t key reply = (many longest : ℕ) → Unfolds types store t key many longest → (reply.steps ≤ 2 * many + 2) × (reply.steps ≡ 2 * many + 2 → IsSome reply.ended)

@@ -1,10 +1,11 @@
--- Why a call is refused: a function of the world. Where several causes hold, the first of this order is answered: nothing has the number; it is
--- another's; its mode doesn't fit; its type doesn't; no number is left; memory is wanting.
+-- Why a call fails, as a function of the state. If several causes hold, the call returns the first in this order:
+-- nothing has the number; it belongs to another; its mode doesn't fit; its type doesn't fit; no number is left; memory
+-- runs out.
 use Rattle.std.specs.Prelude.{ℕ, ◌≡◌, ◌≤◌, ◌==◌, ◌||◌, ◌⊎◌, Bool, true, false, not, if◌then◌else◌, List, [], ◌∷◌, length, Option, Some, None, nat_lt, nat_le}
 use Rattle.pagable_pager_spec.specs.{Basics.{Error, ArcRef, HandleNumber, LoadNumber, type_of, Mode, Owner, HandleRow, is_in, or_else, if_there}, Kinds.{fits_mode, is_owner}, World.{Core, OpenLoad}}
 use Rattle.pagable_pager_spec.specs.World.{greatest, row_at, type_at, Alike}
 
--- the places of refusals in the order
+-- the place of each error in this order
 abbrev pub rank : Error → ℕ
 rank Error.NoSuchHandle = 0
 rank Error.NotYours = 1
@@ -13,7 +14,7 @@ rank Error.WrongKind = 3
 rank Error.NumbersSpent = 4
 rank _ = 5
 
--- of two causes that there may be the one that comes first in the order
+-- of two possible causes the one that is earlier in the order
 abbrev pub earlier : Option Error → Option Error → Option Error
 earlier None b = b
 earlier (Some e) None = Some e
@@ -26,29 +27,29 @@ where_so false e = None
 abbrev pub refused_if : Bool → Error → Option Error
 refused_if b e = if b then Some e else None
 
--- no number is left after this one
+-- no number is left after the last one
 abbrev pub spent : ℕ → Option Error
 spent last = refused_if (nat_le greatest last) Error.NumbersSpent
 
--- why no worker begins: no number is left for it, or memory is wanting
+-- why no worker begins: no number is left for it, or memory runs out
 abbrev pub WorkerFault : Core → Error → Type 0
 WorkerFault w e = (spent w.last.worker ≡ Some e) ⊎ ((spent w.last.worker ≡ None) × (e ≡ Error.OutOfMemory))
 
--- the vector of handles has no place left
+-- there is no room for one more row
 abbrev pub AreHandlesFull : Core → Type 0
 AreHandlesFull w = w.places.handles ≤ length w.rows
 
--- an own handle whose mode is as asked
+-- `me` owns the handle, and its mode passes the test
 pub record Owns (w : Core) (me : Owner) (h : HandleNumber) (fits : Mode → Bool) (row : HandleRow) : Type 0 where
   pub live : row_at w h ≡ Some row
   pub own : row.owner ≡ me
   pub as_asked : fits row.mode ≡ true
 
--- why a handle can't be looked at
+-- why a handle can't be queried
 abbrev pub live_fault : Option HandleRow → Option Error
 live_fault row = if_there (λ (h : HandleRow). None) (Some Error.NoSuchHandle) row
 
--- why an own handle can't be used
+-- why `me` can't use the handle
 abbrev pub handle_fault : Core → Owner → HandleNumber → (Mode → Bool) → Option Error
 handle_fault w me h fits =
     if_there (λ (row : HandleRow). if not (is_owner me row.owner) then Some Error.NotYours else refused_if (not (fits row.mode)) Error.WrongMode) (Some Error.NoSuchHandle) (row_at w h)
@@ -56,7 +57,7 @@ handle_fault w me h fits =
 abbrev pub is_type : ℕ → Option ℕ → Bool
 is_type t found = if_there (λ u. u == t) false found
 
--- The reference names a live handle of this owner at its node, and mode and type fit its kind.
+-- The reference names a live handle of this owner and the handle's node, and mode and type fit its kind.
 pub record IsReference (w : Core) (owner : Owner) (r : ArcRef) : Type 0 where
   pub row : HandleRow
   pub live : row_at w r.handle ≡ Some row
@@ -65,12 +66,12 @@ pub record IsReference (w : Core) (owner : Owner) (r : ArcRef) : Type 0 where
   pub fits : fits_mode r.kind.0 row.mode ≡ true
   pub typed : type_at w r.node.0 ≡ Some (type_of r.kind.0)
 
--- why a reference is refused whose handle has this row, where others may be asked of it first
+-- why a reference has a fault, if its handle has this row; `first` is a cause to be checked before mode and type
 abbrev pub row_fault : Core → ArcRef → Option Error → HandleRow → Option Error
 row_fault w r first row = if not (row.node.0 == r.node.0) then Some Error.NoSuchHandle else
     or_else first (if not (fits_mode r.kind.0 row.mode) then Some Error.WrongMode else refused_if (not (is_type (type_of r.kind.0) (type_at w r.node.0))) Error.WrongKind)
 
--- why one reference of a value that is handed in is refused; seen are the handles that earlier ones named
+-- why one reference of a given value has a fault; `seen` are the handles that its earlier references name
 abbrev pub reference_fault : Core → Owner → List ℕ → ArcRef → Option Error
 reference_fault w owner seen r = if_there (λ (row : HandleRow). row_fault w r (refused_if (not (is_owner owner row.owner) || is_in seen r.handle.0) Error.NotYours) row) (Some Error.NoSuchHandle) (row_at w r.handle)
 
@@ -79,26 +80,27 @@ unfoldable pub references_fault : Core → Owner → List ℕ → List ArcRef �
 references_fault w owner seen [] = None
 references_fault w owner seen (r ∷ rs) = or_else (reference_fault w owner seen r) (references_fault w owner (r.handle.0 ∷ seen) rs)
 
--- why handles that are named can't all be handed over: one isn't live; one is another's, or is named twice
+-- why the named handles can't all be handed over: one isn't live, has another owner, or is named twice
 unfoldable pub named_fault : Core → Owner → List ℕ → List HandleNumber → Option Error
 named_fault w owner seen [] = None
 named_fault w owner seen (h ∷ hs) =
     earlier (if_there (λ (row : HandleRow). refused_if (not (is_owner owner row.owner) || is_in seen h.0) Error.NotYours) (Some Error.NoSuchHandle) (row_at w h)) (named_fault w owner (h.0 ∷ seen) hs)
 
--- an open load that the asker began
+-- the load is open, and `me` began it
 pub record OwnsLoad (w : Core) (me : Owner) (l : LoadNumber) (load : OpenLoad) : Type 0 where
   pub stands_open : w.loads l.0 ≡ Some load
   pub own : load.owner ≡ me
 
--- why an own load can't be used
+-- why `me` can't use the load
 abbrev pub load_fault : Core → Owner → LoadNumber → Option Error
 load_fault w me l = if_there (λ (load : OpenLoad). refused_if (not (is_owner me load.owner)) Error.NotYours) (Some Error.NoSuchHandle) (w.loads l.0)
 
--- no load of this number is open
+-- no load with this number is open
 abbrev pub closed_fault : Core → LoadNumber → Option Error
 closed_fault w l = if_there (λ (load : OpenLoad). None) (Some Error.NoSuchHandle) (w.loads l.0)
 
--- The call is refused by its cause; or memory is wanting, where that may be, and no cause of those that are looked at before it holds. Nothing changes.
+-- The call fails with its cause; or with OutOfMemory, if `full` says that memory was needed, and none of the causes
+-- `before` that are checked earlier holds. Nothing changes.
 pub record Refused (cause before : Option Error) (full : Type 0) (w : Core) (e : Error) (w' : Core) : Type 0 where
   pub why : (cause ≡ Some e) ⊎ ((e ≡ Error.OutOfMemory) × (before ≡ None) × full)
   pub stays : Alike w w'

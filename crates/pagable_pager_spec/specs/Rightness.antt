@@ -1,4 +1,5 @@
--- What is right of one event, by trees: what pins, loads and page-outs answer and leave; and what is right of workers, claims and steps without trees.
+-- What is right of one event in terms of trees: what pins, loads and page-outs return and leave. And what is right of workers,
+-- claims and steps, without trees.
 use Rattle.std.specs.Prelude.{[], Bool, false, is_some, List, Ok, Option, Some, true, ℕ, ◌&&◌, ◌*◌, ◌+◌, ◌==◌, ◌∷◌, ◌≡◌, ◌≢◌, ◌≤◌}
 use Rattle.pagable_value_spec.specs.{Canonical.IsCanonicalTree, declared.data_key.OptionalDataKey.OptionalDataKey, Merkle.{IsCanonicalItem, KeyOf, KeyOfItem, TreeForm}}
 use Rattle.pagable_pager_spec.specs.{Events.reading_at, Kinds.{identity_of, is_owned_by, owner_worker}, Order.{InOrder, is_claim_of, IsBounded, IsWithinBound, MetError, OnceEach, steps_of, Unfolds}}
@@ -8,7 +9,7 @@ use Rattle.pagable_pager_spec.specs.{Basics.WorkerAnswer, Refusals.IsReference, 
 use Rattle.pagable_pager_spec.specs.{Workers.{is_workers_load, IsPublished}, World.{failed, key_at, no_result, of_entry, of_item, OpenLoad, Reading, row_at, Seen, Shelf, Slot, Task, Values}}
 use Rattle.pagable_pager_spec.specs.World.{Walking, World, Written}
 
--- the node of this handle has a value in memory, which stands for the tree that the node was made with
+-- the handle's node has a value in memory, and it stands for the tree that the node was made with
 pub record GivesTree {N E : Type 0} (v : Values N) (s : PagerState N E) (trees : ℕ → Tree) (k : HandleNumber) : Type 0 where
   pub row : HandleRow
   pub x : N
@@ -16,7 +17,7 @@ pub record GivesTree {N E : Type 0} (v : Values N) (s : PagerState N E) (trees :
   pub held : s.values row.node.0 ≡ Some x
   pub stands : ValueStands v s x (trees row.node.0)
 
--- each pin that succeeds gives the tree that its handle's node was made with
+-- each pin that succeeds pins a value that stands for the tree of the handle's node
 abbrev pub PinGives : {N E B W : Type 0} → Values N → Fact N E B W
 PinGives v s trees (Event.Call (Call.Pin h)) (EventReply.CallReply (Reply.Pin (Ok (Pinning.Pinned k)))) s' trees' = GivesTree v s'.pager trees' k
 PinGives v s trees (Event.LoadStep l) (EventReply.LoadMoved (Ok reply)) s' trees' = (k : HandleNumber) → reply.ended ≡ Some (LoadAnswer.Pinned k) → GivesTree v s'.pager trees' k
@@ -25,7 +26,7 @@ PinGives v s trees (Event.WorkerStep n) (EventReply.WorkerMoved (Ok reply)) s' t
     (i : Identity) (k : HandleNumber) → reply.action ≡ Action.Pin i (Ok (PinStep.Held k)) → GivesTree v s'.pager trees' k
 PinGives v s trees event reply s' trees' = Unit {0}
 
--- A value that a load of a key answers stands for the tree that the key reads as, and the caller has its references.
+-- The value that a load of a key returns stands for the tree that the key reads as, and the caller owns its references.
 pub record ReadIsRight {N E : Type 0} (v : Values N) (s : PagerState N E) (key : ℕ) (x : N) : Type 0 where
   pub stands : (t : Tree) → t.type ≡ v.node_type x → ReadsTree s.core.stored v.types key t → ValueStands v s x t
   pub own : (r : ArcRef) → Among (v.references x) r → IsReference s.core Owner.Caller r
@@ -34,7 +35,8 @@ abbrev pub ReadGives : {N E B W : Type 0} → Values N → Fact N E B W
 ReadGives {N} v s trees (Event.LoadStep l) (EventReply.LoadMoved (Ok reply)) s' trees' = (load : OpenLoad) (x : N) → s.pager.core.loads l.0 ≡ Some load → reply.ended ≡ Some (LoadAnswer.Read x) → ReadIsRight v s'.pager load.key x
 ReadGives v s trees event reply s' trees' = Unit {0}
 
--- What a task meets: the references of its item, or its listed cell, and those that were written of what it met. The least such set, since it is made by these cases alone.
+-- What a task meets: the references of its item, or its listed cell; and the references that were written of what it
+-- meets. It is the least such set, being an inductive definition.
 pub data Meets (shelf : Shelf) (task : Task) : Identity → Type 0 where
   meets-of-item : (written : Written) (r : ArcRef) → task ≡ of_item written → Among written.references r → Meets shelf task (identity_of r)
   meets-entry : (h : HandleNumber) (i : Identity) → task ≡ of_entry h i → Meets shelf task i
@@ -47,13 +49,14 @@ pub record TableMeets (u : World) (t : ℕ) (i : Identity) : Type 0 where
   pub on_table : walking.table ≡ t
   pub meets : Meets (u.work.shelves t) walking.task i
 
--- one key for each reference: the one that is known of its identity
+-- a key for each reference: the one that was published for its identity
 abbrev pub AreKeysOf : Shelf → List ArcRef → List ℕ → Type 0
 AreKeysOf shelf [] [] = Unit {0}
 AreKeysOf shelf (r ∷ rs) (k ∷ ks) = ((height : ℕ) × IsPublished shelf (identity_of r) k height) × AreKeysOf shelf rs ks
 AreKeysOf shelf _ _ = ⊥
 
--- The identity was paged out: under its key stands a blob, a form of the node's tree over the keys of the references that were written of it.
+-- The identity is paged out: under its key the store has a form of the node's tree, with the published keys of the
+-- references that were written of it.
 pub record IsLeftPagedOut {N E : Type 0} (v : Values N) (s : PagerState N E) (shelf : Shelf) (trees : ℕ → Tree) (i : Identity) : Type 0 where
   pub slot : Slot
   pub references : List ArcRef
@@ -69,18 +72,19 @@ pub record IsLeftPagedOut {N E : Type 0} (v : Values N) (s : PagerState N E) (sh
   pub has_shape : v.types.nodes (trees i.node.0).type ≡ Some shape
   pub form : TreeForm v.types shape (trees i.node.0).meaning blob.bytes (kids_of trees references)
 
--- the cell has a key that reads as its tree
+-- the cell has a key, which reads as the cell's tree
 pub record HasKeyOf {N E : Type 0} (v : Values N) (s : PagerState N E) (trees : ℕ → Tree) (n : ℕ) : Type 0 where
   pub key : ℕ
   pub set : key_at s.core n ≡ OptionalDataKey.Some key
   pub reads : ReadsTree s.core.stored v.types key (trees n)
 
--- what a worker leaves when it answers a key: all that it met, and keys of the live cells that it met through a loose reference
+-- what a worker leaves when it returns a key: all that it met is paged out, and the live cells among it that it met
+-- through a loose reference have a key
 pub record LeavesAll {N E : Type 0} (v : Values N) (s : PagerState N E) (shelf : Shelf) (trees : ℕ → Tree) (task : Task) : Type 0 where
   pub blobs : (i : Identity) → Meets shelf task i → IsLeftPagedOut v s shelf trees i
   pub cells : (i : Identity) → Meets shelf task i → is_loose_kind i.kind.0 ≡ true → is_some (s.core.cells i.node.0) ≡ true → HasKeyOf v s trees i.node.0
 
--- P of a worker that answers this key with its step
+-- P holds of a worker whose step returns this key as the worker's result
 abbrev pub AnswersKey : {N E B W : Type 0} → (MachineState N E → (ℕ → Tree) → Walking → ℕ → Type 0) → Fact N E B W
 AnswersKey P s trees (Event.WorkerStep n) (EventReply.WorkerMoved (Ok reply)) s' trees' = (walking : Walking) (key : ℕ) → s'.work.walkings n.0 ≡ Some walking → reply.answer ≡ Some (WorkerAnswer.Key key) → P s' trees' walking key
 AnswersKey P s trees event reply s' trees' = Unit {0}
@@ -88,7 +92,7 @@ AnswersKey P s trees event reply s' trees' = Unit {0}
 abbrev pub AnswerLeavesAll : {N E B W : Type 0} → Values N → Fact N E B W
 AnswerLeavesAll v = AnswersKey (λ s trees walking key. LeavesAll v s.pager (s.work.shelves walking.table) trees walking.task)
 
--- The key is that of the item or the listed cell; and where that is canonical, it is its only one.
+-- The key is a key of the item or of the listed cell; and if that is canonical, its only one.
 abbrev pub IsKeyOfTask : {N : Type 0} → Values N → (ℕ → Tree) → Task → ℕ → Type 0
 IsKeyOfTask v trees (of_item written) key = KeyOfItem v.hash v.types written.bytes (kids_of trees written.references) key
     × (IsCanonicalItem v.types written.bytes (kids_of trees written.references) → (other : ℕ) → KeyOfItem v.hash v.types written.bytes (kids_of trees written.references) other → other ≡ key)
@@ -98,13 +102,13 @@ IsKeyOfTask v trees (of_entry h i) key =
 abbrev pub AnswerIsKey : {N E B W : Type 0} → Values N → Fact N E B W
 AnswerIsKey v = AnswersKey (λ s trees walking key. IsKeyOfTask v trees walking.task key)
 
--- a key that is published is the tree's, and a cell had one by then
+-- a published key is the key of the node's tree; and if the kind is loose, the cell had a key by then
 abbrev pub PublishIsKey : {N E B W : Type 0} → Values N → Fact N E B W
 PublishIsKey v s trees (Event.WorkerStep n) (EventReply.WorkerMoved (Ok reply)) s' trees' =
     (i : Identity) (key height : ℕ) → reply.action ≡ Action.Publish i key height → KeyOf v.hash v.types (trees i.node.0) key × (is_loose_kind i.kind.0 ≡ true → (set : ℕ) × (key_at s.pager.core i.node.0 ≡ OptionalDataKey.Some set))
 PublishIsKey v s trees event reply s' trees' = Unit {0}
 
--- all that holds of one event by trees
+-- all that holds of one event in terms of trees
 pub record IsRight {N E B W : Type 0} (v : Values N) (s : MachineState N E) (trees : ℕ → Tree) (event : Event N B W) (reply : EventReply N B W) (s' : MachineState N E) (trees' : ℕ → Tree) : Type 0 where
   pub pins_give : PinGives v s trees event reply s' trees'
   pub reads_give : ReadGives v s trees event reply s' trees'
@@ -115,38 +119,40 @@ pub record IsRight {N E B W : Type 0} (v : Values N) (s : MachineState N E) (tre
 abbrev pub is_on_table : ℕ → Option Walking → Bool
 is_on_table t walking = if_there (λ (w : Walking). w.table == t) false walking
 
--- how often the identity was claimed in these replies by workers of the table
+-- how often workers of the table claimed the identity, by these replies
 unfoldable pub claims_made : {N B W : Type 0} → (ℕ → Option Walking) → ℕ → Identity → List (Event N B W) → List (EventReply N B W) → ℕ
 claims_made walkings t i (Event.WorkerStep v ∷ more) (EventReply.WorkerMoved (Ok reply) ∷ rest) = one (is_on_table t (walkings v.0) && is_claim_of i reply.action) + claims_made walkings t i more rest
 claims_made walkings t i (event ∷ more) (reply ∷ rest) = claims_made walkings t i more rest
 claims_made walkings t i [] rest = 0
 claims_made walkings t i (event ∷ more) [] = 0
 
--- no identity is claimed twice on a table, and whatever is claimed is met
+-- no identity is claimed twice on a table, and whatever is claimed is met by a worker of the table
 pub record ClaimsAreRight {N B W : Type 0} (u : World) (happened : List (Event N B W)) (replied : List (EventReply N B W)) : Type 0 where
   pub distinct : (t : ℕ) (i : Identity) → claims_made u.work.walkings t i happened replied ≤ 1
   pub met : (t : ℕ) (i : Identity) → is_some ((u.work.shelves t).slots i) ≡ true → TableMeets u t i
 
--- another worker's claim of the identity failed
+-- another worker claimed the identity and failed
 pub record FailedElsewhere (shelf : Shelf) (n : ℕ) (i : Identity) : Type 0 where
   pub slot : Slot
   pub claimed : shelf.slots i ≡ Some slot
   pub of_another : (slot.worker == n) ≡ false
   pub is_failed : slot.outcome ≡ failed
 
--- a worker failed with a refusal that a step of its own met, or since another had failed where its walk came
+-- a worker failed with an error of one of its own steps, or since another worker had failed at an identity that it
+-- needed
 abbrev pub IsMetFailure : {W : Type 0} → Shelf → ℕ → List (Action W) → WorkerAnswer → Type 0
 IsMetFailure shelf n steps (WorkerAnswer.Key key) = Unit {0}
 IsMetFailure {W} shelf n steps (WorkerAnswer.Failed e) = (step : Action W) × Among steps step × MetError step e
 IsMetFailure shelf n steps WorkerAnswer.AlreadyFailed = (i : Identity) × Among steps (Action.Claim i (Ok Claim.AlreadyFailed)) × FailedElsewhere shelf n i
 
--- a worker that has answered has a result in each slot that it claimed, owns no handle and has no load open
+-- a worker that has its result has a result in each slot that it claimed, owns no handle and has no open load
 pub record HasLetGo (u : World) (n : ℕ) (shelf : Shelf) : Type 0 where
   pub results : (i : Identity) (slot : Slot) → shelf.slots i ≡ Some slot → slot.worker ≡ n → slot.outcome ≢ no_result
   pub handles : times (is_owned_by (owner_worker n)) u.core.rows ≡ 0
   pub loads : (l : ℕ) → is_workers_load n (u.core.loads l) ≡ false
 
--- Of one worker, with all its steps: they are in order, each kind once for an identity, and within their bound; and its answer is one that they led to.
+-- About one worker and all its actions: they are in order, each stage at most once for an identity, and within the
+-- bound; and its result is one that they led to.
 pub record WorkerIsRight {W : Type 0} (f : W → Written) (u : World) (n : ℕ) (walking : Walking) (steps : List (Action W)) : Type 0 where
   pub order : InOrder f walking.task steps
   pub once : OnceEach steps
@@ -154,12 +160,12 @@ pub record WorkerIsRight {W : Type 0} (f : W → Written) (u : World) (n : ℕ) 
   pub met : (answer : WorkerAnswer) → walking.answer ≡ Some answer → IsMetFailure (u.work.shelves walking.table) n steps answer
   pub let_go : (answer : WorkerAnswer) → walking.answer ≡ Some answer → HasLetGo u n (u.work.shelves walking.table)
 
--- an open load whose steps the machine makes, the caller's or a worker's, and whose reading takes n references, has a step left of 2n + 2
+-- an open load whose steps the machine makes has made less than 2n + 2 steps, if reading its key takes n references
 abbrev pub LoadsHaveStepsLeft : {N : Type 0} → Values N → World → Type 0
 LoadsHaveStepsLeft v u = (reading : Reading) (load : OpenLoad) → IsReadingOf u.work reading → u.core.loads reading.load.0 ≡ Some load
     → (many longest : ℕ) → Unfolds v.types u.core.stored reading.node_type load.key many longest → reading.steps ≤ 2 * many + 1
 
--- what all steps so far come to, without trees
+-- what all steps so far amount to, without trees
 pub record WorkIsRight {N E B W : Type 0} (m : Seen N B W) (s : MachineState N E) (happened : List (Event N B W)) (replied : List (EventReply N B W)) : Type 0 where
   pub claims_right : ClaimsAreRight (world_of s) happened replied
   pub workers : (n : ℕ) (walking : Walking) → s.work.walkings n ≡ Some walking → WorkerIsRight m.written_of (world_of s) n walking (steps_of n happened replied)

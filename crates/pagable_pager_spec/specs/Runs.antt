@@ -1,15 +1,16 @@
--- Chains of moments: what events do to a machine, one after another; trees along them; and what these ask of values and callers, by name. That the storage gives back what was stored, loses
--- nothing and keeps no two blobs under one key is asked nowhere here: these are laws of every storage, so they stand in the steps.
+-- Chains of moments: what events do to a machine, one after another; the trees along them; and what they ask of values
+-- and callers. Nothing here asks that the storage returns what was stored, loses nothing and keeps no two blobs under
+-- one key: these are laws of every storage, so the steps have them already.
 use Rattle.std.specs.Prelude.{[], List, map, None, Ok, Option, Some, ℕ, ◌∷◌, ◌≡◌}
 use Rattle.{pagable_value_spec.specs.Canonical.IsReadableType, pagable_pager_spec.specs.{Events.{reading_at, Step}, Kinds.{any_mode, is_loose}, Loads.{need_of, needs_lazy}, Pager.{EventBrings, EventHolds, IsCellOf}}}
 use Rattle.pagable_pager_spec.specs.{Pager.{IsMachineWhole, MachineState, Moves, PagerState, ReplyWrites, SameTrees, StandsFor, ValueStands, world_of}, Basics.{Among, Call, Event, EventReply, HandleRow}}
 use Rattle.pagable_pager_spec.specs.{Basics.{Kind, LoadAnswer, Owner, ReadsTree, Reply, Tree, type_of}, Refusals.Owns, World.{Frame, IsSettled, Reading, Seen, to_load, to_write, Todo, Values, Walking}}
 
--- no value in memory holds anything that is written after the value was made
+-- no value in memory holds anything that can be written after the value was made
 abbrev pub HoldsSettled : {N E : Type 0} → Values N → PagerState N E → Type 0
 HoldsSettled {N} v s = (n : ℕ) (x : N) → s.values n ≡ Some x → IsSettled v x
 
--- the value that a load of a key answers
+-- the value that a load of a key returns
 abbrev pub read_by : {N : Type 0} → Option (LoadAnswer N) → Option N
 read_by (Some (LoadAnswer.Read x)) = Some x
 read_by answer = None
@@ -18,7 +19,7 @@ abbrev pub read_out : {N B W : Type 0} → EventReply N B W → Option N
 read_out (EventReply.LoadMoved (Ok reply)) = read_by reply.ended
 read_out reply = None
 
--- the storage isn't closed
+-- the event doesn't close the storage
 abbrev pub KeepsOpen : {N B W : Type 0} → Event N B W → Type 0
 KeepsOpen (Event.Call Call.Close) = ⊥
 KeepsOpen event = Unit {0}
@@ -29,14 +30,15 @@ pub record ReadsAsType {N E : Type 0} (v : Values N) (s : PagerState N E) (t key
   pub typed : read.type ≡ t
   pub reads : ReadsTree s.core.stored v.types key read
 
--- the key reads as what the value stands for
+-- the key reads as the tree that the value stands for
 pub record ReadsAsValue {N E : Type 0} (v : Values N) (s : PagerState N E) (x : N) (key : ℕ) : Type 0 where
   pub read : Tree
   pub stands : ValueStands v s x read
   pub reads : ReadsTree s.core.stored v.types key read
 
--- Keys that a caller sets or gives, references that it puts into the cache and values that it gives to a load by itself read as the value in the
--- store. It is asked of calls that do something, and of a key only through a loose handle.
+-- What is asked of a caller: the keys that it sets or hands in, the references that it puts into the cache and the
+-- values that it gives to a load itself agree with the store. It is asked only of calls that change something, and of a
+-- key only by a loose handle.
 abbrev pub AsksWell : {N E B : Type 0} → Values N → PagerState N E → (ℕ → Tree) → Call N B → Reply N B → Type 0
 AsksWell v s trees (Call.NewPagedOut t key) (Reply.Handle (Ok k)) = ReadsAsType v s t key
 AsksWell v s trees (Call.SetDataKey h key) reply = (row : HandleRow) → Owns s.core Owner.Caller h is_loose row → ReadsTree s.core.stored v.types key (trees row.node.0)
@@ -46,14 +48,14 @@ AsksWell v s trees (Call.LoadLazy l kind key) (Reply.Handle (Ok k)) = ReadsAsTyp
 AsksWell v s trees (Call.LoadEnd l x) (Reply.LoadEnded (Ok k)) = (n : ℕ) → IsCellOf s.core l n → ValueStands v s x (trees n)
 AsksWell v s trees call reply = Unit {0}
 
--- What is asked of a load's step. The type of each blob that it reads is read back from its forms: where types have tags, these are distinct, and each that
--- a value of the type is written under has a reader of its body. And a key that it takes through a loose reference, of which nothing is read, reads as some
--- value of the kind's type.
+-- What is asked of a load's step. The type of each blob that the load reads can be read back: if the type has tags,
+-- they are distinct, and each tag under which a value of the type is written has a reader of its body. And a key that
+-- the step takes without reading it, for a loose reference, reads as some value of the kind's type.
 pub record TakesWell {N E : Type 0} (v : Values N) (s : PagerState N E) (reading : Reading) : Type 0 where
   pub types : (frame : Frame) → Among reading.frames frame → IsReadableType v.types frame.node_type
   pub keys : (kind : Kind) (key : ℕ) → need_of v.types reading.frames ≡ needs_lazy kind key → ReadsAsType v s (type_of kind.0) key
 
--- of a worker's step: the same of its load's; and what it writes is of a type that is read back
+-- what is asked of a worker's step: the same for its load; and what it writes is of a type that can be read back
 abbrev pub TodoAsksWell : {N E : Type 0} → Values N → PagerState N E → List Todo → Type 0
 TodoAsksWell v s (to_load r place through reading ∷ below) = TakesWell v s reading
 TodoAsksWell v s (to_write r place through ∷ below) = IsReadableType v.types (type_of r.kind.0)
@@ -65,9 +67,9 @@ IsWellAsked v s trees (Event.LoadStep l) reply = (reading : Reading) → reading
 IsWellAsked v s trees (Event.WorkerStep n) reply = (walking : Walking) → s.work.walkings n.0 ≡ Some walking → TodoAsksWell v s.pager walking.todo
 IsWellAsked v s trees event reply = Unit {0}
 
--- all that is asked of an event at the state that it finds, and of what it leaves
+-- all that is asked of an event, of the state before it and of the state after it
 pub record IsPremised {N E B W : Type 0} (v : Values N) (s : MachineState N E) (trees : ℕ → Tree) (event : Event N B W) (reply : EventReply N B W) (s' : MachineState N E) : Type 0 where
-  -- no value in memory, and none that is read out, is written to later
+  -- no value in memory, and none that a load returns, changes later
   pub settled : HoldsSettled v s'.pager
   pub reads_settled : (x : N) → read_out reply ≡ Some x → IsSettled v x
   pub stays_open : KeepsOpen event
@@ -78,7 +80,8 @@ pub record Moment (N E B W : Type 0) : Type 0 where
   pub reply : EventReply N B W
   pub after : MachineState N E
 
--- One event: the step of the plain world that it is, what it does to values, and that the machine is whole afterwards. Trees are no part of it: that nodes keep them is a law of chains.
+-- One event: its step of the plain state, what it does to values, and the machine's invariant afterwards. Trees are no
+-- part of it: that nodes keep them is a law of chains.
 pub record Does {N E B W : Type 0} (m : Seen N B W) (s : MachineState N E) (event : Event N B W) (reply : EventReply N B W) (s' : MachineState N E) : Type 0 where
   pub step : Step m (world_of s) event reply (world_of s')
   pub moves : Moves (EventBrings m.values (world_of s) event) s.pager s'.pager
@@ -100,7 +103,7 @@ events_of xs = map (λ x. x.event) xs
 abbrev pub replies_of : {N E B W : Type 0} → List (Moment N E B W) → List (EventReply N B W)
 replies_of xs = map (λ x. x.reply) xs
 
--- These events, with these replies, led from the old machine to the new one.
+-- These events, with these replies, lead from the old machine to the new one.
 pub record HasRun {N E B W : Type 0} (m : Seen N B W) (old : MachineState N E) (happened : List (Event N B W)) (replied : List (EventReply N B W)) (new : MachineState N E) : Type 0 where
   pub moments : List (Moment N E B W)
   pub events_are : events_of moments ≡ happened
@@ -108,17 +111,17 @@ pub record HasRun {N E B W : Type 0} (m : Seen N B W) (old : MachineState N E) (
   pub ends : state_after old moments ≡ new
   pub chain : AreMoments m old moments
 
--- what one event does to machine and trees, as a fact
+-- a statement about one event, the machine and the trees before it, and the machine and the trees after it
 abbrev pub Fact : (N E B W : Type 0) → Type 1
 Fact N E B W = MachineState N E → (ℕ → Tree) → Event N B W → EventReply N B W → MachineState N E → (ℕ → Tree) → Type 0
 
--- trees after an event, for which the machine stands: each node that was made keeps its tree, and the fact holds
+-- Trees after an event: the machine stands for them, each node that existed keeps its tree, and P holds.
 pub record TreesAfter {N E B W : Type 0} (m : Seen N B W) (P : Fact N E B W) (s : MachineState N E) (trees : ℕ → Tree) (event : Event N B W) (reply : EventReply N B W) (s' : MachineState N E) (trees' : ℕ → Tree) : Type 0 where
   pub keeps : SameTrees s.pager.core.last.node trees trees'
   pub stands : StandsFor m.values s' trees'
   pub so : P s trees event reply s' trees'
 
--- trees one after another, and the fact with them, as long as what the events ask is so
+-- trees after each event of the chain, and P of each, as long as the events satisfy what is asked of them
 abbrev pub TreesAlong : {N E B W : Type 0} → Seen N B W → Fact N E B W → MachineState N E → (ℕ → Tree) → List (Moment N E B W) → Type 0
 TreesAlong m P s trees [] = Unit {0}
 TreesAlong m P s trees (x ∷ xs) = IsPremised m.values s trees x.event x.reply x.after → (trees' : ℕ → Tree) × TreesAfter m P s trees x.event x.reply x.after trees' × TreesAlong m P x.after trees' xs

@@ -1,11 +1,11 @@
--- What holds besides where each load's and each worker's steps stand together, and of one cache.
+-- What holds in addition if each load's and each worker's steps are uninterrupted; and what one cache ensures.
 use Rattle.std.specs.Prelude.{[], false, List, max, Ok, slice_get, Some, true, ℕ, ◌<◌, ◌∷◌, ◌≡◌, ◌≢◌, ◌⊎◌}
 use Rattle.{pagable_value_spec.specs.{Height.Kid, Meaning.{followed, pair, variant}, Merkle.TreeForm}, pagable_pager_spec.specs.{Kinds.fits_mode, LoadCalls.{Adopts, AskCall, from_cache, LazyCall}}}
 use Rattle.pagable_pager_spec.specs.{Pager.{IsMachineWhole, IsWhole, MachineState}, Basics.{above, Among, ArcRef, Beginning, Call, deepest_path, Error, Event, EventReply, HandleNumber, HandleRow, height}}
 use Rattle.pagable_pager_spec.specs.{Basics.{Identity, Kind, LoadAnswer, LoadNumber, longest_path, Meaning, NodeNumber, Owner, Reply, Shape, Tree, tree, type_of, Types, Want, WorkerAnswer}, Runs.AreMoments}
 use Rattle.pagable_pager_spec.specs.{Runs.{Fact, Moment, state_after}, Workers.IsPublished, World.{Core, of_cell, of_entry, of_item, OpenLoad, row_at, Seen, Task, Values, Walking}}
 
--- whose turn a moment is; the begin of a load or worker is its first
+-- whose step a moment is; the begin of a load or worker is its first
 pub data Turn : Type 0 where
   of_load of_worker : ℕ → Turn
   of_nobody : Turn
@@ -20,12 +20,12 @@ turn_of (Event.WorkerItem t written) (EventReply.WorkerMade (Ok v)) = of_worker 
 turn_of (Event.WorkerListed t i) (EventReply.WorkerMade (Ok v)) = of_worker v.0
 turn_of event reply = of_nobody
 
--- each load's turns, and each worker's, stand together
+-- no load and no worker is interrupted: between two of its moments there are only its own
 abbrev pub StandTogether : {N E B W : Type 0} → List (Moment N E B W) → Type 0
 StandTogether {N} {E} {B} {W} moments = (i j k : ℕ) (a b c : Moment N E B W) → i < j → j < k → slice_get moments i ≡ Some a → slice_get moments j ≡ Some b → slice_get moments k ≡ Some c
     → turn_of a.event a.reply ≢ of_nobody → turn_of c.event c.reply ≡ turn_of a.event a.reply → turn_of b.event b.reply ≡ turn_of a.event a.reply
 
--- a reference in the meaning leads to the tree, at once or further down
+-- a reference in the meaning leads to the tree, directly or further down
 pub data Reaches : Meaning ⊥ → Tree → Type 0 where
   refers : (kind : ℕ) (a : Meaning ⊥) → Reaches (followed kind a) (tree (type_of kind) a)
   refers-on : (kind : ℕ) (a : Meaning ⊥) (t : Tree) → Reaches a t → Reaches (followed kind a) t
@@ -33,17 +33,17 @@ pub data Reaches : Meaning ⊥ → Tree → Type 0 where
   in-rest : (a b : Meaning ⊥) (t : Tree) → Reaches b t → Reaches (pair a b) t
   in-part : (n : ℕ) (a : Meaning ⊥) (t : Tree) → Reaches a t → Reaches (variant n a) t
 
--- no bytes are a form of the tree's own value, for want of levels or for another fault
+-- no bytes are a form of the tree's own value: it would need too many levels, or has another fault
 pub record HasNoForm (types : Types) (t : Tree) : Type 0 where
   pub shape : Shape
   pub is : types.nodes t.type ≡ Some shape
   pub none_within : (some_bytes : List ℕ) (some_kids : List Kid) → ¬ TreeForm types shape t.meaning some_bytes some_kids
 
--- the tree, or one that it reaches, is so
+-- the tree, or one that it reaches, has no form
 abbrev pub LeadsToNoForm : Types → Tree → Type 0
 LeadsToNoForm types t = HasNoForm types t ⊎ ((below : Tree) × Reaches t.meaning below × HasNoForm types below)
 
--- a path of too many references leads down from the item, through one of its own or from below one, or from the listed cell
+-- a path of too many references leads down from the item, or from the listed cell, or from a node below
 abbrev pub IsTooDeepTask : (ℕ → Tree) → Task → Type 0
 IsTooDeepTask trees (of_item written) = (r : ArcRef) × Among written.references r × (longest_path < max (above r.kind.0 (height (trees r.node.0).meaning)) (deepest_path (trees r.node.0).meaning))
 IsTooDeepTask trees (of_entry h i) = longest_path < deepest_path (trees i.node.0).meaning
@@ -53,14 +53,14 @@ abbrev pub IsFormlessTask : Types → (ℕ → Tree) → Task → Type 0
 IsFormlessTask types trees (of_item written) = (r : ArcRef) × Among written.references r × LeadsToNoForm types (trees r.node.0)
 IsFormlessTask types trees (of_entry h i) = LeadsToNoForm types (trees i.node.0)
 
--- No key is answered where such a path leads down, or where some value has no form for whatever fault.
+-- No worker returns a key if such a path leads down, or if some value has no form.
 abbrev pub KeyIsShallow : {N E B W : Type 0} → Values N → Fact N E B W
 KeyIsShallow v s trees (Event.WorkerStep n) (EventReply.WorkerMoved (Ok reply)) s' trees' =
     (walking : Walking) (key : ℕ) → s.work.walkings n.0 ≡ Some walking → reply.answer ≡ Some (WorkerAnswer.Key key)
     → (¬ IsTooDeepTask trees walking.task) × (¬ IsFormlessTask v.types trees walking.task)
 KeyIsShallow v s trees event reply s' trees' = Unit {0}
 
--- what a pin may still be refused for, once a page-out has set the cell's key
+-- the errors with which a load may still fail once a page-out has set the cell's key
 abbrev pub IsOfChance : Error → Type 0
 IsOfChance Error.RegexRefused = Unit {0}
 IsOfChance Error.NumbersSpent = Unit {0}
@@ -69,7 +69,7 @@ IsOfChance (Error.Storage code) = Unit {0}
 IsOfChance (Error.Custom text) = Unit {0}
 IsOfChance e = ⊥
 
--- a page-out has published the key of the node on some table
+-- a page-out has published the node's key on some table
 pub record IsPagedOutAs {N E : Type 0} (s : MachineState N E) (n key : ℕ) : Type 0 where
   pub t : ℕ
   pub i : Identity
@@ -77,17 +77,17 @@ pub record IsPagedOutAs {N E : Type 0} (s : MachineState N E) (n key : ℕ) : Ty
   pub of_node : i.node.0 ≡ n
   pub known : IsPublished (s.work.shelves t) i key height
 
--- the load is of a cell, and its key was published so
+-- the load is of a cell, and its key was published
 abbrev pub IsLoadOfPagedOut : {N E : Type 0} → MachineState N E → OpenLoad → Type 0
 IsLoadOfPagedOut s load = (node : NodeNumber) × (t : ℕ) × (h : HandleNumber) × (load.root ≡ of_cell node t h) × IsPagedOutAs s node.0 load.key
 
--- a load of a cell whose key a page-out set is refused by chance alone
+-- a load of a cell whose key a page-out has set fails only with such an error
 abbrev pub LoadIsSound : {N E B W : Type 0} → Fact N E B W
 LoadIsSound s trees (Event.LoadStep l) (EventReply.LoadMoved (Ok reply)) s' trees' =
     (load : OpenLoad) (e : Error) → s.pager.core.loads l.0 ≡ Some load → IsLoadOfPagedOut s load → reply.ended ≡ Some (LoadAnswer.Refused e) → IsOfChance e
 LoadIsSound s trees event reply s' trees' = Unit {0}
 
--- a load gets a reference of this kind and key, and it is of this node
+-- a load gets a reference of this kind and key, and its node is n
 pub record GetsReference (w : Core) (kind : Kind) (key n : ℕ) (w' : Core) : Type 0 where
   pub me : Owner
   pub l : LoadNumber
@@ -97,36 +97,37 @@ pub record GetsReference (w : Core) (kind : Kind) (key n : ℕ) (w' : Core) : Ty
   pub at : row.node.0 ≡ n
   pub gets : AskCall w me l (Want.Nested kind key) (Ok (from_cache k)) w' ⊎ LazyCall w me l kind key (Ok k) w' ⊎ ((t : ℕ) × (references : List ArcRef) × Adopts w me l kind key t references k w')
 
--- the cache has each node once: so it is where reading alone has filled it
+-- the cache has no node twice, as is the case if only loads have filled it
 abbrev pub IsFilledByReading : Core → Type 0
 IsFilledByReading w = (kind key other_kind other_key n : ℕ) → w.cache kind key ≡ Some n → w.cache other_kind other_key ≡ Some n → (other_kind ≡ kind) × (other_key ≡ key)
 
--- the event neither clears the cache nor puts a caller's reference into it, nor closes the storage
+-- the event doesn't clear the cache, doesn't put a caller's reference into it, and doesn't close the storage
 abbrev pub LeavesCache : {N B W : Type 0} → Event N B W → Type 0
 LeavesCache (Event.Call Call.CacheClear) = ⊥
 LeavesCache (Event.Call (Call.OnArcDeserialized kind key h)) = ⊥
 LeavesCache (Event.Call Call.Close) = ⊥
 LeavesCache event = Unit {0}
 
--- a handle of the node that fits the kind is alive
+-- some live handle of the node fits the kind
 pub record IsAlive (w : Core) (kind : Kind) (n : ℕ) : Type 0 where
   pub row : HandleRow
   pub live : Among w.rows row
   pub at : row.node.0 ≡ n
   pub fits : fits_mode kind.0 row.mode ≡ true
 
--- after each moment
+-- after each moment of the chain
 abbrev pub StaysAlive : {N E B W : Type 0} → Kind → ℕ → List (Moment N E B W) → Type 0
 StaysAlive kind n [] = Unit {0}
 StaysAlive kind n (x ∷ xs) = IsAlive x.after.pager.core kind n × StaysAlive kind n xs
 
--- Two references that are got through one cache, which reading alone has filled and whose storage is open. If their identities are the same, so are kind and key; and if kind and key are, so are
--- their identities, provided that a handle of the first one's node in that kind's mode was alive between.
+-- Two references that loads get through one cache, which only loads have filled and whose storage is open. If they have
+-- the same kind and node, they have the same key. And if they have the same kind and key, they have the same node,
+-- provided that a handle of the first node in the kind's mode was alive all the time between.
 pub record HaveOneIdentity {N E B W : Type 0} (kind other_kind : Kind) (key other_key n other_n : ℕ) (between : List (Moment N E B W)) : Type 0 where
   pub differ : other_kind ≡ kind → other_n ≡ n → other_key ≡ key
   pub same : other_kind ≡ kind → other_key ≡ key → StaysAlive kind n between → other_n ≡ n
 
--- The law, of any chain between two such readings.
+-- The law, for any chain between two such loads.
 abbrev pub OneIdentityLaw : {N B W : Type 0} → (E : Type 0) → Seen N B W → Type 0
 OneIdentityLaw {N} {B} {W} E m = (w : Core) (first : MachineState N E) (between : List (Moment N E B W)) (last : Core) (kind other_kind : Kind) (key other_key n other_n : ℕ) → IsWhole w
     → IsFilledByReading w

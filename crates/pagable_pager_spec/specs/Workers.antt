@@ -1,4 +1,5 @@
--- A page-out worker's steps. A worker has a list of what it has to do; each step does what stands at its front, and says what it does to the pager, to the table and to the list.
+-- A page-out worker's steps. A worker has a list of what it has to do. Each step does what is at the front of the list,
+-- and is specified by its effect on the pager, on the table and on the list.
 use Rattle.std.specs.Prelude.{ℕ, ◌≡◌, ◌+◌, ◌<◌, ◌≤◌, ◌&&◌, ◌||◌, ◌⊎◌, Bool, true, false, if◌then◌else◌, List, [], ◌∷◌, ◌++◌, length, drop, max, Option, Some, None, Result, Ok, Err, IfOk, IfErr}
 use Rattle.std.specs.Prelude.{nat_eq}
 use Rattle.pagable_value_spec.specs.Merkle.{blob_of}
@@ -8,33 +9,34 @@ use Rattle.pagable_pager_spec.specs.World.{to_pin, to_load, to_write, to_finish,
 use Rattle.pagable_pager_spec.specs.{Basics.{if_there, is_loose_kind, Beginning, LoadAnswer}, Kinds.{identity_of, is_owner, is_loose, owner_worker, find_row, is_at, is_owned_by}, World.{Seen, digest, seen_as}}
 use Rattle.pagable_pager_spec.specs.{Cascade.FallsAnyhow, Refusals.row_fault, Calls.{CloneCall, PinCall, SetKeyCall, ScheduleCall, StoreCall}, LoadCalls.BeginCall, Loads.{ReadingDoes, gone_on}}
 
--- the place of a reference on the path below a node at this one; a path ends at a reference through a loose handle
+-- the depth of a child on the path: one more than its parent's, or 0 for a loose reference, which begins a new path
 abbrev pub place_below : ℕ → ℕ → ℕ
 place_below place kind = if is_eager kind then place + 1 else 0
 
--- the first of the references that are left is started
+-- the first of the references that are left is to be claimed
 abbrev pub next_start : ℕ → List ArcRef → List Todo
 next_start place [] = []
 next_start place (r ∷ rs) = to_start r (place_below place r.kind.0) ∷ []
 
--- what stands at the front waits for its next reference, if one is left
+-- the front of the list waits for its next reference, if one is left
 abbrev pub settle : List Todo → List Todo
 settle (to_finish o ∷ below) = next_start o.place (drop (length o.keys) o.written.references) ++ to_finish o ∷ below
 settle (to_item written keys ∷ below) = next_start 0 (drop (length keys) written.references) ++ to_item written keys ∷ below
 settle todo = todo
 
--- key and height of a reference go to what waits for it
+-- key and height of a reference are given to its parent, which waits for them at the front
 abbrev pub give : ArcRef → ℕ → ℕ → List Todo → List Todo
 give r key height (to_finish o ∷ below) = settle (to_finish (record o { keys = o.keys ++ key ∷ []; height = max o.height (above r.kind.0 height) }) ∷ below)
 give r key height (to_item written keys ∷ below) = settle (to_item written (keys ++ key ∷ []) ∷ below)
 give r key height todo = todo
 
--- the same of a key that was known; nothing waits for a listed cell, whose handle is released then
+-- the same for a reference that was paged out already; for a listed cell no parent waits, and its handle is to be
+-- released
 abbrev pub give_known : ArcRef → ℕ → ℕ → List Todo → List Todo
 give_known r key height [] = to_release r key height ∷ []
 give_known r key height (x ∷ below) = give r key height (x ∷ below)
 
--- a written node's references are to be walked
+-- the references of a written node are to be walked
 abbrev pub open_node : ArcRef → ℕ → HandleNumber → Written → List Todo → List Todo
 open_node r place through written below = settle (to_finish (record { reference = r; place = place; through = through; written = written; keys = []; height = 0 }) ∷ below)
 
@@ -43,21 +45,21 @@ abbrev pub first_todo : Task → List Todo
 first_todo (of_item written) = settle (to_item written [] ∷ [])
 first_todo (of_entry h i) = to_start (record { kind = i.kind; node = i.node; handle = h }) 0 ∷ []
 
--- the entry of a listed cell that isn't pinned yet: it goes back to the list where the walk fails
+-- the list entry of a worker that hasn't pinned its cell yet; the entry is listed again if the walk fails
 abbrev pub entry_left : List Todo → Option HandleNumber
 entry_left (to_start r place ∷ []) = Some r.handle
 entry_left (to_pin r place ∷ []) = Some r.handle
 entry_left (to_load r place through reading ∷ []) = Some r.handle
 entry_left todo = None
 
--- the walk fails: all of it goes
+-- the walk fails: all else that it had to do is forgotten
 abbrev pub failing : Fault → List Todo → List Todo
 failing fault todo = to_fail fault (entry_left todo) ∷ []
 
 abbrev pub failing_by : Error → List Todo → List Todo
 failing_by e todo = failing (was_refused e) todo
 
--- the pager, its table, and what it has to do
+-- where a worker works: the pager's state, the worker's table, and what it has to do
 pub record Site : Type 0 where
   pub core : Core
   pub shelf : Shelf
@@ -69,22 +71,22 @@ with_slot shelf i slot = record shelf { slots = λ j. if is_identity i j then sl
 abbrev pub with_wait : Shelf → ℕ → Option Identity → Shelf
 with_wait shelf v i = record shelf { waits = updated v i shelf.waits }
 
--- table and list after a step that leaves the pager alone
+-- a step that leaves the pager alone: the table and the list afterwards
 pub record Turns (s : Site) (shelf : Shelf) (todo : List Todo) (s' : Site) : Type 0 where
   pub pager_stays : Alike s.core s'.core
   pub table_is : SameShelf shelf s'.shelf
   pub list_is : s'.todo ≡ todo
 
--- the list after a step that leaves the table alone, and may change the pager
+-- a step that leaves the table alone and may change the pager: the list afterwards
 pub record GoesTo (s : Site) (todo : List Todo) (s' : Site) : Type 0 where
   pub table_stays : SameShelf s.shelf s'.shelf
   pub list_is : s'.todo ≡ todo
 
--- why a reference can't be claimed, before its place and slot are looked at, whoever owns its handle
+-- why a reference can't be claimed, checked before its depth and slot; its handle may have any owner
 abbrev pub claim_fault : Core → ArcRef → Option Error
 claim_fault w r = if_there (row_fault w r None) (Some Error.NoSuchHandle) (row_at w r.handle)
 
--- the identity is claimed, and this is its slot, which has no result yet
+-- the identity is claimed, `slot` is its slot, and it has no result yet
 pub record IsOpenSlot (s : Shelf) (i : Identity) (slot : Slot) : Type 0 where
   pub claimed : s.slots i ≡ Some slot
   pub no_result_yet : slot.outcome ≡ no_result
@@ -97,28 +99,29 @@ is_open_outcome _ = false
 abbrev pub is_open_slot : Option Slot → Bool
 is_open_slot slot = if_there (λ (s : Slot). is_open_outcome s.outcome) false slot
 
--- the worker u waits for one that waits, and so on, for the worker v
+-- the worker u is v; or it waits for a worker that waits, and so on, for v
 pub data ComesBack (s : Shelf) (v : ℕ) : ℕ → Type 0 where
   is-asker : (u : ℕ) → u ≡ v → ComesBack s v u
   waits-back : (u : ℕ) (i : Identity) (slot : Slot) → s.waits u ≡ Some i → IsOpenSlot s i slot → ComesBack s v slot.worker → ComesBack s v u
 
--- the worker u waits for one that waits, and so on, for one that doesn't, and none of them is the worker v
+-- the worker u works, or waits for a worker that waits, and so on, for one that works; and none of them is v
 pub data ComesToEnd (s : Shelf) (v : ℕ) : ℕ → Type 0 where
   works : (u : ℕ) → nat_eq u v ≡ false → s.waits u ≡ None → ComesToEnd s v u
   may-go-on : (u : ℕ) (i : Identity) → nat_eq u v ≡ false → s.waits u ≡ Some i → is_open_slot (s.slots i) ≡ false → ComesToEnd s v u
   waits-on : (u : ℕ) (i : Identity) (slot : Slot) → nat_eq u v ≡ false → s.waits u ≡ Some i → IsOpenSlot s i slot → ComesToEnd s v slot.worker → ComesToEnd s v u
 
--- key and height of the identity are known on the table
+-- the table has this key and height for the identity
 pub record IsPublished (s : Shelf) (i : Identity) (key height : ℕ) : Type 0 where
   pub slot : Slot
   pub claimed : s.slots i ≡ Some slot
   pub known : slot.outcome ≡ published key height
 
--- too deep at its place; with the height that is known there; or since whoever is at it waits for the asker, which may be at it itself
+-- A claim is too deep: at its own depth; with the published height added; or since the worker that has the identity
+-- waits for this one (or is this one).
 abbrev pub IsTooDeep : Shelf → ℕ → Identity → ℕ → Type 0
 IsTooDeep s v i place = (longest_path < place) ⊎ ((key height : ℕ) × IsPublished s i key height × (longest_path < place + height)) ⊎ ((slot : Slot) × IsOpenSlot s i slot × ComesBack s v slot.worker)
 
--- what a claim finds, and what is to be done then; that a worker waits is forgotten as soon as a claim answers something else
+-- What a claim finds, and what is to be done then. A claim that needn't wait ends the note that the worker waits.
 abbrev pub Finds : ℕ → Site → ArcRef → ℕ → List Todo → Claim → Site → Type 0
 Finds v s r place below Claim.Claimed s' = (place ≤ longest_path)
     × (s.shelf.slots (identity_of r) ≡ None)
@@ -141,21 +144,22 @@ pub record RowIs (w : Core) (h : HandleNumber) (loose : Bool) : Type 0 where
   pub live : row_at w h ≡ Some row
   pub sort : is_loose row.mode ≡ loose
 
--- A Pinned or Shared reference is cloned for the worker, and that is a pin. A loose one is cloned, and the clone is pinned.
+-- A reference by a Pinned or Shared handle is cloned, and the clone pins. By a loose handle it is cloned, and the clone
+-- is pinned.
 abbrev pub PinsAtOnce : Core → Owner → ArcRef → HandleNumber → HandleNumber → Core → Type 0
 PinsAtOnce w me r through k w' = (RowIs w r.handle false × (through ≡ k) × CloneCall w me r.handle (Ok k) w')
     ⊎ (RowIs w r.handle true × ((mid : Core) × CloneCall w me r.handle (Ok through) mid × PinCall mid me through (Ok (Pinning.Pinned k)) w'))
 
--- the clone's value is away: a load is begun by it
+-- the value isn't in memory: a load begins by the clone
 abbrev pub PinsByLoad : Core → Owner → ArcRef → HandleNumber → LoadNumber → Core → Type 0
 PinsByLoad w me r through l w' = RowIs w r.handle true × ((mid : Core) × (key : ℕ) × CloneCall w me r.handle (Ok through) mid × BeginCall mid me through (Ok (Beginning.Load l key)) w')
 
--- the clone is refused; or the pin of a loose clone, or the begin of its load
+-- the clone fails; or the pin by a loose clone, or the begin of its load
 abbrev pub PinRefused : Core → Owner → ArcRef → Error → Core → Type 0
 PinRefused w me r e w' = CloneCall w me r.handle (Err e) w'
     ⊎ (RowIs w r.handle true × ((mid : Core) × (through : HandleNumber) × CloneCall w me r.handle (Ok through) mid × (PinCall mid me through (Err e) w' ⊎ BeginCall mid me through (Err e) w')))
 
--- a reading of a claimed cell's value that has just begun
+-- the reading of a load that has just begun
 abbrev pub fresh : LoadNumber → ℕ → Reading
 fresh l t = record { load = l; node_type = t; frames = []; steps = 0 }
 
@@ -164,7 +168,7 @@ PinsFirst v s r place below (PinStep.Held k) s' = (through : HandleNumber) × Pi
 PinsFirst v s r place below (PinStep.LoadBegun l) s' = (through : HandleNumber) × PinsByLoad s.core (owner_worker v) r through l s'.core × GoesTo s (to_load r place through (fresh l (type_of r.kind.0)) ∷ below) s'
 PinsFirst v s r place below PinStep.LoadWent s' = ⊥
 
--- what was claimed is pinned, or a load of it begins
+-- the claimed node is pinned, or a load of it begins
 pub record PinsClaimed (v : ℕ) (s : Site) (r : ArcRef) (place : ℕ) (below : List Todo) (result : Result PinStep Error) (s' : Site) : Type 0 where
   pub pins : IfOk result (λ p. PinsFirst v s r place below p s')
   pub refused : IfErr result (λ e. PinRefused s.core (owner_worker v) r e s'.core × GoesTo s (failing_by e s.todo) s')
@@ -175,38 +179,39 @@ LoadsOn m v s r place through reading below (PinStep.LoadBegun l) s' = ⊥
 LoadsOn m v s r place through reading below PinStep.LoadWent s' =
     (frames : List Frame) × ReadingDoes m s.core (owner_worker v) reading None frames s'.core × GoesTo s (to_load r place through (gone_on reading frames) ∷ below) s'
 
--- its load goes on, or ends with the pin
+-- the worker's load makes a step, which may end it with the pin
 pub record PinsLoaded {N : Type 0} (m : Values N) (v : ℕ) (s : Site) (r : ArcRef) (place : ℕ) (through : HandleNumber) (reading : Reading) (below : List Todo) (result : Result PinStep Error) (s' : Site) : Type 0 where
   pub goes : IfOk result (λ p. LoadsOn m v s r place through reading below p s')
   pub refused : IfErr result (λ e. ReadingDoes m s.core (owner_worker v) reading (Some (LoadAnswer.Refused e)) [] s'.core × GoesTo s (failing_by e s.todo) s')
 
--- the slot of the identity is changed so, if it is claimed
+-- the slot of the identity with f applied, if it is claimed
 abbrev pub with_changed_slot : Shelf → Identity → (Slot → Slot) → Shelf
 with_changed_slot shelf i f = with_slot shelf i (if_there (λ slot. Some (f slot)) None (shelf.slots i))
 
--- the value is written, and which references were written is known from now on
+-- the value is written, and its references are noted in the slot
 pub record Writes {N : Type 0} (m : Values N) (s : Site) (r : ArcRef) (place : ℕ) (through : HandleNumber) (below : List Todo) (result : Result Written Error) (s' : Site) : Type 0 where
   pub writes : IfOk result (λ written. Turns s (with_changed_slot s.shelf (identity_of r) (λ slot. record slot { references = Some written.references })) (open_node r place through written below) s')
   pub refused : IfErr result (λ e. (m.write_causes (type_of r.kind.0) e ⊎ (e ≡ Error.OutOfMemory)) × Turns s s.shelf (failing_by e s.todo) s')
 
--- the blob of what was written is stored over the keys of its references, which are all known
+-- the blob is stored: what was written, with the keys of its references, which are all known
 pub record StoresBlob {N : Type 0} (m : Values N) (s : Site) (written : Written) (keys : List ℕ) (next : ℕ → List Todo) (result : Result ℕ Error) (s' : Site) : Type 0 where
   pub all : length keys ≡ length written.references
   pub stored : StoreCall (digest m) s.core (blob_of written.bytes keys) result s'.core
   pub goes : IfOk result (λ key. GoesTo s (next key) s')
   pub refused : IfErr result (λ e. GoesTo s (failing_by e s.todo) s')
 
--- The cell of a reference through a loose kind gets the key, by the worker's handle. Through any other kind no key is set, whatever became of the reference's handle meanwhile.
+-- A cell that the reference reaches by a loose kind gets the key, by the worker's handle. For any other kind no key is
+-- set, even if the reference's handle is gone by now.
 pub record KeySetFor (w : Core) (me : Owner) (r : ArcRef) (through : HandleNumber) (key : ℕ) (result : Result (Unit {0}) Error) (w' : Core) : Type 0 where
   pub does : ((is_loose_kind r.kind.0 ≡ true) × SetKeyCall w me through key result w') ⊎ ((is_loose_kind r.kind.0 ≡ false) × (result ≡ Ok tt) × Alike w w')
 
--- the key of what was stored is set, where the reference's kind has one
+-- the key of the stored blob is set, if the reference's kind is loose
 pub record SetsKey (v : ℕ) (s : Site) (r : ArcRef) (through : HandleNumber) (key height : ℕ) (below : List Todo) (result : Result (Unit {0}) Error) (s' : Site) : Type 0 where
   pub sets : KeySetFor s.core (owner_worker v) r through key result s'.core
   pub goes : IfOk result (λ u. GoesTo s (to_publish r key height ∷ below) s')
   pub refused : IfErr result (λ e. GoesTo s (failing_by e s.todo) s')
 
--- the first result of a claim stays
+-- a claim keeps its first result
 abbrev pub with_outcome : Outcome → Slot → Slot
 with_outcome outcome slot = if is_open_outcome slot.outcome then record slot { outcome = outcome } else slot
 
@@ -220,7 +225,7 @@ abbrev pub is_load_of : Core → ℕ → Owner → Bool
 is_load_of w v (Owner.Load l) = is_workers_load v (w.loads l.0)
 is_load_of w v owner = false
 
--- whether the handle is owned by the worker or by one of its loads
+-- whether the worker or one of its loads owns the handle
 abbrev pub is_workers : Core → ℕ → ℕ → Bool
 is_workers w v q = if_there (λ (row : HandleRow). is_owner (owner_worker v) row.owner || is_load_of w v row.owner) false (find_row q w.rows)
 
@@ -228,20 +233,20 @@ is_workers w v q = if_there (λ (row : HandleRow). is_owner (owner_worker v) row
 abbrev pub without_worker : Core → ℕ → Core
 without_worker w v = record w { workers = updated v false w.workers; loads = λ l. if is_workers_load v (w.loads l) then None else w.loads l }
 
--- the worker has answered: it gives up whatever it still has
+-- the worker has its result: what it still owns is released
 abbrev pub WorkerEnds : Core → ℕ → Core → Type 0
 WorkerEnds w v w' = FallsAnyhow w (without_worker w v) (is_workers w v) w'
 
--- the worker's claims without a result are failed
+-- the worker's claims that have no result become failed
 abbrev pub with_failed : Shelf → ℕ → Shelf
 with_failed shelf v = record shelf { slots = λ i. if_there (λ (slot : Slot). Some (if nat_eq slot.worker v then with_outcome failed slot else slot)) None (shelf.slots i) }
 
--- an entry that was never pinned goes back to the list's end, as far as the list can take it
+-- an entry that the worker never pinned is listed again, at the end, if the list has room
 abbrev pub GivesBack : Core → ℕ → Option HandleNumber → Core → Type 0
 GivesBack w v None w' = Alike w w'
 GivesBack w v (Some h) w' = (r : Result (Unit {0}) Error) × ScheduleCall w (owner_worker v) h r w'
 
--- what stands at the front is done; below it stands the rest of the list
+-- the front of the list is done; `below` is the rest of the list
 abbrev pub Does : {N B W : Type 0} → Seen N B W → ℕ → Site → List Todo → Action W → Site → Type 0
 Does m v s (to_start r place ∷ below) (Action.Claim i c) s' = (i ≡ identity_of r) × Claims v s r place below c s'
 Does m v s (to_pin r place ∷ below) (Action.Pin i p) s' = (i ≡ identity_of r) × PinsClaimed v s r place below p s'
@@ -256,11 +261,11 @@ Does m v s (to_release r key height ∷ below) (Action.Release i) s' = (i ≡ id
 Does m v s (to_fail fault back ∷ below) Action.Fail s' = GivesBack s.core v back s'.core × SameShelf (with_failed s.shelf v) s'.shelf × (s'.todo ≡ [])
 Does m v s todo step s' = ⊥
 
--- One step of the worker v, on the pager, its table and its list. It touches nothing else.
+-- One step of the worker v, on the pager, the worker's table and its list. It changes nothing else.
 pub record WalkDoes {N B W : Type 0} (m : Seen N B W) (v : ℕ) (s : Site) (step : Action W) (s' : Site) : Type 0 where
   pub does : Does m v s s.todo step s'
 
--- a worker answers with its item's store, with the release of its entry's cell, and where it fails
+-- a worker has its result after it stored its item's blob, or released its listed cell, or failed
 abbrev pub answer_after : {W : Type 0} → List Todo → Action W → Option WorkerAnswer
 answer_after (to_item written keys ∷ below) (Action.Store i (Ok key)) = Some (WorkerAnswer.Key key)
 answer_after (to_release r key height ∷ []) step = Some (WorkerAnswer.Key key)
@@ -271,7 +276,7 @@ abbrev pub is_counted_claim : Result Claim Error → Bool
 is_counted_claim (Ok Claim.Waiting) = false
 is_counted_claim r = true
 
--- every step is counted but a claim that has to wait and the steps of a load
+-- every step counts, except a claim that has to wait and the steps of a load
 abbrev pub is_counted : {W : Type 0} → List Todo → Action W → Bool
 is_counted (to_load r place through reading ∷ below) step = false
 is_counted todo (Action.Claim i r) = is_counted_claim r

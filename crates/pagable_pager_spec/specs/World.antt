@@ -1,5 +1,5 @@
--- The plain world: handles, cells, list, cache, store, loads, claims and workers, with no values and no counts; in parts, by who tells them. What the
--- caller's types say of values: the members of the traits, with what is asked of them.
+-- The plain state: handles, cells, list, cache, store, loads, claims and workers, without values and counts. And the
+-- description of the caller's types: the members of their traits, and what is asked of them.
 use Rattle.std.specs.Prelude.{ℕ, ◌≡◌, ◌≤◌, ◌==◌, ◌&&◌, ◌^◌, ◌-◌, ◌+◌, min, Bool, not, if◌then◌else◌, List, Option, Some, None, true, Result, Ok, Err}
 use Rattle.pagable_value_spec.specs.{Blob.key_of, Reading.deepest, Refusals.{is_own_reading, may_refuse_writing}, Form.Form, Writing.kind_of_arc, References.{references_in, SameReferences}}
 use Rattle.pagable_pager_spec.specs.Basics.{Error, OptionalDataKey, Kind, ArcRef, Identity, HandleNumber, LoadNumber, NodeNumber, Blob, Owner, HandleRow, WorkerAnswer, SameAt, Meaning, Shape, Types}
@@ -9,38 +9,38 @@ pub record Cell : Type 0 where
   pub node_type : ℕ
   pub key : OptionalDataKey
 
--- how many rows the vector of handles and the list have room for in all, before they have to grow
+-- how many rows and how many list entries fit before an allocation is needed, including those that are there
 pub record Places : Type 0 where
   pub handles : ℕ
   pub entries : ℕ
 
--- the last number that was given, of each sort
+-- the last number given out, of each sort
 pub record Last : Type 0 where
   pub node : ℕ
   pub handle : ℕ
   pub load : ℕ
   pub worker : ℕ
 
--- what a load reads its key for: the value of a cell of a type, with the handle by which the load was begun; or what the caller makes of it
+-- what a load reads its key for: for a cell of a type, with the handle by which the load began; or for the caller
 pub data Root : Type 0 where
   of_cell : NodeNumber → ℕ → HandleNumber → Root
   of_key : Root
 
--- an open load: who began it, the key that it reads and what for
+-- an open load: who began it, the key that it reads, and what for
 pub record OpenLoad : Type 0 where
   pub owner : Owner
   pub key : ℕ
   pub root : Root
 
 pub record Core : Type 0 where
-  -- the live handles in the order of their numbers, and the cells of live nodes by their numbers
+  -- the live handles' rows in the order of their numbers, and the cells of live nodes by their numbers
   pub rows : List HandleRow
   pub cells : ℕ → Option Cell
-  -- the cells that wait for page-out, by the handles that the list owns
+  -- the list of cells that wait for page-out, as handles that the list owns
   pub list : List HandleNumber
-  -- which node is known under a kind and a key
+  -- the cache: a node by kind and key
   pub cache : ℕ → ℕ → Option ℕ
-  -- what is stored under each key, whether the storage was closed, and how often it failed
+  -- the storage: the blob under each key, whether it is closed, and how often it has failed
   pub stored : ℕ → Option Blob
   pub closed : Bool
   pub failures : ℕ
@@ -55,7 +55,7 @@ pub record Written : Type 0 where
   pub bytes : List ℕ
   pub references : List ArcRef
 
--- what is known of a claim: no result yet, a key with a height, or that it failed
+-- the outcome of a claim: no result yet; published with key and height; or failed
 pub data Outcome : Type 0 where
   no_result : Outcome
   published : ℕ → ℕ → Outcome
@@ -67,13 +67,14 @@ pub record Slot : Type 0 where
   pub references : Option (List ArcRef)
   pub outcome : Outcome
 
--- The claims of one table by their identities; and of each worker whose last answer was that it waits, for which identity.
+-- One table: its claims by their identities; and, for each worker whose last claim had to wait, the identity for which
+-- it waits.
 pub record Shelf : Type 0 where
   pub slots : Identity → Option Slot
   pub waits : ℕ → Option Identity
 
--- A blob that a load has got and reads: the kind as which its node will stand (of no meaning for the root), its key, the type of its value, and the
--- references that were got for it so far, in the order in which they are read.
+-- A blob that a load is reading: the kind that its node will have (without meaning for the root), its key, the type of
+-- its value, and the references that were got for it so far, in the order in which they are read.
 pub record Frame : Type 0 where
   pub kind : Kind
   pub key : ℕ
@@ -81,15 +82,17 @@ pub record Frame : Type 0 where
   pub blob : Blob
   pub got : List ArcRef
 
--- how far a load is: its number, the type that its root is read as, the blobs that it reads, the innermost first, and its steps
+-- the progress of a load: its number, the type as which its root is read, its blobs (the innermost first), and how many
+-- steps it has made
 pub record Reading : Type 0 where
   pub load : LoadNumber
   pub node_type : ℕ
   pub frames : List Frame
   pub steps : ℕ
 
--- A node that a worker has written and whose references it walks: the reference by which it was claimed, its place on the path, the worker's handle
--- of the reference's mode, what was written, and key after key and the height by the references done so far.
+-- A node that a worker has written and whose references it walks: the reference by which it was claimed; its depth on
+-- the path; the worker's own clone of the reference's handle; what was written; and the keys and the height by the
+-- references done so far.
 pub record Open : Type 0 where
   pub reference : ArcRef
   pub place : ℕ
@@ -98,7 +101,7 @@ pub record Open : Type 0 where
   pub keys : List ℕ
   pub height : ℕ
 
--- why a walk fails: a step of its own was refused, or another worker had failed where it came
+-- why a walk fails: a step of its own failed, or another worker had failed at an identity that it needs
 pub data Fault : Type 0 where
   was_refused : Error → Fault
   was_failed : Fault
@@ -109,29 +112,29 @@ answer_of_fault was_failed = WorkerAnswer.AlreadyFailed
 
 -- what a worker has to do
 pub data Todo : Type 0 where
-  -- claim what the reference names, at this place on the path
+  -- claim what the reference names, at this depth on the path
   to_start : ArcRef → ℕ → Todo
-  -- pin what was claimed, or go on with the load that this handle began
+  -- pin what was claimed; below: go on with the load that began by this handle
   to_pin : ArcRef → ℕ → Todo
   to_load : ArcRef → ℕ → HandleNumber → Reading → Todo
-  -- write it, once it is pinned; this handle has the reference's mode
+  -- write the value, which is pinned; the handle is the worker's clone of the reference's
   to_write : ArcRef → ℕ → HandleNumber → Todo
-  -- store its blob, once its references are done
+  -- store the blob, once all references are done
   to_finish : Open → Todo
-  -- store the item's blob, once its references are done: these keys are known so far
+  -- store the item's blob, once all its references are done; these keys are known so far
   to_item : Written → List ℕ → Todo
-  -- set, publish and release: with key and height
+  -- set the key; below: publish it, release the node; all with key and height
   to_set : ArcRef → HandleNumber → ℕ → ℕ → Todo
   to_publish to_release : ArcRef → ℕ → ℕ → Todo
-  -- give all up, and this entry back to the list
+  -- end the failed walk, and list this entry again
   to_fail : Fault → Option HandleNumber → Todo
 
--- what a worker pages out: an item, or the cell of an entry of the list, by the entry's handle
+-- what a worker pages out: an item, or the cell of a list entry, by the entry's handle
 pub data Task : Type 0 where
   of_item : Written → Task
   of_entry : HandleNumber → Identity → Task
 
--- a worker: its table and task, what it has to do, what comes next first, its steps, and its answer once it has given one
+-- a worker: its table and task, what it has to do (next first), its steps, and its result if it has one
 pub record Walking : Type 0 where
   pub table : ℕ
   pub task : Task
@@ -139,7 +142,7 @@ pub record Walking : Type 0 where
   pub steps : ℕ
   pub answer : Option WorkerAnswer
 
--- tables, and loads and workers of a machine, by their numbers
+-- the tables, the loads' readings and the workers of a machine, by their numbers
 pub record Work : Type 0 where
   pub shelves : ℕ → Shelf
   pub last_table : ℕ
@@ -150,7 +153,7 @@ pub record World : Type 0 where
   pub core : Core
   pub work : Work
 
--- the greatest number there is of any sort
+-- the greatest number of any sort
 abbrev pub greatest : ℕ
 greatest = 2 ^ 64 - 1
 
@@ -171,14 +174,15 @@ key_at w n = if_there (λ (cell : Cell). cell.key) OptionalDataKey.None (w.cells
 abbrev pub is_here : Core → ℕ → Bool
 is_here w n = is_in_memory (pins n w.rows) (key_at w n)
 
--- The node that the cache gives for a kind and a key. An entry counts only while its node lives and, as a pin, has its value.
+-- The node that the cache gives for a kind and a key. An entry counts only if its node is live and, for a pinned kind,
+-- has its value in memory.
 abbrev pub usable : Core → ℕ → ℕ → Option ℕ
 usable w kind key = if_there (λ n. if_there (λ (cell : Cell). if is_pinned_kind kind && not (is_in_memory (pins n w.rows) cell.key) then None else Some n) None (w.cells n)) None (w.cache kind key)
 
 abbrev pub is_identity : Identity → Identity → Bool
 is_identity i j = (j.kind.0 == i.kind.0) && (j.node.0 == i.node.0)
 
--- The cache gives the same; of the entries that it can't use any may be forgotten, and none comes.
+-- The cache gives the same nodes. It may have forgotten entries that it couldn't use, and has no new ones.
 pub record SameCache (w w' : Core) : Type 0 where
   pub gives : (kind key : ℕ) → usable w' kind key ≡ usable w kind key
   pub only : (kind key n : ℕ) → w'.cache kind key ≡ Some n → w.cache kind key ≡ Some n
@@ -188,7 +192,7 @@ pub record HasRoom (places places' : Places) : Type 0 where
   pub handles : places.handles ≤ places'.handles
   pub entries : places.entries ≤ places'.entries
 
--- The second is the first, but for unusable entries of the cache and for room that was made.
+-- The two states are equal, except for unusable entries of the cache and for room that was reserved.
 pub record Alike (w w' : Core) : Type 0 where
   pub rows : w'.rows ≡ w.rows
   pub cells : SameAt w.cells w'.cells
@@ -206,22 +210,23 @@ pub record SameShelf (s s' : Shelf) : Type 0 where
   pub slots : (i : Identity) → s'.slots i ≡ s.slots i
   pub waits : SameAt s.waits s'.waits
 
--- Values of the type N in an environment. Trees, forms, readings and keys follow from these alone.
+-- Values of the type N in an environment. Trees, forms, readings and keys are defined by these members alone.
 pub record Values (N : Type 0) : Type 1 where
-  -- the number of a value's type, its references in the order written, and what it may mean
+  -- the number of a value's type; its references in the order written; what it may mean
   pub node_type : N → ℕ
   pub references : N → List ArcRef
   pub means : N → Meaning ArcRef → Type 0
-  -- what a value holds beside the reference, wherever it refers by it, is the value of this node
+  -- x holds the value y beside the reference, wherever it holds the reference
   pub beside : N → ArcRef → N → Type 0
-  -- why a reader of values of the type may refuse one, beside the faults of the blob; and all refusals of a writer of them
+  -- the causes of its own with which a reader of the type may fail, beside the faults of the blob; all errors of a
+  -- writer of the type
   pub read_causes : ℕ → Error → Type 0
   pub write_causes : ℕ → Error → Type 0
-  -- how values are spelled, and the hash
+  -- how values are encoded, and the hash
   pub types : Types
   pub hash : List ℕ → List ℕ
 
--- the same, with how the storage's blobs and what is written of a value are seen
+-- the same, with the view of the storage's blobs and of what is written of a value
 pub record Seen (N B W : Type 0) : Type 1 where
   pub values : Values N
   pub blob_of : B → Blob
@@ -231,13 +236,13 @@ pub record Seen (N B W : Type 0) : Type 1 where
 abbrev pub digest : {N : Type 0} → Values N → Blob → ℕ
 digest v b = key_of v.hash b
 
--- what was answered, as it is seen
+-- a result with its value viewed by f
 abbrev pub seen_as : {X Y : Type 0} → (X → Y) → Result X Error → Result Y Error
 seen_as f (Ok x) = Ok (f x)
 seen_as f (Err e) = Err e
 
--- The laws of values that are asked of the caller's types: a value means something, refers to what it means to, and is of a type that is there; a
--- reader has no cause of its own that tells of a reference, nor a writer one that tells of reading.
+-- The laws that are asked of the caller's types: a value means something, its references are those of its meaning, and
+-- its type exists; a reader has no cause of its own that concerns references, and a writer none that concerns reading.
 pub record IsLawful {N : Type 0} (v : Values N) : Type 0 where
   pub some : (x : N) → (own : Meaning ArcRef) × v.means x own
   pub refers : (x : N) (own : Meaning ArcRef) → v.means x own → SameReferences (v.references x) (references_in own)
@@ -245,11 +250,11 @@ pub record IsLawful {N : Type 0} (v : Values N) : Type 0 where
   pub own_reading : (t : ℕ) (e : Error) → v.read_causes t e → is_own_reading e ≡ true
   pub own_writing : (t : ℕ) (e : Error) → v.write_causes t e → may_refuse_writing e ≡ true
 
--- a value of which the clauses on trees speak: it means one thing, whatever is written to it later
+-- a value to which the clauses on trees apply: it has only one meaning, whatever is written later
 abbrev pub IsSettled : {N : Type 0} → Values N → N → Type 0
 IsSettled v x = (a b : Meaning ArcRef) → v.means x a → v.means x b → b ≡ a
 
--- these bytes, with these references in their order, are a form of the value
+-- these bytes, with these references in order, are a form of the value
 pub record HasForm {N : Type 0} (v : Values N) (x : N) (written : Written) : Type 0 where
   pub shape : Shape
   pub own : Meaning ArcRef

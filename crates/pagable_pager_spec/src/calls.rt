@@ -1,138 +1,140 @@
-//! The calls of the pager, and what they answer. N is the caller's type of values, B that of blobs.
+//! The calls of the pager and their replies. N is the caller's type of values, B the storage's type
+//! of blobs.
 
 use crate::pinning::{Beginning, Pinning};
 use pagable_value_spec::{
     DataKey, Error, HandleNumber, Kind, LoadNumber, NodeNumber, OptionalDataKey,
 };
 
-/// What a load asks for.
+/// What a load fetches next.
 #[derive(Clone, Copy, Debug, PartialEq)]
 pub enum Want {
-    /// The blob of its root.
+    /// The blob of the load's own key.
     Root,
-    /// The node, or else the blob, of a reference, by its kind and key.
+    /// The node of a reference, by its kind and key, or its blob if the cache has no node.
     Nested(Kind, DataKey),
 }
 
 /// One call of the pager.
 #[derive(Drop)]
 pub enum Call<N: Drop, B: Drop> {
-    /// A node of this value with one Pinned handle.
+    /// Inserts a value, with one Pinned handle.
     NewPinned(N),
-    /// A node of this value with one loose pinned handle.
+    /// Inserts a value, with one loose pinned handle.
     NewLoose(N),
-    /// A node of this value with one Shared handle.
+    /// Inserts a value, with one Shared handle.
     NewShared(N),
-    /// A cell of this type that has a key and no value, with one loose unpinned handle.
+    /// Makes a cell of this type with a key and no value, and one loose unpinned handle.
     NewPagedOut(u32, DataKey),
-    /// A second handle of the same mode.
+    /// Makes a second handle of the same mode.
     Clone(HandleNumber),
-    /// A Pinned handle of a loose handle's cell.
+    /// Makes a Pinned handle from a loose handle, which becomes pinned too.
     Pin(HandleNumber),
-    /// A loose handle lets its pin go.
+    /// Unpins a loose handle.
     Unpin(HandleNumber),
-    /// A handle is given up.
+    /// Releases a handle.
     Release(HandleNumber),
-    /// A Pinned handle becomes a loose pinned one.
+    /// Turns a Pinned handle into a loose pinned one.
     IntoPagable(HandleNumber),
-    /// The cell of a loose handle gets this key.
+    /// Sets the key of a loose handle's cell.
     SetDataKey(HandleNumber, DataKey),
-    /// How many handles pin the handle's node.
+    /// Counts the handles that pin the handle's node.
     Count(HandleNumber),
-    /// The key of the handle's node.
+    /// Reads the key of the handle's node.
     Key(HandleNumber),
-    /// Whether the value of the handle's node has to be read first.
+    /// Says whether the value of the handle's node has to be loaded first.
     IsPagedOut(HandleNumber),
-    /// The handle's node.
+    /// Reads the number of the handle's node.
     NodeOf(HandleNumber),
-    /// The type of the node with this number, if it is live.
+    /// Reads the type of the node with this number, if it is live.
     NodeLive(NodeNumber),
-    /// A loose unpinned handle moves to the list's end.
+    /// Puts a loose unpinned handle at the end of the list.
     ScheduleForPaging(HandleNumber),
-    /// How long the list is.
+    /// Counts the list's entries.
     Pending,
-    /// The entry at this place of the list, counted from 0, moves to the caller.
+    /// Hands the list entry at this place, counted from 0, to the caller.
     TakePending(u64),
-    /// A handle of the node that the cache knows under a kind and a key.
+    /// Makes a handle of the node that the cache has under a kind and a key.
     CacheGet(Kind, DataKey),
-    /// The cache learns a handle's node, or the handle is exchanged for one of the node that it knows.
+    /// Caches a handle's node, or exchanges the handle for one of the node that is cached already.
     OnArcDeserialized(Kind, DataKey, HandleNumber),
-    /// The cache forgets all.
+    /// Empties the cache.
     CacheClear,
-    /// The blob under a key.
+    /// Fetches the blob under a key.
     Fetch(DataKey),
-    /// A blob is stored.
+    /// Stores a blob.
     Store(B),
-    /// The storage writes what it has held back.
+    /// Makes the storage write what it has held back.
     Flush,
-    /// A load of a loose handle's cell begins.
+    /// Begins a load of a loose handle's cell.
     LoadBegin(HandleNumber),
-    /// A load of a key begins.
+    /// Begins a load of a key.
     LoadKey(DataKey),
-    /// A load asks for a blob, or for a handle of a node that the cache knows.
+    /// Fetches a blob for a load, or makes a handle of a node that the cache has.
     LoadFetch(LoadNumber, Want),
-    /// A load makes a node of what it read, under this kind and key.
+    /// Makes a node of a value that the load has read, under this kind and key.
     LoadAdopt(LoadNumber, Kind, DataKey, N),
-    /// A load makes a cell of this kind and key that is read when it is pinned, or gets a handle of the one that the cache knows.
+    /// Makes a handle of the cell that the cache has under this kind and key, or of a new cell
+    /// without a value.
     LoadLazy(LoadNumber, Kind, DataKey),
-    /// A load installs its root's value, pins it and ends.
+    /// Ends a load of a cell: gives the cell its value and pins it.
     LoadEnd(LoadNumber, N),
-    /// A load of a key hands these handles to the caller and ends.
+    /// Ends a load of a key: hands these handles of the load to the caller.
     LoadTake(LoadNumber, Vec<HandleNumber>),
-    /// A load is given up.
+    /// Drops a load.
     LoadDrop(LoadNumber),
-    /// Places for this many handles and list entries are made ready.
+    /// Reserves room for this many handles and list entries.
     Reserve(u64),
-    /// How many handles and list entries can be added without a request for memory.
+    /// Counts the handles and list entries that can be added without an allocation.
     Room,
-    /// The storage is closed.
+    /// Closes the storage.
     Close,
 }
 
-/// What a load's asking gives.
+/// What a load's fetch returns.
 #[derive(Drop)]
 pub enum Found<B: Drop> {
-    /// A handle of the node that the cache knows, which the load owns.
+    /// A handle of the node that the cache has. The load owns the handle.
     Cached(HandleNumber),
     /// The blob.
     Blob(B),
 }
 
-/// What a call answers, by the type of its answer.
+/// What a call returns. A case may serve several calls.
 #[derive(Drop)]
 pub enum Reply<N: Drop, B: Drop> {
-    /// Of the calls that make a node of a value: the new handle, or why not and the value.
+    /// From the calls that make a node of a value: the new handle, or the error and the value.
     Made(Result<HandleNumber, (Error, N)>),
-    /// Of the other calls that make or turn a handle.
+    /// From the other calls that return a handle.
     Handle(Result<HandleNumber, Error>),
-    /// Of `pin`.
+    /// From `pin`.
     Pin(Result<Pinning, Error>),
-    /// Of the calls that answer no more than that they are done.
+    /// From the calls that return nothing.
     Done(Result<(), Error>),
-    /// Of `count`.
+    /// From `count`.
     Count(Result<u64, Error>),
-    /// Of `key`.
+    /// From `key`.
     KeyFound(Result<OptionalDataKey, Error>),
-    /// Of `is_paged_out`.
+    /// From `is_paged_out`.
     Away(Result<bool, Error>),
-    /// Of `node_of`.
+    /// From `node_of`.
     Node(Result<NodeNumber, Error>),
-    /// Of `node_live`.
+    /// From `node_live`.
     NodeType(Option<u32>),
-    /// Of `pending` and `room`.
+    /// From `pending` and `room`.
     Length(u64),
-    /// Of `take_pending`.
-    PinnedOrLoading(Option<HandleNumber>),
-    /// Of `cache_get` and `on_arc_deserialized`.
+    /// From `take_pending`.
+    TakenPending(Option<HandleNumber>),
+    /// From `cache_get` and `on_arc_deserialized`.
     FromCache(Result<Option<HandleNumber>, Error>),
-    /// Of `fetch`.
+    /// From `fetch`.
     Fetched(Result<B, Error>),
-    /// Of `store`.
+    /// From `store`.
     Stored(Result<DataKey, Error>),
-    /// Of `load_begin` and `load_key`.
+    /// From `load_begin` and `load_key`.
     Begun(Result<Beginning, Error>),
-    /// Of `load_fetch`.
+    /// From `load_fetch`.
     LoadFound(Result<Found<B>, Error>),
-    /// Of `load_end`: the new Pinned handle; or why not, with the value where the load stays open.
+    /// From `load_end`: the new Pinned handle; or the error, with the value if the load stays open.
     LoadEnded(Result<HandleNumber, (Error, Option<N>)>),
 }

@@ -1,47 +1,48 @@
-//! The events of the machine, and what they answer. N is the caller's type of values, B that of blobs, and W that of what
-//! is written of a value: its bytes and references.
+//! The events of the machine and their replies. N is the caller's type of values, B the storage's
+//! type of blobs, and W the type of what is written of a value: its bytes and references.
 
 use crate::calls::{Call, Reply};
 use crate::pinning::Beginning;
 use pagable_value_spec::{DataKey, Error, HandleNumber, Identity, LoadNumber, WorkerNumber};
 
-/// The number of a page-out table, from 1 on, never used again.
+/// The number of a page-out table, from 1 on. A machine never gives out a number twice.
 #[derive(Clone, Copy, Debug, PartialEq, Eq)]
 pub struct TableNumber(pub u64);
 
-/// One event: a call, or a step of a load or of a page-out worker.
+/// One event: a call of the pager, or one step of a load or of a page-out worker.
 #[derive(Drop)]
 pub enum Event<N: Drop, B: Drop, W: Drop> {
     /// One call of the pager.
     Call(Call<N, B>),
-    /// A load of a loose handle's cell begins.
+    /// Begins a load of a loose handle's cell.
     LoadStart(HandleNumber),
-    /// A load of a key begins, which is read as a value of this type.
+    /// Begins a load of a key, to be read as a value of this type.
     LoadKey(DataKey, u32),
-    /// A load's next step.
+    /// Makes a load's next step.
     LoadStep(LoadNumber),
-    /// A new table of page-out.
+    /// Makes a new table for page-out.
     TableNew,
-    /// A worker on a table begins, for an item.
+    /// Begins a worker on a table, for an item.
     WorkerItem(TableNumber, W),
-    /// A worker on a table begins, for the entry at this place of the list, counted from 0.
+    /// Begins a worker on a table, for the list entry at this place, counted from 0.
     WorkerListed(TableNumber, u64),
-    /// A worker's next step.
+    /// Makes a worker's next step.
     WorkerStep(WorkerNumber),
 }
 
-/// What ends a load.
+/// How a load ends.
 #[derive(Drop)]
 pub enum LoadAnswer<N: Drop> {
-    /// The cell's value is in memory, and this is the new Pinned handle.
+    /// The cell's value is in memory, and this new Pinned handle pins it.
     Pinned(HandleNumber),
-    /// The value that was read, whose handles are the caller's.
+    /// The value that was read. The caller owns its handles.
     Read(N),
-    /// The load is refused and closed.
+    /// The load failed and is closed.
     Refused(Error),
 }
 
-/// What a step of a load answers: what ended it, or None while there is more; and how many steps it has made.
+/// What a load's step returns: how the load ended, or None if it goes on; and how many steps it has
+/// made.
 #[derive(Drop)]
 pub struct LoadReply<N: Drop> {
     pub ended: Option<LoadAnswer<N>>,
@@ -51,60 +52,62 @@ pub struct LoadReply<N: Drop> {
 /// What a claim finds.
 #[derive(Clone, Copy, Debug, PartialEq)]
 pub enum Claim {
-    /// The identity was free and is this worker's.
+    /// Nobody had claimed the identity: this worker has it now.
     Claimed,
-    /// The identity was paged out: its key and height.
+    /// The identity is paged out already: its key and height.
     Known(DataKey, u64),
-    /// Another worker has it, and there is no result yet.
+    /// Another worker has claimed it, and has no result yet.
     Waiting,
-    /// Another worker failed there.
+    /// Another worker claimed it and failed.
     AlreadyFailed,
 }
 
-/// What a step of pinning does.
+/// What a step that pins a node has done.
 #[derive(Clone, Copy, Debug, PartialEq)]
 pub enum PinStep {
-    /// The worker holds a pin, by this handle.
+    /// The worker has pinned the node, by this handle.
     Held(HandleNumber),
     /// The worker has begun a load.
     LoadBegun(LoadNumber),
-    /// The worker's load has gone on.
+    /// The worker's load has made one step.
     LoadWent,
 }
 
-/// A step of a worker, by its kind, with what its call answered.
+/// One action of a worker, with the result of the call that it made.
 #[derive(Drop)]
 pub enum Action<W: Drop> {
     /// Claims an identity.
     Claim(Identity, Result<Claim, Error>),
     /// Pins the node of an identity, loading it where needed.
     Pin(Identity, Result<PinStep, Error>),
-    /// Writes its value.
+    /// Writes the node's value.
     Write(Identity, Result<W, Error>),
-    /// Stores a blob over the children's keys: that of an identity, or in the end the item's.
+    /// Stores a blob with the keys of its references: the blob of an identity, or at the end the
+    /// item's (None).
     Store(Option<Identity>, Result<DataKey, Error>),
     /// Sets the key of the node.
     SetKey(Identity, Result<(), Error>),
-    /// Puts key and height where other workers see them.
+    /// Publishes key and height for the other workers of the table.
     Publish(Identity, DataKey, u64),
-    /// Gives up the worker's handles of the node.
+    /// Releases the worker's handles of the node.
     Release(Identity),
-    /// Ends the walk: all that the worker claimed and didn't publish is failed.
+    /// Ends a walk that has failed: whatever the worker claimed and didn't publish fails too.
     Fail,
 }
 
-/// What a worker answers in the end.
+/// The result of a worker.
 #[derive(Clone, Copy, Debug, PartialEq)]
 pub enum WorkerAnswer {
     /// The key of its item or listed cell.
     Key(DataKey),
-    /// A step of its own was refused.
+    /// A step of its own failed.
     Failed(Error),
-    /// Another worker failed at an identity that it needs.
+    /// Another worker failed at an identity that this one needs.
     AlreadyFailed,
 }
 
-/// What a step of a worker answers: what it was, the worker's answer if it was the last, and how many steps the worker has made.
+/// What a worker's step returns: its action, the worker's result if the step was the last, and how
+/// many steps the worker has made.
 #[derive(Drop)]
 pub struct WorkerReply<W: Drop> {
     pub action: Action<W>,
@@ -112,19 +115,19 @@ pub struct WorkerReply<W: Drop> {
     pub steps: u64,
 }
 
-/// What an event answers.
+/// The reply to an event.
 #[derive(Drop)]
 pub enum EventReply<N: Drop, B: Drop, W: Drop> {
-    /// What the call answered.
+    /// The call's reply.
     CallReply(Reply<N, B>),
-    /// A load has begun, or isn't needed.
+    /// A load has begun, or the value is in memory; or the begin failed.
     Started(Result<Beginning, Error>),
-    /// A load has made a step. A refusal here has counted none.
+    /// A load has made a step. With an error it has made none.
     LoadMoved(Result<LoadReply<N>, Error>),
     /// The number of the new table.
     TableMade(Result<TableNumber, Error>),
     /// The number of the new worker.
     WorkerMade(Result<WorkerNumber, Error>),
-    /// A worker has made a step. A refusal here has counted none.
+    /// A worker has made a step. With an error it has made none.
     WorkerMoved(Result<WorkerReply<W>, Error>),
 }

@@ -1,14 +1,14 @@
-//! The rows of handles: of which node each is, and who gives it up.
+//! A handle's row, and who owns a handle.
 
 use crate::mode::Mode;
 use pagable_value_spec::{HandleNumber, LoadNumber, NodeNumber, WorkerNumber};
 
-/// Who gives a handle up.
+/// Who owns a handle and has to release it.
 #[derive(Clone, Copy, Debug, PartialEq, Eq)]
 pub enum Owner {
     /// The caller of the pager.
     Caller,
-    /// The value of the node with this number, which refers to the handle's node.
+    /// The value of the node with this number, which holds the handle as a reference.
     Value(NodeNumber),
     /// The list of cells that wait for page-out.
     List,
@@ -18,15 +18,15 @@ pub enum Owner {
     Worker(WorkerNumber),
 }
 
-/// One live handle.
+/// A live handle's row.
 #[derive(Clone, Copy, PartialEq)]
 pub struct HandleRow {
-    /// From 1 on, never used again.
+    /// The handle's number, from 1 on. A pager never gives out a number twice.
     pub number: HandleNumber,
-    /// The node that the handle is of.
+    /// The handle's node.
     pub node: NodeNumber,
     /// Whether the handle is loose, and whether it pins.
     pub mode: Mode,
-    /// Who gives the handle up.
+    /// Who owns the handle.
     pub owner: Owner,
 }

@@ -1,5 +1,5 @@
-//! The words in which the pager is spoken of: handles, calls, events and answers; and in `specs/` the plain world, what each
-//! call and each step does to it, and when a state is whole.
+//! The calls and events of the pager and their replies, as data; in `specs/` the pager's plain
+//! state, what each call and each step does to it, and the invariant.
 #![tactic(auto)]
 
 pub mod calls;

@@ -3,12 +3,12 @@
 /// How a handle holds its node.
 #[derive(Clone, Copy, Debug, PartialEq, Eq)]
 pub enum Mode {
-    /// A loose handle that counts as a pin.
+    /// A loose handle that pins its cell.
     LoosePinned,
-    /// A loose handle that keeps its cell, and not the cell's value.
+    /// A loose handle that keeps its cell alive, but not the cell's value.
     LooseUnpinned,
-    /// A pin, taken of a loose handle or made with the node.
+    /// A handle that always pins: made from a loose handle, or with the node.
     Pinned,
-    /// A handle of a node that never has a key.
+    /// A handle of a shared node, which never has a key.
     Shared,
 }

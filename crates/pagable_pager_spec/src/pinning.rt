@@ -1,21 +1,21 @@
-//! What the pager's calls answer.
+//! What `pin` and the begin of a load return.
 
 use pagable_value_spec::{DataKey, HandleNumber, LoadNumber};
 
-/// What a pin answers.
+/// What `pin` returns.
 #[derive(Clone, Copy, Debug, PartialEq)]
 pub enum Pinning {
-    /// A new handle that pins the node.
+    /// A new handle, which pins the node.
     Pinned(HandleNumber),
-    /// The value isn't in memory: it has to be read under this key first.
+    /// The value isn't in memory: the caller has to load this key first.
     NeedsLoad(DataKey),
 }
 
-/// What the begin of a load answers.
+/// What the begin of a load returns.
 #[derive(Clone, Copy, Debug, PartialEq)]
 pub enum Beginning {
-    /// The value is in memory, and no load was opened.
+    /// The value is in memory, and no load began.
     InMemory,
-    /// A load was opened, which reads the value under this key.
+    /// A load began, which reads the value under this key.
     Load(LoadNumber, DataKey),
 }

@@ -56,7 +56,7 @@ fn told(reply: &CellReply) -> Told {
         | Reply::Pin(Ok(Pinning::Pinned(handle)))
         | Reply::FromCache(Ok(Some(handle)))
         | Reply::LoadFound(Ok(Found::Cached(handle)))
-        | Reply::Taken(Some(handle)) => handle.0 as u128,
+        | Reply::TakenPending(Some(handle)) => handle.0 as u128,
         Reply::Count(Ok(count)) | Reply::Length(count) => *count as u128,
         Reply::Node(Ok(node)) => node.0 as u128,
         Reply::NodeType(Some(node_type)) => *node_type as u128,

@@ -1,4 +1,4 @@
--- What trees feel of each call, by the call and its reply.
+-- The effect of each call on trees, by the call and its reply.
 use Rattle.pagable_theorems.proofs.Effects.{Effect, IsMine, beside, both-none, but, cached, cached-if, entry, fell, forgets, handed, handle, like, load-named, load-owns, moves, no-one, node, none}
 use Rattle.pagable_theorems.proofs.{Effects.{none-named, opens, own-handle, own-mode, own-named, owned-mine, shuts, stays, turned, with-key}, HandlesKept.{Goes, KnowsNext, NotLoads, a-handle, alike-away, begun}}
 use Rattle.pagable_theorems.proofs.{HandlesKept.{fell-away, found-changed, goes-then, good, quiet-goes}, Trees.{same-number, same_some}, Words.{Alike, ArcRef, Beginning, Blob, Bool, Call, Change, CloneCall}}
@@ -155,7 +155,7 @@ module _ {N B W : Type 0} (m : Seen N B W) (w : Core) (me : Owner) (free : NotLo
   calls-go (Call.Release h) (Reply.Done r) still c = quiet (λ n x b. absurd b) (releases h r c)
   calls-go (Call.IntoPagable h) (Reply.Handle (Ok k)) still c = quiet (λ n x b. absurd b) (like (own-mode free w h c.turned.0 c.turned.1 Mode.LoosePinned refl) c.turned.3)
   calls-go (Call.ScheduleForPaging h) (Reply.Done r) still c = quiet (λ n x b. absurd b) (schedules free h r c)
-  calls-go (Call.TakePending i) (Reply.PinnedOrLoading (Some h)) still c = quiet (λ n x b. absurd b) (like (moves (none w) (only_handle h) me _ free (entry refl i h c.0)) c.1)
+  calls-go (Call.TakePending i) (Reply.TakenPending (Some h)) still c = quiet (λ n x b. absurd b) (like (moves (none w) (only_handle h) me _ free (entry refl i h c.0)) c.1)
   calls-go (Call.CacheGet kind key) (Reply.FromCache r) still c = quiet (λ n x b. absurd b) (recalls r c)
   calls-go Call.CacheClear (Reply.Done r) still c = quiet (λ n x b. absurd b) (like (forgets w (λ leaves. leaves)) c.leaves)
   calls-go (Call.Store b) (Reply.Stored r) still c = quiet (λ n x b. absurd b) (stores r c)

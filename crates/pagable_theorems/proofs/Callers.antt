@@ -1,4 +1,4 @@
--- Each operation of a caller's keeps trees: calls and page-outs as moments of a machine, pins and readings as their loads.
+-- Each operation of a caller keeps trees: a call or a page-out since it is a chain of moments of a machine, a pin or a read since its load is.
 use Rattle.pagable_theorems.proofs.{LoadResults.{After, after-then, pin-after, read-after}, FormsOfTrees.cell-of, HandlesKept.{PinOf, among-found, end-call, found-number, low-whole, pin-call, updated-at}, ReadingSteps.{caller-free, reading-feels}}
 use Rattle.pagable_theorems.proofs.{LoadProgress.{pin_stands, row-held, was-open}, Trees.same_some}
 use Rattle.pagable_theorems.proofs.Moments.{Stands, Stays, call-nobody, call-stays, item-stays, list-stays, no-value, stays-same, still-settled}

@@ -1,4 +1,4 @@
--- The least set of handles that fall. What falls of a value of two levels; and a lone cell that is unpinned.
+-- The least closed set of handles exists; which handles are released with a value of two levels; and what unpinning a single cell does.
 use Rattle.pagable_theorems.proofs.{Trees.{at-most-sum, counted, one-small, one-true, same-number, sum-le, sum-plus, sum-zero}, Words.{Among, Blob, Bool, HandleRow, Last, List, Mode, Ok, Option, Owner}}
 use Rattle.pagable_theorems.proofs.Words.{[], and_parts, ap, arith, cases_lt, false, false_from_ne_true, find_row, held, inl, inr, is_owned_by, is_owner, is_pinning, length, nat_tests, not, one, pins, ℕ}
 use Rattle.pagable_theorems.{proofs.Words.{owner_value, refl, suc, sum_by-cons, sym, true, zero, ◌&&◌, ◌+◌, ◌<◌, ◌==◌, ◌||◌, ◌∙◌, ◌∷◌, ◌≡◌, ◌≤◌}, specs.SmallWorlds.{FallLaws, OwnsNothing, first, first_node}}

@@ -1,4 +1,5 @@
--- A handle goes on to stand for its reference, as a clone does; a key that was set stays. And each event keeps trees: what it brings fits some trees afterwards, with all that its loads read.
+-- A handle keeps serving for its reference, as does its clone; a key that was set stays set. And each event keeps trees: what it brings fits some trees
+-- afterwards, as do all readings.
 use Rattle.pagable_pager_spec.specs.{Rightness.{HasLetGo, IsRight, PinGives, StepsAreWithin, WorkerIsRight, claims_made, is_on_table}, Basics.is_loose_kind, Theorem.HeadlineLaw}
 use Rattle.pagable_pager_spec.specs.{Calls.{SetKeyCall, row_of, with_key}, Kinds.fits_mode, World.{SameShelf, published, to_publish, type_at}, declared.{pinning.Pinning.Pinning, events.PinStep.PinStep}}
 use Rattle.pagable_pager_spec.specs.{Kinds.is_loose, Pager.{EventBrings, IsReadingOf, StandsFor}, Runs.{Does as DoesMoment, Fact, IsPremised, TakesWell, TreesAfter, TreesAlong, events_of, replies_of}}

@@ -1,7 +1,6 @@
--- What a blob asks for next depends on no more of the references that were got than their kinds; what one asks for that is a form of some value; and that what was read of it names no
--- handle twice, where the handles that were got are apart.
--- A value that was read of a blob leads to what the blob's key reads as: reading the blob with the references that were got runs along the reading of
--- its bare keys, and each of these reads as the tree of the node that was got for it.
+-- What a blob asks for next depends only on the kinds of the references that were got. A blob that asks for nothing more is a form of some value, which names
+-- no handle twice if the handles that were got are distinct. The value leads to what the blob's key reads as: reading the blob with the references that were
+-- got runs parallel to reading it with its bare keys, each of which reads as the tree of the node that was got for it.
 use Rattle.pagable_value_spec.specs.{ReadSteps.◌>>=◌, Trees.{IsFollowed, KeyRef, ReadsAs, integer-followed, key_ref, none-followed, number-followed, pair-followed, pattern-followed, reference-followed}}
 use Rattle.pagable_value_spec.specs.{Meaning.{integer, number, pattern, text}, Reading.{Rest, deepest}, References.SameReferences, Cursor.Answer, Trees.{rest_of, text-followed, variant-followed}}
 use Rattle.{pagable_value_spec.specs.{Cursor.{answer_at, handles_at}, Writing.kind_of_arc}, std.proofs.{Common.sum_by, lemmas.{List.{length-map, map-append}, Option.{slice_get-get_or, slice_get_past}}}}

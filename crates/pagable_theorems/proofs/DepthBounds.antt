@@ -1,4 +1,5 @@
--- Heights that are known are those of trees: so no key is answered of what leads down too long a path, or to a value that has no form; and why a claim is too deep.
+-- Published heights are heights of trees: so no worker returns a key if too long a path, or a value without a form, is below its task; and why a claim is too
+-- deep.
 use Rattle.pagable_theorems.proofs.{LoadResults.answered, Chains.{IsGoingOn, along-with, headline_law, idle-goes}, NewClaims.StandsIn, FormsOfTrees.{known-of, tree-form}, HandlesKept.updated-at, ReadingSteps.site_of}
 use Rattle.pagable_theorems.proofs.{SlotsGrow.{AllStand, Covers, is-same, is_open_in}, TablesKept.next-among, Trees.{Along, each-two, form-along, integer-along, none-along, number-along, pair-along}}
 use Rattle.pagable_theorems.proofs.{Trees.{pattern-along, reference-along, same_some, text-along, tree_is, variant-along}, Words.{Among, ArcRef, AreMoments, Bool, Core, Does, Err, Error, Event, Happens}}

@@ -1,5 +1,5 @@
--- What a step does: how it is felt, which handles and loads it leaves to others, and that the cache goes on to give for a kind and a key what it gave, as long as the node is held as the
--- kind asks. The parts of which each call is made.
+-- What a step does: its effect on trees, and that it leaves the handles and loads of others alone. The cache keeps giving the same node for a kind and a key,
+-- as long as a handle that fits the kind holds the node. The parts of which each call is made.
 use Rattle.pagable_theorems.proofs.{Decoding.among-either, HandlesKept.{Goes, Has, IsShut, NotLoads, NotValues, Quiet, Stands, a-handle, alike, born, fell as quiet-fell, found-number, goes-known, goes-quiet}}
 use Rattle.pagable_theorems.proofs.HandlesKept.{goes-then, keyed, le-more, le-self, none-in-next, only-rows, parts, quiet-goes, quiet-self, rows-mode, rows-moved, rows-self, same-owner, stands-alike}
 use Rattle.pagable_theorems.proofs.{HandlesKept.{stands-changed, stands-fell, stands-more}, Trees.{at-most-sum, counted, one-true, same-number, same_some, self-number}, Words.{Alike, Among, ArcRef, Blob, Bool}}

@@ -1,4 +1,5 @@
--- A form of a node's value is one of its tree: over its references it is followed to their nodes' trees, and with their keys it stands under the tree's own.
+-- A form of a node's value is a form of the node's tree: its references are followed to their nodes' trees, and with their keys it is stored under the tree's
+-- own key.
 use Rattle.pagable_theorems.proofs.{Naturality.{both-looked-up, each, keeps_forms, one_cause, read_par}, Trees.{AllTwo, Along, followed-along, more-two, no-two, one_tree, pair-along, reference-along}}
 use Rattle.pagable_theorems.proofs.{Trees.{same-number, same_some, sum-le, sum-zero, variant-along}, Words.{Among, ArcRef, Bool, Core, FollowsTo, Form, HandleRow, HandlesAreWhole, HoldsSettled, List, ℕ}}
 use Rattle.pagable_theorems.proofs.Words.{Identity, IsLawful, IsPublished, IsReadable, Meaning, Ok, Option, Owner, PagerState, IsReadableType, Represents, Shape, Shelf, Slot, Some, Throughout, Tree, []}

@@ -1,4 +1,5 @@
--- What a step does to the plain world as far as trees feel it: the parts of each call's summary. And a live handle that no value owns and that isn't given up outlasts a cascade, with its row.
+-- What a step does to the plain state, as far as it matters for trees: the parts of each call's summary. And a live handle that no value owns and that isn't
+-- released keeps its row in a cascade.
 use Rattle.pagable_theorems.proofs.{Decoding.among-either, CascadeWitness.outlast, Trees.{same-number, same_some, self-number}, Words.{Alike, Among, ArcRef, Blob, Bool, Call, Change, CloneCall, Core, Event}}
 use Rattle.pagable_theorems.proofs.Words.{EventReply, HandleNumber, HandleRow, HandlesAreWhole, Happens, Identity, IsReference, Kind, Last, List, LoadNumber, Mode, NodeNumber, None, Ok, OpenLoad, Option}
 use Rattle.pagable_theorems.proofs.Words.{OptionalDataKey, Owner, PinCall, Reply, Seen, Site, Some, Todo, Action, World, [], adopted, answer_after, ap, arith, bears_known, false, false_from_ne_true}

@@ -1,5 +1,5 @@
--- The reading of a key under which a tree is stored, each value as a form: it takes the tree's references and no others. So it comes too deep exactly where
--- the tree is too high.
+-- Reading a key under which a tree is stored, each value as a form, takes the tree's references and no others. So it goes too deep exactly if the tree is too
+-- high.
 use Rattle.pagable_theorems.proofs.{RoundTrip.{Looked, all-looked, form-again, not-looked, one-looked}, Decoding.kinds_of, FormsOfTrees.references-among, Merkle.longest_path, Naturality.{keeps_forms, renamed}}
 use Rattle.pagable_theorems.proofs.Trees.{Along, each-two, form-along, integer-along, none-along, number-along, pair-along, pattern-along, reference-along, same-number, same_some, self-number, text-along}
 use Rattle.pagable_theorems.proofs.{Trees.variant-along, Words.{Among, ArcRef, Blob, Err, Error, IsReadableType, List, Meaning, Ok, Option, Result, Some, Types, [], above, ap, append-nil, append_assoc}}

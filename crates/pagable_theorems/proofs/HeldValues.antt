@@ -1,4 +1,4 @@
--- What values hold beside their references stays what it is, since the nodes of these keep their values.
+-- What values hold beside their references doesn't change, since the references' nodes keep their values.
 use Rattle.pagable_theorems.{proofs.{HandlesKept.good, LoadProgress.row-pins}, specs.HeldLaws.{CallersBringHeld, HeldByCallersLaw, HeldByMomentsLaw, HeldLaw, MomentBringsHeld, MomentsBringHeld, OperationBringsHeld, PinnedLaw, ReadHoldsLaw}}
 use Rattle.pagable_theorems.proofs.Words.{Among, ArcRef, IsReference, Mode, None, Option, Owner, PagerState, Some, Values, WellFormed, ap, arith, inl, inr, is_eager, is_pinning, is_some, nat_tests, pins, refl, sym, true, ℕ, ◌<◌, ◌∙◌, ◌≡◌}
 use Rattle.pagable_theorems.proofs.Words.{[], ◌∷◌, Core, Error, Event, EventReply, HandleNumber, List, LoadAnswer, Ok, Reading, Result, Seen, Todo, Action, WorkerAnswer, Written, subst}

@@ -1,4 +1,4 @@
--- The lemmas by which the laws of src/ are proved, by its files.
+-- The lemmas by which the laws of `src/` are proved, by file.
 use Rattle.pagable_theorems.proofs.{RoundTrip.{one-form, prefix_free, read_again}, LoadResults.read_law, HeldValues.{held_by_callers_law, held_by_moments_law, held_law, pinned_law, read_holds_law}, Callers.caller_law, Chains.headline_law, DepthBounds.{along-first, claim-is-deep, depth-is-told, key-is-shallow}, CascadeWitness.fall_laws}
 use Rattle.pagable_theorems.proofs.{WitnessRun.headline_met, StepBounds.reading_fills, Merkle.{one_item_key, tree_laws}, Moments.{item_law, list_law}, NewPager.new_whole, UninterruptedLoads.sound_law, Naturality.{keeps_forms, lasting, local, natural, read_over, read_through, renamed, used}}
 use Rattle.{pagable_theorems.proofs.{RefusalCauses.{begins-refused, pins-refused}, LoadFaults.{load-deep, load-faultless}, Trees.{any_order, chains_join}}, pagable_value_spec.specs.Codes.one-meaning, std.proofs.lemmas.Slice.Eq.bytes_eq-Decides}

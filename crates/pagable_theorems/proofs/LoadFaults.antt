@@ -1,5 +1,5 @@
--- Why a load is refused whose key a page-out has published: by chance, or by a handle. And as too deep one is refused only where the reading of its key comes to a
--- blob that lies too deep, or to one that enters a level too many.
+-- Why a load fails whose key a page-out has published: by chance, or by a handle. And a load fails as too deep only if reading its key reaches a blob that is
+-- too deep, or one that enters a level too many.
 use Rattle.pagable_theorems.proofs.{Chains.IsGoingOn, Decoding.{Ahead, FramesAsked, GotAsked, IsFormOf, all-done, asks-by-kinds, at-place, comes-to, faulty-by-kinds, kinds_of, one-left}}
 use Rattle.pagable_theorems.proofs.{FormsOfTrees.known-of, ReadingSteps.{reading-number, reading-open, reading-stands}, LoadProgress.{Going, adopted-over, asked, eager-nested, going-of}}
 use Rattle.pagable_theorems.proofs.{Trees.{same_some, self-number}, Words.{ArcRef, Blob, Bool, Core, Err, Error, Event, EventReply, Frame, FramesFit, HandleNumber, HandleRow, Happens, Identity, Kind, ℕ}}

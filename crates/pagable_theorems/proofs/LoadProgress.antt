@@ -1,6 +1,6 @@
--- What a load reads goes on fitting, whatever it gets, and fits after its step; and a node whose value is in memory gives its tree, as does what a load of a key answers.
--- What each step brings fits some trees afterwards: where a pager stands for trees, each value and key leads to its node's tree by its own references alone, and from
--- this it stands for them again, so that what is asked of a node is shown at each node by itself.
+-- What a load reads fits, and still fits after its step, whatever it gets; a node with its value in memory gives its tree, as does what a load of a key
+-- returns. What a step brings fits some trees afterwards: if a pager stands for trees, each value and key leads to its node's tree by its own references; and
+-- from that the pager stands for the trees again, so that each node can be treated by itself.
 use Rattle.pagable_pager_spec.specs.{Rightness.GivesTree, Loads.{Next, ReadsNode, asks, gone_on, need_at, need_of, needs_lazy, needs_nested, nested_frame, to_adopt, with_got}, Runs.{AsksWell, TakesWell}}
 use Rattle.pagable_pager_spec.specs.Pager.{CallBrings, FrameFits, IsCellOf, IsNewNode, IsReadingOf, KeyFits, MeaningStands, Moves, NodeStands, ReadingBrings, ReadsNodeTree, SameTrees, away, here}
 use Rattle.pagable_pager_spec.specs.{Pager.{followed-stands, integer-stands, none-stands, number-stands, pair-stands, pattern-stands, reference-stands, text-stands, variant-stands}, Basics.is_pinned_kind}

@@ -1,7 +1,7 @@
--- A load from its begin to its end keeps trees: what it pins stands for its node's tree, and what it reads for the tree that its key reads as.
--- Each stage once: what is still to be done of it, with what was done, is at most what was claimed.
--- What follows for keys: each that is published is its tree's, each that is answered is its task's, and what a worker met that answers one is left paged out.
--- A worker's steps up to its answer: none of its own claims waits any more, and what another claimed is as it was.
+-- A load keeps trees from begin to end: what it pins stands for its node's tree, and what it reads for the tree that its key reads as. Each stage happens once:
+-- what is still to be done and what was done are together at most what was claimed. So each published key is its tree's, each returned key is its task's, and
+-- what a worker met that returns a key is paged out. A worker's steps up to its result: none of its own claims waits any more, and the others' claims are
+-- unchanged.
 use Rattle.pagable_theorems.proofs.{CallEffects.{begin-goes, begins-key}, NewClaims.{FailsMet, answered as was-answered, failed-elsewhere, failed-stays, fails-stay, first-met, follows-met, goes-same, stands-on}}
 use Rattle.pagable_theorems.proofs.{Decoding.{among-left, among-right}, FormsOfTrees.{cell-of, keys-of, known-of, tree-form}, HandlesKept.{Goes, updated-at}, Merkle.{one_item_key, one_key}, ReadingSteps.site_of}
 use Rattle.pagable_theorems.proofs.{ReadingSteps.{caller-free, reading-feels}, StepBounds.{hands, read-right}, SlotsGrow.{AllStand, AllWait, Covers, Goes as ShelfGoes, HasNoFailed, first-stands, grows}}

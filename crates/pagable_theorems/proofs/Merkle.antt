@@ -1,4 +1,5 @@
--- One key spells one tree, and one tree of canonical types has one key: a stored tree has the key that it stands under, and keys tell trees apart.
+-- One key holds one tree, and one tree of canonical types has one key: a stored tree has the key under which it is stored, and different trees have different
+-- keys.
 use Rattle.pagable_theorems.proofs.{RoundTrip.{Looked, all-looked, alone, form-again, here, lower, one-form, one-looked, part_of}, Trees.{AllTwo, Along, EntryAlong, entries-two, flag-same, followed-on}}
 use Rattle.pagable_theorems.proofs.Trees.{form-along, integer-along, lifted-along, more-two, no-two, none-along, number-along, one-followed, one_tree, pair-along, pattern-along, reference-along, tree_is}
 use Rattle.pagable_theorems.proofs.{Trees.{same_some, sequence-two, sorted-two, text-along, variant-along}, Words.{Blob, Entries, Entry, Form, Forms, LiesIn, List, Meaning, Ok, Option, ReadsTree, Shape}}

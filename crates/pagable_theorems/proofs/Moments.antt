@@ -1,4 +1,4 @@
--- The steps of whole operations over a pager are moments of a machine, where nobody else works: so what holds of chains holds of them.
+-- The steps of whole operations on a pager on which nobody else works are moments of a machine: so what holds of chains holds of them.
 use Rattle.pagable_theorems.proofs.{LoadResults.{After, after-then, rows-stay}, Chains.{IsGoingOn, goes, idle-goes}, HandlesKept.updated-at, CallEffects.calls-go, ReadingSteps.{caller-free, event-goes, walk-goes}, Trees.{same-number, same_some}}
 use Rattle.pagable_theorems.proofs.Words.{Alike, Bool, Call, Core, Event, EventReply, HandleNumber, HandleRow, Happens, HoldsSettled, IsLawful, IsMachineWhole, IsWellAsked, KeepsOpen, List, MachineState, Moment, None, Ok, OpenLoad, Option, Owner}
 use Rattle.pagable_theorems.proofs.Words.{PagerState, Reading, Reply, Represents, Result, Seen, Shelf, Site, Some, Task, Todo, Action, Tree, Values, WalkDoes, Walking, WellFormed, WorkerAnswer, WorkerReply}
@@ -483,7 +483,7 @@ module _ {N E B W : Type 0} (m : Seen N B W) (lawful : IsLawful m.values) where
   unfolding ListAsksWell EachIsPagedOut
   list-stays {trees = trees} (no-more s) at asks = (stays-same at, tt)
   list-stays (skips i place key h told answer s mid low s' is has takes releases more) at asks =
-      let a = (call-stays (Call.TakePending place) (Reply.PinnedOrLoading (Some h)) at (record { step = record { does = takes.step }; moves = no-value (Call.TakePending place) takes.moves; whole = takes.whole }) tt tt (still-settled at takes)).0 in
+      let a = (call-stays (Call.TakePending place) (Reply.TakenPending (Some h)) at (record { step = record { does = takes.step }; moves = no-value (Call.TakePending place) takes.moves; whole = takes.whole }) tt tt (still-settled at takes)).0 in
       let b = (call-stays (Call.Release h) (Reply.Done told) a.now
       (record { step = record { does = releases.step }; moves = no-value (Call.Release h) releases.moves; whole = releases.whole }) tt tt (still-settled a.now releases)).0 in
       let r = list-stays more b.now asks in

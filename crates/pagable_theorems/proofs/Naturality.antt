@@ -1,5 +1,5 @@
--- Reading does the same whatever stands for references: two readers over related inputs give related meanings. And readers of which a fault stays whatever follows, what is
--- read of a front is read of the whole, and what was used reads alone.
+-- Reading gives the same whatever stands for references: two readers with related inputs give related meanings. And for readers whose faults stay whatever
+-- follows: what is read from a front is read from the whole, and the part that was used reads alone.
 use Rattle.pagable_theorems.proofs.{RoundTrip.{Under, alone, here, narrowed, part_of}, Trees.{AllTwo, Along, EntryAlong, entries-two, flag-same, followed-along, form-along, integer-along, lifted-along}}
 use Rattle.pagable_theorems.proofs.Trees.{more-two, no-two, none-along, number-along, one-two, pair-along, pattern-along, plain-along, put_all-two, reference-along, sequence-two, sorted-two, text-along}
 use Rattle.pagable_theorems.proofs.{Trees.variant-along, Words.{Bool, Err, Error, Form, IsReadable, LiesIn, List, Meaning, None, Ok, Option, Result, Shape, Some, Throughout, [], ap, append-nil}}

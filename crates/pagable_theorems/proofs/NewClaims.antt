@@ -1,4 +1,4 @@
--- What each event does to workers and tables: it touches one worker, and claims of its own.
+-- What each event does to workers and tables: it changes at most one worker, and claims of that worker.
 use Rattle.pagable_theorems.proofs.{Decoding.{among-left, among-right}, HandlesKept.{le-of, updated-at}, ReadingSteps.{event-goes, site_of}, SlotsGrow.{AllStand, Covers, CoversBy, Goes, HasNoFailed, SameSlots}}
 use Rattle.pagable_theorems.proofs.SlotsGrow.{ShelfGrows, SlotChanges, Turned, WorkStands, all-stay, changes-slot, failed-goes, fails, follows-waits, given-open, gives, grows, is-changed, is-new, is-same}
 use Rattle.pagable_theorems.proofs.SlotsGrow.{is-quiet, is-self, is-started, is-stepped, is_failed, is_open_in, meets-grow, open-slot, own-goes, plain, put-cases, puts-slot, same-slots, settles, swaps}

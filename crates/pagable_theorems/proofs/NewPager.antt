@@ -1,4 +1,4 @@
--- A new pager over any storage is whole and stands for whatever trees, since there is nothing in it.
+-- A new pager over any storage satisfies the invariant and stands for any trees, since nothing is in it.
 use Rattle.pagable_theorems.proofs.Words.{Among, Bool, HandleNumber, HandleRow, HandlesAreWhole, IsIdle, IsLawful, IsMachineWhole, MachineState, Owner, PagerState, Reading, Represents, Some, Tree, Values, WellFormed}
 use Rattle.pagable_theorems.proofs.Words.{ap, arith, false, held, inl, is_handle, is_owned_by, is_some, nat_tests, owner_value, pins, refl, sym, times, ℕ, ◌&&◌, ◌==◌, ◌∙◌, ◌≡◌}
 use Rattle.{pagable_theorems.specs.SmallWorlds.{NewIsWhole, StartsWell}, pagable_pager_spec.specs.{Kinds.sharing, Pager.{IsNew, IsReadingOf, OwnersAreThere, of_caller, of_worker}}}

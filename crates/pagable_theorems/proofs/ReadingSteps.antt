@@ -1,4 +1,4 @@
--- The row of a handle that a load has got: it is new, of its node, and its mode fits the kind.
+-- The row of a handle that a load has just got: it is new, of its node, and its mode fits the kind.
 use Rattle.pagable_theorems.proofs.CallEffects.{adopts, adopts-known, asks, begins, begins-key, call-knows, calls-go, clones, closes, ends-load, gets-known as was-known, hands-over, noted, pins, schedules}
 use Rattle.pagable_theorems.proofs.{CallEffects.stores, Decoding.among-left, Effects.{Effect, IsApart, IsHeldFor, IsMine, Lasts, Spares, ended-free, entry, fell, held-fell, moves, no-one, none, none-named}}
 use Rattle.pagable_theorems.proofs.{Effects.{one-then, released-free, spares-then, stays, stays-alike, stays-fell, then-alike, then-fell, with-key, worker-apart}, HandlesKept.{AreUpTo, Goes, KnowsNext, Quiet}}

@@ -1,4 +1,4 @@
--- Why pins and loads are refused: by whatever refuses them, step by step.
+-- Why pins and loads fail: the errors of each step.
 use Rattle.pagable_theorems.proofs.{Naturality.{Out, OutLook, Sober, both-faulty, both-given, both-looked-up, both-not, both-refused, each, first-refused, typed_par}, LoadFaults.{by-all, by-handle-row, only-earlier, only-if, only-node, only-refused}}
 use Rattle.pagable_theorems.proofs.{Trees.{AllTwo, Along, more-two, no-two, same_some}, Words.{ArcRef, Blob, Bool, Core, Err, Error, Frame, HandleNumber, IsLawful, Kind, List, LoadNumber, Meaning, None, Ok, OpenLoad, Option, Owner}}
 use Rattle.pagable_theorems.proofs.Words.{HandleRow, Mode, Reading, Result, Some, Types, Values, [], any_mode, arith, false, if◌then◌else◌, if_there, inl, inr, nat_tests, not, refl, rest, slice_get, subst, sym, true}

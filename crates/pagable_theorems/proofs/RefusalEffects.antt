@@ -1,4 +1,4 @@
--- What a refusal says of the storage, whichever call, load's step or worker's step it is of.
+-- What an error says about the storage, for each call and each step of a load or of a worker.
 use Rattle.pagable_theorems.proofs.{RefusalCauses.{Quiet, asked, cell-quiet, fails, fetched, handles-quiet, only-all, only-load, only-named, root-quiet, there-quiet}}
 use Rattle.pagable_theorems.proofs.{LoadFaults.{Only, by-handle-row, only-earlier, only-if, only-node, only-refused}, Trees.same_some, Words.{Alike, ArcRef, Blob, Bool, Call, CloneCall, Core, Err, Error, Event}}
 use Rattle.pagable_theorems.proofs.Words.{EventReply, Frame, HandleNumber, HandleRow, Happens, IsLawful, Kind, List, LoadAnswer, LoadNumber, Mode, None, Ok, OpenLoad, Option, Owner, PinCall, Reading, Reply, Seen, Site}

@@ -1,4 +1,4 @@
--- A form is read again, whatever follows it, and is refused where one of its references is.
+-- A form is read back, whatever follows it; and reading it fails if the look-up of one of its references fails.
 use Rattle.pagable_theorems.proofs.Words.{Bool, Entries, Entry, Err, Error, Form, Forms, IsReadable, LiesIn, List, Meaning, Ok, Result, Shape, Throughout, [], ap, append-nil, append_assoc, arith, false}
 use Rattle.pagable_theorems.proofs.Words.{inl, inr, length, length-append, nat_tests, one, put_all, read, reference-form, refl, rest, run-form, subst, suc, sym, zero, ℕ, ℤ, ◌++◌, ◌+◌, ◌<◌, ◌∙◌, ◌∷◌, ◌≡◌}
 use Rattle.{pagable_theorems.{proofs.Words.{◌≤◌, ◌⊎◌}, specs.FormLaws.{IsPrefixFree, IsReadAgain, LooksUp, more-references, no-references}}, pagable_value_spec.specs.BasicValues.{bool_at, bool_form, char_at}}

@@ -1,7 +1,6 @@
--- What a load of a key hands over, and that what it read is right; and how many steps an open load still needs.
--- An event leaves each handle of a worker as it is that doesn't make it, and what the cache gives for a kind and a key, where the node is held before and after. What a worker's step
--- does leaves the handles of the list too, so that this gets no shorter.
--- Two kinds or keys never get one identity through one cache, and one kind and key gets the same for as long as its node is held.
+-- What a load of a key hands over is right, and how many steps an open load still needs. An event leaves the handles of other workers as they are, and what the
+-- cache gives for a kind and a key, if the node is held before and after. A worker's step leaves the handles of the list too, so the list gets no shorter. Two
+-- kinds or keys never get one identity through one cache, and one kind and key gets the same identity as long as its node is held.
 use Rattle.pagable_theorems.specs.TreeSteps.{EventFeels, GetsRow, HandsOver, IsFresh, KeepsStored, Needs, gets-known, gets-lazy, makes-known, makes-node, reading-ends, reads-blob, reads-root}
 use Rattle.pagable_theorems.proofs.ReadingSteps.{AllWaitWell, cached-rows, caller-free, ends-spare, event-goes, got-born, got-fallen, got-known, is-cached, reading-feels, reading-open, reading-stands}
 use Rattle.pagable_theorems.proofs.{ReadingSteps.{readings-on, walk-goes}, Words.{Alike, Among, ArcRef, AreMoments, Blob, Bool, Call, Change, Core, Error, Event, EventReply, Frame, FramesFit, GetsKnown}}

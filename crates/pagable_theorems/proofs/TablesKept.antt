@@ -1,4 +1,4 @@
--- What tables and to-do lists hold of trees goes on as long as what is stored and each node's tree stay; and what a change of a table comes to.
+-- What tables and lists of things to do know of trees stays right as long as stored blobs and nodes' trees stay; and the effect of a change of a table.
 use Rattle.pagable_theorems.proofs.{NewClaims.{EventTurns, StandsIn, same-grow, turns-grow, turns-keep}, FormsOfTrees.{IdentityStands, key-stands, leads-on, wrote}, ReadingSteps.site_of, SlotsGrow.AllStand}
 use Rattle.pagable_theorems.proofs.{SlotsGrow.{HasClaim, KeepsKeys, PutsSlot, ShelfGrows, among-drop, changes-slot, keys-grow, put-cases, puts-slot, some-same}, Trees.followed-all, Words.{Among, ArcRef}}
 use Rattle.pagable_theorems.proofs.Words.{Walking, WorkerReply, cases_Bool, step_of, Blob, Bool, Claim, Does, Event, EventReply, FollowsTo, HandleNumber, HoldsSettled, Identity, IsLawful, IsMachineWhole, IsPublished, List, MachineState, None, Ok}

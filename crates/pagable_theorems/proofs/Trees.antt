@@ -1,4 +1,4 @@
--- Sums over the elements of a list, and what they count. And the same meaning but for its references: forms go along with it.
+-- Sums over the elements of a list, and what they count. And meanings that differ only in what stands for their references: they have the same forms.
 use Rattle.pagable_theorems.proofs.Words.{Among, AreMoments, Blob, Bool, Entries, Entry, Form, Forms, List, MachineState, Meaning, Moment, None, Option, ReadsTree, Seen, Shape, Site, Action, Tree, Types}
 use Rattle.pagable_theorems.proofs.Words.{Values, WalkDoes, [], ap, arith, code, cond, false, followed, inl, inr, length, map, nat_tests, none, one, pair, put_all, reference, reference-form, refl, rest}
 use Rattle.pagable_theorems.proofs.Words.{references_in, rename, rules, run-form, state_after, subst, suc, sum_by-cons, sym, tree, true, type_of, variant, zero, ℕ, ℤ, ◌++◌, ◌+◌, ◌<◌, ◌==◌, ◌∙◌, ◌∷◌, ◌≡◌}

@@ -1,5 +1,5 @@
--- Where each load is done in one piece, one whose key a page-out has published is refused by chance alone: what it has got stays live and its own, each handle once, as
--- long as it makes its own steps, and so does the handle that began it.
+-- If no load is interrupted, a load whose key a page-out has published fails only by chance: while the load makes its steps, what it has got stays live and its
+-- own, each handle once, and so does the handle that began it.
 use Rattle.pagable_theorems.proofs.{Chains.{IsGoingOn, along-with, idle-goes}, Decoding.{AreApart, decodes, fine, reads-once}, Effects.{moved-free, named-among, with-one}, HandlesKept.{Has, NotValues, Stands}}
 use Rattle.pagable_theorems.proofs.{HandlesKept.{found-number, good, has-alike, low-changed, low-whole, new-handle, stands-alike, stands-fell, stands-whole, updated-at}, ReadingSteps.cached-rows}
 use Rattle.pagable_theorems.proofs.{ReadingSteps.{reading-number, reading-open, reading-stands}, LoadFaults.{IsForm, by-chance, by-handle, by-references, load-cause}, StepBounds.got-typed, LoadProgress.AllGot}

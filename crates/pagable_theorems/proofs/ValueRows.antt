@@ -1,5 +1,5 @@
--- What a pager's type says of values, row by row: a value owns the one row of each handle that it refers to, and no other; a node without a value owns nothing. And calls by
--- which no value comes or goes.
+-- A pager's invariant about values, row by row: a value owns the row of each handle that it refers to, and no other; a node without a value owns nothing. And
+-- the calls that neither bring nor drop a value.
 use Rattle.pagable_theorems.proofs.{Decoding.among-either, FormsOfTrees.{held-of, owned-once}, HandlesKept.{NotValues, Stands, among-changed, among-found, found-after, found-number, only-one, same-owner}}
 use Rattle.pagable_theorems.proofs.{HandlesKept.stands-whole, StepBounds.{entered-of, found}, LoadProgress.row-pins, Trees.{at-most-sum, counted, one-true, same-number, self-number, sum-zero}}
 use Rattle.pagable_pager_spec.specs.{Calls.{Asked, CloneCall, LoosenCall, PinCall, RecallCall, TakeCall, is_named_by, moved, row_of, with_cached, with_handle, with_known, with_mode}, Cascade.only_handle}

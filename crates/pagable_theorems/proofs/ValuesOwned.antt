@@ -1,4 +1,5 @@
--- What is done before handles go, part by part: it leaves what values own as it is, and a value comes to a node that had none. With what calls are by which no value comes or goes.
+-- What a step does before it releases handles, part by part: it leaves what values own as it is, and brings a value only to a node that had none. And what a
+-- call is that neither brings nor drops a value.
 use Rattle.pagable_theorems.proofs.{Decoding.among-either, CascadeWitness.outlast, FormsOfTrees.one-less, HandlesKept.{NotLoads, NotValues, Stands, among-changed, among-found, fell-away, found-number, good, no-pins}}
 use Rattle.pagable_theorems.proofs.{HandlesKept.{or-none, same-owner, stands-changed, stands-left, stands-whole}, StepBounds.{found, named-among, neither}, LoadProgress.row-held, Trees.{at-most-sum, counted}}
 use Rattle.{pagable_theorems.proofs.Trees.{same-number, self-number, sum-le}, pagable_theorems.proofs.ValueRows.{AreFree, At, Has, Keeps, OwnsAlike, among-named, by-row, holds_value, listed-free, load-free}}

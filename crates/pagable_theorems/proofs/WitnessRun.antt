@@ -1,4 +1,5 @@
--- A pager with few of each is whole, by facts about its first numbers that compute. So the chain of two levels is one of the machine, and meets the headline with all that it asks.
+-- A pager with few handles and nodes satisfies the invariant, by facts about its first numbers that compute. So the chain of two levels is a chain of the
+-- machine, and satisfies the headline with all that it asks.
 use Rattle.pagable_theorems.proofs.{Chains.headline_law, CascadeWitness.{and-false, within-self}, HandlesKept.good, NewPager.new_whole, Trees.{same_some, sum-zero}, Words.{Alike, Among, ArcRef, AreMoments, Beginning, Blob}}
 use Rattle.pagable_theorems.proofs.Words.{IsReadableType, Kind, type_of, Bool, CloneCall, Core, Event, EventReply, HandleRow, Happens, IsLawful, IsMachineWhole, IsReadable, IsWellAsked, KeepsOpen, LiesIn, List, LoadAnswer, Mode, None}
 use Rattle.pagable_theorems.proofs.Words.{MachineState, Ok, OpenLoad, Option, Owner, PagerState, Reading, ReadsRoot, Shelf, Some, Todo, Tree, WalkDoes, Walking, WellFormed, WorkerAnswer}

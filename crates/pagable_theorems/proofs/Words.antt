@@ -1,4 +1,4 @@
--- The names that most proofs here cite, passed on from one place. Declares nothing.
+-- The names that most proofs here use, re-exported from one place. Declares nothing itself.
 pub use Rattle.pagable_value_spec.specs.{Form.{Entries, Form, Forms, reference-form, run-form}, Keys.Entry, Meaning.{Meaning, followed, none, pair, reference, variant}, Merkle.blob_of, Shape.Shape}
 pub use Rattle.pagable_pager_spec.specs.Basics.{Error, HandleNumber, Identity, Kind, LoadNumber, NodeNumber, OptionalDataKey, ReadsTree, Tree, Types, WorkerNumber, above, if_there, is_eager, one, times}
 pub use Rattle.pagable_pager_spec.specs.World.{Written, key_at, no_result, of_cell, of_entry, of_item, row_at, to_fail, to_finish, to_item, to_load, to_pin, to_release, to_set, to_start, to_write}

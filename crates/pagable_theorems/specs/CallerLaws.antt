@@ -1,4 +1,5 @@
--- The law of callers: whoever makes calls of a pager, and whole operations over it, has trees that each node keeps, and each pin, reading and page-out gives what the headline says.
+-- The law of callers: along any calls of a pager and whole operations on it each node keeps a tree, and each pin, read
+-- and page-out gives what the headline says.
 use Rattle.std.specs.Prelude.{Err, List, Ok, Result, ℕ, ◌≡◌}
 use Rattle.pagable_theorems.specs.PageOutLaws.{EachIsPagedOut, ItemAsksWell, LeavesPagedOut, ListAsksWell, NobodyWorks}
 use Rattle.pagable_pager_spec.specs.{Access.{AccessState, IsValueOf, ItemRun, ListRun, LoadAsksWell, PinRun, ReadRun, load-pins, load-fails, load-reads, reading-fails}, Events.{CallStep, no_shelf}, Rightness.{GivesTree, ReadIsRight}}
@@ -6,13 +7,13 @@ use Rattle.pagable_pager_spec.specs.{Pager.{CallBrings, Moves, PagerState, Repre
 use Rattle.pagable_pager_spec.specs.{World.{IsLawful, SameShelf, Seen, Values, of_item}, declared.{pinning.Pinning.Pinning, calls.{Call.Call, Reply.Reply}, events.{Event.Event, WorkerAnswer.WorkerAnswer}}}
 use Rattle.pagable_pager_spec.specs.declared.handle_row.Owner.{Owner}
 
--- a call of the pager's: the step that it is, and which value comes by it
+-- a call of the pager: its step, and the value that it brings into memory
 pub record IsCall {N E B W : Type 0} (m : Seen N B W) (s : PagerState N E) (call : Call N B) (reply : Reply N B) (s' : PagerState N E) : Type 0 where
   pub step : CallStep m s.core Owner.Caller call reply s'.core
   pub moves : Moves (CallBrings s.core call) s s'
   pub whole : WellFormed m.values s'
 
--- one call of the pager, or a pin, a reading, or a page-out of an item on a new table or of so many entries of the list
+-- one call of the pager; or a pin; or a read; or a page-out of an item on a new table, or of the list's first i entries
 pub data Operation {N E B W : Type 0} (m : Seen N B W) : PagerState N E → PagerState N E → Type 0 where
   calls : (call : Call N B) (reply : Reply N B) (s s' : PagerState N E) → IsCall m s call reply s' → Operation m s s'
   pins : (h : HandleNumber) (r : Result HandleNumber Error) (s s' : PagerState N E) → PinRun m.values s h r s' → Operation m s s'
@@ -21,7 +22,7 @@ pub data Operation {N E B W : Type 0} (m : Seen N B W) : PagerState N E → Page
       → Operation m s.pager s'.pager
   pages-list : (i : ℕ) (answer : Result (Unit {0}) WorkerAnswer) (s s' : PagerState N E) → ListRun m i s answer s' → Operation m s s'
 
--- one after the other
+-- operations, one after the other
 pub data Operations {N E B W : Type 0} (m : Seen N B W) : PagerState N E → PagerState N E → Type 0 where
   is-done : (s : PagerState N E) → Operations m s s
   goes-on : (s mid s' : PagerState N E) → Operation m s mid → Operations m mid s' → Operations m s s'
@@ -36,7 +37,7 @@ ReadAsksWell (load-reads x l mid s' starts run) = LoadAsksWell run
 ReadAsksWell (reading-fails e l mid s' starts run) = LoadAsksWell run
 ReadAsksWell run = Unit {0}
 
--- what the headline asks of each, at the trees that there are before it
+-- what the headline asks of an operation, for the trees before it
 abbrev pub OperationAsksWell : {N E B W : Type 0} {m : Seen N B W} {s s' : PagerState N E} → (ℕ → Tree) → Operation m s s' → Type 0
 OperationAsksWell {N} {E} {B} {W} {m = m} trees (calls call reply s s' c) = KeepsOpen {N = N} {B = B} {W = W} (Event.Call call) × AsksWell m.values s trees call reply × HoldsSettled m.values s'
 OperationAsksWell trees (pins h r s s' run) = PinAsksWell run
@@ -44,7 +45,7 @@ OperationAsksWell trees (reads-key key t r s s' run) = ReadAsksWell run
 OperationAsksWell trees (pages-item item answer s s' new run) = ItemAsksWell run
 OperationAsksWell trees (pages-list i answer s s' run) = ListAsksWell run
 
--- what a pin gives, and a reading by one call
+-- what a pin by one call gives; below: what a read of a key gives
 abbrev pub PinIsRight : {N E : Type 0} → Values N → PagerState N E → (ℕ → Tree) → Result HandleNumber Error → Type 0
 PinIsRight v s trees (Ok k) = GivesTree v s trees k
 PinIsRight v s trees (Err e) = Unit {0}
@@ -58,7 +59,7 @@ CallIsRight v s trees (Call.Pin h) (Reply.Pin (Ok (Pinning.Pinned k))) = GivesTr
 CallIsRight v s trees (Call.LoadEnd l x) (Reply.LoadEnded (Ok k)) = GivesTree v s trees k
 CallIsRight v s trees call reply = Unit {0}
 
--- what each gives, by the trees before and after it
+-- what an operation gives, for the trees before and after it
 abbrev pub OperationIsRight : {N E B W : Type 0} {m : Seen N B W} {s s' : PagerState N E} → (trees trees' : ℕ → Tree) → Operation m s s' → Type 0
 OperationIsRight {m = m} trees trees' (calls call reply s s' c) = CallIsRight m.values s' trees' call reply
 OperationIsRight {m = m} trees trees' (pins h r s s' run) = PinIsRight m.values s' trees' r
@@ -67,19 +68,20 @@ OperationIsRight {m = m} trees trees' (pages-item item answer s s' new run) =
     (key : ℕ) → answer ≡ WorkerAnswer.Key key → LeavesPagedOut m.values s'.pager s'.shelf trees' (of_item (m.written_of item)) key
 OperationIsRight trees trees' (pages-list i answer s s' run) = EachIsPagedOut run trees
 
--- trees from one to the next, which each node keeps, as long as what each asks is so
+-- trees after each operation, which each node keeps, as long as the operations satisfy what is asked of them
 unfoldable pub AreRight : {N E B W : Type 0} {m : Seen N B W} {s s' : PagerState N E} → (ℕ → Tree) → Operations m s s' → Type 0
 AreRight trees (is-done s) = Unit {0}
 AreRight {m = m} trees (goes-on s mid s' one more) =
     OperationAsksWell trees one
     → (trees' : ℕ → Tree) × SameTrees s.core.last.node trees trees' × Represents m.values mid trees' × OperationIsRight trees trees' one × AreRight trees' more
 
--- what the headline asks of each, whatever trees there are by then
+-- what the headline asks of each operation, whatever the trees before it
 unfoldable pub AskWell : {N E B W : Type 0} {m : Seen N B W} {s s' : PagerState N E} → Operations m s s' → Type 0
 AskWell (is-done s) = Unit {0}
 AskWell {m = m} (goes-on s mid s' one more) = ((trees : ℕ → Tree) → Represents m.values s trees → OperationAsksWell trees one) × AskWell more
 
--- The law of what is pinned again: what a pin gives through a handle, and another through the same handle after any operations, stand for one tree.
+-- The law of pinning again: the values that two pins by the same handle give, with any operations between them, stand
+-- for one tree.
 abbrev pub PinnedAgainLaw : {N B W : Type 0} → (E : Type 0) → Seen N B W → Type 0
 PinnedAgainLaw {N} {B} {W} E m = (s mid later s' : PagerState N E) (trees : ℕ → Tree) (h k l : HandleNumber) (x y : N)
     (first : PinRun m.values s h (Ok k) mid) (between : Operations m mid later) (again : PinRun m.values later h (Ok l) s')
@@ -87,7 +89,7 @@ PinnedAgainLaw {N} {B} {W} E m = (s mid later s' : PagerState N E) (trees : ℕ 
     → PinAsksWell first → AskWell between → PinAsksWell again → IsValueOf mid k x → IsValueOf s' l y
     → (t : Tree) × ValueStands m.values mid x t × ValueStands m.values s' y t
 
--- The law, of any operations from a pager for which nobody works.
+-- The law, for any operations on a pager on which nobody else works.
 abbrev pub CallerLaw : {N B W : Type 0} → (E : Type 0) → Seen N B W → Type 0
 CallerLaw {N} {B} {W} E m = (s s' : PagerState N E) (trees : ℕ → Tree) (operations : Operations m s s') → WellFormed m.values s → NobodyWorks s.core
     → IsLawful m.values

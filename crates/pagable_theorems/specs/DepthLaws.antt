@@ -1,4 +1,4 @@
--- The laws of paths that are too long, of values that have no form, and of loads that are each done in one piece.
+-- The laws of paths that are too long, of values without a form, and of loads that aren't interrupted.
 use Rattle.std.specs.Prelude.{Err, List, Ok, Option, Some, slice_get, ℕ, ◌<◌, ◌∷◌, ◌≡◌, ◌≢◌, ◌↔◌, ◌⊎◌}
 use Rattle.pagable_value_spec.specs.{Canonical.IsReadableTree, Merkle.StoredTree}
 use Rattle.pagable_pager_spec.specs.declared.events.{EventReply.EventReply, LoadAnswer.LoadAnswer, Action.Action, WorkerAnswer.WorkerAnswer}
@@ -7,31 +7,33 @@ use Rattle.pagable_pager_spec.specs.{Pager.{IsIdle, IsMachineWhole, MachineState
 use Rattle.pagable_pager_spec.specs.{Runs.{HoldsSettled, Moment, TreesAlong, events_of, replies_of, state_after}, Workers.{ComesBack, IsOpenSlot}, World.{IsLawful, OpenLoad, Reading, Seen}}
 use Rattle.pagable_pager_spec.specs.{World.{Shelf, Slot, Todo, Values, Walking, to_load}, declared.{pinning.Beginning.Beginning, calls.{Call.Call, Reply.Reply}, events.{Claim.Claim, Event.Event}}}
 
--- The fact holds of each event along the chain, where it begins at a whole machine for which nobody works yet.
+-- P holds of each event along the chain, if the chain begins at a machine that satisfies its invariant and on which
+-- nobody works yet.
 abbrev pub HoldsOf : {N E B W : Type 0} → (m : Seen N B W) → Fact N E B W → MachineState N E → List (Moment N E B W) → Type 0
 HoldsOf m P start moments =
     (trees : ℕ → Tree) → IsMachineWhole m.values start → IsIdle start → AreMoments m start moments → StandsFor m.values start trees → IsLawful m.values
     → HoldsSettled m.values start.pager → TreesAlong m P start trees moments
 
--- So it does along every chain.
+-- so it is for every chain
 abbrev pub HoldsAlong : {N B W : Type 0} → (E : Type 0) → (m : Seen N B W) → Fact N E B W → Type 0
 HoldsAlong {N} {B} {W} E m P = (start : MachineState N E) (moments : List (Moment N E B W)) → HoldsOf m P start moments
 
--- another worker is at the identity, and waits for the worker
+-- another worker has claimed the identity, and waits for the worker n
 pub record WaitsForAsker (shelf : Shelf) (n : ℕ) (i : Identity) : Type 0 where
   pub slot : Slot
   pub still : IsOpenSlot shelf i slot
   pub another : slot.worker ≢ n
   pub back : ComesBack shelf n slot.worker
 
--- a claim is refused as too deep only where the worker's task leads down too long a path, or another worker is at it and waits for this one
+-- a claim fails as too deep only if the worker's task leads down too long a path, or if another worker has the identity
+-- and waits for this one
 abbrev pub ClaimIsDeep : {N E B W : Type 0} → Fact N E B W
 ClaimIsDeep s trees (Event.WorkerStep n) (EventReply.WorkerMoved (Ok reply)) s' trees' =
     (walking : Walking) (i : Identity) → s.work.walkings n.0 ≡ Some walking → reply.action ≡ Action.Claim i (Err Error.TooDeep)
     → IsTooDeepTask trees walking.task ⊎ WaitsForAsker (s.work.shelves walking.table) n.0 i
 ClaimIsDeep s trees event reply s' trees' = Unit {0}
 
--- what is told of a handle: it is gone, another's, or of another mode or type
+-- the errors that concern a handle: it is gone, another's, or of another mode or type
 abbrev pub IsOfHandles : Error → Type 0
 IsOfHandles Error.NoSuchHandle = Unit {0}
 IsOfHandles Error.NotYours = Unit {0}
@@ -39,13 +41,15 @@ IsOfHandles Error.WrongMode = Unit {0}
 IsOfHandles Error.WrongKind = Unit {0}
 IsOfHandles e = ⊥
 
--- A load of a cell whose key a page-out set is refused by chance, or since a handle of its own or the caller's isn't as it was: never by a blob, a key or a path.
+-- A load of a cell whose key a page-out has set fails only by chance (IsOfChance), or if a handle of the load or of the
+-- caller has changed: never by a blob, a key or a path.
 abbrev pub LoadIsFaultless : {N E B W : Type 0} → Fact N E B W
 LoadIsFaultless s trees (Event.LoadStep l) (EventReply.LoadMoved (Ok reply)) s' trees' =
     (load : OpenLoad) (e : Error) → s.pager.core.loads l.0 ≡ Some load → IsLoadOfPagedOut s load → reply.ended ≡ Some (LoadAnswer.Refused e) → IsOfChance e ⊎ IsOfHandles e
 LoadIsFaultless s trees event reply s' trees' = Unit {0}
 
--- A load of the caller's or of a worker's is refused as too deep only where the reading of its key comes to a blob that lies too deep, or to one that enters a level too many.
+-- A load of the caller or of a worker fails as too deep only if reading its key reaches a blob that is too deep, or one
+-- that enters a level too many.
 abbrev pub LoadIsDeep : {N E B W : Type 0} → Values N → Fact N E B W
 LoadIsDeep v s trees (Event.LoadStep l) (EventReply.LoadMoved (Ok reply)) s' trees' =
     (reading : Reading) (load : OpenLoad) → reading_at (world_of s) l ≡ Some reading → s.pager.core.loads l.0 ≡ Some load → reply.ended ≡ Some (LoadAnswer.Refused Error.TooDeep)
@@ -56,17 +60,18 @@ LoadIsDeep v s trees (Event.WorkerStep n) (EventReply.WorkerMoved (Ok reply)) s'
     → ReadsTooDeep v.types s.pager.core.stored reading.node_type load.key
 LoadIsDeep v s trees event reply s' trees' = Unit {0}
 
--- The reading of a key under which a tree is stored, each value as a form, comes too deep exactly where a path of too many references leads down from the
--- tree's root.
+-- For a key under which a tree is stored, reading the key goes too deep exactly if a path of too many references leads
+-- down from the tree's root.
 abbrev pub DepthIsHeight : Type 0
 DepthIsHeight = (types : Types) (store : ℕ → Option Blob) (t : Tree) (key : ℕ) → IsReadableTree types t → StoredTree store types key t
     → ReadsTooDeep types store t.type key ↔ (longest_path < height t.meaning)
 
--- the worker was refused nothing but for depth, and nobody had failed where it came
+-- no step of the worker failed except as too deep, and no other worker had failed at an identity that it needed
 abbrev pub MetDepthAlone : {W : Type 0} → List (Action W) → Type 0
 MetDepthAlone {W} steps = ((step : Action W) (e : Error) → Among steps step → MetError step e → e ≡ Error.TooDeep) × ((i : Identity) → ¬ Among steps (Action.Claim i (Ok Claim.AlreadyFailed)))
 
--- A worker whose item or cell leads down too long a path, or to a value that has no form, answers TooDeep, if it met no other refusal on its way, by whatever chain the machine came there.
+-- A worker whose item or cell leads down too long a path, or to a value without a form, fails with TooDeep, if none of
+-- its steps failed otherwise; whatever chain led there.
 abbrev pub DepthIsTold : {N E B W : Type 0} → Seen N B W → Fact N E B W
 DepthIsTold {N} {E} {B} {W} m s trees (Event.WorkerStep n) (EventReply.WorkerMoved (Ok reply)) s' trees' =
     (start : MachineState N E) (moments : List (Moment N E B W)) (walking : Walking) (answer : WorkerAnswer) → IsMachineWhole m.values start → IsIdle start → AreMoments m start moments
@@ -74,14 +79,14 @@ DepthIsTold {N} {E} {B} {W} m s trees (Event.WorkerStep n) (EventReply.WorkerMov
     → IsTooDeepTask trees walking.task ⊎ IsFormlessTask m.values.types trees walking.task → answer ≡ WorkerAnswer.Failed Error.TooDeep
 DepthIsTold m s trees event reply s' trees' = Unit {0}
 
--- the load of this number begins
+-- the load with this number begins
 abbrev pub IsBeginOf : {N B W : Type 0} → ℕ → Event N B W → EventReply N B W → Type 0
 IsBeginOf n (Event.LoadStart h) (EventReply.Started (Ok (Beginning.Load l key))) = l.0 ≡ n
 IsBeginOf n (Event.Call (Call.LoadBegin h)) (EventReply.CallReply (Reply.Begun (Ok (Beginning.Load l key)))) = l.0 ≡ n
 IsBeginOf n (Event.LoadKey k t) (EventReply.Started (Ok (Beginning.Load l key))) = l.0 ≡ n
 IsBeginOf n event reply = ⊥
 
--- it has begun before this place of the chain
+-- the load has begun before this place of the chain
 pub record HasBegun {N E B W : Type 0} (moments : List (Moment N E B W)) (n k : ℕ) : Type 0 where
   pub i : ℕ
   pub a : Moment N E B W
@@ -89,7 +94,8 @@ pub record HasBegun {N E B W : Type 0} (moments : List (Moment N E B W)) (n k : 
   pub at : slice_get moments i ≡ Some a
   pub begins : IsBeginOf n a.event a.reply
 
--- A load of a cell whose key a page-out set is refused by chance alone, where each load that makes a step has begun in the chain, before that, and is done in one piece.
+-- A load of a cell whose key a page-out has set fails only by chance (IsOfChance), if each load that makes a step has
+-- begun earlier in the chain and no load is interrupted.
 abbrev pub SoundLaw : {N B W : Type 0} → (E : Type 0) → Seen N B W → Type 0
 SoundLaw {N} {B} {W} E m = (start : MachineState N E) (moments : List (Moment N E B W)) → StandTogether moments
     → ((k : ℕ) (c : Moment N E B W) (l : LoadNumber) → slice_get moments k ≡ Some c → c.event ≡ Event.LoadStep l → HasBegun moments l.0 k) → HoldsOf m LoadIsSound start moments

@@ -1,16 +1,17 @@
--- The laws of page-out as one operation over a pager: what an item's page-out leaves, and that of a list, by trees.
+-- The laws of page-out as one operation on a pager, in terms of trees: what a page-out of an item leaves, and what one
+-- of the list leaves.
 use Rattle.std.specs.Prelude.{List, Result, false, ℕ, ◌≡◌}
 use Rattle.pagable_pager_spec.specs.{Access.{AccessState, EntryRun, ItemRun, LeadsToTrees, ListRun, WorkerRun, entry-is-walked, fails, item-is-walked, no-more, pages, skips, worker-ends, worker-goes-on}}
 use Rattle.pagable_pager_spec.specs.{Events.{IsEntry, entry_task, no_shelf}, declared.handle_row.HandleRow.HandleRow}
 use Rattle.pagable_pager_spec.specs.{Rightness.{IsKeyOfTask, LeavesAll}, Pager.{PagerState, Represents, SameTrees, WellFormed}, Basics.{HandleNumber, Tree}, declared.events.{Action.Action, WorkerAnswer.WorkerAnswer}, Runs.{HoldsSettled, TodoAsksWell}}
 use Rattle.pagable_pager_spec.specs.World.{Core, SameShelf, Seen, Shelf, Task, Todo, Values, Written, of_item}
 
--- no worker is at work in this pager
+-- no worker is at work on this pager
 abbrev pub NobodyWorks : Core → Type 0
 NobodyWorks w = (v : ℕ) → w.workers v ≡ false
 
--- what is asked of each step of a worker, as of a load's: no value in memory is written later, what is read or written is of a type that is read back, and
--- keys that are taken without being read read as some value
+-- What is asked of each step of a worker's run, as of a load's: no value in memory changes later, what is read or
+-- written is of a type that can be read back, and each key that is taken without being read reads as some value.
 unfoldable pub WorkerAsksWell : {N E B W : Type 0} {m : Seen N B W} {n : ℕ} {todo : List Todo} {s s' : AccessState N E} {steps : List (Action W)} {answer : WorkerAnswer}
     → WorkerRun m n todo s steps answer s' → Type 0
 WorkerAsksWell {m = m} (worker-ends todo next step answer s s' does is) = HoldsSettled m.values s'.pager × TodoAsksWell m.values s.pager todo
@@ -22,18 +23,18 @@ abbrev pub ItemAsksWell : {N E B W : Type 0} {m : Seen N B W} {s s' : AccessStat
 ItemAsksWell (item-is-walked n steps answer mid s' starts run) = WorkerAsksWell run
 ItemAsksWell run = Unit {0}
 
--- what a page-out leaves that answers this key: all that its task met, stored and with keys; and the key is the task's
+-- what a page-out leaves that returns this key: all that its task met is stored and has keys; and the key is the task's
 pub record LeavesPagedOut {N E : Type 0} (v : Values N) (s : PagerState N E) (shelf : Shelf) (trees : ℕ → Tree) (task : Task) (key : ℕ) : Type 0 where
   pub leaves : LeavesAll v s shelf trees task
   pub is_key : IsKeyOfTask v trees task key
 
--- The law of items, on a table that is new: what the item met is left paged out, and the key is the item's.
+-- The law of items, for a new table: what the item met is paged out, and the returned key is the item's.
 abbrev pub ItemLaw : {N B W : Type 0} → (E : Type 0) → Seen N B W → Type 0
 ItemLaw {N} {B} {W} E m = (s s' : AccessState N E) (item : W) (key : ℕ) (run : ItemRun m s (m.written_of item) (WorkerAnswer.Key key) s') → WellFormed m.values s.pager → NobodyWorks s.pager.core
     → SameShelf no_shelf s.shelf → ItemAsksWell run
     → LeadsToTrees m.values s.pager s'.pager (λ trees trees'. LeavesPagedOut m.values s'.pager s'.shelf trees' (of_item (m.written_of item)) key)
 
--- the entry that stood at this place was paged out under this key, on a table of its own
+-- the entry at this place of the list was paged out, under this key, on a table of its own
 pub record EntryIsPagedOut {N E : Type 0} (v : Values N) (w : Core) (place : ℕ) (s : PagerState N E) (trees : ℕ → Tree) (key : ℕ) : Type 0 where
   pub h : HandleNumber
   pub row : HandleRow
@@ -54,7 +55,7 @@ ListAsksWell (skips i place key h told answer s mid low s' is has takes releases
 ListAsksWell (pages i place key h answer s mid s' is has entry more) = EntryAsksWell entry × ListAsksWell more
 ListAsksWell (fails i place h e s s' is has entry) = EntryAsksWell entry
 
--- each entry that is paged out leaves all that it met, by trees that nodes keep from one entry to the next
+-- each entry that is paged out leaves all that it met paged out; nodes keep their trees from one entry to the next
 unfoldable pub EachIsPagedOut : {N E B W : Type 0} {m : Seen N B W} {i : ℕ} {s s' : PagerState N E} {answer : Result (Unit {0}) WorkerAnswer}
     → ListRun m i s answer s' → (ℕ → Tree) → Type 0
 EachIsPagedOut (no-more s) trees = Unit {0}

@@ -1,37 +1,37 @@
--- Why pins and loads are refused, by the numbers of the causes; and what any refusal that tells of the storage says of it.
+-- Why pins and loads fail, by the errors' numbers; and what an error that concerns the storage says about it.
 use Rattle.std.specs.Prelude.{[], Err, None, Ok, Option, Result, Some, ℕ, ◌≡◌, ◌≢◌, ◌≤◌}
 use Rattle.{pagable_value_spec.specs.{Refusals.number_of, Stored.HasFailed}, pagable_pager_spec.specs.{Calls.PinCall, Events.Step, LoadCalls.BeginCall, Loads.ReadingDoes}}
 use Rattle.pagable_pager_spec.specs.{Basics.{Error, HandleNumber}, World.{Core, IsLawful, Reading, Seen, Values, World}, declared.{calls.Reply.Reply, handle_row.Owner.Owner}}
 use Rattle.pagable_pager_spec.specs.declared.events.{Event.Event, EventReply.EventReply, LoadAnswer.LoadAnswer, Action.Action}
 
--- the handle isn't there, is another's or of another mode; or numbers or memory are wanting: 18 to 22
+-- the handle isn't live, is another's or has another mode; or numbers or memory have run out: 18 to 22
 abbrev pub IsOfPin : Error → Type 0
 IsOfPin e = (18 ≤ number_of e) × (number_of e ≤ 22)
 
--- one of 1 to 13, 15 to 23 and 26: never that a value isn't registered, that a key is taken or that the storage was closed
+-- any error but 14, 24 and 25: never that a value isn't registered, that a key is taken or that the storage is closed
 abbrev pub IsOfLoad : Error → Type 0
 IsOfLoad e = (number_of e ≢ 14) × (number_of e ≢ 24) × (number_of e ≢ 25)
 
--- a pin at once, and the begin of a load
+-- a pin that needs no load fails; below: the begin of a load fails
 abbrev pub PinsRefusedLaw : Type 0
 PinsRefusedLaw = (w : Core) (me : Owner) (h : HandleNumber) (e : Error) (w' : Core) → PinCall w me h (Err e) w' → IsOfPin e
 
 abbrev pub BeginsRefusedLaw : Type 0
 BeginsRefusedLaw = (w : Core) (me : Owner) (h : HandleNumber) (e : Error) (w' : Core) → BeginCall w me h (Err e) w' → IsOfPin e
 
--- each step of a load by which it is refused, of a caller's load and of a worker's
+-- each step in which a load fails, a caller's or a worker's
 abbrev pub LoadsRefusedLaw : {N : Type 0} → Values N → Type 0
 LoadsRefusedLaw {N} v = IsLawful v → (w : Core) (me : Owner) (reading : Reading) (e : Error) (w' : Core)
     → ReadingDoes v w me reading (Some (LoadAnswer.Refused e)) [] w' → IsOfLoad e
 
--- What a refusal that was met in the world w tells of the storage, where the world is w' then.
+-- What an error says about the storage, if it occurs between the states w and w'.
 pub record TellsOfStorage (w w' : Core) (e : Error) : Type 0 where
-  -- that it failed comes only where its count of failures rose, or stood at its end
+  -- that the storage failed: only if its count of failures rose, or was at its greatest
   pub failed : (code : ℕ) → e ≡ Error.Storage code → HasFailed w.failures w'.failures
-  -- that a key has no blob comes only where none stands under it
+  -- that a key has no blob: only if the storage has none under it
   pub absent : (key : ℕ) → e ≡ Error.NoData key → w.stored key ≡ None
 
--- what a call, an event and a worker's step are refused with, if they are
+-- the error of a result, if it is one; below: of a call's reply, of an event's reply and of a worker's step
 abbrev pub refusal_in : {X : Type 0} → Result X Error → Option Error
 refusal_in (Ok x) = None
 refusal_in (Err e) = Some e
@@ -51,7 +51,7 @@ refusal_of_reply (Reply.Away r) = refusal_in r
 refusal_of_reply (Reply.Node r) = refusal_in r
 refusal_of_reply (Reply.NodeType t) = None
 refusal_of_reply (Reply.Length n) = None
-refusal_of_reply (Reply.PinnedOrLoading h) = None
+refusal_of_reply (Reply.TakenPending h) = None
 refusal_of_reply (Reply.FromCache r) = refusal_in r
 refusal_of_reply (Reply.Fetched r) = refusal_in r
 refusal_of_reply (Reply.Stored r) = refusal_in r
@@ -81,7 +81,7 @@ refusal_of (EventReply.WorkerMade r) = refusal_in r
 refusal_of (EventReply.WorkerMoved (Ok reply)) = refusal_of_step reply.action
 refusal_of (EventReply.WorkerMoved (Err e)) = Some e
 
--- so it is with every event, in any world
+-- so it is for every event, in any state
 abbrev pub StorageIsTold : {N B W : Type 0} → Seen N B W → Type 0
 StorageIsTold {N} {B} {W} m = IsLawful m.values → (u : World) (event : Event N B W) (reply : EventReply N B W) (u' : World) (e : Error)
     → Step m u event reply u' → refusal_of reply ≡ Some e

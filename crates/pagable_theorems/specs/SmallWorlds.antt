@@ -1,11 +1,12 @@
--- Small worlds over any storage, to see that the definitions are met, and what they refuse; and the laws of what falls when handles are given up, of new pagers, of what blobs ask for, and of chains.
+-- Small states over any storage, which show that the definitions can be satisfied and what they exclude; and the laws
+-- of releasing handles, of new pagers, of what blobs ask for, and of chains.
 use Rattle.std.specs.Prelude.{Bool, List, None, Ok, Option, Some, [], false, filter, length, ℕ, ◌&&◌, ◌++◌, ◌==◌, ◌||◌, ◌∷◌, ◌≡◌}
 use Rattle.pagable_pager_spec.specs.declared.mode.Mode.{Mode}
 use Rattle.pagable_pager_spec.specs.{Calls.{UnpinCall, row_of}, Cascade.IsLeast, Events.no_shelf, Kinds.{is_owned_by, is_pinning, owner_value, pins}, Loads.{asks, is_faulty, next_in, reads}, Pager.IsIdle}
 use Rattle.pagable_pager_spec.specs.{WorkerClaims.{IsFilledByReading, LeavesCache}, Pager.{IsMachineWhole, IsNew, MachineState, PagerState, StandsFor}, Basics.{Among, ArcRef, Blob, Error, HandleNumber, Kind, Meaning, NodeNumber, OptionalDataKey, Tree, Types}}
 use Rattle.pagable_pager_spec.specs.{Basics.{times, updated}, Runs.{AreMoments, HoldsSettled, Moment, state_after}, World.{Core, Frame, IsLawful, Places, Seen, Values, Work}, declared.handle_row.{HandleRow.HandleRow, Owner.Owner}}
 
--- nothing but what a storage holds, with these places
+-- the state with nothing but a storage's contents, and this room
 abbrev pub empty : (ℕ → Option Blob) → Places → Core
 empty stored places = record {
   rows = [];
@@ -21,7 +22,7 @@ empty stored places = record {
   places = places;
 }
 
--- a new machine over a storage and an environment, for which nobody works
+-- nobody works; below: a new machine over a storage and an environment
 abbrev pub no_work : Work
 no_work = record { shelves = λ t. no_shelf; last_table = 0; readings = λ l. None; walkings = λ v. None }
 
@@ -35,18 +36,18 @@ first = record { 0 = 1 }
 abbrev pub first_node : NodeNumber
 first_node = record { 0 = 1 }
 
--- the caller's cell 1 has a value that refers to the cell 2, through a loose pinned handle; both have keys
+-- The caller's cell 1 has a value that refers to the cell 2 by a loose pinned handle; both cells have keys.
 abbrev pub two_rows : List HandleRow
 two_rows = row_of 1 first_node Mode.LoosePinned Owner.Caller ∷ row_of 2 (record { 0 = 2 }) Mode.LoosePinned (Owner.Value first_node) ∷ []
 
--- the outer handle; and both handles, or both cells
+-- the outer handle; below: both handles, or both cells
 abbrev pub outer : ℕ → Bool
 outer q = q == 1
 
 abbrev pub both : ℕ → Bool
 both q = (q == 1) || (q == 2)
 
--- the caller's pinned cell of type 0, with no key and nothing in it, where there is room for two handles and one entry
+-- the caller's pinned cell of the type 0, with no key and no references, and with room for two handles and one entry
 abbrev pub lone : (ℕ → Option Blob) → Core
 lone stored = record (empty stored (record { handles = 2; entries = 1 })) {
   rows = row_of 1 first_node Mode.LoosePinned Owner.Caller ∷ [];
@@ -54,7 +55,7 @@ lone stored = record (empty stored (record { handles = 2; entries = 1 })) {
   last = record { node = 1; handle = 1; load = 0; worker = 0 };
 }
 
--- unpinned, and listed
+-- the same cell, unpinned and listed
 abbrev pub lone_listed : (ℕ → Option Blob) → Core
 lone_listed stored = record (lone stored) {
   rows = row_of 1 first_node Mode.LooseUnpinned Owner.Caller ∷ row_of 2 first_node Mode.LooseUnpinned Owner.List ∷ [];
@@ -62,7 +63,7 @@ lone_listed stored = record (lone stored) {
   last = record { node = 1; handle = 2; load = 0; worker = 0 };
 }
 
--- unpinned, and not listed
+-- the same cell, unpinned and not listed
 abbrev pub lone_unlisted : (ℕ → Option Blob) → Core
 lone_unlisted stored = record (lone stored) { rows = row_of 1 first_node Mode.LooseUnpinned Owner.Caller ∷ [] }
 
@@ -70,26 +71,27 @@ lone_unlisted stored = record (lone stored) { rows = row_of 1 first_node Mode.Lo
 abbrev pub OwnsNothing : List HandleRow → Type 0
 OwnsNothing rows = (n : ℕ) → times (is_owned_by (owner_value n)) rows ≡ 0
 
--- The laws of what falls when handles are given up.
+-- The laws of releasing handles.
 pub record FallLaws : Type 0 where
-  -- Whatever is given up, and whatever entries come to the list, there is a least set.
+  -- Whatever is released, and whatever entries are added to the list, there is a least set.
   pub least_set_is_there : (rows : List HandleRow) (keyed : ℕ → Bool) (entries : List HandleRow) (given : ℕ → Bool) → (s : ℕ → Bool) × IsLeast rows keyed entries given s
   -- Two least sets have the same live handles.
   pub least_set_is_one : (rows : List HandleRow) (keyed : ℕ → Bool) (entries : List HandleRow) (given s t : ℕ → Bool) (h : HandleRow)
       → IsLeast rows keyed entries given s → IsLeast rows keyed entries given t → Among rows h → s h.number.0 ≡ t h.number.0
-  -- Where no value owns a handle, the given handles fall and no more.
+  -- If no value owns a handle, exactly the given handles are released.
   pub given_fall_alone : (rows : List HandleRow) (keyed : ℕ → Bool) (entries : List HandleRow) (given s : ℕ → Bool) (h : HandleRow)
       → OwnsNothing rows → IsLeast rows keyed entries given s → Among rows h → s h.number.0 ≡ given h.number.0
-  -- The sum that counts pins in proofs is the length of the filtered list of handles.
+  -- The sum by which proofs count pins is the length of the filtered list of handles.
   pub pins_are_a_filter : (n : ℕ) (rows : List HandleRow) → pins n rows ≡ length (filter (λ h. h.node.0 == n && is_pinning h.mode) rows)
-  -- Of a value of two levels whose cells have keys, both handles fall with the outer one. The outer one alone is no such set.
+  -- If a value of two levels has keys for its cells, releasing the outer handle releases both. The outer one alone is
+  -- no such set.
   pub two_levels_fall : IsLeast two_rows both [] outer both
   pub not_less : ¬ IsLeast two_rows both [] outer outer
-  -- Unpinning a lone cell without a key lists it; to leave the entry out, where places and numbers are left, is no such step.
+  -- Unpinning a single cell without a key lists it. It isn't allowed not to, if there are room and numbers.
   pub lone_is_listed : (stored : ℕ → Option Blob) → UnpinCall (lone stored) Owner.Caller first (Ok tt) (lone_listed stored)
   pub not_unlisted : (stored : ℕ → Option Blob) → ¬ UnpinCall (lone stored) Owner.Caller first (Ok tt) (lone_unlisted stored)
 
--- A chain goes on with another.
+-- A chain can be continued by another.
 pub record ChainsJoin {N B W : Type 0} (E : Type 0) (m : Seen N B W) : Type 0 where
   pub joins : (s : MachineState N E) (xs ys : List (Moment N E B W)) → AreMoments m s xs → AreMoments m (state_after s xs) ys → AreMoments m s (xs ++ ys)
   pub ends : (s : MachineState N E) (xs ys : List (Moment N E B W)) → state_after s (xs ++ ys) ≡ state_after (state_after s xs) ys
@@ -102,19 +104,21 @@ pub record StartsWell {N E : Type 0} (v : Values N) (s : MachineState N E) : Typ
   pub lawful : IsLawful v
   pub settled : HoldsSettled v s.pager
 
--- A new machine over any storage, for which nobody works, starts well where its values are lawful: it stands for whatever trees are assigned to nodes that aren't. And there is such a machine.
+-- A new machine over any storage, on which nobody works, starts well if its values are lawful: it stands for any trees,
+-- having no nodes. And such a machine exists.
 pub record NewIsWhole {N : Type 0} (E : Type 0) (v : Values N) : Type 0 where
   pub new : (stored : ℕ → Option Blob) (places : Places) (env : E) → IsNew (let s : MachineState N E = new_machine stored places env in s.pager)
   pub idle : (stored : ℕ → Option Blob) (places : Places) (env : E) → IsIdle (let s : MachineState N E = new_machine stored places env in s)
   pub starts : (s : MachineState N E) → IsNew s.pager → IsIdle s → IsLawful v → StartsWell v s
 
--- The cache of a new pager has each node once, since it knows none; and so it stays along chains of which no event clears it, puts a caller's reference into it or closes the storage.
+-- The cache of a new pager has no node twice, since it is empty. It stays so along chains in which no event clears it,
+-- puts a caller's reference into it or closes the storage.
 pub record ReadingFills {N B W : Type 0} (E : Type 0) (m : Seen N B W) : Type 0 where
   pub new : (s : PagerState N E) → IsNew s → IsFilledByReading s.core
   pub stays : (s : MachineState N E) (moments : List (Moment N E B W)) → IsMachineWhole m.values s → AreMoments m s moments → ((x : Moment N E B W) → Among moments x → LeavesCache x.event)
       → IsFilledByReading s.pager.core → IsFilledByReading (state_after s moments).pager.core
 
--- A blob is read, asks for one reference, or is refused: at most one of these.
+-- A blob either reads to its end, or asks for one reference, or is faulty: no two of these.
 pub record NextIsOne (types : Types) (frame : Frame) : Type 0 where
   pub read_or_asks : (own : Meaning ArcRef) (kind : Kind) (key : ℕ) → next_in types frame ≡ reads own → next_in types frame ≡ asks kind key → ⊥
   pub read_or_faulty : (own : Meaning ArcRef) (e : Error) → next_in types frame ≡ reads own → next_in types frame ≡ is_faulty e → ⊥

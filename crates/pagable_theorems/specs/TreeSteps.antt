@@ -1,5 +1,6 @@
--- What a value leads to by its references, what loads need and have got, what trees feel of a step and what of it fits them afterwards. And invariants of runs: what workers hold of the
--- references that they have claimed, and which cells have a key, where the storage isn't closed; and what tables and workers hold of a page-out, by trees.
+-- What a value leads to by its references; what loads need and have got; the effect of a step on trees. And invariants
+-- of runs: what workers hold of the references that they have claimed; which cells have a key, if the storage is open;
+-- and what tables and workers know of a page-out, in terms of trees.
 use Rattle.std.specs.Prelude.{List, None, Ok, Option, Some, [], drop, false, is_some, length, true, ℕ, ℤ, ◌+◌, ◌<◌, ◌==◌, ◌∷◌, ◌≡◌, ◌≤◌, ◌⊎◌}
 use Rattle.pagable_value_spec.specs.{Canonical.{IsReadableTree, IsReadableType}, Form.Form, Meaning.{followed, integer, none, number, pair, pattern, reference, text, variant}, Merkle.{KeyOf, StoredTree, blob_of}, Reading.deepest}
 use Rattle.pagable_pager_spec.specs.World.{OpenLoad, Reading, Shelf, Slot, Task, Todo, Values, Walking, World, Written, digest, is_here, key_at, of_cell, of_entry, of_item, published, row_at, to_fail}
@@ -11,7 +12,8 @@ use Rattle.pagable_pager_spec.specs.{Basics.{WorkerNumber, above, is_loose_kind,
 use Rattle.pagable_pager_spec.specs.{World.{to_finish, to_item, to_load, to_pin, to_publish, to_release, to_set, to_start, to_write, type_at}, declared.{pinning.Pinning.Pinning, calls.Call.Call}}
 use Rattle.{pagable_value_spec.specs.{References.references_in, Shape.Shape, Writing.kind_of_arc}, pagable_pager_spec.specs.{Events.reading_at, Rightness.AreKeysOf}}
 
--- The meaning leads to this one: each reference, of which P is so, is followed to its node's tree. One that is followed already stands in it only if F.
+-- The first meaning leads to the second: each of its references satisfies P and is followed to its node's tree. It may
+-- contain references that are followed already only if F.
 pub data LeadsBy (F : Type 0) (P : ArcRef → Type 0) (trees : ℕ → Tree) : Meaning ArcRef → Meaning ⊥ → Type 0 where
   number-leads : (i : ℕ) → LeadsBy F P trees (number i) (number i)
   integer-leads : (z : ℤ) → LeadsBy F P trees (integer z) (integer z)
@@ -23,11 +25,11 @@ pub data LeadsBy (F : Type 0) (P : ArcRef → Type 0) (trees : ℕ → Tree) : M
   followed-leads : (kind : ℕ) (x : Meaning ArcRef) (a : Meaning ⊥) → F → LeadsBy F P trees x a → LeadsBy F P trees (followed kind x) (followed kind a)
   reference-leads : (r : ArcRef) (a : Meaning ⊥) → P r → (trees r.node.0).meaning ≡ a → LeadsBy F P trees (reference r) (followed r.kind.0 a)
 
--- so it does where each node is of the reference's kind's type
+-- leads to the meaning, if each node is of the type of its reference's kind
 abbrev pub LeadsTo : (ℕ → Tree) → Meaning ArcRef → Meaning ⊥ → Type 0
 LeadsTo trees = LeadsBy (Unit {0}) (λ r. (trees r.node.0).type ≡ type_of r.kind.0) trees
 
--- so it does where its references are some of these, and nothing in it is followed already
+-- leads to the meaning by these references only, and nothing in it is followed already
 abbrev pub FollowsTo : (ℕ → Tree) → List ArcRef → Meaning ArcRef → Meaning ⊥ → Type 0
 FollowsTo trees rs = LeadsBy ⊥ (λ r. Among rs r) trees
 
@@ -38,7 +40,8 @@ pub record ValueLeads {N : Type 0} (v : Values N) (trees : ℕ → Tree) (x : N)
   pub means : v.means x own
   pub leads : LeadsTo trees own t.meaning
 
--- what comes of a value that was read of the frame: a tree as which the frame's key reads, to which the value leads, by references that the frame got
+-- about a value that was decoded from the frame: the frame's key reads as a tree, and the value leads to it by
+-- references that the frame has got
 pub record Decoded {N : Type 0} (v : Values N) (stored : ℕ → Option Blob) (trees : ℕ → Tree) (frame : Frame) (x : N) : Type 0 where
   pub t : Tree
   pub typed : t.type ≡ frame.node_type
@@ -46,7 +49,7 @@ pub record Decoded {N : Type 0} (v : Values N) (stored : ℕ → Option Blob) (t
   pub leads : ValueLeads v trees x t
   pub got : (r : ArcRef) → Among (v.references x) r → Among frame.got r
 
--- the load needs a reference of this kind under this key, whether what it leads to is read or not
+-- the load needs a reference of this kind and key, to be loaded or not
 abbrev pub Needs : Types → List Frame → Kind → ℕ → Type 0
 Needs types frames kind key = (need_of types frames ≡ needs_nested kind key) ⊎ (need_of types frames ≡ needs_lazy kind key)
 
@@ -54,7 +57,8 @@ Needs types frames kind key = (need_of types frames ≡ needs_nested kind key) �
 abbrev pub KeepsStored : (ℕ → Option Blob) → (ℕ → Option Blob) → Type 0
 KeepsStored stored stored' = (key : ℕ) (b : Blob) → stored key ≡ Some b → stored' key ≡ Some b
 
--- A handle that a load got was given, and its node; and while the load has it, it is of the reference's node, in a mode that fits the kind.
+-- The handle and the node of a reference that a load got have been given out; and while the load owns the handle, it is
+-- of that node, in a mode that fits the kind.
 pub record GotStands (w : Core) (l : LoadNumber) (r : ArcRef) : Type 0 where
   pub given : r.handle.0 ≤ w.last.handle
   pub node_given : r.node.0 ≤ w.last.node
@@ -63,21 +67,21 @@ pub record GotStands (w : Core) (l : LoadNumber) (r : ArcRef) : Type 0 where
 abbrev pub FramesHeld : Core → LoadNumber → List Frame → Type 0
 FramesHeld w l frames = (frame : Frame) (r : ArcRef) → Among frames frame → Among frame.got r → GotStands w l r
 
--- a node leads to its tree: its key reads as that, and its value leads there
+-- a node leads to its tree: its key reads as the tree, and its value leads to it
 pub record NodeLeads {N E : Type 0} (v : Values N) (s : PagerState N E) (trees : ℕ → Tree) (n : ℕ) : Type 0 where
   pub keyed : KeyFits v s n (trees n)
   pub valued : (x : N) → s.values n ≡ Some x → ValueLeads v trees x (trees n)
 
--- what a step changes that trees feel: at most one of these
+-- what a step changes that matters for trees: at most one of these
 pub data Change : Type 0 where
   nothing_felt : Change
   -- a node has this key from now on
   sets_key : (n key : ℕ) → Change
-  -- the cache knows the node under kind and key
+  -- the cache has the node under kind and key
   knows_node : (kind key n : ℕ) → Change
-  -- the next node is there, of this type and with this key
+  -- a new node, with the next number, this type and this key
   bears_node : (t : ℕ) (own : OptionalDataKey) → Change
-  -- the next node is there, of the kind's type and with this key of its own, and the cache may know it under kind and key
+  -- a new node, with the next number, the kind's type and this key of its own; the cache may have it under kind and key
   bears_known : (kind key : ℕ) (own : OptionalDataKey) → Change
 
 abbrev pub Sets : Change → ℕ → ℕ → Type 0
@@ -94,17 +98,17 @@ Bears (bears_node t own) type key = (type ≡ t) × (key ≡ own)
 Bears (bears_known k q own) type key = (type ≡ type_of k) × (key ≡ own)
 Bears change type key = ⊥
 
--- a load that has begun of a cell reads the key that its cell has, and is of its type
+-- a load of a cell reads the key that its cell has, and is of the cell's type
 abbrev pub BeginsWell : Core → OpenLoad → Type 0
 BeginsWell w load = (node : NodeNumber) (t : ℕ) (h : HandleNumber) → load.root ≡ of_cell node t h → (type_at w node.0 ≡ Some t) × (key_at w node.0 ≡ OptionalDataKey.Some load.key)
 
--- a node that was there is the same, but for a key that it may get
+-- a node that existed is the same, except that it may have got a key
 pub record SameNode (c : Change) (w w' : Core) (n : ℕ) : Type 0 where
   pub was : is_some (w.cells n) ≡ true
   pub typed : type_at w' n ≡ type_at w n
   pub key : (key_at w' n ≡ key_at w n) ⊎ ((key : ℕ) × Sets c n key × (key_at w' n ≡ OptionalDataKey.Some key))
 
--- a node that wasn't there is the next one
+-- a node that didn't exist is the next one
 pub record NewNode (c : Change) (w w' : Core) (n : ℕ) : Type 0 where
   pub t : ℕ
   pub own : OptionalDataKey
@@ -113,7 +117,7 @@ pub record NewNode (c : Change) (w w' : Core) (n : ℕ) : Type 0 where
   pub typed : type_at w' n ≡ Some t
   pub key : key_at w' n ≡ own
 
--- the row of a handle before: at the same node, and the same if it is a load's now; a loose handle stays loose
+-- the handle's row before: of the same node; the same row if a load owns it now; and if it was loose, it is loose now
 pub record Was (rows : List HandleRow) (q : ℕ) (row : HandleRow) : Type 0 where
   pub was : HandleRow
   pub live : find_row q rows ≡ Some was
@@ -121,7 +125,7 @@ pub record Was (rows : List HandleRow) (q : ℕ) (row : HandleRow) : Type 0 wher
   pub mine : (l : LoadNumber) → row.owner ≡ Owner.Load l → was ≡ row
   pub loose : is_loose was.mode ≡ true → is_loose row.mode ≡ true
 
--- each handle up to this number was there
+-- each live handle with a number up to `last` was live before
 abbrev pub RowsGo : ℕ → List HandleRow → List HandleRow → Type 0
 RowsGo last rows rows' = (q : ℕ) (row : HandleRow) → find_row q rows' ≡ Some row → q ≤ last → Was rows q row
 
@@ -129,14 +133,14 @@ RowsGo last rows rows' = (q : ℕ) (row : HandleRow) → find_row q rows' ≡ So
 abbrev pub IsShut : Core → Type 0
 IsShut w = (w.closed ≡ true) × ((q : ℕ) → w.stored q ≡ None)
 
--- a cell that was there, but for a key that it may get
+-- a cell that existed, except that it may have got a key
 pub record Kept (c : Change) (w : Core) (n : ℕ) (cell : Cell) : Type 0 where
   pub was : Cell
   pub live : w.cells n ≡ Some was
   pub typed : cell.node_type ≡ was.node_type
   pub key : (cell.key ≡ was.key) ⊎ ((key : ℕ) × Sets c n key × (cell.key ≡ OptionalDataKey.Some key))
 
--- what trees feel of what a step does to the plain world
+-- what a step does to the plain state, as far as it matters for trees
 pub record CoreGoes (c : Change) (w w' : Core) : Type 0 where
   pub nodes : w.last.node ≤ w'.last.node
   pub handles : w.last.handle ≤ w'.last.handle
@@ -149,15 +153,16 @@ pub record CoreGoes (c : Change) (w w' : Core) : Type 0 where
   pub rows : RowsGo w.last.handle w.rows w'.rows
   pub shut : IsShut w → IsShut w'
 
--- each of these references names a handle of the owner's, as it should
+-- each of these references is a proper one, by a handle of the owner's
 abbrev pub AreGood : Core → Owner → List ArcRef → Type 0
 AreGood w owner references = (r : ArcRef) → Among references r → IsReference w owner r
 
--- the value can't come to the node: that has none afterwards either
+-- a node that hasn't its value in memory before hasn't it afterwards either
 abbrev pub StaysAway : Core → Core → ℕ → Type 0
 StaysAway w w' n = is_here w n ≡ false → is_some (w'.cells n) ≡ true → is_here w' n ≡ false
 
--- What trees feel of a call. A value comes to a new node only where one is born, and to an old one only by the end of a load.
+-- The effect of a call on trees. A value is brought to a new node only if one is made, and to an old one only by the
+-- end of a load.
 pub data CallFeels {N B : Type 0} (v : Values N) (w : Core) (me : Owner) : Call N B → Reply N B → Core → Change → Type 0 where
   feels-nothing : {call : Call N B} {reply : Reply N B} {w' : Core} → ((n : ℕ) (x : N) → CallBrings w call n x → IsNewNode w n ⊎ StaysAway w w' n) → CallFeels v w me call reply w' nothing_felt
   feels-birth : {call : Call N B} {reply : Reply N B} {w' : Core} (x : N) → ((n : ℕ) (y : N) → CallBrings w call n y → (y ≡ x) × IsNewNode w n) → AreGood w me (v.references x)
@@ -172,7 +177,7 @@ pub data CallFeels {N B : Type 0} (v : Values N) (w : Core) (me : Owner) : Call 
       → CallFeels v w me (Call.LoadLazy l kind key) (Reply.Handle (Ok k)) w' (bears_known kind.0 key (OptionalDataKey.Some key))
   feels-end : {w' : Core} (l : LoadNumber) (x : N) (k : HandleNumber) → AreGood w (Owner.Load l) (v.references x) → CallFeels v w me (Call.LoadEnd l x) (Reply.LoadEnded (Ok k)) w' nothing_felt
 
--- the row of a handle that a load has got now, of this node
+-- the row of a handle, of this node, that a load has just got
 pub record GetsRow (w w' : Core) (kind : Kind) (n : ℕ) (row : HandleRow) : Type 0 where
   pub live : row_at w' row.number ≡ Some row
   pub at : row.node.0 ≡ n
@@ -180,7 +185,7 @@ pub record GetsRow (w w' : Core) (kind : Kind) (n : ℕ) (row : HandleRow) : Typ
   pub given : row.number.0 ≤ w'.last.handle
   pub fits : fits_mode kind.0 row.mode ≡ true
 
--- What trees feel of a load's step.
+-- The effect of a load's step on trees.
 pub data ReadingFeels {N : Type 0} (v : Values N) (w : Core) (reading : Reading) (answer : Option (LoadAnswer N)) (frames : List Frame) (w' : Core) : Change → Type 0 where
   reads-root : (load : OpenLoad) (blob : Blob) → reading.frames ≡ [] → w.loads reading.load.0 ≡ Some load → w.stored load.key ≡ Some blob → answer ≡ None
       → frames ≡ root_frame load.key reading.node_type blob ∷ [] → ReadingFeels v w reading answer frames w' nothing_felt
@@ -196,26 +201,26 @@ pub data ReadingFeels {N : Type 0} (v : Values N) (w : Core) (reading : Reading)
       → ReadingFeels v w reading answer frames w' (bears_known reads.top.kind.0 reads.top.key (first_key reads.top.kind.0 reads.top.key))
   reading-ends : (end : LoadAnswer N) → answer ≡ Some end → frames ≡ [] → ReadingFeels v w reading answer frames w' nothing_felt
 
--- it has just begun
+-- the load has just begun
 abbrev pub IsFresh : Core → Reading → Type 0
 IsFresh w reading = (reading.frames ≡ []) × (reading.steps ≡ 0) × (reading.load.0 ≤ w.last.load)
 
--- the readings that there are afterwards were there, or have just begun
+-- each reading afterwards was there before, or has just begun
 abbrev pub KeepsReadings : World → World → Type 0
 KeepsReadings u u' = (reading : Reading) → IsReadingOf u'.work reading → IsReadingOf u.work reading ⊎ IsFresh u'.core reading
 
--- they were there, or this one went on
+-- each reading afterwards was there before, or is this one after its step
 abbrev pub StepsReading : {N : Type 0} → World → Reading → Option (LoadAnswer N) → List Frame → World → Type 0
 StepsReading u reading answer frames u' = (after : Reading) → IsReadingOf u'.work after → IsReadingOf u.work after ⊎ ((answer ≡ None) × (after ≡ gone_on reading frames))
 
--- the reading that makes the event's step: it is one of the machine's, or has just begun at an open load
+-- the reading whose step the event makes: one of the machine's, or of an open load that has just begun
 abbrev pub IsSteppedReading : {N B W : Type 0} → World → Event N B W → Reading → Type 0
 IsSteppedReading u (Event.LoadStep l) reading = (reading_at u l ≡ Some reading) × (IsReadingOf u.work reading ⊎ IsFresh u.core reading)
 IsSteppedReading u (Event.WorkerStep k) reading =
     (walking : Walking) × (r : ArcRef) × (place : ℕ) × (through : HandleNumber) × (below : List Todo) × (u.work.walkings k.0 ≡ Some walking) × (walking.todo ≡ to_load r place through reading ∷ below)
 IsSteppedReading u event reading = ⊥
 
--- the worker sets the key through its own loose handle
+-- the worker sets the key by its own loose handle
 pub record SetsThrough (u : World) (k : WorkerNumber) (key : ℕ) (row : HandleRow) : Type 0 where
   pub walking : Walking
   pub r : ArcRef
@@ -226,7 +231,7 @@ pub record SetsThrough (u : World) (k : WorkerNumber) (key : ℕ) (row : HandleR
   pub sets : walking.todo ≡ to_set r through key height ∷ below
   pub owns : Owns u.core (owner_worker k.0) through is_loose row
 
--- What trees feel of an event. The values of a step that isn't a call or a load's come to no node.
+-- The effect of an event on trees. Steps other than calls and steps of loads bring no value to any node.
 pub data EventFeels {N B W : Type 0} (v : Values N) (u : World) (event : Event N B W) (reply : EventReply N B W) (u' : World) : Change → Type 0 where
   by-call : (c : Change) (call : Call N B) (answer : Reply N B) → event ≡ Event.Call call → reply ≡ EventReply.CallReply answer → CallFeels v u.core Owner.Caller call answer u'.core c
       → KeepsReadings u u' → EventFeels v u event reply u' c
@@ -236,7 +241,7 @@ pub data EventFeels {N B W : Type 0} (v : Values N) (u : World) (event : Event N
   by-key : (k : WorkerNumber) (key : ℕ) (row : HandleRow) → event ≡ Event.WorkerStep k → SetsThrough u k key row → KeepsReadings u u' → EventFeels v u event reply u' (sets_key row.node.0 key)
   by-nothing : ((n : ℕ) (x : N) → EventBrings v u event n x → IsNewNode u.core n ⊎ StaysAway u.core u'.core n) → KeepsReadings u u' → EventFeels v u event reply u' nothing_felt
 
--- A handle that pins; and each of these references, which the load owned, is the asker's.
+-- A handle that pins; below: each of these references, which the load owned, is the caller's now.
 pub record HasPin (w : Core) (k : HandleNumber) : Type 0 where
   pub row : HandleRow
   pub live : row_at w k ≡ Some row
@@ -253,11 +258,12 @@ PinHolds (Event.Call (Call.LoadEnd l x)) (EventReply.CallReply (Reply.LoadEnded 
 PinHolds (Event.WorkerStep n) (EventReply.WorkerMoved (Ok reply)) w' = (i : Identity) (k : HandleNumber) → reply.action ≡ Action.Pin i (Ok (PinStep.Held k)) → HasPin w' k
 PinHolds event reply w' = Unit {0}
 
--- the key that a worker is about to set reads as the tree of its handle's node.
+-- the key that a worker is about to set reads as the tree of its handle's node
 abbrev pub KeysAreReady : {N E : Type 0} → Values N → MachineState N E → (ℕ → Tree) → Type 0
 KeysAreReady v s trees = (k : WorkerNumber) (key : ℕ) (row : HandleRow) → SetsThrough (world_of s) k key row → ReadsTree s.pager.core.stored v.types key (trees row.node.0)
 
--- What a change brings fits the trees afterwards: the key that is set, the key of a new node, what becomes known, and each value that comes.
+-- What a change brings fits the trees afterwards: the key that is set, the key of a new node, what the cache gets, and
+-- each value that is brought into memory.
 pub record ChangeFits {N E : Type 0} (v : Values N) (c : Change) (comes : ℕ → N → Type 0) (s s' : PagerState N E) (trees trees' : ℕ → Tree) : Type 0 where
   pub same : SameTrees s.core.last.node trees trees'
   pub sets : (n key : ℕ) → Sets c n key → ReadsTree s'.core.stored v.types key (trees n)
@@ -266,13 +272,14 @@ pub record ChangeFits {N E : Type 0} (v : Values N) (c : Change) (comes : ℕ �
   pub knows : (kind key n : ℕ) → Knows c s.core kind key n → ReadsNodeTree v.types s'.core.stored trees' key (type_of kind) n
   pub comes_well : (n : ℕ) (x : N) → comes n x → s.values n ≡ None → s'.values n ≡ Some x → ValueLeads v trees' x (trees' n)
 
--- The handle stands for the reference, both of which were given: while it is live it is of the reference's node, and loose where the reference's kind is.
+-- The handle serves for the reference, and both numbers have been given out: while the handle is live, it is of the
+-- reference's node, and loose if the reference's kind is.
 pub record StandsAt (w : Core) (r : ArcRef) (h : HandleNumber) : Type 0 where
   pub node_given : r.node.0 ≤ w.last.node
   pub given : h.0 ≤ w.last.handle
   pub is : (row : HandleRow) → row_at w h ≡ Some row → (row.node ≡ r.node) × (is_loose_kind r.kind.0 ≡ true → is_loose row.mode ≡ true)
 
--- the node was given, and has a key while it lives
+-- the node's number has been given out, and the node has a key as long as it is live
 pub record KeyIsSet (w : Core) (n : ℕ) : Type 0 where
   pub given : n ≤ w.last.node
   pub keyed : (cell : Cell) → w.cells n ≡ Some cell → has_key cell.key ≡ true
@@ -285,7 +292,7 @@ pub record HasHandle (w : Core) (v n : ℕ) : Type 0 where
   pub own : row.owner ≡ owner_worker v
   pub at : row.node.0 ≡ n
 
--- what the worker holds of a reference that it has claimed, and what it has come to and still has when its key is published
+-- what the worker has for a reference that it has claimed, up to the time when its key is published
 abbrev pub Holds : Core → ℕ → Todo → Type 0
 Holds w v (to_pin r place) = StandsAt w r r.handle
 Holds w v (to_load r place through reading) = StandsAt w r through
@@ -295,24 +302,24 @@ Holds w v (to_set r through key height) = StandsAt w r through
 Holds w v (to_publish r key height) = is_loose_kind r.kind.0 ≡ true → KeyIsSet w r.node.0 × HasHandle w v r.node.0
 Holds w v _ = Unit {0}
 
--- nothing waits but written nodes, of which the same is held, and an item
+-- only written nodes, for which the worker has the same, and an item are waiting
 abbrev pub WaitsHeld : Core → List Todo → Type 0
 WaitsHeld w [] = Unit {0}
 WaitsHeld w (to_finish o ∷ below) = StandsAt w o.reference o.through × WaitsHeld w below
 WaitsHeld w (to_item written keys ∷ below) = WaitsHeld w below
 WaitsHeld w (x ∷ below) = ⊥
 
--- of all that is to be done
+-- for all that is to be done
 abbrev pub AllHold : Core → ℕ → List Todo → Type 0
 AllHold w v [] = Unit {0}
 AllHold w v (x ∷ below) = Holds w v x × WaitsHeld w below
 
--- So do all workers, and each cell whose key was published by a loose reference has a key.
+-- So it is for all workers; and each cell whose key was published for a loose reference has a key.
 pub record KeysHeld (u : World) : Type 0 where
   pub walks : (n : ℕ) (walking : Walking) → u.work.walkings n ≡ Some walking → AllHold u.core n walking.todo
   pub slots : (t : ℕ) (i : Identity) (key height : ℕ) → IsPublished (u.work.shelves t) i key height → is_loose_kind i.kind.0 ≡ true → KeyIsSet u.core i.node.0
 
--- what is stored, the last node, and the trees of nodes
+-- what is stored, the number of the last node, and the trees of the nodes
 pub record Ground : Type 0 where
   pub stored : ℕ → Option Blob
   pub last : ℕ
@@ -321,14 +328,15 @@ pub record Ground : Type 0 where
 abbrev pub ground_of : {N E : Type 0} → MachineState N E → (ℕ → Tree) → Ground
 ground_of s trees = record { stored = s.pager.core.stored; last = s.pager.core.last.node; trees = trees }
 
--- the key is the tree's, and the tree is stored under it, each value as a form under its key, and of a type that is read back
+-- the key is the tree's; the store has the tree under it, each value as a form under its key; and the tree can be read
+-- back
 pub record KeyStands {N : Type 0} (v : Values N) (stored : ℕ → Option Blob) (t : Tree) (key : ℕ) : Type 0 where
   pub is_key : KeyOf v.hash v.types t key
   pub stands : StoredTree stored v.types key t
   pub can : IsReadableTree v.types t
 
--- What was written is a form of the node's tree, which is read back, over its references, whose nodes were all given. The value that it is a form of names
--- no handle twice.
+-- What was written is a form of the node's tree, which can be read back; the nodes of its references have been given
+-- out. The value names no handle twice.
 pub record WroteTree (types : Types) (g : Ground) (n : ℕ) (written : Written) : Type 0 where
   pub shape : Shape
   pub own : Meaning ArcRef
@@ -343,7 +351,7 @@ pub record WroteTree (types : Types) (g : Ground) (n : ℕ) (written : Written) 
 abbrev pub WroteOver : Types → Ground → ℕ → List ArcRef → Type 0
 WroteOver types g n references = (bytes : List ℕ) × WroteTree types g n (record { bytes = bytes; references = references })
 
--- the reference's key is known, with a height to which it adds no more than this
+-- the reference's key is published, with a height that gives its parent at most this height
 pub record IsLow (shelf : Shelf) (height : ℕ) (r : ArcRef) : Type 0 where
   pub key : ℕ
   pub below : ℕ
@@ -353,7 +361,7 @@ pub record IsLow (shelf : Shelf) (height : ℕ) (r : ArcRef) : Type 0 where
 abbrev pub AllLow : Shelf → ℕ → List ArcRef → Type 0
 AllLow shelf height rs = (r : ArcRef) → Among rs r → IsLow shelf height r
 
--- one of the references adds so much
+-- one of the references gives its parent at least this height
 pub record AddsSo (shelf : Shelf) (height : ℕ) (rs : List ArcRef) : Type 0 where
   pub r : ArcRef
   pub among : Among rs r
@@ -362,11 +370,12 @@ pub record AddsSo (shelf : Shelf) (height : ℕ) (rs : List ArcRef) : Type 0 whe
   pub known : IsPublished shelf (identity_of r) key below
   pub least : height ≤ above r.kind.0 below
 
--- the height is no more than there is
+-- the height is 0, or one of the references gives it
 abbrev pub IsAttained : Shelf → ℕ → List ArcRef → Type 0
 IsAttained shelf height rs = (height ≡ 0) ⊎ AddsSo shelf height rs
 
--- under the key, which is that of the node's tree, stands what was written over the keys that are known of its references; its height is within the limit, and that of the references
+-- The store has, under the node's tree's key, what was written with the published keys of its references. The height is
+-- within the limit, and is the one that the references give.
 pub record BlobStands {N : Type 0} (v : Values N) (g : Ground) (shelf : Shelf) (n : ℕ) (written : Written) (key height : ℕ) : Type 0 where
   pub wrote : WroteTree v.types g n written
   pub keys : List ℕ
@@ -377,37 +386,40 @@ pub record BlobStands {N : Type 0} (v : Values N) (g : Ground) (shelf : Shelf) (
   pub low : AllLow shelf height written.references
   pub attained : IsAttained shelf height written.references
 
--- A slot is of a node that was given, of its kind's type. Its references are those of a form of the node's tree; and one with just these stands under the key that is known.
+-- A slot is for a node whose number has been given out and whose type is the kind's. The slot's references are those of
+-- a form of the node's tree; and a form with just these is stored under the key that the slot publishes.
 pub record SlotFits {N : Type 0} (v : Values N) (g : Ground) (shelf : Shelf) (i : Identity) (slot : Slot) : Type 0 where
   pub given : i.node.0 ≤ g.last
   pub typed : (g.trees i.node.0).type ≡ type_of i.kind.0
   pub writes : (references : List ArcRef) → slot.references ≡ Some references → WroteOver v.types g i.node.0 references
   pub publishes : (key height : ℕ) → slot.outcome ≡ published key height → (written : Written) × (slot.references ≡ Some written.references) × BlobStands v g shelf i.node.0 written key height
 
--- the keys that are known of the first of the references, which add no more than this to a height
+-- keys are published keys of the first of the references, each of which gives its parent at most this height
 abbrev pub KeysSoFar : Shelf → ℕ → List ArcRef → List ℕ → Type 0
 KeysSoFar shelf height rs [] = Unit {0}
 KeysSoFar shelf height [] (k ∷ ks) = ⊥
 KeysSoFar shelf height (r ∷ rs) (k ∷ ks) = ((below : ℕ) × IsPublished shelf (identity_of r) k below × (above r.kind.0 below ≤ height)) × KeysSoFar shelf height rs ks
 
--- what waits below is for this reference, the next one after those whose keys are known; and where nothing waits, it is that of the task's entry
+-- what waits below is waiting for this reference, as the next one after those whose keys are known; if nothing waits,
+-- the reference is the task's entry
 abbrev pub Expects : Task → ArcRef → List Todo → Type 0
 Expects task r (to_finish o ∷ below) = (more : List ArcRef) × (drop (length o.keys) o.written.references ≡ r ∷ more)
 Expects task r (to_item written keys ∷ below) = (more : List ArcRef) × (drop (length keys) written.references ≡ r ∷ more)
 Expects (of_entry h i) r [] = identity_of r ≡ i
 Expects task r below = ⊥
 
--- the place of a reference over what waits for it
+-- the depth of a reference below what waits for it
 abbrev pub place_over : ArcRef → List Todo → ℕ
 place_over r (to_finish o ∷ below) = place_below o.place r.kind.0
 place_over r (to_item written keys ∷ below) = place_below 0 r.kind.0
 place_over r todo = 0
 
--- with this height the reference doesn't lie too deep
+-- with this height below it the reference isn't too deep
 abbrev pub HasRoom : ArcRef → ℕ → List Todo → Type 0
 HasRoom r height below = place_over r below + height ≤ longest_path
 
--- what waits: written nodes in their places, with the keys of their first references and the height that these come to, and the task's item
+-- what waits: written nodes at their depths, with the keys of their first references and the height that these give;
+-- and the task's item
 unfoldable pub Waits : Shelf → Task → List Todo → Type 0
 Waits shelf task [] = Unit {0}
 Waits shelf task (to_finish o ∷ below) =
@@ -416,15 +428,15 @@ Waits shelf task (to_finish o ∷ below) =
 Waits shelf task (to_item written keys ∷ below) = (task ≡ of_item written) × KeysSoFar shelf longest_path written.references keys
 Waits shelf task (x ∷ below) = ⊥
 
--- below the reference stands what waits for it
+-- below the reference is what waits for it
 abbrev pub Above : Shelf → Task → ArcRef → List Todo → Type 0
 Above shelf task r below = Expects task r below × Waits shelf task below
 
--- so it does, and the reference is in its place
+-- so it is, and the reference is at this depth, which isn't too deep
 abbrev pub Placed : Shelf → Task → ArcRef → ℕ → List Todo → Type 0
 Placed shelf task r place below = (place ≡ place_over r below) × (place ≤ longest_path) × Above shelf task r below
 
--- the key stands for what was written of the reference's node
+-- the key is stored for what was written of the reference's node
 pub record HasBlob {N : Type 0} (v : Values N) (g : Ground) (shelf : Shelf) (r : ArcRef) (key height : ℕ) : Type 0 where
   pub slot : Slot
   pub written : Written
@@ -432,7 +444,7 @@ pub record HasBlob {N : Type 0} (v : Values N) (g : Ground) (shelf : Shelf) (r :
   pub wrote : slot.references ≡ Some written.references
   pub stands : BlobStands v g shelf r.node.0 written key height
 
--- what a worker has to do fits its table and trees
+-- what a worker has to do fits its table and the trees
 abbrev pub Walks : {N : Type 0} → Values N → Ground → Shelf → Task → List Todo → Type 0
 Walks v g shelf task [] = Unit {0}
 Walks v g shelf task (to_start r place ∷ below) = (place ≡ place_over r below) × Above shelf task r below
@@ -449,23 +461,24 @@ Walks v g shelf task (to_fail fault back ∷ below) = Unit {0}
 abbrev pub SlotsFit : {N : Type 0} → Values N → Ground → Shelf → Type 0
 SlotsFit v g shelf = (i : Identity) (slot : Slot) → shelf.slots i ≡ Some slot → SlotFits v g shelf i slot
 
--- what was written of a node and waits for its references is a form of the node's tree
+-- what was written of a node that waits for its references is a form of the node's tree
 abbrev pub Wrote : Types → Ground → Todo → Type 0
 Wrote types g (to_finish o) = (o.reference.node.0 ≤ g.last) × WroteTree types g o.reference.node.0 o.written
 Wrote types g _ = Unit {0}
 
--- and so it is of all that is to be done
+-- and so it is for all that is to be done
 abbrev pub AllWrote : Types → Ground → List Todo → Type 0
 AllWrote types g [] = Unit {0}
 AllWrote types g (x ∷ below) = Wrote types g x × AllWrote types g below
 
--- all slots and all workers of the machine fit
+-- all slots and all workers of the machine fit the trees
 pub record WorkFits {N E : Type 0} (v : Values N) (s : MachineState N E) (trees : ℕ → Tree) : Type 0 where
   pub slots : (t : ℕ) → SlotsFit v (ground_of s trees) (s.work.shelves t)
   pub walks : (n : ℕ) (walking : Walking) → s.work.walkings n ≡ Some walking → Walks v (ground_of s trees) (s.work.shelves walking.table) walking.task walking.todo
   pub wrote : (n : ℕ) (walking : Walking) → s.work.walkings n ≡ Some walking → AllWrote v.types (ground_of s trees) walking.todo
 
--- the key is what the task has come to: over the keys that are known of its item's references, none of which lies too deep, or of its entry
+-- the key is the result of the task: of its item's bytes with the published keys of its references, none of which is
+-- too deep; or of its entry
 abbrev pub IsDone : {N : Type 0} → Values N → Shelf → Task → ℕ → Type 0
 IsDone v shelf (of_item written) key = (keys : List ℕ) × AreKeysOf shelf written.references keys × (key ≡ digest v (blob_of written.bytes keys)) × AllLow shelf longest_path written.references
 IsDone v shelf (of_entry h i) key = (height : ℕ) × IsPublished shelf i key height

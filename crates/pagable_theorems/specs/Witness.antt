@@ -1,5 +1,6 @@
--- A chain of moments of two levels. A value is a leaf, of the type 1, which has no byte; or a parent, of the type 0, which is a reference to a leaf through a loose handle. Both are born, an item that
--- refers to the parent is paged out, the parent is evicted with its child and is read again, and the child's key is read.
+-- A chain of moments with two levels. A value is a leaf (type 1, no bytes) or a parent (type 0), which is a loose
+-- reference to a leaf. Both are inserted, an item that refers to the parent is paged out, the parent is evicted with
+-- its child and loaded again, and the child's key is read.
 use Rattle.std.specs.Prelude.{Bool, List, None, Ok, Option, Some, [], if◌then◌else◌, length, not, suc, zero, ℕ, ◌&&◌, ◌++◌, ◌+◌, ◌==◌, ◌∷◌, ◌≡◌}
 use Rattle.pagable_pager_spec.specs.declared.{calls.{Call.Call, Reply.Reply}, events.{Claim.Claim, Event.Event, EventReply.EventReply, LoadAnswer.LoadAnswer, PinStep.PinStep, Action.Action}}
 use Rattle.pagable_pager_spec.specs.declared.{events.WorkerAnswer.WorkerAnswer, handle_row.Owner.Owner, mode.Mode.Mode}
@@ -12,14 +13,14 @@ use Rattle.pagable_pager_spec.specs.{World.{of_cell, of_item, of_key, published,
 use Rattle.{pagable_theorems.specs.SmallWorlds.{empty, no_work, outer}, pagable_value_spec.specs.{Meaning.{none, reference}, Merkle.blob_of}, pagable_pager_spec.specs.Calls.{is_named_by, moved, next_node}}
 use Rattle.pagable_value_spec.specs.Shape as shapes
 
--- a leaf is nothing, and a parent its reference
+-- None is a leaf, and Some a parent with its reference
 abbrev pub Sample : Type 0
 Sample = Option ArcRef
 
 abbrev pub sample_types : Types
 sample_types = record { nodes = λ n. if n == 0 then Some (shapes.reference 4) else Some shapes.nothing; parts = λ n. shapes.nothing }
 
--- the hash is how many bytes there are, which tells the three blobs apart
+-- the hash is the number of bytes, which is different for the three blobs
 abbrev pub sample : Values Sample
 sample = record {
   node_type = if_there (λ r. 0) 1;
@@ -44,11 +45,11 @@ handle n = record { 0 = n }
 abbrev pub node : ℕ → NodeNumber
 node n = record { 0 = n }
 
--- a reference to a leaf at this node through this handle
+-- a reference to a leaf at this node by this handle
 abbrev pub to_leaf : ℕ → ℕ → ArcRef
 to_leaf n h = record { kind = record { 0 = 4 }; node = node n; handle = handle h }
 
--- what is written of a value, and of the item, which refers to the parent; their blobs have the keys 8, 24 and 25
+-- what is written of a value; below: of the item, which refers to the parent. The blobs have the keys 8, 24 and 25.
 abbrev pub sample_written : Sample → Written
 sample_written x = record { bytes = []; references = sample.references x }
 
@@ -67,7 +68,8 @@ child_born = born new_core None
 abbrev pub both_born : Core
 both_born = born child_born (Some (to_leaf 1 1))
 
--- the value at a node, of a list from the node 0 on; all values at first, and after the load of the parent
+-- the value at a node, from a list that begins at the node 0; below: all values at first, and after the load of the
+-- parent
 abbrev pub value_at : List (Option Sample) → ℕ → Option Sample
 value_at [] n = None
 value_at (x ∷ xs) zero = x
@@ -79,9 +81,9 @@ two_values = None ∷ Some None ∷ Some (Some (to_leaf 1 1)) ∷ []
 abbrev pub last_values : List (Option Sample)
 last_values = None ∷ None ∷ Some (Some (to_leaf 3 8)) ∷ []
 
--- ---- the page-out: what each step of the worker 1 does
+-- ---- the page-out: each step of the worker 1
 
--- the pager and the table at which the worker is, its list, its steps and its answer
+-- the pager, the table and the worker: its list, its steps and its result
 pub record Working : Type 0 where
   pub core : Core
   pub shelf : Shelf
@@ -92,18 +94,18 @@ pub record Working : Type 0 where
 abbrev pub begun : Working
 begun = record { core = with_worker both_born; shelf = no_shelf; todo = first_todo (of_item item); steps = 0; answer = None }
 
--- a loose handle's clone for the worker
+-- the worker's clone of a loose handle
 abbrev pub cloned : Core → NodeNumber → Core
 cloned w n = with_handle w n Mode.LoosePinned (owner_worker 1)
 
 abbrev pub with_blob : Core → Blob → Core
 with_blob w blob = record w { stored = λ q. if q == digest sample blob then Some blob else w.stored q }
 
--- the value of a node, if it has one, or else a leaf
+-- the value of a node, or a leaf if it has none
 abbrev pub value_of : NodeNumber → Sample
 value_of n = if_there (λ x. x) None (value_at two_values n.0)
 
--- what a step takes; and what it leaves of pager, table and list
+-- the action of a step; and pager, table and list after it
 abbrev pub next_step : Core → Shelf → List Todo → Action Written × Core × Shelf × List Todo
 next_step w s (to_start r place ∷ below) =
     let claimed = with_slot (with_wait s 1 None) (identity_of r) (Some (record { worker = 1; references = None; outcome = no_result })) in
@@ -124,7 +126,7 @@ next_step w s (to_release r key height ∷ below) = (Action.Release (identity_of
 next_step w s (to_item written keys ∷ below) = let blob = blob_of written.bytes keys in (Action.Store None (Ok (digest sample blob)), with_blob w blob, s, [])
 next_step w s todo = (Action.Fail, w, s, [])
 
--- with its answer the worker ends
+-- a worker ends with its result
 abbrev pub ended : Option WorkerAnswer → Core → Core
 ended answer w = if_there (λ (a : WorkerAnswer). fallen (without_worker w 1) (is_workers w 1) []) w answer
 
@@ -133,7 +135,7 @@ next x =
     let (action, core, shelf, todo) = next_step x.core x.shelf x.todo in let answer = answer_after x.todo action in
     record { core = ended answer core; shelf = shelf; todo = todo; steps = x.steps + 1; answer = answer }
 
--- so many steps later
+-- n steps later
 unfoldable pub walked : ℕ → Working → Working
 walked zero x = x
 walked (suc n) x = walked n (next x)
@@ -143,28 +145,28 @@ answered = walked 15 begun
 
 -- ---- the eviction and the loads
 
--- the parent's last pin goes, with its value and the child that this held
+-- the caller unpins the parent, whose value is dropped with the child
 abbrev pub evicted : Core
 evicted = fallen (with_mode answered.core (handle 2) Mode.LooseUnpinned) outer []
 
--- the caller's load of the parent has a handle of it, and gets one of a cell for the child
+-- the caller's load of the parent owns a handle of the parent, and gets a handle of a new cell for the child
 abbrev pub loading : Core
 loading = with_load (with_handle evicted (node 2) Mode.LooseUnpinned (Owner.Load (load_number 1))) 24 (of_cell (node 2) 0 (handle 2)) Owner.Caller
 
 abbrev pub child_got : Core
 child_got = adopted loading (load_number 1) (record { 0 = 4 }) 8 (OptionalDataKey.Some 8) []
 
--- what the load of this number owns and doesn't hand on
+-- what the load with this number owns and doesn't hand over
 abbrev pub left_over : Core → ℕ → (ℕ → Bool) → ℕ → Bool
 left_over w l handed q = is_owned_in w (Owner.Load (load_number l)) q && not (handed q)
 
--- it ends with a pin by the caller's handle, its value gets what it refers to, and it gives up its own handle
+-- the load ends with a pin by the caller's handle; the value gets its reference, and the load's own handle is released
 abbrev pub loaded : Core
 loaded =
     let w = child_got in let named = is_named_by (to_leaf 3 8 ∷ []) in
     fallen (with_pin (record (without_load w (load_number 1)) { rows = moved named (owner_value 2) w.rows }) (handle 2) (node 2) Owner.Caller) (left_over w 1 named) []
 
--- the caller's load of the child's key, which ends with no handle
+-- the caller's load of the child's key, which hands over no handle
 abbrev pub key_loading : Core
 key_loading = with_load loaded 8 of_key Owner.Caller
 
@@ -183,7 +185,7 @@ parent_read = gone_on parent_fetched (record (root_frame 24 0 (blob_of [] (8 ∷
 abbrev pub child_fetched : Reading
 child_fetched = gone_on (fresh (load_number 2) 1) (root_frame 8 1 (blob_of [] []) ∷ [])
 
--- the one table and the one worker, and what is read, each if it is there
+-- the machine's readings; below: its one table, its one worker and its reading, if they exist
 abbrev pub reads : Option Reading → ℕ → Option Reading
 reads reading l = if_there (λ (r : Reading). updated r.load.0 (Some r) (λ q. None) l) None reading
 
@@ -215,7 +217,7 @@ births = moment Event.TableNew (EventReply.TableMade (Ok (record { 0 = 1 }))) (m
     ∷ moment (Event.WorkerItem (record { 0 = 1 }) item) (EventReply.WorkerMade (Ok (record { 0 = 1 }))) (at_work begun)
     ∷ []
 
--- so many steps of the worker
+-- n steps of the worker
 unfoldable pub page_out : ℕ → Working → List Happening
 page_out zero x = []
 page_out (suc n) x =
@@ -223,14 +225,14 @@ page_out (suc n) x =
     moment (Event.WorkerStep (record { 0 = 1 }))
     (EventReply.WorkerMoved (Ok (record { action = (next_step x.core x.shelf x.todo).0; answer = y.answer; steps = y.steps }))) (at_work y) ∷ page_out n y
 
--- a load's step, and the machine after it, for which the worker has answered
+-- the machine after the worker has ended; below: a load's step
 abbrev pub afterwards : Core → List (Option Sample) → Option Reading → MachineState Sample (Unit {0})
 afterwards core values reading = machine core values (work_of answered.shelf (Some (walking answered)) reading)
 
 abbrev pub read_step : ℕ → Option (LoadAnswer Sample) → ℕ → MachineState Sample (Unit {0}) → Happening
 read_step l ended steps after = moment (Event.LoadStep (load_number l)) (EventReply.LoadMoved (Ok (record { ended = ended; steps = steps }))) after
 
--- the eviction, the load of the parent and that of the child's key
+-- the eviction, the load of the parent and the load of the child's key
 abbrev pub loads : List Happening
 loads = moment (Event.Call (Call.Unpin (handle 2))) (EventReply.CallReply (Reply.Done (Ok tt))) (afterwards evicted [] None)
     ∷ moment (Event.LoadStart (handle 2)) (EventReply.Started (Ok (Beginning.Load (load_number 1) 24))) (afterwards loading [] None)
@@ -242,22 +244,22 @@ loads = moment (Event.Call (Call.Unpin (handle 2))) (EventReply.CallReply (Reply
     ∷ read_step 2 (Some (LoadAnswer.Read None)) 2 (afterwards read_back last_values None)
     ∷ []
 
--- and how many pin the parent
+-- at the end: a count of the pins of the parent
 abbrev pub counts : ℕ → List Happening
 counts n = moment (Event.Call (Call.Count (handle 2))) (EventReply.CallReply (Reply.Count (Ok n))) (afterwards read_back last_values None) ∷ []
 
 abbrev pub moments : ℕ → List Happening
 moments n = births ++ (page_out 15 begun ++ (loads ++ counts n))
 
--- ---- that the headline is met with all that it asks
+-- ---- the headline is satisfied, with all that it asks
 
--- what is asked of each moment, whatever trees its nodes have
+-- what is asked of each moment, for any trees
 abbrev pub ArePremised : MachineState Sample (Unit {0}) → List Happening → Type 0
 ArePremised s [] = Unit {0}
 ArePremised s (x ∷ xs) = ((trees : ℕ → Tree) → IsPremised sample s trees x.event x.reply x.after) × ArePremised x.after xs
 
--- It meets the headline, from a new machine that stands for whatever trees; and all that the headline asks of values, of where a chain begins and of its
--- moments is so. Where another count is answered at its end, it is no chain.
+-- The chain satisfies the headline, from a new machine that stands for any trees; and so is all that the headline asks
+-- of values, of the chain's beginning and of its moments. With any other count at its end it would be no chain.
 pub record TwoLevelsMeetTheHeadline : Type 0 where
   pub lawful : IsLawful sample
   pub whole : IsMachineWhole sample new_one

@@ -1,5 +1,6 @@
-//! The laws of the definitions of values and of the pager's world: each is a clause of a function that does nothing.
-//! Of the product only a law of `pagable` for carried types stands on this crate.
+//! The laws of the definitions of values and of the pager's steps: each law is a clause of a
+//! function that does nothing. Other crates don't build on it, except for one law of `pagable`
+//! about the types that values are made of.
 #![tactic(auto)]
 
 pub mod runs;

@@ -1,4 +1,6 @@
-//! The laws of the pager's world, and of runs: what holds of every chain of moments, however loads and workers take turns. Each is a clause of a function that does nothing.
+//! The laws of the pager's steps and of runs: what holds of every chain of moments, however the
+//! steps of loads and workers are interleaved. Each law is a clause of a function that does
+//! nothing.
 #![tactic(auto, using(crate::proofs::Laws::world_laws))]
 
 ghost use Rattle.pagable_pager_spec.specs.{Access.{PinLaw, ReadLaw}, Theorem.HeadlineLaw, WorkerClaims.{KeyIsShallow, OneIdentityLaw}, Basics.Types, World.{Frame, Seen}};
@@ -6,42 +8,53 @@ ghost use Rattle.pagable_theorems.specs.DepthLaws.{ClaimIsDeep, DepthIsHeight, D
 ghost use Rattle.pagable_theorems.specs.RefusalLaws.{BeginsRefusedLaw, LoadsRefusedLaw, PinsRefusedLaw, StorageIsTold};
 ghost use Rattle.pagable_theorems.specs.{SmallWorlds.{FallLaws, ChainsJoin, NewIsWhole, NextIsOne, ReadingFills}, HeldLaws.{HeldByCallersLaw, HeldByMomentsLaw, HeldLaw, PinnedLaw, ReadHoldsLaw}, CallerLaws.{CallerLaw, PinnedAgainLaw}, PageOutLaws.{ItemLaw, ListLaw}, Witness.TwoLevelsMeetTheHeadline};
 
-/// How values of this type are seen, with blobs B and what is written W: any values, so that a law is one of all.
+/// Any values with the views of their blobs B and of what is written W, so that a law holds for all
+/// of them.
 pub trait SeenAs<B, W>: Sized {
-    // How they are seen.
+    // The values with these views.
     ghost seen: { Seen Self B W };
 }
 
-/// Of what falls when handles are given up: each field is a law. A blob is read, asks for one reference or is refused: at most one of these.
+/// States what handles take with them when they are released: each field is a law. Also: a blob
+/// either reads to its end, or asks for one reference, or is faulty.
 pub fn falling()
     ensures all { FallLaws }
     ensures next_is_one { (types : Types) (frame : Frame) → NextIsOne types frame }
 {}
 
-/// Of chains and of new machines:
-/// - A chain goes on with another.
-/// - A new machine for which nobody works has all that the headline asks of its start, where its values are lawful: it is whole, stands for whatever trees, and holds nothing.
+/// States two laws of chains and of new machines.
+///
+/// - A chain can be continued by another.
+/// - A new machine on which nobody works has, if its values are lawful, all that the headline asks
+///   of its start: it satisfies the invariant, stands for any trees, and has no value in memory.
 pub fn chains<N: SeenAs<B, W>, B, W, E>()
     ensures chains_join { ChainsJoin E N.seen }
     ensures new_is_whole { NewIsWhole E N.seen.values }
 {}
 
-/// The headline is met with all that it asks by a chain of two levels: births, a page-out, an eviction, and loads of a cell and of a key.
+/// States that a chain of two levels satisfies the headline and all that it asks: two inserts, a
+/// page-out, an eviction, and loads of a cell and of a key.
 pub fn two_levels_meet_the_headline()
     ensures { TwoLevelsMeetTheHeadline }
 {}
 
-/// The headline holds of every chain that begins at a whole machine for which nobody works yet.
+/// States the headline, for every chain from a machine that satisfies its invariant and on which
+/// nobody works yet.
 pub fn headline<N: SeenAs<B, W>, B, W, E>()
     ensures { HeadlineLaw E N.seen }
 {}
 
-/// Of paths that are too long, and of values that have no form:
-/// - No worker answers a key of what leads down a path that is too long, or to a value that has no form.
-/// - A worker answers TooDeep of what leads down a path that is too long, or to a value that has no form, where it meets no other refusal on its way.
-/// - A claim is refused as too deep only where its task leads down a path that is too long, or another worker is at it and waits for this one.
-/// - A load is refused as too deep only where the reading of its key comes to a blob that lies too deep, or to one that enters a level too many.
-/// - Of a key that a tree is stored under the reading does so exactly where the tree's longest path is too long.
+/// States the laws of paths that are too long and of values without a form.
+///
+/// - No worker returns a key if a path that is too long, or a value without a form, is below its
+///   task.
+/// - Such a worker fails with TooDeep, if none of its steps fails otherwise.
+/// - A claim fails as too deep only if the worker's task leads down a path that is too long, or if
+///   another worker has the identity and waits for this one.
+/// - A load fails as too deep only if reading its key reaches a blob that is too deep, or one that
+///   enters a level too many.
+/// - For a key under which a tree is stored that is so exactly if the tree's longest path is too
+///   long.
 pub fn depth<N: SeenAs<B, W>, B, W, E>()
     ensures keys_are_shallow { HoldsAlong E N.seen (KeyIsShallow N.seen.values) }
     ensures depth_is_told { HoldsAlong E N.seen (DepthIsTold N.seen) }
@@ -50,13 +63,21 @@ pub fn depth<N: SeenAs<B, W>, B, W, E>()
     ensures depth_is_height { DepthIsHeight }
 {}
 
-/// Of loads, and of what they get:
-/// - A load of a cell whose key a page-out set is refused by chance or by a handle: never by a blob that it reads, by a key or by a path.
-/// - A load of a cell whose key a page-out set is refused by chance alone, where each load begins in the chain and is done in one piece.
-/// - Two references that are got through one cache, which reading alone fills, have one identity only if kind and key are the same, and then always while the node is held.
-/// - The cache of a new pager is such a one, and stays so while it isn't cleared and no caller puts a reference into it.
-/// - The value that a load of a cell pins stands for its node's tree.
-/// - The value that a load of a key reads stands for the tree that the key reads as, and its references are the caller's.
+/// States the laws of loads and of what they get.
+///
+/// - A load of a cell whose key a page-out has set fails only if numbers or memory run out, if the
+///   storage or the type's own reader fails, or by a handle: never by a blob that it reads, by a key
+///   or by a path.
+/// - If each load begins in the chain and no load is interrupted, such a load doesn't fail by a
+///   handle either.
+/// - If two references are got through one cache that only loads fill, they have one identity only
+///   if their kinds and keys are the same; and then they always have, while a handle holds the
+///   node.
+/// - The cache of a new pager is such a cache, and stays one while no call clears it, puts a
+///   caller's reference into it or closes the storage.
+/// - The value that a load of a cell pins stands for the tree of the cell's node.
+/// - The value that a load of a key returns stands for the tree that the key reads as, and the
+///   caller owns its references.
 pub fn loads<N: SeenAs<B, W>, B, W, E>()
     ensures loads_are_faultless { HoldsAlong E N.seen LoadIsFaultless }
     ensures loads_are_sound { SoundLaw E N.seen }
@@ -66,12 +87,14 @@ pub fn loads<N: SeenAs<B, W>, B, W, E>()
     ensures readings_stand { ReadLaw E N.seen.values }
 {}
 
-/// Of refusals, by their numbers:
-/// - A pin is refused at once only since its handle isn't there, is another's or of another mode, or for want of
-///   numbers or of memory: 18 to 22. So is the begin of a load.
-/// - A load is refused only by 1 to 13, 15 to 23 and 26, the caller's and a worker's.
-/// - Whatever is refused, a call, a load's step or a worker's: by 23 it is only where the storage's count of failures
-///   rose in it, or stood at its end before; and by 16 only where the storage had no blob under that key.
+/// States the laws of errors, by their numbers.
+///
+/// - A pin, or the begin of a load, fails only with 18 to 22: the handle isn't live, is another's
+///   or has another mode, or numbers or memory have run out.
+/// - A load, the caller's or a worker's, fails only with 1 to 13, 15 to 23 or 26.
+/// - Whatever fails (a call, a step of a load or of a worker): it is with 23 only if the storage's
+///   count of failures rose meanwhile or was at its greatest, and with 16 only if the storage had
+///   no blob under the key.
 pub fn refusals<N: SeenAs<B, W>, B, W>()
     ensures pins { PinsRefusedLaw }
     ensures begins { BeginsRefusedLaw }
@@ -79,12 +102,17 @@ pub fn refusals<N: SeenAs<B, W>, B, W>()
     ensures storage { StorageIsTold N.seen }
 {}
 
-/// Of what values hold beside the references that are read together with them:
-/// - Each value in memory holds the values of its references' nodes, as long as each value that comes does when it comes, whatever step is made.
-/// - A value that holds what the handles of its references pin, as one does that was decoded with them, holds the values of their nodes, where nothing is to be said against the references.
-/// - Along any calls, pins, readings and page-outs each value in memory holds the values of its references' nodes, as long as each that a caller's call brings does: what loads bring does.
-/// - So it does along any chain of a machine's events, however loads and workers take turns.
-/// - The value that a reading of a key gives holds what the handles of its references pin, which are the caller's then.
+/// States the laws of what values hold beside the references that are loaded with them.
+///
+/// - After any step each value in memory holds the values of its references' nodes, if that held
+///   before and holds for each value that the step brings into memory.
+/// - A value that holds what the handles of its references pin, as a decoded one does, holds the
+///   values of their nodes, if its references have no fault.
+/// - So it is after any calls, pins, reads and page-outs, if it holds for each value that a call of
+///   the caller brings; values that loads bring satisfy it.
+/// - So it is along any chain of a machine's events, however the steps are interleaved.
+/// - The value that a read of a key returns holds what the handles of its references pin. The
+///   caller owns these handles.
 pub fn held_values<N: SeenAs<B, W>, B, W, E>()
     ensures stays { HeldLaw E N.seen.values }
     ensures decoded { PinnedLaw E N.seen.values }
@@ -93,17 +121,25 @@ pub fn held_values<N: SeenAs<B, W>, B, W, E>()
     ensures read { ReadHoldsLaw E N.seen.values }
 {}
 
-/// Of page-out by one call of a pager for which nobody else works, where keys, types and values are as the headline asks:
-/// - An item that is paged out on a new table leaves all that it met stored under published keys, with keys of its cells, and its answer is its key.
-/// - So does each entry that a page-out of the list pages out, whatever comes of those after it.
+/// States the laws of page-out by one call, on a pager that nobody else uses, if keys, types and
+/// values are as the headline asks.
+///
+/// - An item that is paged out on a new table leaves all that it met stored under published keys,
+///   with the keys of its cells set, and the call returns the item's key.
+/// - So does each list entry that a page-out of the list pages out, even if a later one fails.
 pub fn page_outs<N: SeenAs<B, W>, B, W, E>()
     ensures items_are_out { ItemLaw E N.seen }
     ensures entries_are_out { ListLaw E N.seen }
 {}
 
-/// Whoever makes calls of a pager, and pins, readings and page-outs by one call, in any order, has what the headline says of trees: each node keeps its tree along them, each
-/// pin gives it, what a key is read as stands for the key's tree, and what a page-out that answers a key met is left stored under it. A table is new for each item.
-/// So what is pinned again through a handle, after any of these, stands for the same tree.
+/// States the laws of a caller who makes calls of a pager, and pins, reads and page-outs by one
+/// call, in any order.
+///
+/// - Each node keeps its tree; each pin gives the tree; what is read of a key stands for the key's
+///   tree; and what a page-out met that returns a key is stored under it. Each item has a new
+///   table.
+/// - So a value that is pinned again by the same handle, after any of these, stands for the same
+///   tree.
 pub fn callers<N: SeenAs<B, W>, B, W, E>()
     ensures trees_stay { CallerLaw E N.seen }
     ensures pinned_again { PinnedAgainLaw E N.seen }

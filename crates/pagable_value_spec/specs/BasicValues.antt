@@ -1,4 +1,5 @@
--- Flags, lengths, texts, byte arrays, characters and durations as bytes: postcard's bool, seq, string, byte array and char, and serde's Duration.
+-- Flags, lengths, texts, byte arrays, characters and durations as bytes: postcard's bool, seq, string, byte array and
+-- char, and serde's Duration.
 use Rattle.std.specs.{Prelude.{ℕ, zero, suc, ◌+◌, ◌/◌, ◌%◌, ◌^◌, List, [], ◌∷◌, ◌++◌, length, take, drop, Bool, true, false, Ok, Err, nat_lt, nat_le, if◌then◌else◌}, Int.{w32, w64}, Char.encode_utf8}
 use Rattle.std.specs.Str.{is_utf8, chars}
 use Rattle.pagable_value_spec.specs.{declared.error.Error.Error, ReadSteps.◌>>=◌, Numbers.{Read, unsigned_form, unsigned_at}}
@@ -14,15 +15,15 @@ bool_at (zero ∷ rest) = Ok (false, rest)
 bool_at (suc zero ∷ rest) = Ok (true, rest)
 bool_at (suc (suc b) ∷ rest) = Err Error.BadBool
 
--- the greatest length of a text or a list, a limit of this port
+-- the greatest length of a text or a list: a limit of this port
 abbrev pub longest : ℕ
 longest = 4294967295
 
--- a length is a `usize`, and that is 64 bits wide
+-- a length is a `usize`, which has 64 bits
 abbrev pub length_form : ℕ → List ℕ
 length_form n = unsigned_form w64 n
 
--- a length: it is too long before the input is too short
+-- a length: TooLong is reported before UnexpectedEnd of the items
 unfoldable pub length_at : List ℕ → Read ℕ
 length_at bytes = unsigned_at w64 bytes >>= λ n. if nat_le n.0 longest then Ok n else Err Error.TooLong
 
@@ -34,7 +35,7 @@ bytes_at n bytes = if nat_lt (length bytes) n then Err Error.UnexpectedEnd else 
 abbrev pub text_form : List ℕ → List ℕ
 text_form t = length_form (length t) ++ t
 
--- a text: too long, then too short, then not UTF-8
+-- a text: the faults in order are those of its length, too few bytes, and bytes that aren't UTF-8
 unfoldable pub text_at : List ℕ → Read (List ℕ)
 text_at bytes = length_at bytes >>= λ n. bytes_at n.0 n.1 >>= λ t. if is_utf8 t.0 then Ok t else Err Error.BadUtf8
 
@@ -42,20 +43,20 @@ text_at bytes = length_at bytes >>= λ n. bytes_at n.0 n.1 >>= λ t. if is_utf8 
 abbrev pub byte_array_form : List ℕ → List ℕ
 byte_array_form bytes = length_form (length bytes) ++ bytes
 
--- a byte array: too long, then too short
+-- a byte array: the faults in order are those of its length, and too few bytes
 unfoldable pub byte_array_at : List ℕ → Read (List ℕ)
 byte_array_at bytes = length_at bytes >>= λ n. bytes_at n.0 n.1
 
 abbrev pub char_form : ℕ → List ℕ
 char_form c = text_form (encode_utf8 c)
 
--- the character that the text is, if it is one
+-- the character that the text consists of, if it is exactly one
 abbrev pub one_char : List ℕ → List ℕ → Read ℕ
 one_char [] rest = Err Error.BadChar
 one_char (c ∷ []) rest = Ok (c, rest)
 one_char (c ∷ d ∷ cs) rest = Err Error.BadChar
 
--- a character is the text of that character: the faults of its text come first, and then more or less than one
+-- a character is written as the text of that character: its text's faults first, then BadChar for none or several
 unfoldable pub char_at : List ℕ → Read ℕ
 char_at bytes = text_at bytes >>= λ t. one_char (chars t.0) t.1
 
@@ -65,7 +66,7 @@ nanos_of_second = 1000000000
 abbrev pub duration_form : ℕ → ℕ → List ℕ
 duration_form seconds nanos = unsigned_form w64 seconds ++ unsigned_form w32 nanos
 
--- seconds and nanoseconds, where whole seconds among the nanoseconds are carried over
+-- seconds and nanoseconds: whole seconds among the nanoseconds are added to the seconds
 abbrev pub carried : ℕ → ℕ → List ℕ → Read (ℕ × ℕ)
 carried seconds nanos rest = let total = seconds + nanos / nanos_of_second in if nat_lt total (2 ^ 64) then Ok ((total, nanos % nanos_of_second), rest) else Err Error.BadDuration
 

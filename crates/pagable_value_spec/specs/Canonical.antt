@@ -1,10 +1,10 @@
--- Shapes of which no meaning has two forms, shapes that are read, and of which shapes a value is made.
+-- Canonical shapes (no meaning has two forms), readable shapes (each form can be read), and what a shape is made of.
 use Rattle.pagable_value_spec.specs.Meaning as meanings
 use Rattle.std.specs.{Prelude.{◌≡◌, ℕ, zero, suc, List, true, false, Some, ◌⊎◌}, Int.w8, List.AllByRecursion}
 use Rattle.pagable_value_spec.specs.Shape.{Shape, nothing, optional, outcome, list, run, array, both, sorted_map, placed_map, hash_map, sorted_set, placed_set, static_value, tagged, cases, reference}
 use Rattle.pagable_value_spec.specs.{Meaning.{Meaning, pair, variant, followed}, Shape.nested, Form.Form, Trees.{Tree, Types, type_of}}
 
--- a shape of which no meaning has two forms, if this is so of its numbered parts
+-- no meaning of the shape has two forms, provided that this holds of its numbered parts
 unfoldable pub IsCanonical : Shape → Type 0
 IsCanonical (optional s) = IsCanonical s
 IsCanonical (outcome s t) = IsCanonical s × IsCanonical t
@@ -22,7 +22,7 @@ IsCanonical (tagged written known body) = ((tag : List ℕ) → IsCanonical (wri
 IsCanonical (cases w known part) = (n : ℕ) → known n ≡ true → IsCanonical (part n)
 IsCanonical _ = Unit {0}
 
--- the shape of what no value is: what is written under a tag that no value has
+-- a shape without values, for the body under a tag that no value has
 abbrev pub unwritten : Shape
 unwritten = cases w8 (λ n. false) (λ n. nothing)
 
@@ -31,7 +31,7 @@ abbrev pub HasNoCase : Shape → Type 0
 HasNoCase (cases w known part) = (n : ℕ) → known n ≡ false
 HasNoCase _ = ⊥
 
--- a meaning in which nothing is referred to
+-- the meaning holds no reference
 unfoldable pub HasNoReference : Meaning ⊥ → Type 0
 HasNoReference (pair a b) = HasNoReference a × HasNoReference b
 HasNoReference (variant n a) = HasNoReference a
@@ -39,7 +39,8 @@ HasNoReference (meanings.reference a) = absurd a
 HasNoReference (followed kind a) = ⊥
 HasNoReference _ = Unit {0}
 
--- A shape whose forms are read, if this is so of its numbered parts. Each tag under which anything is written has to be registered with a reader of what is written.
+-- Each form of the shape can be read, provided that this holds of its numbered parts. Each tag under which anything is
+-- written has to be registered with a reader of what is written.
 unfoldable pub IsReadable : Shape → Type 0
 IsReadable (optional s) = IsReadable s
 IsReadable (outcome s t) = IsReadable s × IsReadable t
@@ -57,7 +58,7 @@ IsReadable (tagged written known body) = ((tag : List ℕ) → HasNoCase (writte
 IsReadable (cases w known part) = (n : ℕ) → known n ≡ true → IsReadable (part n)
 IsReadable _ = Unit {0}
 
--- each node type that the shape refers to is in nodes, and each numbered part that it has is in parts
+-- each node type that the shape refers to is in nodes, and each of its numbered parts is in parts
 unfoldable pub LiesIn : (ℕ → Type 0) → (ℕ → Type 0) → Shape → Type 0
 LiesIn nodes parts (optional s) = LiesIn nodes parts s
 LiesIn nodes parts (outcome s t) = LiesIn nodes parts s × LiesIn nodes parts t
@@ -76,28 +77,28 @@ LiesIn nodes parts (reference kind) = nodes (type_of kind)
 LiesIn nodes parts (nested n) = parts n
 LiesIn nodes parts _ = Unit {0}
 
--- P of the shape, and of each that this many steps from part to numbered part lead to
+-- P holds of the shape, and of each shape that is reached from it by at most this many steps to a numbered part
 unfoldable pub Within : (Shape → Type 0) → (ℕ → Shape) → ℕ → Shape → Type 0
 Within P parts zero s = P s
 Within P parts (suc steps) s = P s × LiesIn (λ n. Unit {0}) (λ n. Within P parts steps (parts n)) s
 
--- P of the shape and of all parts that its values have, however deep, within one blob
+-- P holds of the shape and of all parts of its values, however deep, within one blob
 pub record Throughout (P : Shape → Type 0) (parts : ℕ → Shape) (s : Shape) : Type 0 where
   pub within : (steps : ℕ) → Within P parts steps s
 
--- No meaning of the shape has two forms.
+-- no meaning of the shape has two forms
 abbrev pub HasOneForm : {A : Type 0} → (A → ℕ) → (ℕ → Shape) → Shape → Type 0
 HasOneForm {A} kind_of parts s = (left : ℕ) (m : Meaning A) (b c : List ℕ) (k l : List A) → Form A kind_of parts left s m b k → Form A kind_of parts left s m c l → (b ≡ c) × (k ≡ l)
 
--- the node type is one of an environment's whose values have no two forms
+-- no value of this node type of the environment has two forms
 abbrev pub IsCanonicalType : Types → ℕ → Type 0
 IsCanonicalType types n = (s : Shape) → types.nodes n ≡ Some s → Throughout IsCanonical types.parts s
 
--- the node type is one of an environment's whose forms are read
+-- each form of this node type of the environment can be read
 abbrev pub IsReadableType : Types → ℕ → Type 0
 IsReadableType types n = (s : Shape) → types.nodes n ≡ Some s → Throughout IsReadable types.parts s
 
--- P of the value type of each reference in the tree, however far down
+-- P holds of the value type of each reference in the tree, at any depth
 unfoldable pub EachType : (ℕ → Type 0) → Meaning ⊥ → Type 0
 EachType P (pair a b) = EachType P a × EachType P b
 EachType P (variant n a) = EachType P a
@@ -105,18 +106,19 @@ EachType P (meanings.reference a) = absurd a
 EachType P (followed kind a) = P (type_of kind) × EachType P a
 EachType P _ = Unit {0}
 
--- the tree's own type and the types of all that it reaches are canonical, and are read
+-- the type of the tree's root and the types of all nodes that it reaches are canonical; below: readable
 abbrev pub IsCanonicalTree : Types → Tree → Type 0
 IsCanonicalTree types t = IsCanonicalType types t.type × EachType (IsCanonicalType types) t.meaning
 
 abbrev pub IsReadableTree : Types → Tree → Type 0
 IsReadableTree types t = IsReadableType types t.type × EachType (IsReadableType types) t.meaning
 
--- A set of node types that no reference leads out of: in the shape of each, and in all parts of its values, references lead into the set.
+-- A set of node types that no reference leads out of: the references in a value of each of them lead to types of the
+-- set.
 abbrev pub IsClosed : Types → (ℕ → Type 0) → Type 0
 IsClosed types nodes = (n : ℕ) (s : Shape) → nodes n → types.nodes n ≡ Some s → Throughout (LiesIn nodes (λ part. Unit {0})) types.parts s
 
--- what lies in a set of parts lies in a greater one
+-- LiesIn holds for any greater set of parts too
 lies-along : {parts more : ℕ → Type 0} → ((n : ℕ) → parts n → more n) → (s : Shape) → LiesIn (λ n. Unit {0}) parts s → LiesIn (λ n. Unit {0}) more s
 unfolding LiesIn
 lies-along f (optional s) h = lies-along f s h
@@ -135,7 +137,7 @@ lies-along f (cases w known part) h = λ n e. lies-along f (part n) (h n e)
 lies-along f (nested n) h = f n h
 lies-along f _ h = tt
 
--- P holds throughout a shape whose numbered parts lie in a set of parts that have P and lie in it themselves
+-- P holds throughout a shape if its numbered parts lie in a set whose members have P and whose own parts lie in the set
 pub throughout-in : (P : Shape → Type 0) (parts : ℕ → Shape) (those : ℕ → Type 0) → ((n : ℕ) → those n → P (parts n) × LiesIn (λ n. Unit {0}) those (parts n)) → (s : Shape) → P s → LiesIn (λ n. Unit {0}) those s → Throughout P parts s
 unfolding Within
 throughout-in P parts those closed s p l = record { within = λ steps. steps_in steps s p l }

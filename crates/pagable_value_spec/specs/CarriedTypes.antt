@@ -1,5 +1,6 @@
--- The carried types by their names: how each is spelled, and what its values mean. `()` and `PhantomData` are nothing, `usize` is spelled as `u64`, `&T` and
--- `Box<T>` as T, and `Arc<[T]>` refers to a list.
+-- The types that values are made of, by their names: how each is encoded, and what its values mean. `()` and
+-- `PhantomData` take no bytes, `usize` is encoded as `u64`, `&T` and `Box<T>` as T, and `Arc<[T]>` is a reference to a
+-- list.
 use Rattle.std.specs.{Prelude.{ℕ, ◌/◌, ◌%◌, List, [], ◌∷◌, Bool, false, cond, Option, Some, None, Result, Ok, Err, map}, Int.w64, Str.bytes_eq, Duration.as_nanos, declared.time.Duration.Duration}
 use Rattle.pagable_value_spec.specs.{Meaning.{Meaning, number, pair, sequence, absent, present, success, failure}, Keys.{Entry, code_order, put_all, put_sorted}, Shape.{Shape, nothing, signed}}
 use Rattle.pagable_value_spec.specs.{Shape.{text, optional, list, both, tagged}, BasicValues.nanos_of_second, declared.numbers.ArcRef.ArcRef}
@@ -9,11 +10,11 @@ use Rattle.pagable_value_spec.specs.Meaning as meanings
 abbrev pub path_text : Shape
 path_text = text
 
--- `Vec<T>`, `SmallVec<T>`, `[T]` and `Box<[T]>` are lists; a header and then a list
+-- `Vec<T>`, `SmallVec<T>`, `[T]` and `Box<[T]>` are lists; this one is a header and then a list
 abbrev pub thin : Shape → Shape → Shape
 thin header item = both header (list item)
 
--- `AtomicI64` is spelled as `i64`, and `OnceLock<T>` as `Option<T>`
+-- `AtomicI64` is encoded as `i64`, and `OnceLock<T>` as `Option<T>`
 abbrev pub atomic_i64 : Shape
 atomic_i64 = signed w64
 
@@ -23,7 +24,7 @@ once_lock s = optional s
 abbrev pub triple : Shape → Shape → Shape → Shape
 triple a b c = both a (both b c)
 
--- The last registration of a tag counts.
+-- if a tag is registered more than once, its last registration counts
 abbrev pub is_registered : List (List ℕ × Shape) → List ℕ → Bool
 is_registered [] tag = false
 is_registered (r ∷ rs) tag = cond (is_registered rs tag) (is_registered rs tag) (bytes_eq tag r.0)
@@ -32,7 +33,7 @@ abbrev pub body_of : List (List ℕ × Shape) → List ℕ → Shape
 body_of [] tag = nothing
 body_of (r ∷ rs) tag = cond (is_registered rs tag) (body_of rs tag) r.1
 
--- a tagged value whose bodies are written so, with these registrations
+-- a tagged value: `written` encodes its body, these registrations read it
 abbrev pub tagged_by : (List ℕ → Shape) → List (List ℕ × Shape) → Shape
 tagged_by written registrations = tagged written (is_registered registrations) (body_of registrations)
 
@@ -50,7 +51,7 @@ of_list meaning xs = sequence (map meaning xs)
 abbrev pub of_duration : {A : Type 0} → ℕ → ℕ → Meaning A
 of_duration seconds nanos = pair (number seconds) (number nanos)
 
--- the whole seconds of a duration, the nanoseconds beside them, and these two
+-- the whole seconds of a duration, the nanoseconds beyond them, and what both mean
 abbrev pub seconds_of : Duration → ℕ
 seconds_of d = as_nanos d / nanos_of_second
 
@@ -60,7 +61,7 @@ nanos_of d = as_nanos d % nanos_of_second
 abbrev pub of_span : Duration → Meaning ArcRef
 of_span d = of_duration (seconds_of d) (nanos_of d)
 
--- the entries of a map that has an order of its own
+-- the entries of a map whose order counts
 abbrev pub of_entries : {A : Type 0} → List (Entry A) → Meaning A
 of_entries es = sequence (map meanings.entry es)
 
@@ -68,6 +69,6 @@ of_entries es = sequence (map meanings.entry es)
 abbrev pub of_hash_map : {A : Type 0} → List (Entry A) → Meaning A
 of_hash_map es = of_entries (put_all (put_sorted code_order) [] es)
 
--- a tagged value is its tag with its body
+-- a tagged value means its tag paired with its body
 abbrev pub of_tagged : {A : Type 0} → List ℕ → Meaning A → Meaning A
 of_tagged tag body = pair (meanings.text tag) body

@@ -1,4 +1,5 @@
--- Causes that a reader has of its own are no faults of the input, and those of a writer are refusals that a writer may answer.
+-- An error that a reader may add of its own is no fault of the input; an error of a writer is one that writers may
+-- return.
 use Rattle.std.{specs.Prelude.{◌≡◌, true, refl}, proofs.Common.{arith, subst, sym}}
 use Rattle.pagable_value_spec.specs.{declared.error.Error.Error, Refusals.{is_own_reading, may_refuse_writing}, Outcomes.{never, memory, memory_or, either, long_or, deep_or, json_causes}}
 
@@ -32,7 +33,7 @@ long_or_may_refuse_writing part may e h = grind (arith, may)
 pub deep_or_may_refuse_writing : (part : Error → Type 0) → ((e : Error) → part e → may_refuse_writing e ≡ true) → (e : Error) → deep_or part e → may_refuse_writing e ≡ true
 deep_or_may_refuse_writing part may e h = grind (arith, may)
 
--- of a text
+-- for a text
 pub text_may_refuse_writing : (e : Error) → long_or memory e → may_refuse_writing e ≡ true
 text_may_refuse_writing = long_or_may_refuse_writing memory memory_may_refuse_writing
 

@@ -1,17 +1,17 @@
--- Meanings are told apart by their codes: no two have one, and none begins another's.
+-- The codes of Keys tell meanings apart: no two have the same code, and no code is a prefix of another's.
 use Rattle.std.proofs.{lemmas.Bool.Decides.nat_tests, Common.{◌≡◌, ℕ, ◌+◌, ℤ, List, [], ◌∷◌, ◌++◌, length, refl, sym, ap, ◌∙◌, append_assoc, arith}}
 use Rattle.pagable_value_spec.specs.{Numbers.zigzag, Meaning.{Meaning, integer, text, pattern, pair, variant, reference, followed}, Keys.code}
 
 pub same-integer : (y z : ℤ) → zigzag y ≡ zigzag z → y ≡ z
 same-integer x0 x1 e = grind (arith, nat_tests)
 
--- fronts that are as long are the same, and so are the rests
+-- if two lists are equal and their fronts are equally long, the fronts are equal, and so are the rests
 pub cut : (xs ys u v : List ℕ) → length xs ≡ length ys → xs ++ u ≡ ys ++ v → (xs ≡ ys) × (u ≡ v)
 cut [] [] u v l e = (refl, e)
 cut (x ∷ xs) (y ∷ ys) u v l e = let rest = cut xs ys u v (omega arith) (cc) in (cc, rest.1)
 cut xs ys u v l e = absurd (omega arith)
 
--- no code begins another
+-- no code is a prefix of another meaning's
 code-apart : (a b : Meaning ⊥) (x y : List ℕ) → code a ++ x ≡ code b ++ y → (a ≡ b) × (x ≡ y)
 unfolding code
 code-apart (integer m) (integer n) x y e = (ap integer (same-integer m n (cc)), cc)

@@ -1,30 +1,30 @@
--- What values that hold others mean: the meanings of their parts, put together.
+-- What a value means that holds other values: the meanings of its parts, put together.
 use Rattle.std.{proofs.Common.arith, specs.{Int.w64, Prelude.{◌≡◌, refl, Option, Some, None, Result, Ok, Err, List, [], ◌∷◌, map, ℤ, pos}}}
 use Rattle.pagable_value_spec.specs.{Meaning.{Meaning, integer, pair, sequence, absent, present, success, failure}, CarriedTypes.{of_option, of_result}, Numbers.IsSigned, Cursor.SomeMeaning}
 use Rattle.pagable_value_spec.specs.declared.numbers.ArcRef.{ArcRef}
 
--- no value, or what the value means
+-- None means absent, and Some what its value means
 pub data MeansOption {T : Type 0} (M : T → Meaning ArcRef → Type 0) : Option T → Meaning ArcRef → Type 0 where
   means-none : MeansOption M None absent
   means-some : (x : T) (m : Meaning ArcRef) → M x m → MeansOption M (Some x) (present m)
 
--- what the success means, or what the failure means
+-- Ok means what the success means, and Err what the failure means
 pub data MeansResult {T X : Type 0} (M : T → Meaning ArcRef → Type 0) (N : X → Meaning ArcRef → Type 0) : Result T X → Meaning ArcRef → Type 0 where
   means-ok : (x : T) (m : Meaning ArcRef) → M x m → MeansResult M N (Ok x) (success m)
   means-err : (x : X) (m : Meaning ArcRef) → N x m → MeansResult M N (Err x) (failure m)
 
--- each item with its meaning, in their order
+-- each item with its meaning, in order
 pub data MeanAll {T : Type 0} (M : T → Meaning ArcRef → Type 0) : List T → List (Meaning ArcRef) → Type 0 where
   mean-none : MeanAll M [] []
   mean-more : (x : T) (m : Meaning ArcRef) (xs : List T) (ms : List (Meaning ArcRef)) → M x m → MeanAll M xs ms → MeanAll M (x ∷ xs) (m ∷ ms)
 
--- the meanings of its items
+-- a list means the sequence of its items' meanings
 pub record MeansList {T : Type 0} (M : T → Meaning ArcRef → Type 0) (xs : List T) (m : Meaning ArcRef) : Type 0 where
   pub ms : List (Meaning ArcRef)
   pub each : MeanAll M xs ms
   pub is : m ≡ sequence ms
 
--- the meanings of its two parts
+-- a pair means the pair of its parts' meanings
 pub record MeansPair {A B : Type 0} (M : A → Meaning ArcRef → Type 0) (N : B → Meaning ArcRef → Type 0) (p : A × B) (m : Meaning ArcRef) : Type 0 where
   pub first : Meaning ArcRef
   pub second : Meaning ArcRef
@@ -32,25 +32,26 @@ pub record MeansPair {A B : Type 0} (M : A → Meaning ArcRef → Type 0) (N : B
   pub is_second : N p.1 second
   pub is : m ≡ pair first second
 
--- What cells hold may change while they are looked at, and no call of the kit tells what one holds: what a look answers, and what a cell is made with, it may hold.
--- That stands here unopened, so that of nothing else it can be said.
+-- What a cell (an atomic, a lock) holds may change at any time, and no contract of the kit tells what it is: so what a
+-- read of it returns, and what it is made with, is something that it may hold. The definition stays folded, so that
+-- nothing can be said of any other value.
 unfoldable pub MayHold : {C X : Type 0} → C → X → Type 0
 MayHold cell held = Unit {0}
 
--- a whole number of 64 bits with a sign that an atomic number may hold
+-- an atomic number means any integer of 64 bits with a sign that it may hold
 pub record MeansAtomic {C : Type 0} (cell : C) (m : Meaning ArcRef) : Type 0 where
   pub held : ℤ
   pub may : MayHold cell held
   pub fits : IsSigned w64 held
   pub is : m ≡ integer held
 
--- a value that is written once may be there or not: nothing, or what a value means that it may hold
+-- a value that is written once means absent, or what a value means that it may hold
 pub record MeansOnce {C T : Type 0} (M : T → Meaning ArcRef → Type 0) (cell : C) (m : Meaning ArcRef) : Type 0 where
   pub held : Option T
   pub may : MayHold cell held
   pub means : MeansOption M held m
 
--- ---- a value has a meaning if its parts have, and a cell has some
+-- ---- a value has some meaning if its parts have, and a cell always has one
 
 pub atomic_has_meaning : {C : Type 0} (cell : C) → SomeMeaning (MeansAtomic cell)
 unfolding MayHold
@@ -68,7 +69,7 @@ pub pair_has_meaning : {A B : Type 0} (M : A → Meaning ArcRef → Type 0) (N :
 pair_has_meaning M N has_first has_second p =
     (pair (has_first p.0).0 (has_second p.1).0, record { first = (has_first p.0).0; second = (has_second p.1).0; is_first = (has_first p.0).1; is_second = (has_second p.1).1; is = refl })
 
--- ---- and one meaning if each of its parts has one
+-- ---- and it has only one meaning if each of its parts has only one
 
 pub option_is_meaning : {T : Type 0} (M : T → Meaning ArcRef → Type 0) (meaning : T → Meaning ArcRef) → ((x : T) → M x (meaning x)) → (o : Option T) → MeansOption M o (of_option meaning o)
 option_is_meaning M meaning is x0 = grind (arith, is, means-none, means-some)

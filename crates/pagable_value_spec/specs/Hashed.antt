@@ -1,13 +1,14 @@
--- Hash maps: what they mean, and what one more entry leaves. The order of their entries is open.
+-- Hash maps: what they mean, and what a map holds after one more entry. The order of their entries is open.
 use Rattle.std.{proofs.{Common.{◌∙◌, sym}, lemmas.Simd.map-map}, specs.{Prelude.{◌≡◌, refl, Bool, List, [], ◌∷◌, map, MatchOption, IsPermutation}, List.IsDistinct, Map.{keys_of, lookup, set_value}}}
 use Rattle.pagable_value_spec.specs.{declared.numbers.ArcRef.ArcRef, Meaning.{Meaning, pair, entry}, Keys.Entry, CarriedTypes.of_hash_map}
 use Rattle.pagable_value_spec.specs.Composite.{MeanAll, MeansPair, items_are_meanings, items_single, pair_is_meaning, pair_single}
 
--- One more entry was put in, and no key is there twice. The value of a key that was there is replaced; a new key stands anywhere.
+-- The map after an entry was put in, no key twice: the value of a key that was there is replaced, and a new key may be
+-- anywhere.
 abbrev pub PutsAnywhere : {K V : Type 0} → (K → K → Bool) → List (K × V) → K × V → List (K × V) → Type 0
 PutsAnywhere eq old e new = IsDistinct eq (keys_of new) × MatchOption (lookup (eq e.0) old) (IsPermutation (e ∷ old) new) (λ _. new ≡ set_value (eq e.0) old e.1)
 
--- the map of what its keys and values mean, whatever the order of its entries
+-- a hash map means the map of its keys' and values' meanings, whatever the order of its entries
 pub record MeansHashMap {K V : Type 0} (M : K → Meaning ArcRef → Type 0) (N : V → Meaning ArcRef → Type 0) (xs : List (K × V)) (m : Meaning ArcRef) : Type 0 where
   pub es : List (Entry ArcRef)
   pub each : MeanAll (MeansPair M N) xs (map entry es)

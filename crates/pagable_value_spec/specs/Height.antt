@@ -1,5 +1,5 @@
--- Kinds of references, what is known of one that is followed, and how deep references lead. Of a value type t the kind 3t is that of a
--- shared node, 3t + 1 that of a cell through a loose handle, and 3t + 2 that of a cell through a pin.
+-- Kinds of references, the children of a value, and how deep references lead. The value type t has the kinds 3t
+-- (shared: an `Arc`), 3t + 1 (loose: a `PagableArc`) and 3t + 2 (pinned: a `PinnedPagableArc`).
 use Rattle.std.specs.Prelude.{ℕ, zero, suc, ◌%◌, ◌+◌, ◌==◌, Bool, not, true, ◌≡◌, ◌⊎◌, max, if◌then◌else◌}
 use Rattle.pagable_value_spec.specs.{Meaning.{Meaning, pair, variant, followed}, Trees.{Tree, tree, type_of}}
 
@@ -12,11 +12,11 @@ is_loose_kind kind = kind % 3 == 1
 abbrev pub is_pinned_kind : ℕ → Bool
 is_pinned_kind kind = kind % 3 == 2
 
--- Whether a reference of this kind is read together with the value that holds it. One through a loose handle isn't.
+-- Whether a load of a value loads what this reference leads to as well. It does unless the reference is loose.
 abbrev pub is_eager : ℕ → Bool
 is_eager kind = not (is_loose_kind kind)
 
--- a reference of a kind, with what the value means that it leads to
+-- a child: the kind of a reference, and what the value means that it leads to
 pub record Kid : Type 0 where
   pub kind : ℕ
   pub meaning : Meaning ⊥
@@ -30,15 +30,15 @@ kind_of_kid k = k.kind
 abbrev pub tree_of_kid : Kid → Tree
 tree_of_kid k = tree (type_of k.kind) k.meaning
 
--- how many references a path may have, a limit of this port
+-- how many references a path may have: a limit of this port
 abbrev pub longest_path : ℕ
 longest_path = 128
 
--- what a reference of this kind adds to the height of a value, if what it leads to is so high
+-- the height that a reference of this kind adds to its holder, if its target has this height; a loose one adds none
 abbrev pub above : ℕ → ℕ → ℕ
 above kind height = if is_eager kind then height + 1 else 0
 
--- how many references the longest path from the tree's root has
+-- how many references the longest path down from the tree's root has, where a loose reference ends a path
 unfoldable pub height : Meaning ⊥ → ℕ
 height (pair a b) = max (height a) (height b)
 height (variant n a) = height a
@@ -53,7 +53,7 @@ HasPath zero (followed kind a) = Unit {0}
 HasPath (suc n) (followed kind a) = (is_eager kind ≡ true) × HasPath n a
 HasPath n _ = n ≡ 0
 
--- the longest path from the tree's root, or from what a loose reference in it leads to
+-- the longest path in the tree, from its root or from the target of a loose reference in it
 unfoldable pub deepest_path : Meaning ⊥ → ℕ
 deepest_path (pair a b) = max (deepest_path a) (deepest_path b)
 deepest_path (variant n a) = deepest_path a

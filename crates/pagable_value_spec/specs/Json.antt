@@ -4,7 +4,7 @@ use Rattle.pagable_value_spec.specs.Meaning.{Meaning, number, integer, text, non
 use Rattle.pagable_value_spec.specs.Meaning as meanings
 
 mutual
-  -- a JSON value; a whole number may be of any size, and a float stays one where its value is whole
+  -- a JSON value; a whole number may be of any size, and a float with a whole value stays a float
   pub data Json : Type 0 where
     null : Json
     boolean : Bool → Json
@@ -18,13 +18,13 @@ mutual
     no_items : Items
     item : Json → Items → Items
 
-  -- the members of an object, in order of their keys
+  -- the members of an object, in the order of their keys
   pub data Members : Type 0 where
     no_members : Members
     member : List ℕ → Json → Members → Members
 
 abbrev mutual
-  -- What a JSON value means. A float, and a whole number outside 64 bits with a sign, mean something of which no form is.
+  -- What a JSON value means. A float, or a whole number outside 64 bits with a sign, has a meaning without a form.
   pub of_json : {A : Type 0} → Json → Meaning A
   of_json null = variant 0 none
   of_json (boolean b) = variant 1 (meanings.flag b)

@@ -1,4 +1,5 @@
--- What the key law asks of a type, and why it holds of the types that may be keys: of those made of others too, when two of their keys are the same and in which order they stand.
+-- What the key law asks of a type, and why it holds of the types that may be keys, composite ones too: when two keys
+-- are the same, and how they are ordered.
 use Rattle.std.{proofs.{Common.{ap, arith, ◌∙◌}, lemmas.{Bool.{and_parts, eqb-true, eq-eqb, Decides.Decides-int_eq}, Slice.Eq.bytes_eq-Decides}}, specs.Cmp.{both_ways, Lexicographic.slice_cmp}}
 use Rattle.std.specs.{Cmp.Lexicographic.pointwise, Option.{option_eq, option_cmp}, Ordering.{nat_cmp, int_cmp, int_eq, bool_cmp, ordering_then}, Prelude.{◌≡◌, ◌&&◌, ◌∷◌, ℕ, ℤ, zero, suc, Bool, true}}
 use Rattle.std.specs.{Prelude.{List, nat_eq, refl, Option, Result}, Result.{result_eq, result_cmp}, Str.bytes_eq, declared.cmp.Ordering.Ordering}
@@ -7,15 +8,15 @@ use Rattle.pagable_value_spec.specs.{Keys.{ordered, number_order, integer_order,
 use Rattle.pagable_value_spec.specs.{Meaning.{pattern, pair, none, flag, plain}, Numbers.zigzag, Shape.Shape, declared.numbers.ArcRef.ArcRef}
 use mathlib.Core.Bool.{beq}
 
--- nowhere in a value of the shape, in none of its parts, is there a reference
+-- no value of the shape holds a reference in any part
 abbrev pub RefersToNothing : (ℕ → Shape) → Shape → Type 0
 RefersToNothing parts s = Throughout (LiesIn (λ node. ⊥) (λ part. Unit {0})) parts s
 
--- what a shape has that has no numbered part
+-- for a shape without numbered parts
 pub throughout-alone : (P : Shape → Type 0) (parts : ℕ → Shape) (s : Shape) → P s → ((those : ℕ → Type 0) → LiesIn (λ n. Unit {0}) those s) → Throughout P parts s
 throughout-alone P parts s p lies = throughout-in P parts (λ n. ⊥) (λ n no. absurd no) s p (lies (λ n. ⊥))
 
--- a shape over two others
+-- for a shape over two others
 pub throughout-two : (P : Shape → Type 0) (parts : ℕ → Shape) (s t whole : Shape) → (P s → P t → P whole) → ((those : ℕ → Type 0) → LiesIn (λ n. Unit {0}) those s → LiesIn (λ n. Unit {0}) those t → LiesIn (λ n. Unit {0}) those whole)
     → Throughout P parts s → Throughout P parts t → Throughout P parts whole
 unfolding Within
@@ -25,11 +26,11 @@ throughout-two P parts s t whole f lies u v = record { within = within }
     within zero = f (u.within zero) (v.within zero)
     within (suc steps) = (f (u.within (suc steps)).0 (v.within (suc steps)).0, lies (λ n. Within P parts steps (parts n)) (u.within (suc steps)).1 (v.within (suc steps)).1)
 
--- a shape over one other
+-- for a shape over one other
 pub throughout-over : (P : Shape → Type 0) (parts : ℕ → Shape) (s whole : Shape) → (P s → P whole) → ((those : ℕ → Type 0) → LiesIn (λ n. Unit {0}) those s → LiesIn (λ n. Unit {0}) those whole) → Throughout P parts s → Throughout P parts whole
 throughout-over P parts s whole f lies t = throughout-two P parts s s whole (λ p q. f p) (λ those l m. lies those l) t t
 
--- a test that holds exactly where two meanings are one is the sameness of keys
+-- a test that holds exactly for equal meanings agrees with the sameness of keys
 pub same-by : (test : Bool) (a b : Meaning ⊥) → (test ≡ true → a ≡ b) → (code a ≡ code b → test ≡ true) → test ≡ bytes_eq (code a) (code b)
 same-by test a b one told = let decides = bytes_eq-Decides (code a) (code b) in both_ways test (bytes_eq (code a) (code b)) (λ e. decides.1 (ap code (one e))) (λ e. told (decides.0 e))
 
@@ -73,7 +74,7 @@ pub nothing_is_same : true ≡ same_key {A = ArcRef} none none
 unfolding plain code
 nothing_is_same = refl
 
--- ---- two keys are the same if their parts are
+-- ---- two keys are the same exactly if their parts are
 
 both-same : (a b c d : Meaning ⊥) → (bytes_eq (code a) (code c) && bytes_eq (code b) (code d)) ≡ bytes_eq (code (pair a b)) (code (pair c d))
 both-same a b c d =
@@ -102,7 +103,7 @@ list_is_same eq meaning same (x ∷ xs) (y ∷ ys) =
     pair_is_same (eq x y) (pointwise eq xs ys) (meaning x) (of_list meaning xs) (meaning y) (of_list meaning ys) (same x y) (list_is_same eq meaning same xs ys)
 list_is_same eq meaning same x0 x1 = grind (arith)
 
--- ---- and stand in the order of their parts
+-- ---- keys are ordered by their parts
 
 pub pair_is_ordered : {A : Type 0} (f g : KeyOrder) (o p : Ordering) (a b c d : Meaning A) → o ≡ ordered f a c → p ≡ ordered g b d → ordering_then o p ≡ ordered (pair_order f g) (pair a b) (pair c d)
 unfolding plain

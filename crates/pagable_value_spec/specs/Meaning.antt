@@ -1,18 +1,18 @@
 -- What a value means, apart from how it is kept or written.
 use Rattle.std.specs.Prelude.{ℕ, ℤ, List, [], ◌∷◌, Bool, true, false}
 
--- A is what stands for a reference: the handle that a value holds, a key, or nothing where each reference is followed.
+-- A stands for a reference: the handle that a value holds, a key, or nothing (⊥) if each reference is followed.
 pub data Meaning (A : Type 0) : Type 0 where
-  -- a whole number, without and with a sign; a character is its code
+  -- a whole number without a sign (a character is its code), and one with a sign
   number : ℕ → Meaning A
   integer : ℤ → Meaning A
-  -- a text's bytes, and those of a pattern
+  -- the bytes of a text, and of a pattern
   text pattern : List ℕ → Meaning A
-  -- nothing, and the end of a list
+  -- no value, and the end of a list
   none : Meaning A
   -- a first part and the rest
   pair : Meaning A → Meaning A → Meaning A
-  -- a case with its part
+  -- the number of a case, with its part
   variant : ℕ → Meaning A → Meaning A
   reference : A → Meaning A
   -- a reference that is followed: its kind, and what the value means that it leads to
@@ -22,7 +22,7 @@ abbrev pub sequence : {A : Type 0} → List (Meaning A) → Meaning A
 sequence [] = none
 sequence (m ∷ ms) = pair m (sequence ms)
 
--- the entries of a map
+-- an entry of a map
 abbrev pub entry : {A : Type 0} → Meaning A × Meaning A → Meaning A
 entry e = pair e.0 e.1
 
@@ -44,7 +44,7 @@ failure m = variant 0 m
 abbrev pub success : {A : Type 0} → Meaning A → Meaning A
 success m = variant 1 m
 
--- the meaning with f of what stands for each reference
+-- the meaning with f applied to what stands for each reference
 unfoldable pub rename : {A B : Type 0} → (A → B) → Meaning A → Meaning B
 rename f (number n) = number n
 rename f (integer z) = integer z
@@ -56,7 +56,7 @@ rename f (variant n a) = variant n (rename f a)
 rename f (reference a) = reference (f a)
 rename f (followed kind a) = followed kind (rename f a)
 
--- the meaning without its references
+-- the meaning with each reference replaced by none
 unfoldable pub plain : {A : Type 0} → Meaning A → Meaning ⊥
 plain (number n) = number n
 plain (integer z) = integer z
@@ -68,6 +68,6 @@ plain (variant n a) = variant n (plain a)
 plain (reference a) = none
 plain (followed kind a) = followed kind (plain a)
 
--- a meaning in which every reference is followed, among those that may have others
+-- a meaning without unfollowed references, as one that may have them
 abbrev pub lifted : {A : Type 0} → Meaning ⊥ → Meaning A
 lifted m = rename absurd m

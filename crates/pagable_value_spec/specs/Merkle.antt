@@ -1,9 +1,9 @@
--- The key of a tree, by recursion on it, with no store and no table.
+-- The key of a tree, by recursion on the tree, without a store and without a pager's table.
 use Rattle.std.specs.Prelude.{◌≡◌, ℕ, List, [], ◌∷◌, map, Option, Some}
 use Rattle.pagable_value_spec.specs.{Meaning.{Meaning, number, integer, text, pattern, none, pair, variant, reference, followed}, Shape.Shape, Reading.deepest, Form.Form, Blob.{Blob, key_of}, Trees.Tree}
 use Rattle.pagable_value_spec.specs.{Trees.{KeyRef, Types, IsFollowed}, Height.{Kid, kid, kind_of_kid, tree_of_kid}, Canonical.{IsCanonical, Throughout, IsCanonicalType, EachType}}
 
--- the meaning of a tree's own value, in which each reference is the tree that it leads to
+-- the meaning of a tree's own value, with each child in the place of the reference to it
 unfoldable pub unfolded : Meaning ⊥ → Meaning Kid
 unfolded (number n) = number n
 unfolded (integer z) = integer z
@@ -15,7 +15,7 @@ unfolded (variant n a) = variant n (unfolded a)
 unfolded (reference a) = absurd a
 unfolded (followed kind a) = reference (kid kind a)
 
--- the form of a value in which each reference is its tree
+-- a form of a tree's own value over its children
 abbrev pub TreeForm : Types → Shape → Meaning ⊥ → List ℕ → List Kid → Type 0
 TreeForm types s m bytes kids = Form Kid kind_of_kid types.parts deepest s (unfolded m) bytes kids
 
@@ -23,23 +23,24 @@ abbrev pub blob_of : List ℕ → List ℕ → Blob
 blob_of bytes keys = record { bytes = bytes; keys = keys }
 
 mutual
-  -- some form of the tree and one key for each reference in it, and the key is that of the blob of both
+  -- the tree's key: that of the blob of some form of its value and of a key for each child
   pub data KeyOf (hash : List ℕ → List ℕ) (types : Types) : Tree → ℕ → Type 0 where
     key-of : (tree : Tree) (s : Shape) (bytes : List ℕ) (kids : List Kid) (keys : List ℕ) → types.nodes tree.type ≡ Some s → TreeForm types s tree.meaning bytes kids
         → KeysOf hash types kids keys → KeyOf hash types tree (key_of hash (blob_of bytes keys))
 
-  -- one key for each reference
+  -- a key for each child
   pub data KeysOf (hash : List ℕ → List ℕ) (types : Types) : List Kid → List ℕ → Type 0 where
     no-keys : KeysOf hash types [] []
     more-keys : (k : Kid) (kids : List Kid) (key : ℕ) (keys : List ℕ) → KeyOf hash types (tree_of_kid k) key → KeysOf hash types kids keys → KeysOf hash types (k ∷ kids) (key ∷ keys)
 
--- the key of an item: its bytes as they are, and the keys of what it refers to
+-- the key of an item: of its bytes as they are, and a key for each child
 pub record KeyOfItem (hash : List ℕ → List ℕ) (types : Types) (bytes : List ℕ) (kids : List Kid) (key : ℕ) : Type 0 where
   pub keys : List ℕ
   pub each : KeysOf hash types kids keys
   pub is : key ≡ key_of hash (blob_of bytes keys)
 
--- an item's bytes and references are a form of a value of a canonical shape, and so is all that it reaches
+-- an item's bytes and references are a form of a value of a canonical shape, and all node types that it reaches are
+-- canonical
 pub record IsCanonicalItem (types : Types) (bytes : List ℕ) (kids : List Kid) : Type 0 where
   pub shape : Shape
   pub meaning : Meaning ⊥
@@ -53,7 +54,7 @@ kind_of_ref r = r.kind
 abbrev pub key_of_ref : KeyRef → ℕ
 key_of_ref r = r.key
 
--- A form of m, over the keys of its references, stands under the key.
+-- The store has, under the key, a form of m with the keys of its references.
 pub record StoredAs (store : ℕ → Option Blob) (types : Types) (type key : ℕ) (m : Meaning KeyRef) : Type 0 where
   pub shape : Shape
   pub is : types.nodes type ≡ Some shape
@@ -62,16 +63,16 @@ pub record StoredAs (store : ℕ → Option Blob) (types : Types) (type key : �
   pub form : Form KeyRef kind_of_ref types.parts deepest shape m bytes refs
   pub stored : store key ≡ Some (blob_of bytes (map key_of_ref refs))
 
--- The tree is stored under the key, and all that it refers to under the keys that its form has.
+-- The store has the tree under the key, and each of its descendants under the key that its parent's form names.
 pub record StoredTree (store : ℕ → Option Blob) (types : Types) (key : ℕ) (tree : Tree) : Type 0 where
   pub own : Meaning KeyRef
   pub stands : StoredAs store types tree.type key own
   pub follows : IsFollowed (StoredAs store types) own tree.meaning
 
--- Each blob of the store stands under its own key.
+-- Each blob of the store is stored under its own key.
 abbrev pub HasOwnKeys : (List ℕ → List ℕ) → (ℕ → Option Blob) → Type 0
 HasOwnKeys hash store = (key : ℕ) (b : Blob) → store key ≡ Some b → key ≡ key_of hash b
 
--- No two different blobs of the two stores share a key.
+-- No two different blobs of the two stores have the same key.
 abbrev pub SharesNoKey : (ℕ → Option Blob) → (ℕ → Option Blob) → Type 0
 SharesNoKey store other = (key : ℕ) (b c : Blob) → store key ≡ Some b → other key ≡ Some c → b ≡ c

@@ -4,7 +4,7 @@ use Rattle.std.specs.{Int.w128, Prelude.◌≡◌, Prelude.◌++◌}
 use Rattle.pagable_value_spec.specs.{declared.error.Error.Error, ReadSteps.◌>>=◌}
 use mir.Val.{bits, hbits}
 
--- what a reader of bytes gives: a value and the bytes after it
+-- what a reader of bytes returns: a value and the bytes after it
 abbrev pub Read : Type 0 → Type 0
 Read A = Result (A × List ℕ) Error
 
@@ -12,28 +12,29 @@ abbrev pub byte_at : List ℕ → Read ℕ
 byte_at [] = Err Error.UnexpectedEnd
 byte_at (b ∷ rest) = Ok (b, rest)
 
--- The shortest varint of a number (postcard, Varint Encoded Integers): seven bits a byte, low bits first; at most `more` bytes with the top bit set, and then one without.
+-- The shortest varint of a number (postcard, Varint Encoded Integers): seven bits a byte, low bits first; at most
+-- `more` bytes with the top bit set, and then one without.
 unfoldable pub varint : ℕ → ℕ → List ℕ
 varint zero n = n ∷ []
 varint (suc more) n = if nat_lt n 128 then n ∷ [] else (128 + n % 128) ∷ varint more (n / 128)
 
 -- What a varint at the front reads as (postcard, Maximum Encoded Length): after `more` bytes with the top bit set the
--- next is the last, and it is at most `last`. Longer spellings than needed are accepted.
+-- next byte is the last, and it is at most `last`. Encodings longer than needed are accepted.
 unfoldable pub varint_at : ℕ → ℕ → List ℕ → Read ℕ
 varint_at more last [] = Err Error.UnexpectedEnd
 varint_at zero last (b ∷ rest) = if nat_le b last then Ok (b, rest) else Err Error.BadVarint
 varint_at (suc more) last (b ∷ rest) = if nat_lt b 128 then Ok (b, rest) else (varint_at more last rest >>= λ high. Ok (b - 128 + 128 * high.0, high.1))
 
--- what such a number stays below
+-- every number that varint_at can read is below this
 unfoldable pub varint_limit : ℕ → ℕ → ℕ
 varint_limit zero last = last + 1
 varint_limit (suc more) last = 128 * varint_limit more last
 
--- new is old and the varint of a number, at each width that the number fits
+-- new is old followed by the varint of the number, whatever `more`, if the number fits it
 pub record AppendsVarint (old new : List ℕ) (number : ℕ) : Type 0 where
   pub appends : (more : ℕ) → number < varint_limit more 127 → new ≡ old ++ varint more number
 
--- how many bytes of a number may have the top bit set: 2, 4, 9 or 18
+-- how many bytes with the top bit set a varint may have, by the width: 2, 4, 9 or 18
 abbrev pub more_of : Width → ℕ
 more_of w8 = 0
 more_of w16 = 2
@@ -41,7 +42,7 @@ more_of w32 = 4
 more_of w64 = 9
 more_of w128 = 18
 
--- how large the last byte of the greatest length may be
+-- how large the last byte of a varint with that many bytes may be
 abbrev pub last_of : Width → ℕ
 last_of w8 = 255
 last_of w16 = 3
@@ -49,7 +50,7 @@ last_of w32 = 15
 last_of w64 = 1
 last_of w128 = 3
 
--- a number of 8 bits is its byte, and others are varints
+-- a number of 8 bits is its byte; others are varints
 abbrev pub unsigned_form : Width → ℕ → List ℕ
 unsigned_form w8 n = n ∷ []
 unsigned_form w n = varint (more_of w) n
@@ -58,7 +59,7 @@ abbrev pub unsigned_at : Width → List ℕ → Read ℕ
 unsigned_at w8 bytes = byte_at bytes
 unsigned_at w bytes = varint_at (more_of w) (last_of w) bytes
 
--- numbers below 2 ^ bits
+-- numbers of this width are below 2 ^ bits
 abbrev pub bound : Width → ℕ
 bound w = 2 ^ bits w
 
@@ -70,7 +71,7 @@ zigzag (negsuc n) = 2 * n + 1
 abbrev pub from_zigzag : ℕ → ℤ
 from_zigzag n = if n % 2 == 0 then pos (n / 2) else negsuc (n / 2)
 
--- the number without a sign that stands for one with a sign; of eight bits in two's complement
+-- the number without a sign that encodes one with a sign: two's complement for 8 bits, otherwise zigzag
 abbrev pub unsigned_of : Width → ℤ → ℕ
 unsigned_of w8 (pos n) = n
 unsigned_of w8 (negsuc n) = 255 - n

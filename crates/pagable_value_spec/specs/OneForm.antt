@@ -1,4 +1,5 @@
--- What holds throughout a shape where it holds throughout those that it is made of: no meaning of a carried type has two forms, and nothing in a key is a reference.
+-- What holds throughout a composite shape if it holds throughout its parts: no meaning has two forms, and keys hold no
+-- reference.
 use Rattle.std.{specs.Prelude.{◌≡◌, ℕ}, proofs.Common.arith}
 use Rattle.pagable_value_spec.specs.Shape.{Shape, nothing, unsigned, signed, flag, text, letter, duration, pattern, json, optional, outcome, list, run, array, both, sorted_map, placed_map, sorted_set, placed_set}
 use Rattle.pagable_value_spec.specs.{Canonical.{IsCanonical, IsReadable, LiesIn, Throughout}, Keyed.{RefersToNothing, throughout-alone, throughout-over, throughout-two}}
@@ -33,7 +34,7 @@ IsOfTwo s t (sorted_map order u v) = (u ≡ s) × (v ≡ t)
 IsOfTwo s t (placed_map u v) = (u ≡ s) × (v ≡ t)
 IsOfTwo s t _ = ⊥
 
--- what follows for a shape from those that it is made of: it has one form, it is read, and it lies in some sets
+-- what a shape has if the shapes that it is made of have it: being canonical, being readable, and lying in the sets
 pub record Follows (A : (Shape → Type 0) → Type 0) (nodes parts : ℕ → Type 0) : Type 0 where
   pub canonical : A IsCanonical
   pub readable : A IsReadable
@@ -52,7 +53,7 @@ module _ (nodes parts : ℕ → Type 0) where
   unfolding IsCanonical IsReadable LiesIn
   two-follows s t x2 e = grind (arith)
 
--- a part may be any shape here
+-- every number: any part is allowed
 abbrev pub any : ℕ → Type 0
 any n = Unit {0}
 
@@ -73,7 +74,7 @@ pub run_has_one_form : {parts : ℕ → Shape} {s : Shape} → HasOneFormThrough
 unfolding IsCanonical LiesIn
 run_has_one_form {parts} {s} h = throughout-over IsCanonical parts s (run s) (λ c. c) (λ those l. l) h
 
--- ---- nothing in it is a reference
+-- ---- no value of the shape holds a reference
 
 pub basic_refers_to_nothing : {parts : ℕ → Shape} {s : Shape} → IsBasic s → RefersToNothing parts s
 basic_refers_to_nothing {parts} {s} h = throughout-alone (LiesIn (λ n. ⊥) any) parts s (basic-follows (λ n. ⊥) any s h).lies (λ those. (basic-follows any those s h).lies)

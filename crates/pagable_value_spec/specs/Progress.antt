@@ -1,15 +1,15 @@
--- A reader of bytes: all its bytes, and how many of them were read.
+-- A reader of bytes: all its bytes, and how many of them it has read.
 use Rattle.std.specs.Prelude.{◌≡◌, ◌≤◌, ℕ, List, drop, length}
 
 pub record Track : Type 0 where
   pub all : List ℕ
   pub position : ℕ
 
--- what is left to be read
+-- the bytes that are not read yet
 abbrev pub left : Track → List ℕ
 left t = drop t.position t.all
 
--- The bytes are the same, and the place is between the old one and the end.
+-- The bytes are the same, and the position is between the old one and the end.
 pub record GoesOn (old new : Track) : Type 0 where
   pub all : new.all ≡ old.all
   pub forward : old.position ≤ new.position

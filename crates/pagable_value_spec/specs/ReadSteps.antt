@@ -1,8 +1,8 @@
--- Steps that may be refused, one after another.
+-- Steps that may fail, one after another.
 use Rattle.std.specs.Prelude.{Result, Ok, Err}
 use Rattle.pagable_value_spec.specs.declared.error.Error.{Error}
 
--- The second step takes what the first gave; a refusal of the first is the answer.
+-- The second step takes what the first returned; if the first fails, so does the whole, with the same error.
 infixl 10 ◌>>=◌
 abbrev pub ◌>>=◌ : {A B : Type 0} → Result A Error → (A → Result B Error) → Result B Error
 (Ok x) >>= f = f x

@@ -1,4 +1,4 @@
--- The reading grammar: what a front of the input means and what is left, or the first fault from the front.
+-- The reading grammar: what the front of the input means and what is left after it, or the first fault from the front.
 use Rattle.std.specs.{Prelude.{ℕ, ◌-◌, zero, suc, List, [], ◌∷◌, Option, Some, None, Result, Ok, Err, Bool, true, false, ◌==◌, if◌then◌else◌}, Int.{w32, w64}}
 use Rattle.pagable_value_spec.specs.{declared.error.Error.Error, ReadSteps.◌>>=◌, Numbers.{Read, unsigned_at, signed_at}, BasicValues.{length_at, text_at, bool_at, char_at, duration_at}, Meaning.{Meaning, number}}
 use Rattle.pagable_value_spec.specs.{Meaning.{integer, none, variant, sequence, entry, absent, present, success, failure, lifted}, Keys.{text_order, put_all, put_sorted, put_placed, put_sorted_item}}
@@ -6,35 +6,35 @@ use Rattle.pagable_value_spec.specs.{Keys.put_placed_item, CarriedTypes.{of_entr
 use Rattle.pagable_value_spec.specs.Shape.{optional, outcome, list, run, array, both, sorted_map, placed_map, hash_map, sorted_set, placed_set, static_value, tagged, cases, reference, nested}
 use Rattle.pagable_value_spec.specs.Meaning as meanings
 
--- what is left to be read: bytes, and what stands for references, in their order
+-- what is left to be read: bytes, and what stands for references, in order
 pub record Rest (A : Type 0) : Type 0 where
   pub bytes : List ℕ
   pub refs : List A
 
--- what a reference is, by its kind and by what stands for it in the list of references; or why it is refused
+-- resolves a reference, by its kind and by what stands for it in the list of references; or says why that fails
 abbrev pub Look : Type 0 → Type 0 → Type 0
 Look A B = ℕ → A → Result B Error
 
 -- what stays the same while a value is read
 pub record Context (A B : Type 0) : Type 0 where
-  -- how many levels were entered
+  -- how many levels have been entered
   pub levels : ℕ
   pub look : Look A B
-  -- how the environment spells the parts that have numbers
+  -- how the environment encodes the numbered parts
   pub parts : ℕ → Shape
 
--- how many levels may be entered in one blob, a limit of this port
+-- how many levels one blob may enter: a limit of this port
 abbrev pub deepest : ℕ
 deepest = 128
 
 abbrev pub Gets : Type 0 → Type 0 → Type 0
 Gets A X = Rest A → Result (X × Rest A) Error
 
--- a part that is bytes alone
+-- a part that consists of bytes alone
 abbrev pub bytes_of : {A X Y : Type 0} → (List ℕ → Read X) → (X → Y) → Gets A Y
 bytes_of read view rest = read rest.bytes >>= λ x. Ok (view x.0, record rest { bytes = x.1 })
 
--- a reference takes the next of the list, also where it is refused
+-- a reference takes the next item of the list
 abbrev pub reference_at : {A B : Type 0} → Look A B → ℕ → (refs : List A) → Gets A (Meaning B)
 reference_at look kind [] rest = Err Error.NoMoreKeys
 reference_at look kind (a ∷ refs) rest = look kind a >>= λ b. Ok (meanings.reference b, record rest { refs = refs })
@@ -47,17 +47,17 @@ seen view get rest = get rest >>= λ x. Ok (view x.0, x.1)
 abbrev pub two : {A X Y : Type 0} → Gets A X → Gets A Y → Gets A (X × Y)
 two first second rest = first rest >>= λ x. second x.1 >>= λ y. Ok ((x.0, y.0), y.1)
 
--- one of two, by a flag that was read
+-- one of two readers, by a flag that was read
 abbrev pub choose : {A X : Type 0} → Bool → Gets A X → Gets A X → Gets A X
 choose true then_get else_get rest = then_get rest
 choose false then_get else_get rest = else_get rest
 
--- this many, one after another
+-- this many items, one after another
 unfoldable pub items : {A X : Type 0} → Gets A X → ℕ → Gets A (List X)
 items get zero rest = Ok ([], rest)
 items get (suc n) rest = get rest >>= λ first. items get n first.1 >>= λ others. Ok (first.0 ∷ others.0, others.1)
 
--- a length, and this many
+-- a length, and then this many items
 abbrev pub counted : {A X : Type 0} → Gets A X → Gets A (List X)
 counted get rest = bytes_of length_at (λ n. n) rest >>= λ count. items get count.0 count.1
 
@@ -67,11 +67,11 @@ registered [] i = Err Error.BadStaticIndex
 registered (m ∷ ms) zero = Ok m
 registered (m ∷ ms) (suc i) = registered ms i
 
--- how a part is read one level further down, where a level is left
+-- the reader of parts one level further down, if a level is left
 abbrev pub Deeper : Type 0 → Type 0 → Type 0
 Deeper A B = Option (Shape → Gets A (Meaning B))
 
--- the part is read one level further down
+-- a part that is read one level further down
 abbrev pub enter : {A B X : Type 0} → Deeper A B → ((Shape → Gets A (Meaning B)) → Gets A X) → Gets A X
 enter None part rest = Err Error.TooDeep
 enter (Some get) part rest = part get rest
@@ -84,7 +84,7 @@ abbrev pub json_case : ℕ → Result JsonCase Error
 json_case n = if n == 0 then Ok null_case else if n == 1 then Ok flag_case else if n == 2 then Ok number_case else
     if n == 3 then Ok text_case else if n == 4 then Ok array_case else if n == 5 then Ok object_case else Err Error.JsonCase
 
--- A JSON value after its case. The level of an array or an object is entered after its length was read.
+-- A JSON value after its case. An array or object enters its level after its length was read.
 abbrev pub json_part : {A B : Type 0} → Deeper A B → JsonCase → Gets A (Meaning B)
 json_part deeper null_case rest = Ok (variant 0 none, rest)
 json_part deeper flag_case rest = bytes_of bool_at (λ b. variant 1 (meanings.flag b)) rest
@@ -94,7 +94,7 @@ json_part deeper array_case rest = bytes_of length_at (λ n. n) rest >>= λ coun
 json_part deeper object_case rest = bytes_of length_at (λ n. n) rest >>= λ count.
     enter deeper (λ get. seen (λ es. variant 5 (of_entries (put_all (put_sorted text_order) [] es))) (items (two (get text) (get json)) count.0)) count.1
 
--- a value of a shape, where parts one level further down are read by deeper
+-- reads a value of a shape; `deeper` reads the parts one level further down
 unfoldable pub read_with : {A B : Type 0} → Look A B → (ℕ → Shape) → Deeper A B → Shape → Gets A (Meaning B)
 read_with look parts deeper nothing rest = Ok (none, rest)
 read_with look parts deeper (unsigned w) rest = bytes_of (unsigned_at w) number rest
@@ -126,16 +126,16 @@ read_with look parts deeper (cases w known part) rest =
 read_with look parts deeper (reference kind) rest = reference_at look kind rest.refs rest
 read_with look parts deeper (nested n) rest = enter deeper (λ get. get (parts n)) rest
 
--- how parts are read below, where this many levels are left
+-- the reader of parts further down, if this many levels are left
 unfoldable pub below : {A B : Type 0} → Look A B → (ℕ → Shape) → ℕ → Deeper A B
 below look parts zero = None
 below look parts (suc left) = Some (read_with look parts (below look parts left))
 
--- a value of a shape: its meaning and what is left, or the first fault from the front
+-- reads a value of a shape: its meaning and what is left, or the first fault from the front
 unfoldable pub read : {A B : Type 0} → Context A B → Shape → Gets A (Meaning B)
 read context s = read_with context.look context.parts (below context.look context.parts (deepest - context.levels)) s
 
--- a value of a type that there may not be
+-- reads a value of a node type, which may not exist
 abbrev pub read_typed : {A B : Type 0} → Context A B → Option Shape → Gets A (Meaning B)
 read_typed context None rest = Err Error.WrongKind
 read_typed context (Some s) rest = read context s rest

@@ -1,4 +1,4 @@
--- What is kept of a text that says why something is refused.
+-- How much a reason keeps of a text that says why a call fails.
 use Rattle.std.specs.{Prelude.{List, [], false, length, take, true, ℕ, ◌++◌, ◌<◌, ◌∷◌, ◌≡◌, ◌≤◌}, Str.IsCharBoundary}
 use Rattle.pagable_value_spec.specs.declared.reason.Reason.{Reason}
 
@@ -6,7 +6,8 @@ use Rattle.pagable_value_spec.specs.declared.reason.Reason.{Reason}
 abbrev pub kept_of : Reason → List ℕ
 kept_of r = take r.length r.bytes
 
--- Of a text that is too long: its first bytes, up to the last of its characters' boundaries that isn't behind 59 bytes, and two dots.
+-- How a text that is too long is cut: its first bytes, up to the last boundary of a character within 59 bytes, and two
+-- dots.
 pub record IsCut (text kept : List ℕ) : Type 0 where
   pub count : ℕ
   pub few : count ≤ 59
@@ -14,7 +15,7 @@ pub record IsCut (text kept : List ℕ) : Type 0 where
   pub last : (i : ℕ) → count < i → i ≤ 59 → IsCharBoundary text i → ⊥
   pub is : kept ≡ take count text ++ (46 ∷ 46 ∷ [])
 
--- A text of up to 61 bytes is kept whole, a longer one is cut; and the reason knows which.
+-- A reason keeps a text of up to 61 bytes whole, cuts a longer one, and records which it did.
 pub record IsKept (text : List ℕ) (r : Reason) : Type 0 where
   pub whole : length text ≤ 61 → (kept_of r ≡ text) × (r.is_cut ≡ false)
   pub cut : 61 < length text → IsCut text (kept_of r) × (r.is_cut ≡ true)

@@ -1,8 +1,9 @@
--- The numbers of the refusals, and which of them say that an input or a value is outside the wire format, and which others readers and writers may have.
+-- The numbers of the errors; which of them say that an input or a value is outside the wire format; and which others
+-- readers and writers may return.
 use Rattle.std.specs.Prelude.{ℕ, Bool, true, false}
 use Rattle.pagable_value_spec.specs.declared.error.Error.{Error}
 
--- from 1 on, in their order
+-- from 1 on, in the order of the type
 abbrev pub number_of : Error → ℕ
 number_of Error.UnexpectedEnd = 1
 number_of Error.BadVarint = 2
@@ -31,7 +32,7 @@ number_of Error.KeyTaken = 24
 number_of Error.Closed = 25
 number_of (Error.Custom text) = 26
 
--- the refusals by which an input is outside the grammar; the others say nothing of it
+-- the errors that say that an input is outside the grammar; the others say nothing about it
 abbrev pub is_reading_fault : Error → Bool
 is_reading_fault Error.UnexpectedEnd = true
 is_reading_fault Error.BadVarint = true
@@ -48,29 +49,32 @@ is_reading_fault Error.BadStaticIndex = true
 is_reading_fault Error.NoMoreKeys = true
 is_reading_fault _ = false
 
--- Those that a reader may have of its own beside them: a pattern that isn't built, want of memory, and what it tells in words. What a pager, a storage or a writer refuses is none of them.
+-- The errors that a reader may add of its own: a pattern that can't be built, OutOfMemory, and a reason in words. It
+-- may not return an error that belongs to a pager, a storage or a writer.
 abbrev pub is_own_reading : Error → Bool
 is_own_reading Error.RegexRefused = true
 is_own_reading Error.OutOfMemory = true
 is_own_reading (Error.Custom text) = true
 is_own_reading _ = false
 
--- Those by which a reference may be refused: what the pager and the storage say of its key, and what the reading of its own blob
--- says. That a value isn't registered only a writer tells; that a key is taken, or a storage closed, only who stores.
+-- The errors with which resolving a reference may fail: those of the pager and of the storage about its key, and those
+-- of reading its blob. Not Unregistered, which only writers return, and not KeyTaken or Closed, which only storing
+-- returns.
 abbrev pub may_refuse_reference : Error → Bool
 may_refuse_reference Error.Unregistered = false
 may_refuse_reference Error.KeyTaken = false
 may_refuse_reference Error.Closed = false
 may_refuse_reference _ = true
 
--- the refusals of a writer by which a value has no form
+-- the errors with which a writer says that a value has no form
 abbrev pub is_writing_fault : Error → Bool
 is_writing_fault Error.TooLong = true
 is_writing_fault Error.TooDeep = true
 is_writing_fault Error.JsonNumber = true
 is_writing_fault _ = false
 
--- Those that a writer may answer at all: these three, a value that isn't registered, want of memory, and what it tells in words. What a pager, a storage or a reader refuses is none of them.
+-- All errors that a writer may return: these three, Unregistered, OutOfMemory, and a reason in words. It may not return
+-- an error that belongs to a pager, a storage or a reader.
 abbrev pub may_refuse_writing : Error → Bool
 may_refuse_writing Error.TooLong = true
 may_refuse_writing Error.TooDeep = true

@@ -1,26 +1,26 @@
--- Values that are written as an index: the registry that they stand in, as the list of its values by their index.
+-- Values that are written as an index into a registry, which is the list of its values by their index.
 use Rattle.std.{specs.Prelude.{◌≡◌, refl, ℕ, ◌<◌, List, map, Bool, true, false, Some, Ok, IsTrue}, proofs.Common.{subst, sym}, specs.List.slice_get}
 use Rattle.pagable_value_spec.specs.{declared.error.Error.Error, Refusals.may_refuse_writing, Meaning.Meaning, Reading.registered}
 
--- what the values mean, by their index
+-- what the registry's values mean, by their index
 abbrev pub meanings_of : {T : Type 0} → (T → Meaning ⊥) → List T → List (Meaning ⊥)
 meanings_of plain registry = map plain registry
 
--- an equal value stands under this index
+-- the registry has an equal value under this index
 pub record HasEqual {T : Type 0} (same : T → T → Bool) (value : T) (registry : List T) (i : ℕ) : Type 0 where
   pub known : T
   pub stands : slice_get registry i ≡ Some known
   pub equal : IsTrue (same value known)
 
--- no equal value stands below this index
+-- the registry has no equal value below this index
 abbrev pub NoEqualBelow : {T : Type 0} → (T → T → Bool) → T → List T → ℕ → Type 0
 NoEqualBelow {T} same value registry i = (j : ℕ) (known : T) → j < i → slice_get registry j ≡ Some known → same value known ≡ false
 
--- a value of this meaning stands under this index
+-- the registry has a value of this meaning under this index
 abbrev pub StandsAt : {T : Type 0} → (T → Meaning ⊥) → List T → T → ℕ → Type 0
 StandsAt plain registry value i = registered (meanings_of plain registry) i ≡ Ok (plain value)
 
--- the refusal of a value that doesn't stand there
+-- the error for a value that isn't in the registry
 abbrev pub unregistered : Error → Type 0
 unregistered e = e ≡ Error.Unregistered
 

@@ -1,21 +1,21 @@
--- What a storage may answer.
+-- What a storage may do and return.
 use Rattle.std.specs.{Prelude.{◌≡◌, ◌≢◌, ◌-◌, ◌^◌, ◌<◌, ◌==◌, ◌⊎◌, ◌↔◌, ℕ, Bool, true, List, length, Option, Some, None, IsSome, if◌then◌else◌}, List.{AllPairs, Contains}}
 use Rattle.pagable_value_spec.specs.{declared.error.Error.Error, Blob.Blob}
 
--- The blob stands under the key now, and what stood elsewhere still does; nothing else stood there.
+-- The blob is now stored under the key, where there was none or the same one, and nothing else changed.
 pub record Adds (key : ℕ) (blob : Blob) (old new : ℕ → Option Blob) : Type 0 where
   pub each : (q : ℕ) → new q ≡ (if q == key then Some blob else old q)
   pub free : (old key ≡ None) ⊎ (old key ≡ Some blob)
 
--- Each blob stands under its own key.
+-- Each blob is stored under its own key.
 abbrev pub AreNamed : (Blob → ℕ) → (ℕ → Option Blob) → Type 0
 AreNamed key_of stored = (key : ℕ) (blob : Blob) → stored key ≡ Some blob → key_of blob ≡ key
 
--- What stands under a key goes on standing there.
+-- What is stored under a key stays stored there.
 abbrev pub Keeps : (ℕ → Option Blob) → (ℕ → Option Blob) → Type 0
 Keeps old new = (key : ℕ) (blob : Blob) → old key ≡ Some blob → new key ≡ Some blob
 
--- the storage failed: its count rose, or stood at its end
+-- the storage failed: its count of failures rose, or was at its greatest already
 abbrev pub HasFailed : ℕ → ℕ → Type 0
 HasFailed before after = (before < after) ⊎ ((before ≡ 2 ^ 64 - 1) × (after ≡ before))
 
@@ -37,7 +37,7 @@ RefusesFlush before after Error.OutOfMemory = Unit {0}
 RefusesFlush before after (Error.Storage code) = HasFailed before after
 RefusesFlush before after _ = ⊥
 
--- the keys under which a blob stands are these, each named once, and they are so many
+-- count is the number of keys under which a blob is stored
 pub record IsCount (stored : ℕ → Option Blob) (count : ℕ) : Type 0 where
   pub keys : List ℕ
   pub once : AllPairs (λ a b. a ≢ b) keys

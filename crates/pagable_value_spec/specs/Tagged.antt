@@ -2,13 +2,13 @@
 use Rattle.std.specs.{Prelude.{◌≡◌, ℕ, ◌<◌, List, map, true, false, Some, ◌⊎◌}, List.slice_get, Str.bytes_eq}
 use Rattle.pagable_value_spec.specs.{declared.numbers.ArcRef.ArcRef, Meaning.Meaning, CarriedTypes.of_tagged, Canonical.{HasNoCase, IsReadable, Throughout}, Shape.Shape}
 
--- the tag with what the body means
+-- a tagged value means its tag with what the body means
 pub record MeansTagged (tag : List ℕ) (M : Meaning ArcRef → Type 0) (m : Meaning ArcRef) : Type 0 where
   pub body : Meaning ArcRef
   pub is_body : M body
   pub is : m ≡ of_tagged tag body
 
--- the readers' grammars in an environment, by their tags
+-- the shapes that the readers read in an environment, by their tags
 abbrev pub grammars : {F V : Type 0} → (F → V → Shape) → V → List (List ℕ × F) → List (List ℕ × Shape)
 grammars grammar e readers = map (λ r. (r.0, grammar r.1 e)) readers
 
@@ -25,7 +25,8 @@ NoneFor {F} tag readers = (j : ℕ) (r : List ℕ × F) → slice_get readers j 
 abbrev pub HasDistinctTags : List (List ℕ × Shape) → Type 0
 HasDistinctTags registrations = (i j : ℕ) (r s : List ℕ × Shape) → slice_get registrations i ≡ Some r → slice_get registrations j ≡ Some s → bytes_eq r.0 s.0 ≡ true → i ≡ j
 
--- Each tag under which a body has a form is registered, and each registered reader reads what is written under its tag, of which the forms are read again, with the parts of values in one blob.
+-- Each tag under which a body has a form is registered; and each registered reader reads what is written under its tag,
+-- and all of its forms can be read.
 pub record ReadsWhatIsWritten (parts : ℕ → Shape) (written : List ℕ → Shape) (registrations : List (List ℕ × Shape)) : Type 0 where
   pub each : (i : ℕ) (tag : List ℕ) (s : Shape) → slice_get registrations i ≡ Some (tag, s) → (s ≡ written tag) × Throughout IsReadable parts s
   pub all : (tag : List ℕ) → HasNoCase (written tag) ⊎ ((i : ℕ) × (slice_get registrations i ≡ Some (tag, written tag)))

@@ -1,18 +1,18 @@
--- Trees that never leave memory, and how the store spells them.
+-- Trees that never leave memory, and which trees a store holds under a key.
 use Rattle.std.specs.Prelude.{◌≡◌, ℕ, ◌/◌, List, Option, Some, Ok, ℤ}
 use Rattle.pagable_value_spec.specs.{Meaning.{Meaning, number, integer, text, pattern, none, pair, variant, reference, followed}, Shape.Shape, Reading.{Rest, Context, read_typed}, Blob.Blob}
 
--- a value type's number, and what its value means, with every reference followed
+-- the number of a value's type, and what the value means, with every reference followed
 pub record Tree : Type 0 where
   pub type : ℕ
   pub meaning : Meaning ⊥
 
--- a reference that isn't followed
+-- a reference that isn't followed: a key
 pub record KeyRef : Type 0 where
   pub kind : ℕ
   pub key : ℕ
 
--- how an environment spells the values of each node type that there is, and the parts that have numbers
+-- how an environment encodes each node type that exists, and the numbered parts
 pub record Types : Type 0 where
   pub nodes : ℕ → Option Shape
   pub parts : ℕ → Shape
@@ -26,22 +26,23 @@ tree type meaning = record { type = type; meaning = meaning }
 abbrev pub key_ref : ℕ → ℕ → KeyRef
 key_ref kind key = record { kind = kind; key = key }
 
--- reading a blob from its front, where a reference is its bare key
+-- reading a blob from its front, with each reference as its bare key
 abbrev pub blob_context : Types → Context ℕ KeyRef
 blob_context types = record { levels = 0; look = λ kind key. Ok (key_ref kind key); parts = types.parts }
 
--- what is left before anything of a blob is read
+-- a blob of which nothing has been read
 abbrev pub rest_of : Blob → Rest ℕ
 rest_of b = record { bytes = b.bytes; refs = b.keys }
 
--- The blob under the key reads as m, a value of this type, any rest being left over.
+-- The blob under the key reads as m, a value of this type. Bytes and keys may be left over.
 pub record ReadsAs (store : ℕ → Option Blob) (types : Types) (type key : ℕ) (m : Meaning KeyRef) : Type 0 where
   pub blob : Blob
   pub stored : store key ≡ Some blob
   pub rest : Rest ℕ
   pub reads : read_typed (blob_context types) (types.nodes type) (rest_of blob) ≡ Ok (m, rest)
 
--- A meaning with bare keys, and the same where each key is followed to what own says stands under it, as a value of the kind's type. By recursion on the tree.
+-- The second meaning is the first with each key followed: `own` says what a key holds, as a value of the kind's type.
+-- It is an inductive definition, so a ring of keys has no such meaning.
 pub data IsFollowed (own : ℕ → ℕ → Meaning KeyRef → Type 0) : Meaning KeyRef → Meaning ⊥ → Type 0 where
   number-followed : (n : ℕ) → IsFollowed own (number n) (number n)
   integer-followed : (z : ℤ) → IsFollowed own (integer z) (integer z)
@@ -52,7 +53,7 @@ pub data IsFollowed (own : ℕ → ℕ → Meaning KeyRef → Type 0) : Meaning 
   variant-followed : (n : ℕ) (x : Meaning KeyRef) (a : Meaning ⊥) → IsFollowed own x a → IsFollowed own (variant n x) (variant n a)
   reference-followed : (r : KeyRef) (x : Meaning KeyRef) (a : Meaning ⊥) → own (type_of r.kind) r.key x → IsFollowed own x a → IsFollowed own (reference r) (followed r.kind a)
 
--- The store spells the tree under the key. A ring of keys spells none.
+-- The store holds the tree under the key. With a ring of keys it holds none.
 pub record ReadsTree (store : ℕ → Option Blob) (types : Types) (key : ℕ) (tree : Tree) : Type 0 where
   pub own : Meaning KeyRef
   pub reads : ReadsAs store types tree.type key own

@@ -1,14 +1,14 @@
--- What was written so far, and what writing a value adds.
+-- What has been written so far, and what writing a value adds.
 use Rattle.std.specs.Prelude.{◌≡◌, ℕ, ◌+◌, ◌-◌, List, ◌++◌, length, take, drop, IsTrue}
 use Rattle.pagable_value_spec.specs.{declared.error.Error.Error, declared.numbers.ArcRef.ArcRef, declared.numbers.PagableCursor.PagableCursor, Refusals.is_writing_fault, Meaning.Meaning, Shape.Shape}
 use Rattle.pagable_value_spec.specs.{Reading.deepest, Form.{Form, Forms}}
 
--- the bytes, and the references in their order
+-- the bytes, and the references in order
 pub record Out : Type 0 where
   pub bytes : List ℕ
   pub refs : List ArcRef
 
--- how many levels were entered, and how the environment spells the parts that have numbers
+-- how many levels have been entered, and how the environment encodes the numbered parts
 pub record Nesting : Type 0 where
   pub levels : ℕ
   pub parts : ℕ → Shape
@@ -19,7 +19,7 @@ nesting levels parts = record { levels = levels; parts = parts }
 abbrev pub kind_of_arc : ArcRef → ℕ
 kind_of_arc r = r.kind.0
 
--- a form of a value that holds handles, with the levels that are left
+-- a form of a value that holds handles, within the levels that are left; below: of items
 abbrev pub FormAt : Nesting → Shape → Meaning ArcRef → List ℕ → List ArcRef → Type 0
 FormAt n s m b k = Form ArcRef kind_of_arc n.parts (deepest - n.levels) s m b k
 
@@ -29,35 +29,35 @@ FormsAt n s ms b k = Forms ArcRef kind_of_arc n.parts (deepest - n.levels) s ms 
 abbrev pub added : Out → List ℕ → List ArcRef → Out
 added out bytes refs = record { bytes = out.bytes ++ bytes; refs = out.refs ++ refs }
 
--- how many bytes and references were written
+-- how many bytes and references have been written
 abbrev pub end_of : Out → PagableCursor
 end_of out = record { byte_pos = length out.bytes; arc_index = length out.refs }
 
--- other bytes in the place of as many from a position on
+-- the bytes with `others` in the place of equally many from position `at` on
 abbrev pub overwritten : List ℕ → ℕ → List ℕ → List ℕ
 overwritten bytes at others = take at bytes ++ (others ++ drop (at + length others) bytes)
 
--- new is old with a form of the meaning at its end
+-- new is old followed by a form of the meaning
 pub record Writes (n : Nesting) (s : Shape) (m : Meaning ArcRef) (old new : Out) : Type 0 where
   pub bytes : List ℕ
   pub refs : List ArcRef
   pub form : FormAt n s m bytes refs
   pub grown : new ≡ added old bytes refs
 
--- the same of items, and of entries
+-- new is old followed by forms of the items
 pub record WritesAll (n : Nesting) (s : Shape) (ms : List (Meaning ArcRef)) (old new : Out) : Type 0 where
   pub bytes : List ℕ
   pub refs : List ArcRef
   pub form : FormsAt n s ms bytes refs
   pub grown : new ≡ added old bytes refs
 
--- new begins with what stood in old
+-- new is old with something added
 pub record Grows (old new : Out) : Type 0 where
   pub bytes : List ℕ
   pub refs : List ArcRef
   pub grown : new ≡ added old bytes refs
 
--- the value that means this has no form here
+-- the meaning has no form here; below: the items have none
 abbrev pub NoForm : Nesting → Shape → Meaning ArcRef → Type 0
 NoForm n s m = (bytes : List ℕ) (refs : List ArcRef) → FormAt n s m bytes refs → ⊥
 
@@ -86,7 +86,7 @@ pub record NoFormsOfSome (M : List (Meaning ArcRef) → Type 0) (n : Nesting) (s
   pub is : M ms
   pub no_forms : NoForms n s ms
 
--- a refusal that says that a value has no form is right
+-- if the error says that a value has no form, then one of the meanings has none
 abbrev pub Refused : (Meaning ArcRef → Type 0) → Nesting → Shape → Error → Type 0
 Refused M n s e = IsTrue (is_writing_fault e) → NoFormOfSome M n s
 

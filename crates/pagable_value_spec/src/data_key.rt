@@ -6,7 +6,7 @@ ghost use Rattle.pagable_value_spec.specs.declared.data_key.OptionalDataKey.TheV
 use std::fmt;
 use std::marker::Model;
 
-/// The key of a blob, a number of 128 bits that is never 0.
+/// The key of a blob: a number of 128 bits that is never 0.
 #[derive(Clone, Copy, Debug, PartialEq, Eq, Hash)]
 pub struct DataKey {
     number: u128,
@@ -25,7 +25,7 @@ impl Model for DataKey {
 }
 
 impl DataKey {
-    /// The key of this number, or None for 0.
+    /// Returns the key with this number, or None for 0.
     pub fn new(number: u128) -> Option<DataKey>
         ensures valid { IsSome result ↔ (0 < number) }
         ensures value { IfSome result (λ k. k ≡ number) }
@@ -36,7 +36,7 @@ impl DataKey {
         Some(DataKey { number })
     }
 
-    /// The key's number, above 0.
+    /// Returns the key's number, which is above 0.
     pub fn get(self) -> u128
         ensures value { result ≡ self }
         ensures above { 0 < result }
@@ -45,7 +45,7 @@ impl DataKey {
     }
 }
 
-/// The number, in decimal digits.
+/// Writes the number in decimal digits.
 impl fmt::Display for DataKey {
     ghost output = { λ k. Some (decimal k) };
 
@@ -54,7 +54,7 @@ impl fmt::Display for DataKey {
     }
 }
 
-/// A key, or none yet.
+/// A key, or none.
 #[derive(Clone, Copy, Debug, PartialEq, Eq, Hash)]
 pub enum OptionalDataKey {
     None,
@@ -62,21 +62,21 @@ pub enum OptionalDataKey {
 }
 
 impl OptionalDataKey {
-    /// Whether there is a key.
+    /// Returns whether there is a key.
     pub fn is_some(&self) -> bool
         ensures { IsTrue result ↔ (self.now ≢ OptionalDataKey.None) }
     {
         !self.is_none()
     }
 
-    /// Whether there is no key.
+    /// Returns whether there is no key.
     pub fn is_none(&self) -> bool
         ensures { IsTrue result ↔ (self.now ≡ OptionalDataKey.None) }
     {
         matches!(self, OptionalDataKey::None)
     }
 
-    /// The key, which has to be there.
+    /// Returns the key. The caller must know that there is one.
     pub fn unwrap(self) -> DataKey
         requires { self ≢ OptionalDataKey.None }
         ensures { self ≡ OptionalDataKey.Some result }

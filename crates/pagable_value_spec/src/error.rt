@@ -1,4 +1,4 @@
-//! Why something is refused, and what to do next.
+//! Why a call fails, and what to do next.
 
 ghost use Rattle.pagable_value_spec.specs.{Refusals.number_of, declared.error.Error.TheVariants.OutOfMemory};
 ghost use Rattle.std.specs.Prelude.{if◌then◌else◌, ◌≡◌};
@@ -7,7 +7,7 @@ use crate::data_key::DataKey;
 use crate::reason::Reason;
 use std::alloc::{AllocError, AllocFailed};
 
-/// Every refusal of these crates, in the order of their numbers, which begin at 1.
+/// The errors of these crates, in the order of their numbers, which begin at 1.
 #[derive(Clone, Copy, Debug, PartialEq, Eq, thiserror::Error)]
 pub enum Error {
     /// The input ends inside a value.
@@ -16,7 +16,7 @@ pub enum Error {
     /// A varint has more bytes than its width allows, or its last byte is too large.
     #[error("a number has too many bytes, or its last byte is too large: read the type that was written")]
     BadVarint,
-    /// A byte that is neither 0 nor 1 stands where a flag is read.
+    /// A flag is read, and its byte is neither 0 nor 1.
     #[error("a flag is neither 0 nor 1: read the type that was written")]
     BadBool,
     /// A text isn't UTF-8.
@@ -25,10 +25,11 @@ pub enum Error {
     /// A text that is read as one character has none, or more than one.
     #[error("a text isn't exactly one character: read the type that was written")]
     BadChar,
-    /// A length, or a count of static entries, is above 4,294,967,295.
+    /// A length, or the number of registered static values, is above 4,294,967,295.
     #[error("a length is above 4294967295: split the value")]
     TooLong,
-    /// More than 128 levels inside one blob, or more than 128 references on one path; a ring of references too.
+    /// A value enters more than 128 levels in one blob, or a path has more than 128 references. A
+    /// ring of references has no end and fails so too.
     #[error("more than 128 levels or references on one path: refer by PagableArc, and in no ring")]
     TooDeep,
     /// The case of a JSON value is above 5.
@@ -40,7 +41,7 @@ pub enum Error {
     /// The seconds of a duration overflow 64 bits.
     #[error("the seconds of a duration overflow: read the type that was written")]
     BadDuration,
-    /// A pattern is refused for another cause than memory.
+    /// The regular expression library refuses a pattern, for another cause than memory.
     #[error("a pattern is refused: mend the pattern")]
     RegexRefused,
     /// A tag isn't registered.
@@ -52,46 +53,48 @@ pub enum Error {
     /// A static value isn't in the environment's registry.
     #[error("a static value isn't in the environment's registry: register it")]
     Unregistered,
-    /// A reference is read, and no key is left.
+    /// A value has one more reference to read, and its blob has no more keys.
     #[error("a reference is read and no key is left: hand in all keys of the blob")]
     NoMoreKeys,
     /// The store has no blob under this key.
     #[error("the store has no blob under the key {0}: store it again")]
     NoData(DataKey),
-    /// The type of a kind or of a cell differs from its node's type, or there is no such node type.
+    /// The type of a kind or of a cell differs from its node's type, or no node has such a type.
     #[error("the type of a kind or cell isn't that of its node: ask for the type that was inserted")]
     WrongKind,
-    /// Nothing live has this number, or the handle isn't at the node that its reference names.
+    /// Nothing live has this number, or the handle isn't one of the node that its reference names.
     #[error("nothing live has this number: it was released, or never given out")]
     NoSuchHandle,
-    /// The handle's mode doesn't fit the call or the kind, or the load was begun by another call than this one needs.
+    /// The handle's mode doesn't fit the call or the kind, or another call than this one's
+    /// counterpart began the load.
     #[error("the handle's mode doesn't fit: pin and unpin a loose one, refer by its own mode, end a load as it began")]
     WrongMode,
-    /// The handle is owned by another than the one who asks, or is named twice, or a worker began the load.
+    /// Another owner than the caller has the handle, the call names the handle twice, or a worker
+    /// began the load.
     #[error("the handle belongs to a value, a load or a worker, or is named twice: clone it first")]
     NotYours,
-    /// No number is left to give out.
+    /// The pager has no number left to give out.
     #[error("no number is left: go on with a new pager")]
     NumbersSpent,
-    /// A growth was refused.
+    /// An allocation failed.
     #[error("out of memory: release what can go, and call again")]
     OutOfMemory,
     /// The storage failed during this call, with a code of its own.
     #[error("the storage failed with code {0}: see there what that means, and call again")]
     Storage(u32),
-    /// Another blob stands under the key.
+    /// The store has another blob under the key.
     #[error("another blob stands under the key: take a hash of keys without collisions")]
     KeyTaken,
-    /// The storage was closed.
+    /// The storage is closed.
     #[error("the storage was closed: go on with a new one")]
     Closed,
-    /// A caller's own implementation refused, and says why.
+    /// A caller's own implementation fails with a reason in its own words.
     #[error("{0}")]
     Custom(Reason),
 }
 
 impl Error {
-    /// Answers the refusal's number, from 1 to 26, as programs print it.
+    /// Returns the error's number, from 1 to 26, as programs print it.
     pub fn number(&self) -> u32
         ensures { result ≡ number_of self.now }
     {
@@ -125,7 +128,7 @@ impl Error {
         }
     }
 
-    /// Parts what a refused growth answers: OutOfMemory, and the value that found no room.
+    /// Splits a failed allocation into `OutOfMemory` and the value that found no room.
     pub fn parted<T>(refused: AllocFailed<T>) -> (Error, T)
         ensures refusal { result.0 ≡ OutOfMemory }
         ensures value { result.1 ≡ refused.value }
@@ -133,8 +136,8 @@ impl Error {
         (out_of_memory(), refused.value)
     }
 
-    /// Names what another library refuses, whose own error says whether a growth was refused: OutOfMemory then, and else
-    /// the other refusal.
+    /// Returns the error for a failure of another library: `OutOfMemory` if `is_memory` says that
+    /// an allocation failed, and `other` if not.
     pub fn of_library(is_memory: bool, other: Error) -> Error
         ensures { result ≡ (if is_memory then OutOfMemory else other) }
     {
@@ -142,7 +145,7 @@ impl Error {
     }
 }
 
-/// Want of memory. It is made here alone, of what a growth answers that was refused.
+/// Returns `OutOfMemory`. Only this function makes it, and only for a failed allocation.
 fn out_of_memory() -> Error
     ensures { result ≡ OutOfMemory }
 {
@@ -165,7 +168,7 @@ impl<T: Drop> From<AllocFailed<T>> for Error {
     }
 }
 
-/// What gives a value back where it is refused comes down to the refusal, and the value is dropped, so that `?` takes it.
+/// Drops the value that a failed call hands back and keeps the error, so that `?` works.
 impl<T: Drop> From<(Error, T)> for Error {
     ghost from_gives = { λ refused e. e ≡ refused.0 };
 
@@ -175,7 +178,7 @@ impl<T: Drop> From<(Error, T)> for Error {
     }
 }
 
-/// The same of what gives two values back.
+/// Drops the two values that a failed call hands back and keeps the error, so that `?` works.
 impl<K: Drop, V: Drop> From<(Error, K, V)> for Error {
     ghost from_gives = { λ refused e. e ≡ refused.0 };
 

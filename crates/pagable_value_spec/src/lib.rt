@@ -1,5 +1,5 @@
-//! The words that all other crates speak: refusals, keys, kinds and numbers, and in `specs/` what values
-//! mean, how they are spelled and read, and which key a blob has.
+//! What all other crates name: errors, keys, kinds and numbers; in `specs/` the meaning of values,
+//! their encoding (writing and reading), and the key of a blob.
 #![tactic(auto)]
 
 pub mod data_key;

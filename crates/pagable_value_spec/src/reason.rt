@@ -1,4 +1,4 @@
-//! Why a caller's own implementation refuses.
+//! Why a caller's own implementation fails.
 
 ghost use Rattle.std.specs.{Prelude.{length, take, true, ◌+◌, ◌++◌, ◌≡◌, ◌≤◌}, Str.is_utf8};
 
@@ -7,16 +7,17 @@ use std::fmt;
 /// How many bytes a reason has room for.
 pub const REASON_BYTES: usize = 61;
 
-/// What ends a reason of which a part was cut.
+/// What ends a reason whose text was cut.
 const CUT_MARK: &str = "..";
 
-/// How many bytes of a text are kept where it is cut, which leaves room for the mark.
+/// How many bytes of a cut text are kept: 61 less the two of `..`.
 const CUT_BYTES: usize = 59;
 
-/// Why a caller's own implementation refuses, in its words.
+/// Why a caller's own implementation fails, in its own words.
 ///
-/// A reason takes no memory and is copied like a number. A text of up to 61 bytes is kept whole. Of a longer one the
-/// first 59 bytes are kept, up to the end of a character, and `..` shows that it was cut. `write!` writes to it.
+/// A reason owns no memory and is copied like a number. It keeps a text of up to 61 bytes whole. Of
+/// a longer text it keeps the first 59 bytes, or fewer so as not to split a character, and ends
+/// with `..`. `write!` writes to it.
 #[derive(Clone, Copy, PartialEq, Eq)]
 pub struct Reason {
     bytes: [u8; REASON_BYTES],
@@ -26,7 +27,7 @@ pub struct Reason {
     ghost whole: { is_utf8 (take length bytes) ≡ true },
 }
 
-/// Writes a text into these bytes at a place, which has room for it.
+/// Copies `text` into `bytes` at `place`. The caller makes sure that there is room.
 fn put(bytes: &mut [u8], place: usize, text: &[u8])
     requires { place + length text.now ≤ length bytes.old }
     ensures written { take (place + length text.now) bytes.new ≡ take place bytes.old ++ text.now }
@@ -39,14 +40,14 @@ impl Reason {
     ghost use Rattle.pagable_value_spec.specs.Reasons.{IsCut, IsKept, kept_of};
     ghost use Rattle.std.specs.Prelude.{[], false, ◌<◌};
 
-    /// Makes the reason that is this text.
+    /// Makes the reason with this text.
     pub fn new(text: &str) -> Reason
         ensures { IsKept text.now result }
     {
         Reason::empty().with(text)
     }
 
-    /// The text, and `..` where it was cut.
+    /// Returns the text, which ends with `..` if it was cut.
     pub fn as_str(&self) -> &str
         ensures { result.now ≡ kept_of self.now }
     {
@@ -56,7 +57,7 @@ impl Reason {
         }
     }
 
-    /// No text yet.
+    /// Makes a reason with no text.
     fn empty() -> Reason
         ensures value { kept_of result ≡ [] }
         ensures whole { result.is_cut ≡ false }
@@ -69,7 +70,7 @@ impl Reason {
         }
     }
 
-    /// Adds a text to one that is whole, and cuts them where both together are too long.
+    /// Adds `text` to a reason that isn't cut, and cuts both together if they are too long.
     #[tactic(auto, using(crate::proofs::Cut::kept_no_room, crate::proofs::Cut::kept_room))]
     fn with(self, text: &str) -> Reason
         requires { self.is_cut ≡ false }
@@ -81,7 +82,7 @@ impl Reason {
         self.cut_with(text)
     }
 
-    /// Adds a text for which there is no room.
+    /// Adds a text for which there is no room, and cuts.
     fn cut_with(&self, text: &str) -> Reason
         requires { 61 < self.now.length + length text.now }
         ensures kept { IsCut (kept_of self.now ++ text.now) (kept_of result) }
@@ -112,7 +113,7 @@ impl Reason {
     }
 }
 
-/// Adds to the text. What comes after a cut is dropped, and nothing is refused.
+/// Adds to the text. Ignores what is written after a cut, and never fails.
 impl fmt::Write for Reason {
     ghost use Rattle.pagable_value_spec.specs.Reasons.{IsKept};
     ghost use Rattle.std.specs.Prelude.{List, ℕ, ◌++◌};
@@ -128,7 +129,7 @@ impl fmt::Write for Reason {
     }
 }
 
-/// The text as it is.
+/// Writes the text as it is.
 impl fmt::Display for Reason {
     ghost use Rattle.pagable_value_spec.specs.Reasons.{kept_of};
     ghost use Rattle.std.specs.Prelude.{Some};
@@ -140,7 +141,7 @@ impl fmt::Display for Reason {
     }
 }
 
-/// The text in quotes.
+/// Writes the text in quotes.
 impl fmt::Debug for Reason {
     fn fmt<W: fmt::Write>(&self, f: &mut fmt::Formatter<W>) -> fmt::Result {
         write!(f, "{:?}", self.as_str())

@@ -1,4 +1,4 @@
-//! Numbers of several bytes, byte by byte.
+//! Varints are read byte by byte.
 
 ghost use Rattle.std.specs.Prelude.{◌≡◌, ◌≤◌, ◌<◌, ◌^◌, IfOk, MatchOption, drop, length};
 ghost use Rattle.{pagable_flavors.specs.Calls.Reads, pagable_value_spec.specs.{Outcomes.{Gives, never}, Numbers.{byte_at, varint_at, varint_limit}, Progress.{left, GoesOn}}};
@@ -6,7 +6,8 @@ ghost use Rattle.{pagable_flavors.specs.Calls.Reads, pagable_value_spec.specs.{O
 use super::PagableSlice;
 use pagable_value_spec::Error;
 
-// The number at the front, of at most `more` bytes with the top bit set and one that is at most `last`, and how many bytes it takes.
+// Returns the number at the front and how many bytes it takes: at most `more` bytes with the top
+// bit set, and then one that is at most `last`.
 #[tactic(auto, using(crate::proofs::Varint::reading))]
 fn varint_of(bytes: &[u8], more: usize, last: u8) -> Result<(u64, usize), Error>
     requires ends { (0 < last) × (last < 128) }
@@ -30,7 +31,7 @@ fn varint_of(bytes: &[u8], more: usize, last: u8) -> Result<(u64, usize), Error>
     Err(Error::UnexpectedEnd)
 }
 
-// The same of 128 bits.
+// Does what `varint_of` does, for 128 bits.
 #[tactic(auto, using(crate::proofs::Varint::reading))]
 pub(super) fn wide_varint_of(bytes: &[u8], more: usize, last: u8) -> Result<(u128, usize), Error>
     requires ends { (0 < last) × (last < 128) }
@@ -54,7 +55,7 @@ pub(super) fn wide_varint_of(bytes: &[u8], more: usize, last: u8) -> Result<(u12
 }
 
 impl<'de> PagableSlice<'de> {
-    // The next byte, if its top bit isn't set; else nothing moves.
+    // Reads the next byte if its top bit isn't set; otherwise leaves the position.
     pub(super) fn short(&mut self) -> Option<u8>
         ensures reads { MatchOption result (self.new ≡ self.old) (λ b. (b < 128) × (byte_at (left self.old) ≡ Ok (b, left self.new))) }
         ensures goes { GoesOn self.old self.new }
@@ -67,8 +68,9 @@ impl<'de> PagableSlice<'de> {
         Some(byte)
     }
 
-    // The next number, of at most `more` bytes with the top bit set and one that is at most `last`. It stays a call, so that a
-    // number of one byte is short wherever it is read.
+    // Reads the next number: at most `more` bytes with the top bit set, and then one that is at
+    // most `last`. It isn't inlined, so that the path for a number of one byte stays short in its
+    // callers.
     #[inline(never)]
     pub(super) fn varint(&mut self, more: usize, last: u8) -> Result<u64, Error>
         requires ends { (0 < last) × (last < 128) }

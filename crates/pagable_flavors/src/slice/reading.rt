@@ -1,4 +1,4 @@
-//! Basic values are read, and texts and byte arrays that stay where they are.
+//! Reads basic values, and texts and byte arrays without copying them.
 
 ghost use Rattle.pagable_value_spec.specs.{BasicValues.{byte_array_at, text_at}, Outcomes.{Gives, never}, Progress.{GoesOn, left}};
 ghost use Rattle.std.specs.Prelude.{◌≡◌};
@@ -122,7 +122,13 @@ impl Reader for PagableSlice<'_> {
 }
 
 impl<'de> PagableSlice<'de> {
-    /// A text, which stays where it is among the bytes. `TooLong`, then `UnexpectedEnd`, then `BadUtf8`.
+    /// Reads a text without copying it.
+    ///
+    /// # Errors
+    ///
+    /// - those of `read_len`.
+    /// - `UnexpectedEnd` if the input ends inside the text.
+    /// - `BadUtf8` if the text isn't UTF-8.
     #[tactic(auto, using(crate::proofs::Basic::utf8_tests), unfolding(pagable_value_spec::specs::BasicValues::text_at))]
     pub fn read_str(&mut self) -> Result<&'de str, Error>
         ensures gives { Gives never (λ t. (t.now, left self.new)) result (text_at (left self.old)) }
@@ -133,7 +139,12 @@ impl<'de> PagableSlice<'de> {
         str::from_utf8(bytes).or(Err(Error::BadUtf8))
     }
 
-    /// A byte array, which stays where it is among the bytes. `TooLong`, then `UnexpectedEnd`.
+    /// Reads a byte array without copying it.
+    ///
+    /// # Errors
+    ///
+    /// - those of `read_len`.
+    /// - `UnexpectedEnd` if the input ends inside the array.
     #[tactic(auto, unfolding(pagable_value_spec::specs::BasicValues::byte_array_at))]
     pub fn read_bytes(&mut self) -> Result<&'de [u8], Error>
         ensures gives { Gives never (λ b. (b.now, left self.new)) result (byte_array_at (left self.old)) }

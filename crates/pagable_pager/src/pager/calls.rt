@@ -1,4 +1,5 @@
-//! Handles that come to live nodes and go, what is asked of them, pins that begin, the list of cells that wait for page-out, the cache and room; and what page-out workers ask.
+//! Calls on live handles: cloning, pinning, releasing and queries; the list of cells that wait for
+//! page-out; the cache and room; and the calls of page-out workers.
 #![tactic(auto, using(crate::proofs::Invariant::handling))]
 
 ghost use Rattle.std.specs.{Option.option_map, Prelude.{IfErr, IfNone, IfOk, IfSome, IsSome, length, true, ◌<◌, ◌≡◌, ◌≤◌}};
@@ -23,7 +24,7 @@ use pagable_value_spec::{
     WorkerNumber,
 };
 
-/// The loose kind of a value type, where the type has kinds.
+/// Returns the loose kind of a value type, if the type's kinds fit 32 bits.
 fn loose_kind_of(node_type: u32) -> Option<Kind>
     ensures some { IfSome result (λ kind. (kind.0 ≡ loose_kind node_type) × HasKinds node_type) }
     ensures none { IfNone result (HasNoKinds node_type) }
@@ -36,7 +37,14 @@ fn loose_kind_of(node_type: u32) -> Option<Kind>
 }
 
 impl<E: Env<Node: NodeSet<E>>, S: PagableStorage<E>> Pager<E, S> {
-    /// One more handle of the node of a live handle, of the same mode, which is the caller's: a clone of a pinning handle pins. Refused with NoSuchHandle, NumbersSpent and OutOfMemory.
+    /// Clones any live handle: makes a handle of its node and mode for the caller. A clone of a
+    /// pinning handle pins.
+    ///
+    /// # Errors
+    ///
+    /// - `NoSuchHandle` if the handle isn't live.
+    /// - `NumbersSpent` if no number is left for a handle.
+    /// - `OutOfMemory` if the handle can't be allocated.
     pub fn clone(&mut self, handle: HandleNumber) -> Result<HandleNumber, Error>
         ensures { Calls OnlyTables (telling S.stored S.is_closed S.failed) self.old (λ w w'. CloneCall w Owner.Caller handle result w') self.new }
     {
@@ -54,15 +62,30 @@ impl<E: Env<Node: NodeSet<E>>, S: PagableStorage<E>> Pager<E, S> {
         create::clone(&mut self.tables, me, handle)
     }
 
-    /// A Pinned handle becomes a loose pinned one, and keeps its number. It takes no memory. Refused with NoSuchHandle, NotYours, and WrongMode where the handle isn't Pinned.
+    /// Turns a Pinned handle into a loose pinned one, which keeps its number. It allocates nothing.
+    ///
+    /// # Errors
+    ///
+    /// - `NoSuchHandle` if the handle isn't live.
+    /// - `NotYours` if another than the caller has it.
+    /// - `WrongMode` if it isn't Pinned.
     pub fn into_pagable(&mut self, handle: HandleNumber) -> Result<HandleNumber, Error>
         ensures { Calls OnlyTables (telling S.stored S.is_closed S.failed) self.old (λ w w'. LoosenCall w Owner.Caller handle result w') self.new }
     {
         create::into_pagable(&mut self.tables, Owner::Caller, handle)
     }
 
-    /// A loose handle becomes pinned, and a new Pinned handle is answered; or the key under which the value has to be loaded first, where it isn't in memory,
-    /// and then nothing changes. Refused with NoSuchHandle, NotYours, WrongMode where the handle isn't loose, NumbersSpent and OutOfMemory.
+    /// Pins by a loose handle: the handle becomes pinned, and a new Pinned handle is returned. If
+    /// the value isn't in memory, returns the key from which the caller has to load it first, and
+    /// changes nothing.
+    ///
+    /// # Errors
+    ///
+    /// - `NoSuchHandle` if the handle isn't live.
+    /// - `NotYours` if another than the caller has it.
+    /// - `WrongMode` if it isn't loose.
+    /// - `NumbersSpent` if no number is left for a handle.
+    /// - `OutOfMemory` if the handle can't be allocated.
     pub fn pin(&mut self, handle: HandleNumber) -> Result<Pinning, Error>
         ensures { Calls OnlyTables (telling S.stored S.is_closed S.failed) self.old (λ w w'. PinCall w Owner.Caller handle result w') self.new }
     {
@@ -76,42 +99,59 @@ impl<E: Env<Node: NodeSet<E>>, S: PagableStorage<E>> Pager<E, S> {
         create::pin(&mut self.tables, me, handle)
     }
 
-    /// How many handles pin the node. Refused with NoSuchHandle.
+    /// Returns how many handles pin the handle's node.
+    ///
+    /// # Errors
+    ///
+    /// - `NoSuchHandle` if the handle isn't live.
     pub fn count(&self, handle: HandleNumber) -> Result<u64, Error>
         ensures { CountCall (core_in (telling S.stored S.is_closed S.failed) self.now) handle result }
     {
         queries::count(&self.tables, handle)
     }
 
-    /// The node's key, if it has one. Refused with NoSuchHandle.
+    /// Returns the key of the handle's node, if it has one.
+    ///
+    /// # Errors
+    ///
+    /// - `NoSuchHandle` if the handle isn't live.
     pub fn key(&self, handle: HandleNumber) -> Result<OptionalDataKey, Error>
         ensures { KeyCall (core_in (telling S.stored S.is_closed S.failed) self.now) handle result }
     {
         queries::key(&self.tables, handle)
     }
 
-    /// Whether the node's value isn't in memory. Refused with NoSuchHandle.
+    /// Returns whether the value of the handle's node isn't in memory.
+    ///
+    /// # Errors
+    ///
+    /// - `NoSuchHandle` if the handle isn't live.
     pub fn is_paged_out(&self, handle: HandleNumber) -> Result<bool, Error>
         ensures { AwayCall (core_in (telling S.stored S.is_closed S.failed) self.now) handle result }
     {
         queries::is_paged_out(&self.tables, handle)
     }
 
-    /// The node of a handle. Refused with NoSuchHandle.
+    /// Returns the node of a handle.
+    ///
+    /// # Errors
+    ///
+    /// - `NoSuchHandle` if the handle isn't live.
     pub fn node_of(&self, handle: HandleNumber) -> Result<NodeNumber, Error>
         ensures { NodeCall (core_in (telling S.stored S.is_closed S.failed) self.now) handle result }
     {
         queries::node_of(&self.tables, handle)
     }
 
-    /// The number of the node's value type, or None where the node is gone.
+    /// Returns the number of the node's value type; None if the node is gone.
     pub fn node_live(&self, node: NodeNumber) -> Option<u32>
         ensures { TypeCall (core_in (telling S.stored S.is_closed S.failed) self.now) node result }
     {
         queries::node_live(&self.tables, node)
     }
 
-    // The reference that stands for a live handle, as this kind. Of one that isn't live it names no node.
+    // Makes the reference of this kind by a live handle. If the handle isn't live, the reference
+    // names no node.
     pub(crate) fn reference(&self, kind: Kind, handle: HandleNumber) -> ArcRef
         ensures made { IsSome (row_at (core_in (telling S.stored S.is_closed S.failed) self.now) handle) → IsMade (core_in (telling S.stored S.is_closed S.failed) self.now) kind result }
         ensures handle { result.handle ≡ handle }
@@ -123,7 +163,7 @@ impl<E: Env<Node: NodeSet<E>>, S: PagableStorage<E>> Pager<E, S> {
         ArcRef { kind, node, handle }
     }
 
-    /// Whether the handle is live, loose and pins nothing.
+    /// Returns whether the handle is live, loose and unpinned.
     fn is_unpinned(&self, handle: HandleNumber) -> bool
         ensures { result ≡ is_unpinned_at (core_in (telling S.stored S.is_closed S.failed) self.now) handle }
     {
@@ -133,7 +173,8 @@ impl<E: Env<Node: NodeSet<E>>, S: PagableStorage<E>> Pager<E, S> {
         }
     }
 
-    /// The type as which an open load of a cell reads its root; None where the load is of a key, or isn't open.
+    /// Returns the type as which an open load of a cell reads its root; None if it is a load of a
+    /// key, or isn't open.
     pub fn load_type(&self, load: LoadNumber) -> Option<u32>
         ensures { result ≡ option_map (λ (r : Reading). r.node_type) (reading_of_load load ((core_in (telling S.stored S.is_closed S.failed) self.now).loads load.0)) }
     {
@@ -141,7 +182,12 @@ impl<E: Env<Node: NodeSet<E>>, S: PagableStorage<E>> Pager<E, S> {
         cell_type(row.root)
     }
 
-    /// A pin of a loose handle as `pin` makes it, where its value is in memory, and else a load of its cell as `load_begin` opens it, refused as these.
+    /// Pins a loose handle if its value is in memory, as `pin` does; otherwise begins a load of its
+    /// cell, as `load_begin` does.
+    ///
+    /// # Errors
+    ///
+    /// - those of `pin` and `load_begin`.
     pub fn begin_pin(&mut self, handle: HandleNumber) -> Result<PinStart, Error>
         ensures { Calls OnlyTables (telling S.stored S.is_closed S.failed) self.old (λ w w'. StartsPin w Owner.Caller handle result w') self.new }
     {
@@ -172,7 +218,8 @@ impl<E: Env<Node: NodeSet<E>>, S: PagableStorage<E>> Pager<E, S> {
         }
     }
 
-    /// The entry at this place of the list moves to the caller, as a loose unpinned handle. None past the end.
+    /// Takes the list entry at this place for the caller, as a loose unpinned handle. Returns None
+    /// past the list's end.
     pub fn take_pending(&mut self, place: usize) -> Option<HandleNumber>
         ensures { Calls OnlyTables (telling S.stored S.is_closed S.failed) self.old (λ w w'. TakeCall w Owner.Caller place result w') self.new }
     {
@@ -186,8 +233,15 @@ impl<E: Env<Node: NodeSet<E>>, S: PagableStorage<E>> Pager<E, S> {
         pending::take_pending(&mut self.tables, me, place)
     }
 
-    /// A loose unpinned handle moves to the list's end. Once the storage is closed it is given up as `release` does. Refused with NoSuchHandle, NotYours, WrongMode
-    /// where the handle isn't unpinned, and OutOfMemory.
+    /// Puts a loose unpinned handle at the end of the list. After the storage was closed, releases
+    /// it instead, as `release` does.
+    ///
+    /// # Errors
+    ///
+    /// - `NoSuchHandle` if the handle isn't live.
+    /// - `NotYours` if another than the caller has it.
+    /// - `WrongMode` if it isn't loose and unpinned.
+    /// - `OutOfMemory` if the list can't grow.
     pub fn schedule_for_paging(&mut self, handle: HandleNumber) -> Result<(), Error>
         ensures { Calls OnlyLess (telling S.stored S.is_closed S.failed) self.old (λ w w'. ScheduleCall w Owner.Caller handle result w') self.new }
     {
@@ -206,16 +260,31 @@ impl<E: Env<Node: NodeSet<E>>, S: PagableStorage<E>> Pager<E, S> {
         pending::schedule_for_paging(&mut self.tables, &mut self.values, me, handle, lists)
     }
 
-    /// A new handle, in the kind's mode, of the node that the cache knows under a kind and a key; or None, where it knows none that is alive and, for a kind of
-    /// Pinned handles, has its value in memory. Refused with NumbersSpent and OutOfMemory.
+    /// Returns a new handle, in the kind's mode, of the node that the cache has under a kind and a
+    /// key; None if it has none that is live and, for a pinned kind, has its value in memory.
+    ///
+    /// # Errors
+    ///
+    /// - `NumbersSpent` if no number is left for a handle.
+    /// - `OutOfMemory` if the handle can't be allocated.
     pub fn cache_get(&mut self, kind: Kind, key: DataKey) -> Result<Option<HandleNumber>, Error>
         ensures { Calls OnlyTables (telling S.stored S.is_closed S.failed) self.old (λ w w'. RecallCall w Owner.Caller kind key result w') self.new }
     {
         cache::cache_get(&mut self.tables, Owner::Caller, kind, key)
     }
 
-    /// The cache learns a handle's node under a kind and a key. Where it gives a node already, a new handle of that is answered, in the kind's mode, and the handle is given up as `release` does. Once
-    /// the storage is closed the handle itself is answered. Refused with NoSuchHandle, NotYours, WrongMode and WrongKind where the handle can't stand under the kind, NumbersSpent and OutOfMemory.
+    /// Caches the handle's node under a kind and a key and returns None. If a usable node is cached
+    /// there already, makes a new handle of that node in the kind's mode, releases `handle` as
+    /// `release` does, and returns the new one. After `close`, returns `handle`.
+    ///
+    /// # Errors
+    ///
+    /// - `NoSuchHandle` if the handle isn't live.
+    /// - `NotYours` if another than the caller has it.
+    /// - `WrongMode` if its mode doesn't fit the kind.
+    /// - `WrongKind` if its node's type isn't the kind's.
+    /// - `NumbersSpent` if no number is left for the new handle.
+    /// - `OutOfMemory` if the new handle or the cache's entry can't be allocated.
     pub fn on_arc_deserialized(
         &mut self,
         kind: Kind,
@@ -229,36 +298,50 @@ impl<E: Env<Node: NodeSet<E>>, S: PagableStorage<E>> Pager<E, S> {
         cache::offer(tables, values, Owner::Caller, kind, key, handle, lists)
     }
 
-    /// How many cells wait for page-out.
+    /// Returns how many list entries wait for page-out.
     pub fn pending(&self) -> usize
         ensures { result ≡ length (core_in (telling S.stored S.is_closed S.failed) self.now).list }
     {
         queries::pending(&self.tables)
     }
 
-    /// How many handles and entries of the list can still come without a request for memory.
+    /// Returns how many handles, and how many list entries, can be added without an allocation: the
+    /// smaller number.
     pub fn room(&self) -> usize
         ensures { result ≡ room_of (core_in (telling S.stored S.is_closed S.failed) self.now) }
     {
         tables::room(&self.tables)
     }
 
-    /// Makes `room` at least as much, and changes nothing else. Refused with OutOfMemory.
+    /// Makes `room` at least this much, and changes nothing else.
+    ///
+    /// # Errors
+    ///
+    /// - `OutOfMemory` if the allocation fails.
     pub fn reserve(&mut self, more: usize) -> Result<(), Error>
         ensures { Calls OnlyTables (telling S.stored S.is_closed S.failed) self.old (λ w w'. ReserveCall w more result w') self.new }
     {
         tables::reserve(&mut self.tables, more)
     }
 
-    /// The cache forgets all that it knows. It isn't refused.
+    /// Empties the cache. Never fails.
     pub fn cache_clear(&mut self) -> Result<(), Error>
         ensures { Calls OnlyTables (telling S.stored S.is_closed S.failed) self.old (λ w w'. ClearCall w result w') self.new }
     {
         tables::cache_clear(&mut self.tables)
     }
 
-    /// A loose handle lets its pin go, and stays; one that is unpinned already does nothing. With its last pin a cell loses its value where it has a key, and is listed for page-out where it has none.
-    /// Refused with NoSuchHandle, NotYours and WrongMode, and nothing changes; NumbersSpent and OutOfMemory say that a cell couldn't be listed: the pin is let go all the same.
+    /// Unpins a loose handle, which stays live. Does nothing if the handle is unpinned. A cell that
+    /// loses its last pin so loses its value if it has a key, and is listed for page-out if it has
+    /// none.
+    ///
+    /// # Errors
+    ///
+    /// - `NoSuchHandle` if the handle isn't live: nothing changes.
+    /// - `NotYours` if another than the caller has it: nothing changes.
+    /// - `WrongMode` if it isn't loose: nothing changes.
+    /// - `NumbersSpent` or `OutOfMemory` if a cell that has to be listed isn't: the handle is
+    ///   unpinned all the same.
     pub fn unpin(&mut self, handle: HandleNumber) -> Result<(), Error>
         ensures { Calls OnlyLess (telling S.stored S.is_closed S.failed) self.old (λ w w'. UnpinCall w Owner.Caller handle result w') self.new }
     {
@@ -273,8 +356,15 @@ impl<E: Env<Node: NodeSet<E>>, S: PagableStorage<E>> Pager<E, S> {
         release::unpin(&mut self.tables, &mut self.values, me, handle, lists)
     }
 
-    /// A handle is given up; a pinning one lets its pin go as `unpin` does. A node without handles is gone, and its value with all handles that it owns, and so on.
-    /// Refused with NoSuchHandle and NotYours, and nothing changes; NumbersSpent and OutOfMemory as of `unpin`.
+    /// Releases a handle; if it pins, its pin ends as by `unpin`. A node without handles is dropped
+    /// with its value, which releases all handles that it owns, and so on.
+    ///
+    /// # Errors
+    ///
+    /// - `NoSuchHandle` if the handle isn't live: nothing changes.
+    /// - `NotYours` if another than the caller has it: nothing changes.
+    /// - `NumbersSpent` or `OutOfMemory` if a cell that has to be listed isn't: the handle is
+    ///   released all the same.
     pub fn release(&mut self, handle: HandleNumber) -> Result<(), Error>
         ensures { Calls OnlyLess (telling S.stored S.is_closed S.failed) self.old (λ w w'. ReleaseCall w Owner.Caller handle result w') self.new }
     {
@@ -289,8 +379,15 @@ impl<E: Env<Node: NodeSet<E>>, S: PagableStorage<E>> Pager<E, S> {
         release::release(&mut self.tables, &mut self.values, me, handle, lists)
     }
 
-    /// The cell of a loose handle gets a key, which replaces an older one, and its value goes where nothing pins it. Through a handle of another mode nothing
-    /// changes. Asks that the key reads as the value. Refused with NoSuchHandle and NotYours, and nothing changes; NumbersSpent and OutOfMemory as of `unpin`.
+    /// Sets the key of a loose handle's cell, replacing an older one, and drops the cell's value if
+    /// nothing pins it. Does nothing if the handle isn't loose. The key has to read as the value.
+    ///
+    /// # Errors
+    ///
+    /// - `NoSuchHandle` if the handle isn't live: nothing changes.
+    /// - `NotYours` if another than the caller has it: nothing changes.
+    /// - `NumbersSpent` or `OutOfMemory` if a cell that has to be listed isn't: the key is set all
+    ///   the same.
     pub fn set_data_key(&mut self, handle: HandleNumber, key: DataKey) -> Result<(), Error>
         ensures { Calls OnlyLess (telling S.stored S.is_closed S.failed) self.old (λ w w'. SetKeyCall w Owner.Caller handle key result w') self.new }
     {
@@ -310,8 +407,14 @@ impl<E: Env<Node: NodeSet<E>>, S: PagableStorage<E>> Pager<E, S> {
         release::set_data_key(&mut self.tables, &mut self.values, me, handle, key, lists)
     }
 
-    /// A load is given up, with all that it owns and all that goes with that. Refused with NoSuchHandle and NotYours, and nothing changes; NumbersSpent and
-    /// OutOfMemory say that a cell couldn't be listed: the load is given up all the same.
+    /// Drops a load and releases all that it owns, with all that follows.
+    ///
+    /// # Errors
+    ///
+    /// - `NoSuchHandle` if the load isn't open: nothing changes.
+    /// - `NotYours` if another than the caller began it: nothing changes.
+    /// - `NumbersSpent` or `OutOfMemory` if a cell that has to be listed isn't: the load is dropped
+    ///   all the same.
     pub fn load_drop(&mut self, load: LoadNumber) -> Result<(), Error>
         ensures { Calls OnlyLess (telling S.stored S.is_closed S.failed) self.old (λ w w'. DropCall w Owner.Caller load result w') self.new }
     {
@@ -325,8 +428,15 @@ impl<E: Env<Node: NodeSet<E>>, S: PagableStorage<E>> Pager<E, S> {
         load_end::load_drop(&mut self.tables, &mut self.values, me, load, lists)
     }
 
-    /// A load of a key hands the named handles over to the caller, gives up the rest and is closed. Refused with NoSuchHandle, NotYours where another began the load
-    /// or owns a named handle, or one is named twice, and WrongMode where it is a load of a cell; then nothing changes.
+    /// Ends a load of a key: hands the named handles to the caller, and releases the load's other
+    /// ones.
+    ///
+    /// # Errors
+    ///
+    /// - `NoSuchHandle` if the load isn't open, or a named handle isn't live.
+    /// - `NotYours` if another than the caller began the load, or the load doesn't own a named
+    ///   handle, or a handle is named twice.
+    /// - `WrongMode` if it is a load of a cell.
     pub fn load_take(&mut self, load: LoadNumber, named: &[HandleNumber]) -> Result<(), Error>
         ensures { Calls OnlyLess (telling S.stored S.is_closed S.failed) self.old (λ w w'. HandOverCall w Owner.Caller load named.now result w') self.new }
     {
@@ -346,14 +456,15 @@ impl<E: Env<Node: NodeSet<E>>, S: PagableStorage<E>> Pager<E, S> {
         load_end::load_take(&mut self.tables, &mut self.values, me, load, named, lists)
     }
 
-    /// Whether a handle is loose. Refused with NoSuchHandle.
+    /// Returns whether a handle is loose. Fails with NoSuchHandle only.
     pub(crate) fn is_loose(&self, handle: HandleNumber) -> Result<bool, Error>
         ensures { Looks (core_in (telling S.stored S.is_closed S.failed) self.now) handle (λ loose row. loose ≡ is_loose row.mode) result }
     {
         queries::is_loose(&self.tables, handle)
     }
 
-    /// The handle at this place of the list, with type and key of its cell. None past the end.
+    /// Returns the handle at this place of the list, with type and key of its cell; None past the
+    /// list's end.
     pub(crate) fn entry(&self, place: usize) -> Option<(HandleRow, u32, OptionalDataKey)>
         ensures found { IfSome result (λ e. IsEntry (core_in (telling S.stored S.is_closed S.failed) self.now) place e.0.number e.0 e.1) }
         ensures keyed { IfSome result (λ e. key_at (core_in (telling S.stored S.is_closed S.failed) self.now) e.0.node.0 ≡ e.2) }
@@ -362,14 +473,15 @@ impl<E: Env<Node: NodeSet<E>>, S: PagableStorage<E>> Pager<E, S> {
         queries::entry(&self.tables, place)
     }
 
-    /// One worker more is at work. Refused with NumbersSpent and OutOfMemory.
+    /// Begins a worker. Fails with NumbersSpent or OutOfMemory.
     pub(crate) fn worker_begin(&mut self) -> Result<WorkerNumber, Error>
         ensures { Calls OnlyTables (telling S.stored S.is_closed S.failed) self.old (λ w w'. BeginsWorker w result w') self.new }
     {
         workers::worker_begin(&mut self.tables)
     }
 
-    /// The same, for the entry at this place of the list, which moves to the worker. Refused with NumbersSpent and OutOfMemory.
+    /// Begins a worker for the list entry at this place, which the worker owns then. Fails with
+    /// NumbersSpent or OutOfMemory.
     pub(crate) fn worker_take(&mut self, place: usize) -> Result<WorkerNumber, Error>
         requires { place < length (core_in (telling S.stored S.is_closed S.failed) self.old).list }
         ensures { Calls OnlyTables (telling S.stored S.is_closed S.failed) self.old (λ w w'. TakesWorker w place result w') self.new }
@@ -377,8 +489,10 @@ impl<E: Env<Node: NodeSet<E>>, S: PagableStorage<E>> Pager<E, S> {
         workers::worker_take(&mut self.tables, place)
     }
 
-    /// The same, with the reference that the worker pages out: the entry's handle, as a loose one of its cell. Refused with NoSuchHandle past the end, with WrongKind
-    /// where the cell's type has no kinds, and with NumbersSpent and OutOfMemory.
+    /// Begins a worker as `worker_take` does, and returns also the reference that it pages out: the
+    /// entry's handle, as a loose one of its cell. Fails with NoSuchHandle past the list's end,
+    /// with WrongKind if the kinds of the cell's type don't fit 32 bits, and with NumbersSpent or
+    /// OutOfMemory.
     pub(crate) fn worker_listed(&mut self, place: usize) -> Result<(WorkerNumber, ArcRef), Error>
         ensures begins { IfOk result (λ b. TakesEntry (core_in (telling S.stored S.is_closed S.failed) self.old) place b.0 b.1 (core_in (telling S.stored S.is_closed S.failed) self.new)) }
         ensures refused { IfErr result (λ e. EntryFault (core_in (telling S.stored S.is_closed S.failed) self.old) place e × Alike (core_in (telling S.stored S.is_closed S.failed) self.old) (core_in (telling S.stored S.is_closed S.failed) self.new)) }
@@ -395,7 +509,7 @@ impl<E: Env<Node: NodeSet<E>>, S: PagableStorage<E>> Pager<E, S> {
         Ok((worker, ArcRef { kind, node, handle }))
     }
 
-    /// A worker gives up all handles that it has at a node, with all that goes with them.
+    /// Releases all handles that a worker has of a node, with all that follows.
     pub(crate) fn release_node(&mut self, worker: WorkerNumber, node: NodeNumber)
         ensures { Settles OnlyLess (telling S.stored S.is_closed S.failed) (values_at E.Node.NodeSet E.Env E.Hash.KeyHash) self.old
             (λ w w'. FallsAnyhow w w (is_workers_at w worker.0 node.0) w') self.new }
@@ -404,7 +518,8 @@ impl<E: Env<Node: NodeSet<E>>, S: PagableStorage<E>> Pager<E, S> {
         workers::release_node(&mut self.tables, &mut self.values, worker, node, lists);
     }
 
-    /// A worker ends: its loads are closed, and it gives up whatever it and they still have, with all that goes with it.
+    /// Ends a worker: closes its loads and releases what it and they still own, with all that
+    /// follows.
     pub(crate) fn worker_end(&mut self, worker: WorkerNumber)
         ensures { Settles OnlyLess (telling S.stored S.is_closed S.failed) (values_at E.Node.NodeSet E.Env E.Hash.KeyHash) self.old (λ w w'. WorkerEnds w worker.0 w') self.new }
     {
@@ -412,7 +527,8 @@ impl<E: Env<Node: NodeSet<E>>, S: PagableStorage<E>> Pager<E, S> {
         workers::worker_end(&mut self.tables, &mut self.values, worker, lists);
     }
 
-    /// Clones a reference's handle for this owner and pins the clone, or begins a load by it. Where that is refused, the clone stays the owner's.
+    /// Clones a reference's handle for this owner and pins the clone, or begins a load by it. If
+    /// that fails, the owner keeps the clone.
     pub(crate) fn take_reference(
         &mut self,
         me: Owner,

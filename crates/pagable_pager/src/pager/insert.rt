@@ -1,4 +1,4 @@
-//! Nodes that come, what loads have read becomes nodes, and loads of cells that end with a value.
+//! Inserts values, makes nodes of what loads have read, and ends loads of cells with a value.
 
 ghost use Rattle.std.specs.Prelude.{Bool, IfErr, None, OnErr, OnOk, Option, true, ℕ, ◌≡◌};
 ghost use Rattle.pagable_pager.specs.View.{Calls, OnlyTables, core_in, state_in, telling, value_in, with_value};
@@ -18,7 +18,8 @@ use pagable_value_spec::{ArcRef, DataKey, Error, HandleNumber, Kind, LoadNumber}
 use std::alloc::Global;
 use std::sync::Arc;
 
-/// A value is in memory from now on, if it comes, and else it is dropped. Refused with OutOfMemory, and the value comes back.
+/// Puts a value into memory at this node if it `comes`, and drops it if not. Fails with OutOfMemory
+/// only, and hands the value back.
 pub(crate) fn place<N: Drop>(
     values: &mut NumberTable<Arc<N>>,
     alloc: Global,
@@ -46,7 +47,7 @@ pub(crate) fn place<N: Drop>(
 }
 
 impl<E: Env<Node: NodeSet<E>>, S: PagableStorage<E>> Pager<E, S> {
-    /// A new node with a pinning handle of this mode.
+    /// Inserts a value with a handle of this mode, which has to be a pinning one.
     fn new_node(
         &mut self,
         alloc: Global,
@@ -74,8 +75,18 @@ impl<E: Env<Node: NodeSet<E>>, S: PagableStorage<E>> Pager<E, S> {
         Ok(create::insert_node(tables, Owner::Caller, node_type, 0, references, mode))
     }
 
-    /// A new node of the value, without a key, with a Pinned handle of the caller's, and the handles of its references move to it. Refused with the cause of
-    /// the first reference that has one, NoSuchHandle, NotYours, WrongMode or WrongKind; with NumbersSpent and OutOfMemory. The value comes back.
+    /// Inserts a value without a key, and returns a Pinned handle, which the caller owns. The value
+    /// owns the handles of its references from then on.
+    ///
+    /// # Errors
+    ///
+    /// Each error hands the value back.
+    ///
+    /// - `NoSuchHandle`, `NotYours`, `WrongMode` or `WrongKind` for the first reference that has a
+    ///   fault: its handle isn't live or isn't of its node; isn't the caller's or is named twice;
+    ///   or its mode, or its node's type, doesn't fit its kind.
+    /// - `NumbersSpent` if no number is left for a node or a handle.
+    /// - `OutOfMemory` if an allocation fails.
     pub fn new_pinned(
         &mut self,
         alloc: Global,
@@ -88,7 +99,11 @@ impl<E: Env<Node: NodeSet<E>>, S: PagableStorage<E>> Pager<E, S> {
         self.new_node(alloc, node, Mode::Pinned)
     }
 
-    /// The same, with a loose pinned handle.
+    /// Does what `new_pinned` does, with a loose pinned handle.
+    ///
+    /// # Errors
+    ///
+    /// - those of `new_pinned`.
     pub fn new_loose(
         &mut self,
         alloc: Global,
@@ -101,7 +116,12 @@ impl<E: Env<Node: NodeSet<E>>, S: PagableStorage<E>> Pager<E, S> {
         self.new_node(alloc, node, Mode::LoosePinned)
     }
 
-    /// The same, with a Shared handle: a node that never has a key and is never paged out.
+    /// Does what `new_pinned` does, with a Shared handle: the node never has a key and is never
+    /// paged out.
+    ///
+    /// # Errors
+    ///
+    /// - those of `new_pinned`.
     pub fn new_shared(
         &mut self,
         alloc: Global,
@@ -114,7 +134,13 @@ impl<E: Env<Node: NodeSet<E>>, S: PagableStorage<E>> Pager<E, S> {
         self.new_node(alloc, node, Mode::Shared)
     }
 
-    /// A new cell that has a key and no value, with an unpinned handle of the caller's. Asks that the key reads as a value of this type. Refused with NumbersSpent and OutOfMemory.
+    /// Makes a cell with a key and no value, and returns a loose unpinned handle, which the caller
+    /// owns. The key has to read as a value of this type.
+    ///
+    /// # Errors
+    ///
+    /// - `NumbersSpent` if no number is left for a node or a handle.
+    /// - `OutOfMemory` if an allocation fails.
     pub fn new_paged_out(
         &mut self,
         alloc: Global,
@@ -126,7 +152,9 @@ impl<E: Env<Node: NodeSet<E>>, S: PagableStorage<E>> Pager<E, S> {
         create::insert_paged_out(&mut self.tables, alloc, Owner::Caller, node_type, key)
     }
 
-    /// A new node of what a load has read, where the cache gives none and nothing is against it. Refused with NumbersSpent and OutOfMemory, and the value comes back.
+    /// Makes a node of a value that a load has read, if the cache has none for it and the load and
+    /// the references have no fault. Fails with NumbersSpent or OutOfMemory, and hands the value
+    /// back.
     fn adopt_as_new(
         &mut self,
         me: Owner,
@@ -156,7 +184,8 @@ impl<E: Env<Node: NodeSet<E>>, S: PagableStorage<E>> Pager<E, S> {
         Ok(load::adopt(tables, load, kind, key, references, lists))
     }
 
-    /// Why a load's value neither becomes a node nor ends the load, where its references can't be listed for want of memory: the load isn't open, or else that.
+    /// Returns why a value that a load has read can't be used, if memory for its references ran
+    /// out: NoSuchHandle if the load isn't open, and otherwise `e`.
     fn unlisted(&self, me: Owner, load: LoadNumber, e: Error) -> Error
         ensures { e ≡ Error.OutOfMemory → (later : Option Error) → Refused (earlier (load_fault (core_in (telling S.stored S.is_closed S.failed) self.now) me load) later)
             (closed_fault (core_in (telling S.stored S.is_closed S.failed) self.now) load) (Unit {0}) (core_in (telling S.stored S.is_closed S.failed) self.now) result
@@ -168,9 +197,21 @@ impl<E: Env<Node: NodeSet<E>>, S: PagableStorage<E>> Pager<E, S> {
         }
     }
 
-    /// What a load has read becomes a node, which the cache knows from now on, with a handle of the load's, and the handles of its references move to it. Where the cache gives a node already, what
-    /// was read is dropped, the handles that its references name are given up, and the load gets a handle of that node. Asks that the value is what the key reads as. A refusal gives the value back:
-    /// NoSuchHandle and NotYours, of the load and of the references; WrongMode for a loose kind; WrongKind where the kind isn't the value's; NumbersSpent and OutOfMemory.
+    /// Makes a node of a value that a load has read. The load owns the node's handle, the value
+    /// owns the handles of its references, and the node is cached. If the cache has a node already,
+    /// drops the value, releases the handles of its references, and makes a handle of the cached
+    /// node. The value has to be what the key reads as.
+    ///
+    /// # Errors
+    ///
+    /// Each error hands the value back.
+    ///
+    /// - `NoSuchHandle` if the load isn't open, or a reference's handle isn't live.
+    /// - `NotYours` if another than the caller began the load, or the load doesn't own a
+    ///   reference's handle.
+    /// - `WrongMode` if the kind is a loose one, or a reference's mode doesn't fit its kind.
+    /// - `WrongKind` if the value's type isn't the kind's, or a reference's type isn't its kind's.
+    /// - `NumbersSpent` or `OutOfMemory` if the handle or the node can't be made.
     pub fn load_adopt(
         &mut self,
         alloc: Global,
@@ -214,10 +255,23 @@ impl<E: Env<Node: NodeSet<E>>, S: PagableStorage<E>> Pager<E, S> {
         }
     }
 
-    /// Ends a load of a cell with its value, which the load read: the handle that began it is pinned, a Pinned one is made and answered, and what the load still owns is given up. The value comes into
-    /// the cell with the handles of its references; where the cell has its value already, it is dropped. Asks that the value is what the cell's key reads as. A refusal gives the value back and leaves
-    /// the load open: NoSuchHandle and NotYours, of the load and of the references; WrongMode where the load is of a key, and of a reference; WrongKind of another type; NumbersSpent and OutOfMemory.
-    /// Where the handle that began it is gone or another's, the load is closed with all that it owns, the value is dropped, and NoSuchHandle or NotYours comes alone.
+    /// Ends a load of a cell with the value that it has read: pins the handle that began it,
+    /// returns a new Pinned handle, and releases what the load still owns. The cell gets the value
+    /// with the handles of its references; if it has its value already, the value is dropped. The
+    /// value has to be what the cell's key reads as.
+    ///
+    /// # Errors
+    ///
+    /// An error that leaves the load open hands the value back. If the handle that began the load
+    /// is gone or has another owner, the call closes the load, releases all that it owns, drops the
+    /// value and fails with `NoSuchHandle` or `NotYours`.
+    ///
+    /// - `NoSuchHandle` if the load isn't open, or a reference's handle isn't live.
+    /// - `NotYours` if another than the caller began the load, or the load doesn't own a
+    ///   reference's handle.
+    /// - `WrongMode` if it is a load of a key, or a reference's mode doesn't fit its kind.
+    /// - `WrongKind` if the value's type isn't the cell's, or a reference's type isn't its kind's.
+    /// - `NumbersSpent` or `OutOfMemory` if the pin can't be made.
     pub fn load_end(
         &mut self,
         alloc: Global,
@@ -231,8 +285,13 @@ impl<E: Env<Node: NodeSet<E>>, S: PagableStorage<E>> Pager<E, S> {
         self.load_end_by(Owner::Caller, alloc, load, value)
     }
 
-    /// Ends a load of an owner's, as `load_end` does one of the caller's; refused as that. An access behind a lock can't tell this pager's environment, so it asks
-    /// of its own that the value was read, and ends its loads by this call.
+    /// Ends a load of an owner's, as `load_end` does for the caller. An access behind a lock ends
+    /// its loads by this call: it can't name this pager's environment, so it asks in its own
+    /// contract that the value was read.
+    ///
+    /// # Errors
+    ///
+    /// - those of `load_end`.
     pub fn load_end_by(
         &mut self,
         me: Owner,

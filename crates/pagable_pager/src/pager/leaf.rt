@@ -1,4 +1,5 @@
-//! Cells whose blobs refer to nothing, which are pinned at once: what a load leaves that begins, gets the blob, reads it and ends, without its row.
+//! Cells whose blobs have no references: they are pinned without a load's row, with the result of a
+//! load that begins, fetches the blob, reads it and ends.
 
 ghost use Rattle.std.specs.{Arc.arc_value, Prelude.{Err, IfErr, IfNone, IfOk, IfSome, IsTrue, [], ◌≡◌, ◌≤◌}};
 ghost use Rattle.pagable_core.specs.Data.{blob_of};
@@ -21,7 +22,8 @@ use pagable_value_spec::{Error, HandleNumber, LoadNumber};
 use std::alloc::Global;
 use std::sync::Arc;
 
-/// Reads a blob that refers to nothing as a value of this type that refers to nothing. None where it refers to something, or isn't read.
+/// Reads a blob without references as a value of this type without references. Returns None if
+/// either has references, or the blob can't be read.
 pub(crate) fn read_leaf<E: Env<Node: NodeSet<E>>, A: Access<E>>(
     access: &A,
     alloc: Global,
@@ -52,11 +54,13 @@ pub(crate) fn read_leaf<E: Env<Node: NodeSet<E>>, A: Access<E>>(
 }
 
 impl<E: Env<Node: NodeSet<E>>, S: PagableStorage<E>> Pager<E, S> {
-    /// Finds the cell of a loose handle of the caller's whose value is away, makes room for a pin, and gets its blob.
+    /// Finds the cell of a loose handle of the caller's, if its value isn't in memory, reserves
+    /// room for a pin, and fetches the cell's blob.
     ///
     /// # Errors
-    /// - OutOfMemory: there is no room, or none for the blob.
-    /// - NoData, Storage: as the storage refuses the blob. No load is left.
+    ///
+    /// - `OutOfMemory` if there is no room for the pin, or none for the blob: no load is left.
+    /// - those of fetching the blob: no load is left.
     pub(crate) fn start_leaf(
         &mut self,
         alloc: Global,
@@ -87,10 +91,11 @@ impl<E: Env<Node: NodeSet<E>>, S: PagableStorage<E>> Pager<E, S> {
         }
     }
 
-    /// Begins a load of the cell, which has got its blob, and answers its number.
+    /// Begins a load of the cell, whose blob was fetched, and returns its number.
     ///
     /// # Errors
-    /// - OutOfMemory: no load is left.
+    ///
+    /// - `OutOfMemory` if the load can't be allocated: no load is left.
     pub(crate) fn begin_leaf(&mut self, leaf: Leaf) -> Result<LoadNumber, Error>
         requires leaf { IsLeaf (core_in (telling S.stored S.is_closed S.failed) self.old) Owner.Caller leaf }
         requires place { 1 ≤ room self.old.tables.ref_counts.handles }
@@ -111,10 +116,11 @@ impl<E: Env<Node: NodeSet<E>>, S: PagableStorage<E>> Pager<E, S> {
         }
     }
 
-    /// Pins the cell, with this value.
+    /// Pins the cell with this value.
     ///
     /// # Errors
-    /// - OutOfMemory: no load is left.
+    ///
+    /// - `OutOfMemory` if the value can't be allocated: no load is left.
     pub(crate) fn pin_leaf(
         &mut self,
         alloc: Global,

@@ -1,4 +1,4 @@
-//! Names of roots in a pager's storage.
+//! Names of root keys in a pager's storage.
 
 ghost use Rattle.std.specs.Prelude.{◌≡◌, IfErr, IfOk, IsTrue, OnErr, OnOk};
 ghost use Rattle.{pagable_core.specs.Roots.{RefusesRoot, Sets, Stands}, pagable_value_spec.specs.Stored.RefusesFlush};
@@ -11,10 +11,12 @@ use pagable_value_spec::{DataKey, Error};
 use std::alloc::Global;
 
 impl<E: Env<Node: NodeSet<E>>, S: Roots<E>> Pager<E, S> {
-    /// Finds the key that a name stands for in the storage; None where it stands for none.
+    /// Returns the key that a name stands for in the storage; None if it stands for none.
     ///
     /// # Errors
-    /// - OutOfMemory, Storage: as the storage refuses it.
+    ///
+    /// - `OutOfMemory` if an allocation fails.
+    /// - `Storage` if the storage fails.
     pub fn root(&mut self, name: &str) -> Result<Option<DataKey>, Error>
         ensures asks { AsksStorage S.PagableStorage.is_honest (telling S.PagableStorage.stored S.PagableStorage.is_closed S.PagableStorage.failed) self.old Asked self.new }
         ensures ok { IsTrue (S.PagableStorage.is_honest self.new.storage) → IfOk result (λ key. key ≡ S.Roots.roots self.old.storage name.now) }
@@ -24,11 +26,17 @@ impl<E: Env<Node: NodeSet<E>>, S: Roots<E>> Pager<E, S> {
         self.storage.root(name)
     }
 
-    /// Lets a name stand for a key under which a blob stands, or for none. `flush` makes sure of it, with the blobs.
+    /// Makes a name stand for a key under which a blob is stored, or for none. `flush` makes it
+    /// persistent, with the blobs.
     ///
     /// # Errors
-    /// - NoData where nothing stands under the key, Closed after `close`, OutOfMemory, Storage: the name stands for what
-    ///   it stood for.
+    ///
+    /// Each error leaves the name as it was.
+    ///
+    /// - `NoData` if no blob is stored under the key.
+    /// - `Closed` after `close`.
+    /// - `OutOfMemory` if an allocation fails.
+    /// - `Storage` if the storage fails.
     pub fn set_root(&mut self, alloc: Global, name: &str, key: Option<DataKey>) -> Result<(), Error>
         ensures asks { AsksStorage S.PagableStorage.is_honest (telling S.PagableStorage.stored S.PagableStorage.is_closed S.PagableStorage.failed) self.old Asked self.new }
         ensures sets { IsTrue (S.PagableStorage.is_honest self.new.storage) → OnOk result (Sets name.now key (S.Roots.roots self.old.storage) (S.Roots.roots self.new.storage)) }
