@@ -35,7 +35,8 @@ pub(crate) fn clone<E: Env<Node: NodeSet<E>>, S: PagableStorage<E>>(
 ) -> Result<HandleNumber, Error>
     ensures called { Called (values_at E.Node.NodeSet E.Env E.Hash.KeyHash pager.old.environment)
         (λ w'. CloneCall (core_in (telling S.stored S.is_closed S.failed) pager.old) owners.Caller handle result w')
-        (state_in (telling S.stored S.is_closed S.failed) pager.old) (state_in (telling S.stored S.is_closed S.failed) pager.new) }
+        (state_in (telling S.stored S.is_closed S.failed) pager.old)
+        (state_in (telling S.stored S.is_closed S.failed) pager.new) }
     ensures keeps { KeepsStorage pager.old pager.new }
 {
     let cloned = pager.clone(handle);
@@ -49,7 +50,8 @@ pub(crate) fn loosen<E: Env<Node: NodeSet<E>>, S: PagableStorage<E>>(
 ) -> Result<HandleNumber, Error>
     ensures called { Called (values_at E.Node.NodeSet E.Env E.Hash.KeyHash pager.old.environment)
         (λ w'. LoosenCall (core_in (telling S.stored S.is_closed S.failed) pager.old) owners.Caller handle result w')
-        (state_in (telling S.stored S.is_closed S.failed) pager.old) (state_in (telling S.stored S.is_closed S.failed) pager.new) }
+        (state_in (telling S.stored S.is_closed S.failed) pager.old)
+        (state_in (telling S.stored S.is_closed S.failed) pager.new) }
     ensures keeps { KeepsStorage pager.old pager.new }
 {
     let turned = pager.into_pagable(handle);
@@ -63,7 +65,8 @@ pub(crate) fn pin<E: Env<Node: NodeSet<E>>, S: PagableStorage<E>>(
 ) -> Result<Pinning, Error>
     ensures called { Called (values_at E.Node.NodeSet E.Env E.Hash.KeyHash pager.old.environment)
         (λ w'. PinCall (core_in (telling S.stored S.is_closed S.failed) pager.old) owners.Caller handle result w')
-        (state_in (telling S.stored S.is_closed S.failed) pager.old) (state_in (telling S.stored S.is_closed S.failed) pager.new) }
+        (state_in (telling S.stored S.is_closed S.failed) pager.old)
+        (state_in (telling S.stored S.is_closed S.failed) pager.new) }
     ensures keeps { KeepsStorage pager.old pager.new }
 {
     let pinned = pager.pin(handle);
@@ -77,7 +80,8 @@ pub(crate) fn release<E: Env<Node: NodeSet<E>>, S: PagableStorage<E>>(
 ) -> Result<(), Error>
     ensures called { Called (values_at E.Node.NodeSet E.Env E.Hash.KeyHash pager.old.environment)
         (λ w'. ReleaseCall (core_in (telling S.stored S.is_closed S.failed) pager.old) owners.Caller handle result w')
-        (state_in (telling S.stored S.is_closed S.failed) pager.old) (state_in (telling S.stored S.is_closed S.failed) pager.new) }
+        (state_in (telling S.stored S.is_closed S.failed) pager.old)
+        (state_in (telling S.stored S.is_closed S.failed) pager.new) }
     ensures keeps { KeepsStorage pager.old pager.new }
 {
     let released = pager.release(handle);
@@ -91,8 +95,10 @@ pub(crate) fn set_key<E: Env<Node: NodeSet<E>>, S: PagableStorage<E>>(
     key: DataKey,
 ) -> Result<(), Error>
     ensures called { Called (values_at E.Node.NodeSet E.Env E.Hash.KeyHash pager.old.environment)
-        (λ w'. SetKeyCall (core_in (telling S.stored S.is_closed S.failed) pager.old) owners.Caller handle key result w')
-        (state_in (telling S.stored S.is_closed S.failed) pager.old) (state_in (telling S.stored S.is_closed S.failed) pager.new) }
+        (λ w'. SetKeyCall (core_in (telling S.stored S.is_closed S.failed) pager.old) owners.Caller handle key result
+        w')
+        (state_in (telling S.stored S.is_closed S.failed) pager.old)
+        (state_in (telling S.stored S.is_closed S.failed) pager.new) }
     ensures keeps { KeepsStorage pager.old pager.new }
 {
     let set = pager.set_data_key(handle, key);
@@ -105,9 +111,12 @@ pub(crate) fn store<E: Env<Node: NodeSet<E>>, S: PagableStorage<E>>(
     pager: &mut Pager<E, S>,
     blob: PagableData,
 ) -> Result<DataKey, Error>
-    ensures called { IsTrue (S.is_honest pager.new.storage) → Called (values_at E.Node.NodeSet E.Env E.Hash.KeyHash pager.old.environment)
-        (λ w'. StoreCall (key_of E.Hash.digest) (core_in (telling S.stored S.is_closed S.failed) pager.old) (blob_of blob) result w')
-        (state_in (telling S.stored S.is_closed S.failed) pager.old) (state_in (telling S.stored S.is_closed S.failed) pager.new) }
+    ensures called { IsTrue (S.is_honest pager.new.storage)
+        → Called (values_at E.Node.NodeSet E.Env E.Hash.KeyHash pager.old.environment)
+        (λ w'. StoreCall (key_of E.Hash.digest) (core_in (telling S.stored S.is_closed S.failed) pager.old)
+        (blob_of blob) result w')
+        (state_in (telling S.stored S.is_closed S.failed) pager.old)
+        (state_in (telling S.stored S.is_closed S.failed) pager.new) }
     ensures honest { IsTrue (S.is_honest pager.new.storage) → IsTrue (S.is_honest pager.old.storage) }
     ensures environment { pager.new.environment ≡ pager.old.environment }
 {
@@ -124,7 +133,8 @@ pub(crate) fn let_go<E: Env<Node: NodeSet<E>>, S: PagableStorage<E>>(
     pin: HandleNumber,
 )
     ensures lets { LetsGo (values_at E.Node.NodeSet E.Env E.Hash.KeyHash pager.old.environment) through pin
-        (state_in (telling S.stored S.is_closed S.failed) pager.old) (state_in (telling S.stored S.is_closed S.failed) pager.new) }
+        (state_in (telling S.stored S.is_closed S.failed) pager.old)
+        (state_in (telling S.stored S.is_closed S.failed) pager.new) }
     ensures keeps { KeepsStorage pager.old pager.new }
 {
     let _unpinned = release(pager, pin);

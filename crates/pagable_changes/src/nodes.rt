@@ -38,7 +38,8 @@ fn pin_loosely<E: Env<Node: NodeSet<E>>, S: PagableStorage<E>>(
     handle: HandleNumber,
 ) -> Result<HandleNumber, Error>
     ensures pins { PinsLoosely (values_at E.Node.NodeSet E.Env E.Hash.KeyHash pager.old.environment) handle
-        (state_in (telling S.stored S.is_closed S.failed) pager.old) result (state_in (telling S.stored S.is_closed S.failed) pager.new) }
+        (state_in (telling S.stored S.is_closed S.failed) pager.old) result
+        (state_in (telling S.stored S.is_closed S.failed) pager.new) }
     ensures keeps { KeepsStorage pager.old pager.new }
 {
     match pin(pager, handle) {
@@ -55,10 +56,14 @@ fn take_loose<E: Env<Node: NodeSet<E>>, S: PagableStorage<E>>(
     reference: ArcRef,
 ) -> Result<(HandleNumber, HandleNumber), Error>
     requires loose { is_loose_kind reference.kind.0 ≡ true }
-    ensures takes { IfOk result (λ t. Takes (values_at E.Node.NodeSet E.Env E.Hash.KeyHash pager.old.environment) reference
-        (state_in (telling S.stored S.is_closed S.failed) pager.old) t.0 t.1 (state_in (telling S.stored S.is_closed S.failed) pager.new)) }
-    ensures fails { IfErr result (λ e. TakeFails (values_at E.Node.NodeSet E.Env E.Hash.KeyHash pager.old.environment) reference
-        (state_in (telling S.stored S.is_closed S.failed) pager.old) e (state_in (telling S.stored S.is_closed S.failed) pager.new)) }
+    ensures takes { IfOk result (λ t. Takes (values_at E.Node.NodeSet E.Env E.Hash.KeyHash pager.old.environment)
+        reference
+        (state_in (telling S.stored S.is_closed S.failed) pager.old) t.0 t.1
+        (state_in (telling S.stored S.is_closed S.failed) pager.new)) }
+    ensures fails { IfErr result (λ e. TakeFails (values_at E.Node.NodeSet E.Env E.Hash.KeyHash pager.old.environment)
+        reference
+        (state_in (telling S.stored S.is_closed S.failed) pager.old) e
+        (state_in (telling S.stored S.is_closed S.failed) pager.new)) }
     ensures keeps { KeepsStorage pager.old pager.new }
 {
     let through = clone(pager, reference.handle)?;
@@ -77,10 +82,14 @@ fn take<E: Env<Node: NodeSet<E>>, S: PagableStorage<E>>(
     pager: &mut Pager<E, S>,
     reference: ArcRef,
 ) -> Result<(HandleNumber, HandleNumber), Error>
-    ensures takes { IfOk result (λ t. Takes (values_at E.Node.NodeSet E.Env E.Hash.KeyHash pager.old.environment) reference
-        (state_in (telling S.stored S.is_closed S.failed) pager.old) t.0 t.1 (state_in (telling S.stored S.is_closed S.failed) pager.new)) }
-    ensures fails { IfErr result (λ e. TakeFails (values_at E.Node.NodeSet E.Env E.Hash.KeyHash pager.old.environment) reference
-        (state_in (telling S.stored S.is_closed S.failed) pager.old) e (state_in (telling S.stored S.is_closed S.failed) pager.new)) }
+    ensures takes { IfOk result (λ t. Takes (values_at E.Node.NodeSet E.Env E.Hash.KeyHash pager.old.environment)
+        reference
+        (state_in (telling S.stored S.is_closed S.failed) pager.old) t.0 t.1
+        (state_in (telling S.stored S.is_closed S.failed) pager.new)) }
+    ensures fails { IfErr result (λ e. TakeFails (values_at E.Node.NodeSet E.Env E.Hash.KeyHash pager.old.environment)
+        reference
+        (state_in (telling S.stored S.is_closed S.failed) pager.old) e
+        (state_in (telling S.stored S.is_closed S.failed) pager.new)) }
     ensures keeps { KeepsStorage pager.old pager.new }
 {
     if reference.kind.0 % 3 == 1 {
@@ -99,7 +108,8 @@ fn write<E: Env<Node: NodeSet<E>>>(
     alloc: Global,
     node: &E::Node,
 ) -> Result<SerializedData, Error>
-    ensures { IfOk result (λ d. IsFormOf (values_at E.Node.NodeSet E.Env E.Hash.KeyHash env.now) node.now (written_of d)) }
+    ensures { IfOk result (λ d. IsFormOf (values_at E.Node.NodeSet E.Env E.Hash.KeyHash env.now) node.now
+        (written_of d)) }
 {
     let mut serializer = SerializerForPaging::new(alloc, env, session);
     node.write(&mut serializer)?;
@@ -157,10 +167,14 @@ pub(crate) fn enter<E: Env<Node: NodeSet<E>>, S: PagableStorage<E>>(
     reference: ArcRef,
     place: u64,
 ) -> Result<OpenNode, Error>
-    ensures enters { IfOk result (λ o. Enters (values_at E.Node.NodeSet E.Env E.Hash.KeyHash pager.old.environment) reference
-        (state_in (telling S.stored S.is_closed S.failed) pager.old) o (state_in (telling S.stored S.is_closed S.failed) pager.new)) }
-    ensures fails { IfErr result (λ e. EnterFails (values_at E.Node.NodeSet E.Env E.Hash.KeyHash pager.old.environment) reference
-        (state_in (telling S.stored S.is_closed S.failed) pager.old) e (state_in (telling S.stored S.is_closed S.failed) pager.new)) }
+    ensures enters { IfOk result (λ o. Enters (values_at E.Node.NodeSet E.Env E.Hash.KeyHash pager.old.environment)
+        reference
+        (state_in (telling S.stored S.is_closed S.failed) pager.old) o
+        (state_in (telling S.stored S.is_closed S.failed) pager.new)) }
+    ensures fails { IfErr result (λ e. EnterFails (values_at E.Node.NodeSet E.Env E.Hash.KeyHash pager.old.environment)
+        reference
+        (state_in (telling S.stored S.is_closed S.failed) pager.old) e
+        (state_in (telling S.stored S.is_closed S.failed) pager.new)) }
     ensures keeps { KeepsStorage pager.old pager.new }
 {
     let (through, pin) = match take(pager, reference) {

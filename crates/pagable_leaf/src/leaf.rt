@@ -27,7 +27,8 @@ pub struct Leaf {
 /// left for a load, the load's handle and a pin.
 pub fn find(t: &Tables, me: Owner, handle: HandleNumber) -> Option<Leaf>
     requires { IsWhole t.now }
-    ensures leaf { (stored : ℕ → Option Blob) (closed : Bool) (failures : ℕ) → IfSome result (IsLeaf (core_of t.now stored closed failures) me) }
+    ensures leaf { (stored : ℕ → Option Blob) (closed : Bool) (failures : ℕ)
+        → IfSome result (IsLeaf (core_of t.now stored closed failures) me) }
     ensures number { IfSome result (λ leaf. leaf.row.number ≡ handle) }
 {
     let at = own(t, me, handle).ok()?;
@@ -53,13 +54,16 @@ pub fn find(t: &Tables, me: Owner, handle: HandleNumber) -> Option<Leaf>
 /// - `OutOfMemory` if the handles can't grow: nothing changes.
 pub fn prepare(t: &mut Tables, me: Owner, handle: HandleNumber) -> Result<Option<Leaf>, Error>
     requires { IsWhole t.old }
-    ensures leaf { (stored : ℕ → Option Blob) (closed : Bool) (failures : ℕ) → IfOk result (λ found. IfSome found (IsLeaf (core_of t.new stored closed failures) me)) }
+    ensures leaf { (stored : ℕ → Option Blob) (closed : Bool) (failures : ℕ)
+        → IfOk result (λ found. IfSome found (IsLeaf (core_of t.new stored closed failures) me)) }
     ensures number { IfOk result (λ found. IfSome found (λ leaf. leaf.row.number ≡ handle)) }
     ensures place { IfOk result (λ found. IfSome found (λ leaf. 1 ≤ room t.new.ref_counts.handles)) }
     ensures none { IfOk result (λ found. IfNone found (t.new ≡ t.old)) }
     ensures does { Does t.old OnlyRoom t.new }
     ensures nodes { t.new.ref_counts.nodes ≡ t.old.ref_counts.nodes }
-    ensures refused { (stored : ℕ → Option Blob) (closed : Bool) (failures : ℕ) → IfErr result (λ e. BeginCall (core_of t.old stored closed failures) me handle (Err e) (core_of t.new stored closed failures)) }
+    ensures refused { (stored : ℕ → Option Blob) (closed : Bool) (failures : ℕ)
+        → IfErr result (λ e. BeginCall (core_of t.old stored closed failures) me handle (Err e)
+        (core_of t.new stored closed failures)) }
 {
     let Some(leaf) = find(t, me, handle) else {
         return Ok(None);
@@ -76,7 +80,11 @@ pub fn take_numbers(t: &mut Tables)
     requires load_left { t.old.last_load < greatest }
     requires handle_left { t.old.ref_counts.last_handle < greatest }
     ensures does { Does t.old (λ w w'. w' ≡ with_numbers w) t.new }
-    ensures same { t.new ≡ record t.old { ref_counts = record t.old.ref_counts { last_handle = t.old.ref_counts.last_handle + 1 }; last_load = t.old.last_load + 1 } }
+    ensures same { t.new ≡ record t.old {
+      ref_counts =
+          record t.old.ref_counts { last_handle = t.old.ref_counts.last_handle + 1 };
+      last_load = t.old.last_load + 1;
+    } }
 {
     t.last_load += 1;
     t.ref_counts.last_handle += 1;
@@ -89,8 +97,11 @@ pub fn install(t: &mut Tables, me: Owner, leaf: Leaf) -> HandleNumber
     requires leaf { IsLeaf (plain_of t.old) me leaf }
     requires may { MayOwnLoad (plain_of t.old) me }
     requires place { 1 ≤ room t.old.ref_counts.handles }
-    ensures pins { (stored : ℕ → Option Blob) (closed : Bool) (failures : ℕ) → PinsLeaf (core_of t.old stored closed failures) me leaf.row leaf.key leaf.node_type result (core_of t.new stored closed failures) }
-    ensures come { (n : ℕ) → has_value (counts_at t.new.ref_counts.nodes n) ≡ has_come (counts_at t.old.ref_counts.nodes) leaf.row.node n }
+    ensures pins { (stored : ℕ → Option Blob) (closed : Bool) (failures : ℕ)
+        → PinsLeaf (core_of t.old stored closed failures) me leaf.row leaf.key leaf.node_type result
+        (core_of t.new stored closed failures) }
+    ensures come { (n : ℕ) → has_value (counts_at t.new.ref_counts.nodes n)
+        ≡ has_come (counts_at t.old.ref_counts.nodes) leaf.row.node n }
     ensures whole { IsWhole t.new }
     ensures later { AreLater t.old → AreLater t.new }
 {
@@ -109,7 +120,11 @@ pub fn give_up(t: &mut Tables, me: Owner, leaf: Leaf)
     requires may { MayOwnLoad (plain_of t.old) me }
     requires place { 1 ≤ room t.old.ref_counts.handles }
     ensures does { Does t.old (λ w w'. DropsLeaf w me leaf.row leaf.key leaf.node_type w') t.new }
-    ensures same { t.new ≡ record t.old { ref_counts = record t.old.ref_counts { last_handle = t.old.ref_counts.last_handle + 1 }; last_load = t.old.last_load + 1 } }
+    ensures same { t.new ≡ record t.old {
+      ref_counts =
+          record t.old.ref_counts { last_handle = t.old.ref_counts.last_handle + 1 };
+      last_load = t.old.last_load + 1;
+    } }
 {
     take_numbers(t);
 }

@@ -36,7 +36,8 @@ pub fn own(t: &Tables, me: Owner, handle: HandleNumber) -> Result<HandleAt, Erro
     ensures found { IfOk result (λ at. find_row handle.0 (live t.now.ref_counts.handles.places.items) ≡ Some at.row) }
     ensures number { IfOk result (λ at. at.row.number ≡ handle) }
     ensures owner { IfOk result (λ at. is_owner me at.row.owner ≡ true) }
-    ensures fault { IfErr result (λ e. (stored : ℕ → Option Blob) (closed : Bool) (failures : ℕ) (fits : Mode → Bool) → handle_fault (core_of t.now stored closed failures) me handle fits ≡ Some e) }
+    ensures fault { IfErr result (λ e. (stored : ℕ → Option Blob) (closed : Bool) (failures : ℕ) (fits : Mode → Bool)
+        → handle_fault (core_of t.now stored closed failures) me handle fits ≡ Some e) }
 {
     let at = handle_table::look(&t.ref_counts.handles, handle).ok_or(Error::NoSuchHandle)?;
     if !is_owner(me, at.row.owner) {
@@ -87,7 +88,8 @@ fn row_fault(t: &Tables, row: HandleRow, reference: ArcRef, is_anothers: bool) -
 /// reference named the same handle.
 fn fault_of(t: &Tables, me: Owner, reference: ArcRef, is_seen: bool) -> Option<Error>
     requires { IsWhole t.now }
-    ensures { (stored : ℕ → Option Blob) (closed : Bool) (failures : ℕ) (seen : List ℕ) → is_in seen reference.handle.0 ≡ is_seen → result ≡ reference_fault (core_of t.now stored closed failures) me seen reference }
+    ensures { (stored : ℕ → Option Blob) (closed : Bool) (failures : ℕ) (seen : List ℕ) → is_in seen reference.handle.0
+        ≡ is_seen → result ≡ reference_fault (core_of t.now stored closed failures) me seen reference }
 {
     let Some(at) = handle_table::look(&t.ref_counts.handles, reference.handle) else {
         return Some(Error::NoSuchHandle);
@@ -98,7 +100,8 @@ fn fault_of(t: &Tables, me: Owner, reference: ArcRef, is_seen: bool) -> Option<E
 /// Returns why a worker can't claim what a reference names, if it can't, whoever owns the handle.
 pub fn claim_fault(t: &Tables, reference: ArcRef) -> Option<Error>
     requires { IsWhole t.now }
-    ensures { (stored : ℕ → Option Blob) (closed : Bool) (failures : ℕ) → result ≡ claim_fault (core_of t.now stored closed failures) reference }
+    ensures { (stored : ℕ → Option Blob) (closed : Bool) (failures : ℕ) → result
+        ≡ claim_fault (core_of t.now stored closed failures) reference }
 {
     match handle_table::look(&t.ref_counts.handles, reference.handle) {
         Some(at) => row_fault(t, at.row, reference, false),
@@ -113,7 +116,8 @@ pub fn claim_fault(t: &Tables, reference: ArcRef) -> Option<Error>
 #[tactic(auto, using(crate::proofs::SameViews::naming))]
 pub fn references_fault(t: &Tables, me: Owner, references: &[ArcRef]) -> Option<Error>
     requires { IsWhole t.now }
-    ensures { (stored : ℕ → Option Blob) (closed : Bool) (failures : ℕ) → result ≡ references_fault (core_of t.now stored closed failures) me [] references.now }
+    ensures { (stored : ℕ → Option Blob) (closed : Bool) (failures : ℕ) → result
+        ≡ references_fault (core_of t.now stored closed failures) me [] references.now }
 {
     let mut lowest = u64::MAX;
     let mut highest = 0;
@@ -132,7 +136,8 @@ pub fn references_fault(t: &Tables, me: Owner, references: &[ArcRef]) -> Option<
 /// Returns why this owner can't use the load of this row, if it can't: `NoSuchHandle` if there is
 /// none, `NotYours` if another began it.
 pub fn load_fault(row: Option<LoadRow>, me: Owner) -> Option<Error>
-    ensures { result ≡ if_there (λ (load : OpenLoad). refused_if (not (is_owner me load.owner)) errors.NotYours) (Some errors.NoSuchHandle) (option_map load_in row) }
+    ensures { result ≡ if_there (λ (load : OpenLoad). refused_if (not (is_owner me load.owner)) errors.NotYours)
+        (Some errors.NoSuchHandle) (option_map load_in row) }
 {
     match row {
         Some(row) => (!is_owner(me, row.owner)).then_some(Error::NotYours),
@@ -172,7 +177,8 @@ fn is_before(named: &[HandleNumber], place: usize, lowest: u64, highest: u64, nu
 /// was named before.
 fn hand_fault(handles: &Handles, owner: Owner, handle: HandleNumber, is_seen: bool) -> Option<Error>
     requires { AreSound handles.now }
-    ensures { result ≡ if_there (λ (row : HandleRow). refused_if (not (is_owner owner row.owner) || is_seen) errors.NotYours) (Some errors.NoSuchHandle) (find_row handle.0 (live handles.now.places.items)) }
+    ensures { result ≡ if_there (λ (row : HandleRow). refused_if (not (is_owner owner row.owner) || is_seen)
+        errors.NotYours) (Some errors.NoSuchHandle) (find_row handle.0 (live handles.now.places.items)) }
 {
     let Some(at) = handle_table::look(handles, handle) else {
         return Some(Error::NoSuchHandle);
@@ -208,7 +214,8 @@ pub(crate) fn hand_over_fault(
     named: &[HandleNumber],
 ) -> Option<Error>
     requires { IsWhole t.now }
-    ensures { (stored : ℕ → Option Blob) (closed : Bool) (failures : ℕ) → result ≡ hand_over_fault (core_of t.now stored closed failures) me load named.now }
+    ensures { (stored : ℕ → Option Blob) (closed : Bool) (failures : ℕ) → result
+        ≡ hand_over_fault (core_of t.now stored closed failures) me load named.now }
 {
     let first = load_fault(load_table::load_of(&t.loads, load.0), me);
     let cell = cell_fault(load_table::load_of(&t.loads, load.0));
@@ -224,8 +231,10 @@ pub(crate) fn hand_over_fault(
 /// - `NotYours` if another began it.
 pub fn load_row(t: &Tables, me: Owner, load: LoadNumber) -> Result<LoadRow, Error>
     ensures row { IfOk result (λ row. load_at t.now.loads load.0 ≡ Some row) }
-    ensures own { IfOk result (λ row. (stored : ℕ → Option Blob) (closed : Bool) (failures : ℕ) → OwnsLoad (core_of t.now stored closed failures) me load (load_in row)) }
-    ensures fault { IfErr result (λ e. (stored : ℕ → Option Blob) (closed : Bool) (failures : ℕ) → load_fault (core_of t.now stored closed failures) me load ≡ Some e) }
+    ensures own { IfOk result (λ row. (stored : ℕ → Option Blob) (closed : Bool) (failures : ℕ)
+        → OwnsLoad (core_of t.now stored closed failures) me load (load_in row)) }
+    ensures fault { IfErr result (λ e. (stored : ℕ → Option Blob) (closed : Bool) (failures : ℕ)
+        → load_fault (core_of t.now stored closed failures) me load ≡ Some e) }
 {
     let row = load_table::load_of(&t.loads, load.0).ok_or(Error::NoSuchHandle)?;
     if !is_owner(me, row.owner) {

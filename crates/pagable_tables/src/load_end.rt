@@ -58,7 +58,8 @@ pub enum Unended {
 fn root_fault(t: &Tables, me: Owner, load: LoadNumber, node_type: u32) -> Option<Error>
     requires { IsWhole t.now }
     ensures { (stored : ℕ → Option Blob) (closed : Bool) (failures : ℕ)
-        → result ≡ if_there (λ (load : OpenLoad). root_fault (core_of t.now stored closed failures) me node_type load.root) None ((core_of t.now stored closed failures).loads load.0) }
+        → result ≡ if_there (λ (load : OpenLoad). root_fault (core_of t.now stored closed failures) me node_type
+        load.root) None ((core_of t.now stored closed failures).loads load.0) }
 {
     let LoadRoot::Cell(_, cell_type, handle) = load_table::load_of(&t.loads, load.0)?.root else {
         return Some(Error::WrongMode);
@@ -80,7 +81,8 @@ fn end_fault(
     references: &[ArcRef],
 ) -> Option<Error>
     requires { IsWhole t.now }
-    ensures { (stored : ℕ → Option Blob) (closed : Bool) (failures : ℕ) → result ≡ end_fault (core_of t.now stored closed failures) me load node_type references.now }
+    ensures { (stored : ℕ → Option Blob) (closed : Bool) (failures : ℕ) → result
+        ≡ end_fault (core_of t.now stored closed failures) me load node_type references.now }
 {
     let own = load_fault(load_table::load_of(&t.loads, load.0), me);
     let root = root_fault(t, me, load, node_type);
@@ -108,10 +110,12 @@ pub fn prepare_end(
     references: &[ArcRef],
 ) -> Result<Ending, Unended>
     requires { IsWhole t.old }
-    ensures ready { IfOk result (λ e. (stored : ℕ → Option Blob) (closed : Bool) (failures : ℕ) → IsEndReady (core_of t.new stored closed failures) me load node_type references.now e) }
+    ensures ready { IfOk result (λ e. (stored : ℕ → Option Blob) (closed : Bool) (failures : ℕ)
+        → IsEndReady (core_of t.new stored closed failures) me load node_type references.now e) }
     ensures place { IfOk result (λ e. HasPlace t.new load e) }
     ensures unended { IfErr result (λ u. (stored : ℕ → Option Blob) (closed : Bool) (failures : ℕ)
-        → Unends (core_of t.old stored closed failures) me load node_type references.now u (core_of t.new stored closed failures)) }
+        → Unends (core_of t.old stored closed failures) me load node_type references.now u
+        (core_of t.new stored closed failures)) }
     ensures does { Does t.old OnlyRoom t.new }
     ensures nodes { t.new.ref_counts.nodes ≡ t.old.ref_counts.nodes }
 {
@@ -143,7 +147,8 @@ pub fn prepare_end(
 fn join(t: &mut RefCounts, node: NodeNumber, references: Vec<ArcRef>, comes: bool)
     requires sound { AreSound t.old.handles }
     requires live { IsSome (counts_at t.old.nodes node.0) }
-    ensures handles { Becomes t.old.handles (moved (is_named_by (coming comes references.items)) (owner_value node.0) (live t.old.handles.places.items)) t.new.handles }
+    ensures handles { Becomes t.old.handles (moved (is_named_by (coming comes references.items)) (owner_value node.0)
+        (live t.old.handles.places.items)) t.new.handles }
     ensures counts { (n : ℕ) → counts_at t.new.nodes n ≡ counts_at t.old.nodes n }
     ensures work { (n : ℕ) → work_at t.new.nodes n ≡ work_at t.old.nodes n }
     ensures here { comes ≡ true → refs_at t.new.nodes node.0 ≡ references.items }
@@ -171,12 +176,15 @@ fn install_up_to<N: Drop>(
     lists: bool,
 ) -> HandleNumber
     requires whole { IsWhole t.old }
-    requires ready { (stored : ℕ → Option Blob) (closed : Bool) (failures : ℕ) → IsEndReady (core_of t.old stored closed failures) me load node_type references.items ending }
+    requires ready { (stored : ℕ → Option Blob) (closed : Bool) (failures : ℕ)
+        → IsEndReady (core_of t.old stored closed failures) me load node_type references.items ending }
     requires place { 1 ≤ room t.old.ref_counts.handles }
     requires above { IsOwnedAbove t.old load ending.load.since }
     requires up_to { IsOwnedUpTo t.old load until }
-    ensures does { Does t.old (λ w w'. lists ≡ not w.closed → Installs w me load ending.row.node ending.row.number result references.items w') t.new }
-    ensures sheds { ShedsBeside ending.row.node (counts_at t.old.ref_counts.nodes) (row_by values.old) (counts_at t.new.ref_counts.nodes) (row_by values.new) }
+    ensures does { Does t.old (λ w w'. lists ≡ not w.closed
+        → Installs w me load ending.row.node ending.row.number result references.items w') t.new }
+    ensures sheds { ShedsBeside ending.row.node (counts_at t.old.ref_counts.nodes) (row_by values.old)
+        (counts_at t.new.ref_counts.nodes) (row_by values.new) }
 {
     let Ok(handle) = pin_here(t, me, ending.row) else {
         unreachable!();
@@ -214,10 +222,13 @@ pub fn install<N: Drop>(
 ) -> HandleNumber
     requires whole { IsWhole t.old }
     requires later { AreLater t.old }
-    requires ready { (stored : ℕ → Option Blob) (closed : Bool) (failures : ℕ) → IsEndReady (core_of t.old stored closed failures) me load node_type references.items ending }
+    requires ready { (stored : ℕ → Option Blob) (closed : Bool) (failures : ℕ)
+        → IsEndReady (core_of t.old stored closed failures) me load node_type references.items ending }
     requires place { HasPlace t.old load ending }
-    ensures does { Does t.old (λ w w'. lists ≡ not w.closed → Installs w me load ending.row.node ending.row.number result references.items w') t.new }
-    ensures sheds { ShedsBeside ending.row.node (counts_at t.old.ref_counts.nodes) (row_by values.old) (counts_at t.new.ref_counts.nodes) (row_by values.new) }
+    ensures does { Does t.old (λ w w'. lists ≡ not w.closed
+        → Installs w me load ending.row.node ending.row.number result references.items w') t.new }
+    ensures sheds { ShedsBeside ending.row.node (counts_at t.old.ref_counts.nodes) (row_by values.old)
+        (counts_at t.new.ref_counts.nodes) (row_by values.new) }
 {
     let until = last_of(t, load, ending.load.since);
     install_up_to(

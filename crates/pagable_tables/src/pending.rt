@@ -55,7 +55,8 @@ pub fn schedule_for_paging<N: Drop>(
 fn reach_to(workers: &mut Workers, me: Owner, handle: HandleNumber)
     ensures at_work { (v : ℕ) → is_some (worker_at workers.new v) ≡ is_some (worker_at workers.old v) }
     ensures less { IsNoLess workers.old workers.new }
-    ensures here { (v : ℕ) → 0 < handle.0 → is_owner (owner_worker v) me ≡ true → InReach (reach_at workers.new v) handle.0 }
+    ensures here { (v : ℕ) → 0 < handle.0 → is_owner (owner_worker v) me ≡ true
+        → InReach (reach_at workers.new v) handle.0 }
 {
     let Owner::Worker(worker) = me else {
         return;
@@ -73,7 +74,8 @@ fn reach_to(workers: &mut Workers, me: Owner, handle: HandleNumber)
 pub fn take_pending(t: &mut Tables, me: Owner, place: usize) -> Option<HandleNumber>
     requires whole { IsWhole t.old }
     requires holder { MayHold (plain_of t.old) me }
-    ensures taken { (stored : ℕ → Option Blob) (closed : Bool) (failures : ℕ) → TakeCall (core_of t.old stored closed failures) me place result (core_of t.new stored closed failures) }
+    ensures taken { (stored : ℕ → Option Blob) (closed : Bool) (failures : ℕ)
+        → TakeCall (core_of t.old stored closed failures) me place result (core_of t.new stored closed failures) }
     ensures whole { IsWhole t.new }
     ensures later { ((m : LoadNumber) → is_owner (Owner.Load m) me ≡ false) → AreLater t.old → AreLater t.new }
 {

@@ -24,7 +24,8 @@ use pagable_value_spec::{Error, HandleNumber, NodeNumber, OptionalDataKey};
 /// - `NoSuchHandle` if the handle isn't live.
 pub fn node_of(t: &Tables, handle: HandleNumber) -> Result<NodeNumber, Error>
     requires { IsWhole t.now }
-    ensures { (stored : ℕ → Option Blob) (closed : Bool) (failures : ℕ) → NodeCall (core_of t.now stored closed failures) handle result }
+    ensures { (stored : ℕ → Option Blob) (closed : Bool) (failures : ℕ)
+        → NodeCall (core_of t.now stored closed failures) handle result }
 {
     let at = handle_table::look(&t.ref_counts.handles, handle).ok_or(Error::NoSuchHandle)?;
     Ok(at.row.node)
@@ -37,7 +38,9 @@ pub fn node_of(t: &Tables, handle: HandleNumber) -> Result<NodeNumber, Error>
 /// - `NoSuchHandle` if the handle isn't live.
 pub fn pinned_node(t: &Tables, handle: HandleNumber) -> Result<Option<NodeNumber>, Error>
     requires { IsWhole t.now }
-    ensures { (stored : ℕ → Option Blob) (closed : Bool) (failures : ℕ) → Looks (core_of t.now stored closed failures) handle (λ node row. node ≡ (if is_pinning row.mode then Some row.node else None)) result }
+    ensures { (stored : ℕ → Option Blob) (closed : Bool) (failures : ℕ)
+        → Looks (core_of t.now stored closed failures) handle
+        (λ node row. node ≡ (if is_pinning row.mode then Some row.node else None)) result }
 {
     let at = handle_table::look(&t.ref_counts.handles, handle).ok_or(Error::NoSuchHandle)?;
     Ok(pins(at.row.mode).then_some(at.row.node))
@@ -50,7 +53,8 @@ pub fn pinned_node(t: &Tables, handle: HandleNumber) -> Result<Option<NodeNumber
 /// - `NoSuchHandle` if the handle isn't live.
 pub fn count(t: &Tables, handle: HandleNumber) -> Result<u64, Error>
     requires { IsWhole t.now }
-    ensures { (stored : ℕ → Option Blob) (closed : Bool) (failures : ℕ) → CountCall (core_of t.now stored closed failures) handle result }
+    ensures { (stored : ℕ → Option Blob) (closed : Bool) (failures : ℕ)
+        → CountCall (core_of t.now stored closed failures) handle result }
 {
     let at = handle_table::look(&t.ref_counts.handles, handle).ok_or(Error::NoSuchHandle)?;
     let counts = nodes::counts_of(&t.ref_counts.nodes, at.row.node.0);
@@ -64,7 +68,8 @@ pub fn count(t: &Tables, handle: HandleNumber) -> Result<u64, Error>
 /// - `NoSuchHandle` if the handle isn't live.
 pub fn key(t: &Tables, handle: HandleNumber) -> Result<OptionalDataKey, Error>
     requires { IsWhole t.now }
-    ensures { (stored : ℕ → Option Blob) (closed : Bool) (failures : ℕ) → KeyCall (core_of t.now stored closed failures) handle result }
+    ensures { (stored : ℕ → Option Blob) (closed : Bool) (failures : ℕ)
+        → KeyCall (core_of t.now stored closed failures) handle result }
 {
     let at = handle_table::look(&t.ref_counts.handles, handle).ok_or(Error::NoSuchHandle)?;
     Ok(key_in(nodes::counts_of(&t.ref_counts.nodes, at.row.node.0)))
@@ -77,7 +82,8 @@ pub fn key(t: &Tables, handle: HandleNumber) -> Result<OptionalDataKey, Error>
 /// - `NoSuchHandle` if the handle isn't live.
 pub fn is_paged_out(t: &Tables, handle: HandleNumber) -> Result<bool, Error>
     requires { IsWhole t.now }
-    ensures { (stored : ℕ → Option Blob) (closed : Bool) (failures : ℕ) → AwayCall (core_of t.now stored closed failures) handle result }
+    ensures { (stored : ℕ → Option Blob) (closed : Bool) (failures : ℕ)
+        → AwayCall (core_of t.now stored closed failures) handle result }
 {
     let at = handle_table::look(&t.ref_counts.handles, handle).ok_or(Error::NoSuchHandle)?;
     Ok(!is_here(nodes::counts_of(&t.ref_counts.nodes, at.row.node.0)))
@@ -90,7 +96,8 @@ pub fn is_paged_out(t: &Tables, handle: HandleNumber) -> Result<bool, Error>
 /// - `NoSuchHandle` if the handle isn't live.
 pub fn is_loose(t: &Tables, handle: HandleNumber) -> Result<bool, Error>
     requires { IsWhole t.now }
-    ensures { (stored : ℕ → Option Blob) (closed : Bool) (failures : ℕ) → Looks (core_of t.now stored closed failures) handle (λ loose row. loose ≡ is_loose row.mode) result }
+    ensures { (stored : ℕ → Option Blob) (closed : Bool) (failures : ℕ)
+        → Looks (core_of t.now stored closed failures) handle (λ loose row. loose ≡ is_loose row.mode) result }
 {
     let at = handle_table::look(&t.ref_counts.handles, handle).ok_or(Error::NoSuchHandle)?;
     Ok(is_loose_mode(at.row.mode))
@@ -108,8 +115,10 @@ pub fn node_live(t: &Tables, node: NodeNumber) -> Option<u32>
 #[tactic(auto, using(crate::proofs::CascadeStep::counting))]
 pub fn entry(t: &Tables, place: usize) -> Option<(HandleRow, u32, OptionalDataKey)>
     requires { IsWhole t.now }
-    ensures found { IfSome result (λ e. (stored : ℕ → Option Blob) (closed : Bool) (failures : ℕ) → IsEntry (core_of t.now stored closed failures) place e.0.number e.0 e.1) }
-    ensures keyed { IfSome result (λ e. (stored : ℕ → Option Blob) (closed : Bool) (failures : ℕ) → key_at (core_of t.now stored closed failures) e.0.node.0 ≡ e.2) }
+    ensures found { IfSome result (λ e. (stored : ℕ → Option Blob) (closed : Bool) (failures : ℕ)
+        → IsEntry (core_of t.now stored closed failures) place e.0.number e.0 e.1) }
+    ensures keyed { IfSome result (λ e. (stored : ℕ → Option Blob) (closed : Bool) (failures : ℕ)
+        → key_at (core_of t.now stored closed failures) e.0.node.0 ≡ e.2) }
     ensures past { IfNone result (length t.now.ref_counts.list.items ≤ place) }
 {
     let handle = *t.ref_counts.list.get(place)?;

@@ -21,14 +21,18 @@ returns-clause-pins c stored closed failures =
     let is = c.take_numbers.ensures.does.does stored closed failures in
     let a : Alike (with_handle (with_mode (with_numbers w) row.number Mode.LoosePinned) row.node Mode.Pinned c.args.me) w' =
     subst (λ (v : Core). Alike (with_handle (with_mode v row.number Mode.LoosePinned) row.node Mode.Pinned c.args.me) w') is p.1 in
-    pins-leaf t c.pin_here.new.t stored closed (not closed) failures c.requires.whole c.in-Ok.ensures.does.whole refl c.args.me row c.args.leaf.key c.args.leaf.node_type
-    (record { live = leaf.owned.live; own = leaf.owned.own; as_asked = leaf.owned.as_asked }) a (λ kind k. ap (λ (u : Tables). (core_of u stored closed failures).cache kind k) (c.in-Ok.ensures.same) ∙ ap (λ (u : Tables). (core_of u stored closed failures).cache kind k) c.take_numbers.ensures.same)
+    pins-leaf t c.pin_here.new.t stored closed (not closed) failures c.requires.whole c.in-Ok.ensures.does.whole refl c.args.me row c.args.leaf.key
+    c.args.leaf.node_type
+    (record { live = leaf.owned.live; own = leaf.owned.own; as_asked = leaf.owned.as_asked }) a
+    (λ kind k. ap (λ (u : Tables). (core_of u stored closed failures).cache kind k) (c.in-Ok.ensures.same)
+    ∙ ap (λ (u : Tables). (core_of u stored closed failures).cache kind k) c.take_numbers.ensures.same)
     leaf.away leaf.keyed leaf.typed leaf.load_left leaf.handles_left c.in-Ok.handle (p.0.above ∙ ap (λ (v : Core). v.last.handle + 1) is)
 
 pub returns-clause-come : goal.returns-clause-come
 returns-clause-come c n =
     let same = c.take_numbers.ensures.same in
     let row = c.args.leaf.row in
-    has-come c.take_numbers.new.t c.pin_here.new.t (λ key. None) false 0 row c.args.me (c.in-Ok.ensures.does.does (λ key. None) false 0).pinned.1 c.take_numbers.ensures.does.whole
+    has-come c.take_numbers.new.t c.pin_here.new.t (λ key. None) false 0 row c.args.me (c.in-Ok.ensures.does.does (λ key. None) false 0).pinned.1
+    c.take_numbers.ensures.does.whole
     c.in-Ok.ensures.does.whole (ap (λ (u : Tables). find_row row.number.0 (live u.ref_counts.handles.places.items)) same ∙ c.requires.leaf.owned.live) n
     ∙ ap (λ (u : Tables). has_come (counts_at u.ref_counts.nodes) row.node n) same

@@ -9,17 +9,22 @@ loop-i-preserved c =
     let l = c.loop-i in
     let rs = c.args.references.now in
     let named = l.invariant.same _ ∙ sym c.is_named-is_seen.ensures in
-    let none = λ (stored : ℕ → Option Blob) (closed : Bool) (failures : ℕ). sym (c.fault_of.ensures stored closed failures l.invariant.seen named) ∙ c.in_default.is in
+    let none = λ (stored : ℕ → Option Blob) (closed : Bool) (failures : ℕ). sym (c.fault_of.ensures stored closed failures l.invariant.seen named)
+    ∙ c.in_default.is in
     record {
       seen = (get_or rs l.i blank).handle.0 ∷ l.invariant.seen;
       same = seen-more l.invariant.seen rs l.i blank (omega arith) l.invariant.same;
-      lowest = λ q below. named-other rs l.i blank q (omega (arith, c.min-lowest.ensures)) (omega arith) (l.invariant.lowest q (omega (arith, c.min-lowest.ensures)));
-      highest = λ q above. named-other rs l.i blank q (omega (arith, c.max-highest.ensures)) (omega arith) (l.invariant.highest q (omega (arith, c.max-highest.ensures)));
-      rest = λ stored closed failures. l.invariant.rest stored closed failures ∙ fault-at (core_of c.args.t.now stored closed failures) c.args.me l.invariant.seen rs l.i blank None (omega arith) (none stored closed failures);
+      lowest = λ q below. named-other rs l.i blank q (omega (arith, c.min-lowest.ensures)) (omega arith)
+          (l.invariant.lowest q (omega (arith, c.min-lowest.ensures)));
+      highest = λ q above. named-other rs l.i blank q (omega (arith, c.max-highest.ensures)) (omega arith)
+          (l.invariant.highest q (omega (arith, c.max-highest.ensures)));
+      rest = λ stored closed failures. l.invariant.rest stored closed failures
+          ∙ fault-at (core_of c.args.t.now stored closed failures) c.args.me l.invariant.seen rs l.i blank None (omega arith) (none stored closed failures);
     }
 
 pub returns-in-Some : Rattle.pagable_tables.proofs.checks.references_fault.Goals.returns-in-Some
 returns-in-Some c stored closed failures =
     let l = c.loop-i in
     let fault = sym (c.fault_of.ensures stored closed failures l.invariant.seen (l.invariant.same _ ∙ sym c.is_named-is_seen.ensures)) ∙ c.in-Some.is in
-    sym (l.invariant.rest stored closed failures ∙ fault-at (core_of c.args.t.now stored closed failures) c.args.me l.invariant.seen c.args.references.now l.i _ (Some c.in-Some.e) (omega arith) fault)
+    sym (l.invariant.rest stored closed failures ∙ fault-at (core_of c.args.t.now stored closed failures) c.args.me l.invariant.seen c.args.references.now l.i _
+    (Some c.in-Some.e) (omega arith) fault)

@@ -7,5 +7,6 @@ invariant-loop-i l = record {
   same : (q : ℕ) → is_in seen q ≡ is_named_by (take l.i l.references) q;
   lowest : (q : ℕ) → q < l.lowest → is_named_by (take l.i l.references) q ≡ false;
   highest : (q : ℕ) → l.highest < q → is_named_by (take l.i l.references) q ≡ false;
-  rest : (stored : ℕ → Option Blob) (closed : Bool) (failures : ℕ) → references_fault (core_of l.t stored closed failures) l.me [] l.references ≡ references_fault (core_of l.t stored closed failures) l.me seen (drop l.i l.references);
+  rest : (stored : ℕ → Option Blob) (closed : Bool) (failures : ℕ) → references_fault (core_of l.t stored closed failures) l.me [] l.references
+      ≡ references_fault (core_of l.t stored closed failures) l.me seen (drop l.i l.references);
 }

@@ -14,7 +14,8 @@ returns-clause-does c =
     let here = e.here ∙ ap (λ (k : Counts). Some (record k { holds = y.holds })) (c.counts_more-pinned.ensures
     ∙ ap (λ p. record y { pins = y.pins + one (not p); holds = y.holds + 1 }) c.pins.ensures) in
     does-so
-    (λ stored closed failures. alike _ _ (c.set.ensures.becomes.rows ∙ changed-known t.handles.places.items c.args.at.place x w.steady.sound.ordered c.requires.place turned)
+    (λ stored closed failures. alike _ _ (c.set.ensures.becomes.rows ∙ changed-known t.handles.places.items c.args.at.place x w.steady.sound.ordered
+    c.requires.place turned)
     (λ q. grind (arith, nat_tests, cases_eq q x.node.0, is, here, e.others q)) refl (record { handles = omega arith; entries = omega arith }) refl)
     (record {
       sound = c.set.ensures.becomes.sound;
@@ -24,5 +25,6 @@ returns-clause-does c =
     })
     (λ pins.
     let found = (at-place t.handles.places.items c.args.at.place x w.steady.sound.ordered c.requires.place).2 in
-    let turns = moded w.core x.number x Mode.LoosePinned found (sym c.requires.unshared) (λ loose. refl) (λ is. grind (arith, nat_tests, c.requires.unlisted)) in
+    let turns = moded w.core x.number x Mode.LoosePinned found (sym c.requires.unshared) (λ loose. refl)
+    (λ is. grind (arith, nat_tests, c.requires.unlisted)) in
     settled pins turns.0 turns.2) refl refl refl

@@ -12,7 +12,8 @@ unwrap-row-requires g c =
 pub take_up_to-requires-clause-free : goal.take_up_to-requires-clause-free
 take_up_to-requires-clause-free g c stored closed failures =
     let n = c.last_of-until.ensures.notes in
-    ap (λ (w : Core). hand_over_fault w c.args.me c.args.load c.args.named.now) (core-same c.args.t.now c.last_of-until.new.t n.same n.rows stored closed failures)
+    ap (λ (w : Core). hand_over_fault w c.args.me c.args.load c.args.named.now)
+    (core-same c.args.t.now c.last_of-until.new.t n.same n.rows stored closed failures)
     ∙ sym (c.hand_over_fault.ensures stored closed failures) ∙ c.in_default.is
 
 pub returns : goal.returns

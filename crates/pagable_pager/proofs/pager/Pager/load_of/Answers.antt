@@ -11,4 +11,5 @@ returns-clause-reads g c = rw (← c.self.view_is) (record {
 })
 
 pub returns-in_err-row-clause-fault : Rattle.pagable_pager.proofs.pager.Pager.load_of.Goals.returns-in_err-row-clause-fault
-returns-in_err-row-clause-fault g c = rw (← c.self.view_is, failed c.from_residual.result c.from_residual.ensures.1) (c.in_err-row.ensures.fault (λ key. None) false 0)
+returns-in_err-row-clause-fault g c = rw (← c.self.view_is, failed c.from_residual.result c.from_residual.ensures.1)
+    (c.in_err-row.ensures.fault (λ key. None) false 0)
