@@ -1,7 +1,7 @@
 //! Page-out of one cell of a lent pager.
 
 ghost use Rattle.std.specs.Prelude.{IsTrue, ◌≡◌};
-ghost use Rattle.{pagable.specs.PageOuts.{ListsClone, PagesLast, PagesLastEntry, PagesOutCell, PagesOutClone}, pagable_load.specs.AccessView.values_at, pagable_pager.specs.View.{state_in, telling}};
+ghost use Rattle.{pagable.specs.PageOuts.{ListsClone, PagesLast, PagesLastEntry, PagesOutCell, PagesOutClone}, pagable_load.specs.AccessView.values_at, pagable_pager.specs.View.{state_in, storage_view}};
 ghost use Rattle.pagable_pageout.specs.PageOuts.{PagesEntryIfThere};
 ghost use Rattle.pagable_pager_spec.specs.declared.handle_row.Owner.TheVariants as owners;
 
@@ -19,7 +19,7 @@ fn entry_by<'a, E: Env<Node: NodeSet<E>>, S: PagableStorage<E>>(
 ) -> Result<Option<DataKey>, PageOutError>
     requires caller { lent.old.me ≡ owners.Caller }
     ensures pages { IsTrue (S.is_honest lent.new.pager.now.storage) → PagesEntryIfThere (values_at E.Node.NodeSet E.Env E.Hash.KeyHash lent.old.pager.now.environment) place result
-        (state_in (telling S.stored S.is_closed S.failed) lent.old.pager.now) (state_in (telling S.stored S.is_closed S.failed) lent.new.pager.now) }
+        (state_in (storage_view S.PagableStorage) lent.old.pager.now) (state_in (storage_view S.PagableStorage) lent.new.pager.now) }
     ensures honest { IsTrue (S.is_honest lent.new.pager.now.storage) → IsTrue (S.is_honest lent.old.pager.now.storage) }
     ensures lender { lent.new.pager.ghost_name ≡ lent.old.pager.ghost_name }
 {
@@ -33,7 +33,7 @@ fn last_entry<E: Env<Node: NodeSet<E>>, S: PagableStorage<E>>(
     pager: &mut Pager<E, S>,
 ) -> Result<Option<DataKey>, PageOutError>
     ensures pages { IsTrue (S.is_honest pager.new.storage) → PagesLastEntry (values_at E.Node.NodeSet E.Env E.Hash.KeyHash pager.old.environment)
-        (state_in (telling S.stored S.is_closed S.failed) pager.old) result (state_in (telling S.stored S.is_closed S.failed) pager.new) }
+        (state_in (storage_view S.PagableStorage) pager.old) result (state_in (storage_view S.PagableStorage) pager.new) }
     ensures honest { IsTrue (S.is_honest pager.new.storage) → IsTrue (S.is_honest pager.old.storage) }
 {
     let pending = pager.pending();
@@ -51,7 +51,7 @@ fn last_key<E: Env<Node: NodeSet<E>>, S: PagableStorage<E>>(
     pager: &mut Pager<E, S>,
 ) -> Result<DataKey, PageOutError>
     ensures pages { IsTrue (S.is_honest pager.new.storage) → PagesLast (values_at E.Node.NodeSet E.Env E.Hash.KeyHash pager.old.environment)
-        (state_in (telling S.stored S.is_closed S.failed) pager.old) result (state_in (telling S.stored S.is_closed S.failed) pager.new) }
+        (state_in (storage_view S.PagableStorage) pager.old) result (state_in (storage_view S.PagableStorage) pager.new) }
     ensures honest { IsTrue (S.is_honest pager.new.storage) → IsTrue (S.is_honest pager.old.storage) }
 {
     match last_entry(alloc, pager) {
@@ -66,7 +66,7 @@ fn list_clone<E: Env<Node: NodeSet<E>>, S: PagableStorage<E>>(
     pager: &mut Pager<E, S>,
     handle: HandleNumber,
 ) -> Result<(), Error>
-    ensures { ListsClone (telling S.stored S.is_closed S.failed) pager.old handle result pager.new }
+    ensures { ListsClone (storage_view S.PagableStorage) pager.old handle result pager.new }
 {
     let clone = pager.clone(handle)?;
     let _loosened = pager.into_pagable(clone);
@@ -92,7 +92,7 @@ fn page_out_clone<E: Env<Node: NodeSet<E>>, S: PagableStorage<E>>(
     pager: &mut Pager<E, S>,
     handle: HandleNumber,
 ) -> Result<DataKey, PageOutError>
-    ensures pages { IsTrue (S.is_honest pager.new.storage) → PagesOutClone (telling S.stored S.is_closed S.failed) (values_at E.Node.NodeSet E.Env E.Hash.KeyHash) pager.old
+    ensures pages { IsTrue (S.is_honest pager.new.storage) → PagesOutClone (storage_view S.PagableStorage) (values_at E.Node.NodeSet E.Env E.Hash.KeyHash) pager.old
         handle result pager.new }
     ensures honest { IsTrue (S.is_honest pager.new.storage) → IsTrue (S.is_honest pager.old.storage) }
 {
@@ -116,7 +116,7 @@ pub fn page_out<E: Env<Node: NodeSet<E>>, S: PagableStorage<E>>(
     pager: &mut Pager<E, S>,
     handle: HandleNumber,
 ) -> Result<DataKey, PageOutError>
-    ensures pages { IsTrue (S.is_honest pager.new.storage) → PagesOutCell (telling S.stored S.is_closed S.failed) (values_at E.Node.NodeSet E.Env E.Hash.KeyHash) pager.old
+    ensures pages { IsTrue (S.is_honest pager.new.storage) → PagesOutCell (storage_view S.PagableStorage) (values_at E.Node.NodeSet E.Env E.Hash.KeyHash) pager.old
         handle result pager.new }
     ensures honest { IsTrue (S.is_honest pager.new.storage) → IsTrue (S.is_honest pager.old.storage) }
 {

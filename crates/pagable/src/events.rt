@@ -4,7 +4,7 @@
 
 ghost use Rattle.std.specs.{Arc.arc_value, Prelude.{IfErr, IsTrue, None, OnOk, false, is_none, true, ◌*◌, ◌≡◌}};
 ghost use Rattle.pagable.specs.Driving.{Drives, Forgets, IsInStep, IsPrepared, KeepsOne, Serves, Stepped, kept_at, plain_found, rest_after};
-ghost use Rattle.{pagable_core.specs.Data.blob_of, pagable_load.specs.AccessView.values_at, pagable_pager.specs.View.{core_in, given_as, state_in, telling}};
+ghost use Rattle.{pagable_core.specs.Data.blob_of, pagable_load.specs.AccessView.values_at, pagable_pager.specs.View.{core_in, given_as, state_in, storage_view}};
 ghost use Rattle.pagable_pager_spec.specs.{Events.given_of, World.seen_as, declared.handle_row.Owner.Owner};
 
 use crate::workers::{Held, put, table_new, worker_item, worker_listed, worker_step};
@@ -36,7 +36,7 @@ fn make_call<E: Env<Node: NodeSet<E>>, S: PagableStorage<E>>(
     alloc: Global,
     call: Call<E::Node, PagableData>,
 ) -> Reply<E::Node, Arc<PagableData>>
-    ensures serves { IsTrue (S.is_honest pager.new.storage) → Serves (values_at E.Node.NodeSet E.Env E.Hash.KeyHash pager.old.environment) (telling S.stored S.is_closed S.failed) pager.old call result pager.new }
+    ensures serves { IsTrue (S.is_honest pager.new.storage) → Serves (values_at E.Node.NodeSet E.Env E.Hash.KeyHash pager.old.environment) (storage_view S.PagableStorage) pager.old call result pager.new }
     ensures honest { IsTrue (S.is_honest pager.new.storage) → IsTrue (S.is_honest pager.old.storage) }
 {
     match call {
@@ -131,7 +131,7 @@ fn step_by<'a, E: Env<Node: NodeSet<E>>, S: PagableStorage<E>>(
 ) -> LoadReply<E::Node>
     requires { lent.old.me ≡ Owner.Caller }
     ensures step { IsTrue (S.is_honest lent.new.pager.now.storage) → Stepped (values_at E.Node.NodeSet E.Env E.Hash.KeyHash lent.old.pager.now.environment) Owner.Caller own.old result own.new
-        (state_in (telling S.stored S.is_closed S.failed) lent.old.pager.now) (state_in (telling S.stored S.is_closed S.failed) lent.new.pager.now) }
+        (state_in (storage_view S.PagableStorage) lent.old.pager.now) (state_in (storage_view S.PagableStorage) lent.new.pager.now) }
     ensures honest { IsTrue (S.is_honest lent.new.pager.now.storage) → IsTrue (S.is_honest lent.old.pager.now.storage) }
     ensures lender { lent.new.pager.ghost_name ≡ lent.old.pager.ghost_name }
 {
@@ -148,8 +148,8 @@ fn load_step<E: Env<Node: NodeSet<E>>, S: PagableStorage<E>>(
     alloc: Global,
     load: LoadNumber,
 ) -> Result<LoadReply<E::Node>, Error>
-    requires { IsInStep S.is_honest (telling S.stored S.is_closed S.failed) pager.old held.old }
-    ensures { Drives S.is_honest (values_at E.Node.NodeSet E.Env E.Hash.KeyHash pager.old.environment) (telling S.stored S.is_closed S.failed)
+    requires { IsInStep S.is_honest (storage_view S.PagableStorage) pager.old held.old }
+    ensures { Drives S.is_honest (values_at E.Node.NodeSet E.Env E.Hash.KeyHash pager.old.environment) (storage_view S.PagableStorage)
         pager.old held.old (Event.LoadStep load) (EventReply.LoadMoved result) pager.new held.new }
 {
     pager.is_whole();
@@ -186,7 +186,7 @@ fn forget<E: Env<Node: NodeSet<E>>, S: PagableStorage<E>>(
     readings: &mut IndexMap<u64, Reading>,
     load: Option<LoadNumber>,
 )
-    ensures { Forgets (core_in (telling S.stored S.is_closed S.failed) pager.now) (kept_at readings.old) (kept_at readings.new) }
+    ensures { Forgets (core_in (storage_view S.PagableStorage) pager.now) (kept_at readings.old) (kept_at readings.new) }
 {
     let Some(load) = load else {
         return;
@@ -203,8 +203,8 @@ fn load_key<E: Env<Node: NodeSet<E>>, S: PagableStorage<E>>(
     key: DataKey,
     node_type: u32,
 ) -> Result<Beginning, Error>
-    requires { IsInStep S.is_honest (telling S.stored S.is_closed S.failed) pager.old held.old }
-    ensures { Drives S.is_honest (values_at E.Node.NodeSet E.Env E.Hash.KeyHash pager.old.environment) (telling S.stored S.is_closed S.failed)
+    requires { IsInStep S.is_honest (storage_view S.PagableStorage) pager.old held.old }
+    ensures { Drives S.is_honest (values_at E.Node.NodeSet E.Env E.Hash.KeyHash pager.old.environment) (storage_view S.PagableStorage)
         pager.old held.old (Event.LoadKey key node_type) (EventReply.Started result) pager.new held.new }
 {
     pager.is_whole();
@@ -234,8 +234,8 @@ pub fn serve<E: Env<Node: NodeSet<E>>, S: PagableStorage<E>>(
     alloc: Global,
     event: Event<E::Node, PagableData, SerializedData>,
 ) -> EventReply<E::Node, Arc<PagableData>, Arc<SerializedData>>
-    requires { IsInStep S.is_honest (telling S.stored S.is_closed S.failed) pager.old held.old }
-    ensures { Drives S.is_honest (values_at E.Node.NodeSet E.Env E.Hash.KeyHash pager.old.environment) (telling S.stored S.is_closed S.failed)
+    requires { IsInStep S.is_honest (storage_view S.PagableStorage) pager.old held.old }
+    ensures { Drives S.is_honest (values_at E.Node.NodeSet E.Env E.Hash.KeyHash pager.old.environment) (storage_view S.PagableStorage)
         pager.old held.old event result pager.new held.new }
 {
     pager.is_whole();

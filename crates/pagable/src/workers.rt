@@ -3,7 +3,7 @@
 
 ghost use Rattle.std.specs.{HashMap.spare, Prelude.{◌≡◌, ◌<◌, ◌⊎◌, ℕ, Some, IfOk, IsTrue, IfErr, OnOk, false, true, ◌∷◌, length, is_some}};
 ghost use Rattle.{pagable.specs.Driving.{Drives, IsInStep, KeepsOne, kept_at, IsBegun, IsIn, IsOnTable, WalksOn, is_done}, pagable_load.specs.AccessView.values_at};
-ghost use Rattle.{pagable_pager.specs.View.{core_in, state_in, telling}, pagable_pageout.specs.{Slots.written_of, Table.shelf_of, Tasks.{IsWay, todo_of, todos}, Turns.{StepsTo, answer_in, plan}}};
+ghost use Rattle.{pagable_pager.specs.View.{core_in, state_in, storage_view}, pagable_pageout.specs.{Slots.written_of, Table.shelf_of, Tasks.{IsWay, todo_of, todos}, Turns.{StepsTo, answer_in, plan}}};
 ghost use Rattle.pagable_pager_spec.specs.{Kinds.{identity_of, owner_worker}, World.{of_entry, of_item}, declared.events.{Event.Event, EventReply.EventReply}};
 
 use indexmap::IndexMap;
@@ -69,8 +69,8 @@ pub fn table_new<E: Env<Node: NodeSet<E>>, S: PagableStorage<E>>(
     held: &mut Held<E>,
     alloc: Global,
 ) -> Result<TableNumber, Error>
-    requires { IsInStep S.is_honest (telling S.stored S.is_closed S.failed) pager.now held.old }
-    ensures { Drives S.is_honest (values_at E.Node.NodeSet E.Env E.Hash.KeyHash pager.now.environment) (telling S.stored S.is_closed S.failed)
+    requires { IsInStep S.is_honest (storage_view S.PagableStorage) pager.now held.old }
+    ensures { Drives S.is_honest (values_at E.Node.NodeSet E.Env E.Hash.KeyHash pager.now.environment) (storage_view S.PagableStorage)
         pager.now held.old Event.TableNew (EventReply.TableMade result) pager.now held.new }
 {
     pager.is_whole();
@@ -150,8 +150,8 @@ pub fn worker_item<E: Env<Node: NodeSet<E>>, S: PagableStorage<E>>(
     table: TableNumber,
     item: SerializedData,
 ) -> Result<WorkerNumber, Error>
-    requires { IsInStep S.is_honest (telling S.stored S.is_closed S.failed) pager.old held.old }
-    ensures { Drives S.is_honest (values_at E.Node.NodeSet E.Env E.Hash.KeyHash pager.old.environment) (telling S.stored S.is_closed S.failed)
+    requires { IsInStep S.is_honest (storage_view S.PagableStorage) pager.old held.old }
+    ensures { Drives S.is_honest (values_at E.Node.NodeSet E.Env E.Hash.KeyHash pager.old.environment) (storage_view S.PagableStorage)
         pager.old held.old (Event.WorkerItem table item) (EventReply.WorkerMade result) pager.new held.new }
 {
     pager.is_whole();
@@ -178,8 +178,8 @@ pub fn worker_listed<E: Env<Node: NodeSet<E>>, S: PagableStorage<E>>(
     table: TableNumber,
     place: u64,
 ) -> Result<WorkerNumber, Error>
-    requires { IsInStep S.is_honest (telling S.stored S.is_closed S.failed) pager.old held.old }
-    ensures { Drives S.is_honest (values_at E.Node.NodeSet E.Env E.Hash.KeyHash pager.old.environment) (telling S.stored S.is_closed S.failed)
+    requires { IsInStep S.is_honest (storage_view S.PagableStorage) pager.old held.old }
+    ensures { Drives S.is_honest (values_at E.Node.NodeSet E.Env E.Hash.KeyHash pager.old.environment) (storage_view S.PagableStorage)
         pager.old held.old (Event.WorkerListed table place) (EventReply.WorkerMade result) pager.new held.new }
 {
     pager.is_whole();
@@ -209,7 +209,7 @@ fn step_by<'a, E: Env<Node: NodeSet<E>>, S: PagableStorage<E>>(
     ensures way { IsWay (plan result.turn path.new.items) }
     ensures step { IsTrue (S.is_honest lent.new.pager.now.storage) → StepsTo (values_at E.Node.NodeSet E.Env E.Hash.KeyHash lent.old.pager.now.environment) (owner_worker worker.0) worker.0 (shelf_of table.old) task (todos path.old.items)
         (shelf_of table.new) result
-        (plan result.turn path.new.items) (state_in (telling S.stored S.is_closed S.failed) lent.old.pager.now) (state_in (telling S.stored S.is_closed S.failed) lent.new.pager.now) }
+        (plan result.turn path.new.items) (state_in (storage_view S.PagableStorage) lent.old.pager.now) (state_in (storage_view S.PagableStorage) lent.new.pager.now) }
     ensures honest { IsTrue (S.is_honest lent.new.pager.now.storage) → IsTrue (S.is_honest lent.old.pager.now.storage) }
     ensures lender { lent.new.pager.ghost_name ≡ lent.old.pager.ghost_name }
 {
@@ -233,10 +233,10 @@ fn walk_on<E: Env<Node: NodeSet<E>>, S: PagableStorage<E>>(
     walk: &mut Walk<E>,
 ) -> WorkerReply<Arc<SerializedData>>
     requires has { is_some (answer_in walk.old.turn) ≡ false }
-    requires at_work { (core_in (telling S.stored S.is_closed S.failed) pager.old).workers worker.0 ≡ true }
+    requires at_work { (core_in (storage_view S.PagableStorage) pager.old).workers worker.0 ≡ true }
     requires on_table { IsOnTable (length tables.old.items) walk.old }
-    ensures walks { IsTrue (S.is_honest pager.new.storage) → WalksOn (values_at E.Node.NodeSet E.Env E.Hash.KeyHash pager.old.environment) worker.0 tables.old.items walk.old (state_in (telling S.stored S.is_closed S.failed) pager.old) result
-        tables.new.items walk.new (state_in (telling S.stored S.is_closed S.failed) pager.new) }
+    ensures walks { IsTrue (S.is_honest pager.new.storage) → WalksOn (values_at E.Node.NodeSet E.Env E.Hash.KeyHash pager.old.environment) worker.0 tables.old.items walk.old (state_in (storage_view S.PagableStorage) pager.old) result
+        tables.new.items walk.new (state_in (storage_view S.PagableStorage) pager.new) }
     ensures honest { IsTrue (S.is_honest pager.new.storage) → IsTrue (S.is_honest pager.old.storage) }
     ensures count { length tables.new.items ≡ length tables.old.items }
     ensures on_table { IsOnTable (length tables.new.items) walk.new }
@@ -278,8 +278,8 @@ pub fn worker_step<E: Env<Node: NodeSet<E>>, S: PagableStorage<E>>(
     alloc: Global,
     worker: WorkerNumber,
 ) -> Result<WorkerReply<Arc<SerializedData>>, Error>
-    requires { IsInStep S.is_honest (telling S.stored S.is_closed S.failed) pager.old held.old }
-    ensures { Drives S.is_honest (values_at E.Node.NodeSet E.Env E.Hash.KeyHash pager.old.environment) (telling S.stored S.is_closed S.failed)
+    requires { IsInStep S.is_honest (storage_view S.PagableStorage) pager.old held.old }
+    ensures { Drives S.is_honest (values_at E.Node.NodeSet E.Env E.Hash.KeyHash pager.old.environment) (storage_view S.PagableStorage)
         pager.old held.old (Event.WorkerStep worker) (EventReply.WorkerMoved result) pager.new held.new }
 {
     pager.is_whole();

@@ -3,7 +3,7 @@
 ghost use Rattle.std.specs.Prelude.{IsTrue, Ok, true, ◌≡◌};
 ghost use Rattle.pagable_changes.specs.{Changes.LetsGo, Keeping.KeepsStorage};
 ghost use Rattle.{pagable_core.specs.Data.blob_of, pagable_load.specs.AccessView.values_at, pagable_value_spec.specs.Blob.key_of};
-ghost use Rattle.pagable_pager.specs.View.{core_in, state_in, telling};
+ghost use Rattle.pagable_pager.specs.View.{core_in, state_in, storage_view};
 ghost use Rattle.pagable_pager_spec.specs.Access.{Called};
 ghost use Rattle.pagable_pager_spec.specs.Calls.{CloneCall, LoosenCall, NodeCall, PinCall, ReleaseCall, SetKeyCall, StoreCall};
 ghost use Rattle.pagable_pager_spec.specs.declared.handle_row.Owner.TheVariants as owners;
@@ -21,7 +21,7 @@ pub(crate) fn is_at<E: Env<Node: NodeSet<E>>, S: PagableStorage<E>>(
     handle: HandleNumber,
     node: NodeNumber,
 ) -> bool
-    ensures { result ≡ true → NodeCall (core_in (telling S.stored S.is_closed S.failed) pager.now) handle (Ok node) }
+    ensures { result ≡ true → NodeCall (core_in (storage_view S.PagableStorage) pager.now) handle (Ok node) }
 {
     match pager.node_of(handle) {
         Ok(found) => found.0 == node.0,
@@ -34,8 +34,8 @@ pub(crate) fn clone<E: Env<Node: NodeSet<E>>, S: PagableStorage<E>>(
     handle: HandleNumber,
 ) -> Result<HandleNumber, Error>
     ensures called { Called (values_at E.Node.NodeSet E.Env E.Hash.KeyHash pager.old.environment)
-        (λ w'. CloneCall (core_in (telling S.stored S.is_closed S.failed) pager.old) owners.Caller handle result w')
-        (state_in (telling S.stored S.is_closed S.failed) pager.old) (state_in (telling S.stored S.is_closed S.failed) pager.new) }
+        (λ w'. CloneCall (core_in (storage_view S.PagableStorage) pager.old) owners.Caller handle result w')
+        (state_in (storage_view S.PagableStorage) pager.old) (state_in (storage_view S.PagableStorage) pager.new) }
     ensures keeps { KeepsStorage pager.old pager.new }
 {
     let cloned = pager.clone(handle);
@@ -48,8 +48,8 @@ pub(crate) fn loosen<E: Env<Node: NodeSet<E>>, S: PagableStorage<E>>(
     handle: HandleNumber,
 ) -> Result<HandleNumber, Error>
     ensures called { Called (values_at E.Node.NodeSet E.Env E.Hash.KeyHash pager.old.environment)
-        (λ w'. LoosenCall (core_in (telling S.stored S.is_closed S.failed) pager.old) owners.Caller handle result w')
-        (state_in (telling S.stored S.is_closed S.failed) pager.old) (state_in (telling S.stored S.is_closed S.failed) pager.new) }
+        (λ w'. LoosenCall (core_in (storage_view S.PagableStorage) pager.old) owners.Caller handle result w')
+        (state_in (storage_view S.PagableStorage) pager.old) (state_in (storage_view S.PagableStorage) pager.new) }
     ensures keeps { KeepsStorage pager.old pager.new }
 {
     let turned = pager.into_pagable(handle);
@@ -62,8 +62,8 @@ pub(crate) fn pin<E: Env<Node: NodeSet<E>>, S: PagableStorage<E>>(
     handle: HandleNumber,
 ) -> Result<Pinning, Error>
     ensures called { Called (values_at E.Node.NodeSet E.Env E.Hash.KeyHash pager.old.environment)
-        (λ w'. PinCall (core_in (telling S.stored S.is_closed S.failed) pager.old) owners.Caller handle result w')
-        (state_in (telling S.stored S.is_closed S.failed) pager.old) (state_in (telling S.stored S.is_closed S.failed) pager.new) }
+        (λ w'. PinCall (core_in (storage_view S.PagableStorage) pager.old) owners.Caller handle result w')
+        (state_in (storage_view S.PagableStorage) pager.old) (state_in (storage_view S.PagableStorage) pager.new) }
     ensures keeps { KeepsStorage pager.old pager.new }
 {
     let pinned = pager.pin(handle);
@@ -76,8 +76,8 @@ pub(crate) fn release<E: Env<Node: NodeSet<E>>, S: PagableStorage<E>>(
     handle: HandleNumber,
 ) -> Result<(), Error>
     ensures called { Called (values_at E.Node.NodeSet E.Env E.Hash.KeyHash pager.old.environment)
-        (λ w'. ReleaseCall (core_in (telling S.stored S.is_closed S.failed) pager.old) owners.Caller handle result w')
-        (state_in (telling S.stored S.is_closed S.failed) pager.old) (state_in (telling S.stored S.is_closed S.failed) pager.new) }
+        (λ w'. ReleaseCall (core_in (storage_view S.PagableStorage) pager.old) owners.Caller handle result w')
+        (state_in (storage_view S.PagableStorage) pager.old) (state_in (storage_view S.PagableStorage) pager.new) }
     ensures keeps { KeepsStorage pager.old pager.new }
 {
     let released = pager.release(handle);
@@ -91,8 +91,8 @@ pub(crate) fn set_key<E: Env<Node: NodeSet<E>>, S: PagableStorage<E>>(
     key: DataKey,
 ) -> Result<(), Error>
     ensures called { Called (values_at E.Node.NodeSet E.Env E.Hash.KeyHash pager.old.environment)
-        (λ w'. SetKeyCall (core_in (telling S.stored S.is_closed S.failed) pager.old) owners.Caller handle key result w')
-        (state_in (telling S.stored S.is_closed S.failed) pager.old) (state_in (telling S.stored S.is_closed S.failed) pager.new) }
+        (λ w'. SetKeyCall (core_in (storage_view S.PagableStorage) pager.old) owners.Caller handle key result w')
+        (state_in (storage_view S.PagableStorage) pager.old) (state_in (storage_view S.PagableStorage) pager.new) }
     ensures keeps { KeepsStorage pager.old pager.new }
 {
     let set = pager.set_data_key(handle, key);
@@ -106,8 +106,8 @@ pub(crate) fn store<E: Env<Node: NodeSet<E>>, S: PagableStorage<E>>(
     blob: PagableData,
 ) -> Result<DataKey, Error>
     ensures called { IsTrue (S.is_honest pager.new.storage) → Called (values_at E.Node.NodeSet E.Env E.Hash.KeyHash pager.old.environment)
-        (λ w'. StoreCall (key_of E.Hash.digest) (core_in (telling S.stored S.is_closed S.failed) pager.old) (blob_of blob) result w')
-        (state_in (telling S.stored S.is_closed S.failed) pager.old) (state_in (telling S.stored S.is_closed S.failed) pager.new) }
+        (λ w'. StoreCall (key_of E.Hash.digest) (core_in (storage_view S.PagableStorage) pager.old) (blob_of blob) result w')
+        (state_in (storage_view S.PagableStorage) pager.old) (state_in (storage_view S.PagableStorage) pager.new) }
     ensures honest { IsTrue (S.is_honest pager.new.storage) → IsTrue (S.is_honest pager.old.storage) }
     ensures environment { pager.new.environment ≡ pager.old.environment }
 {
@@ -124,7 +124,7 @@ pub(crate) fn let_go<E: Env<Node: NodeSet<E>>, S: PagableStorage<E>>(
     pin: HandleNumber,
 )
     ensures lets { LetsGo (values_at E.Node.NodeSet E.Env E.Hash.KeyHash pager.old.environment) through pin
-        (state_in (telling S.stored S.is_closed S.failed) pager.old) (state_in (telling S.stored S.is_closed S.failed) pager.new) }
+        (state_in (storage_view S.PagableStorage) pager.old) (state_in (storage_view S.PagableStorage) pager.new) }
     ensures keeps { KeepsStorage pager.old pager.new }
 {
     let _unpinned = release(pager, pin);

@@ -2,7 +2,7 @@
 
 ghost use Rattle.std.specs.Prelude.{IfOk, IsTrue, ◌≡◌};
 ghost use Rattle.{pagable_changes.specs.{Changes.{IsRoot, PagesOutChanged, PagesOutKeyless}, Keys.KeepsTrees}, pagable_load.specs.AccessView.values_at};
-ghost use Rattle.pagable_pager.specs.View.{core_in, state_in, telling};
+ghost use Rattle.pagable_pager.specs.View.{core_in, state_in, storage_view};
 
 use crate::nodes::enter;
 use crate::turns::walk;
@@ -17,7 +17,7 @@ fn root_of<E: Env<Node: NodeSet<E>>, S: PagableStorage<E>>(
     pager: &Pager<E, S>,
     handle: HandleNumber,
 ) -> Result<ArcRef, Error>
-    ensures { IfOk result (λ r. IsRoot (core_in (telling S.stored S.is_closed S.failed) pager.now) handle r) }
+    ensures { IfOk result (λ r. IsRoot (core_in (storage_view S.PagableStorage) pager.now) handle r) }
 {
     let node = pager.node_of(handle)?;
     let Some(node_type) = pager.node_live(node) else {
@@ -38,7 +38,7 @@ fn page_out_keyless<E: Env<Node: NodeSet<E>>, S: PagableStorage<E>>(
     handle: HandleNumber,
 ) -> Result<DataKey, Error>
     ensures pages { IsTrue (S.is_honest pager.new.storage) → PagesOutKeyless (values_at E.Node.NodeSet E.Env E.Hash.KeyHash pager.old.environment)
-        (state_in (telling S.stored S.is_closed S.failed) pager.old) handle result (state_in (telling S.stored S.is_closed S.failed) pager.new) }
+        (state_in (storage_view S.PagableStorage) pager.old) handle result (state_in (storage_view S.PagableStorage) pager.new) }
     ensures honest { IsTrue (S.is_honest pager.new.storage) → IsTrue (S.is_honest pager.old.storage) }
     ensures environment { pager.new.environment ≡ pager.old.environment }
 {
@@ -60,7 +60,7 @@ fn page_out_root<E: Env<Node: NodeSet<E>>, S: PagableStorage<E>>(
     handle: HandleNumber,
 ) -> Result<DataKey, Error>
     ensures pages { IsTrue (S.is_honest pager.new.storage) → PagesOutChanged (values_at E.Node.NodeSet E.Env E.Hash.KeyHash pager.old.environment)
-        (state_in (telling S.stored S.is_closed S.failed) pager.old) handle result (state_in (telling S.stored S.is_closed S.failed) pager.new) }
+        (state_in (storage_view S.PagableStorage) pager.old) handle result (state_in (storage_view S.PagableStorage) pager.new) }
     ensures honest { IsTrue (S.is_honest pager.new.storage) → IsTrue (S.is_honest pager.old.storage) }
     ensures environment { pager.new.environment ≡ pager.old.environment }
 {
@@ -96,9 +96,9 @@ pub fn page_out_changed<E: Env<Node: NodeSet<E>>, S: PagableStorage<E>>(
     handle: HandleNumber,
 ) -> Result<DataKey, Error>
     ensures pages { IsTrue (S.is_honest pager.new.storage) → PagesOutChanged (values_at E.Node.NodeSet E.Env E.Hash.KeyHash pager.old.environment)
-        (state_in (telling S.stored S.is_closed S.failed) pager.old) handle result (state_in (telling S.stored S.is_closed S.failed) pager.new) }
+        (state_in (storage_view S.PagableStorage) pager.old) handle result (state_in (storage_view S.PagableStorage) pager.new) }
     ensures reads { IsTrue (S.is_honest pager.new.storage) → KeepsTrees (values_at E.Node.NodeSet E.Env E.Hash.KeyHash pager.old.environment)
-        (state_in (telling S.stored S.is_closed S.failed) pager.old) handle result (state_in (telling S.stored S.is_closed S.failed) pager.new) }
+        (state_in (storage_view S.PagableStorage) pager.old) handle result (state_in (storage_view S.PagableStorage) pager.new) }
     ensures honest { IsTrue (S.is_honest pager.new.storage) → IsTrue (S.is_honest pager.old.storage) }
     ensures environment { pager.new.environment ≡ pager.old.environment }
 {

@@ -3,7 +3,7 @@
 ghost use Rattle.std.specs.Prelude.{IfErr, IfOk, true, ◌≡◌};
 ghost use Rattle.pagable_changes.specs.Changes.{EnterFails, Enters, IsFormOf, PinsLoosely, TakeFails, Takes, Writes, WritesTaken, written_of};
 ghost use Rattle.{pagable_changes.specs.Keeping.KeepsStorage, pagable_load.specs.AccessView.values_at};
-ghost use Rattle.{pagable_pager.specs.View.{state_in, telling}, pagable_pager_spec.specs.Basics.is_loose_kind};
+ghost use Rattle.{pagable_pager.specs.View.{state_in, storage_view}, pagable_pager_spec.specs.Basics.is_loose_kind};
 
 use crate::calls::{clone, is_at, let_go, loosen, pin, release};
 use pagable_codec::{Env, NodeSet};
@@ -38,7 +38,7 @@ fn pin_loosely<E: Env<Node: NodeSet<E>>, S: PagableStorage<E>>(
     handle: HandleNumber,
 ) -> Result<HandleNumber, Error>
     ensures pins { PinsLoosely (values_at E.Node.NodeSet E.Env E.Hash.KeyHash pager.old.environment) handle
-        (state_in (telling S.stored S.is_closed S.failed) pager.old) result (state_in (telling S.stored S.is_closed S.failed) pager.new) }
+        (state_in (storage_view S.PagableStorage) pager.old) result (state_in (storage_view S.PagableStorage) pager.new) }
     ensures keeps { KeepsStorage pager.old pager.new }
 {
     match pin(pager, handle) {
@@ -56,9 +56,9 @@ fn take_loose<E: Env<Node: NodeSet<E>>, S: PagableStorage<E>>(
 ) -> Result<(HandleNumber, HandleNumber), Error>
     requires loose { is_loose_kind reference.kind.0 ≡ true }
     ensures takes { IfOk result (λ t. Takes (values_at E.Node.NodeSet E.Env E.Hash.KeyHash pager.old.environment) reference
-        (state_in (telling S.stored S.is_closed S.failed) pager.old) t.0 t.1 (state_in (telling S.stored S.is_closed S.failed) pager.new)) }
+        (state_in (storage_view S.PagableStorage) pager.old) t.0 t.1 (state_in (storage_view S.PagableStorage) pager.new)) }
     ensures fails { IfErr result (λ e. TakeFails (values_at E.Node.NodeSet E.Env E.Hash.KeyHash pager.old.environment) reference
-        (state_in (telling S.stored S.is_closed S.failed) pager.old) e (state_in (telling S.stored S.is_closed S.failed) pager.new)) }
+        (state_in (storage_view S.PagableStorage) pager.old) e (state_in (storage_view S.PagableStorage) pager.new)) }
     ensures keeps { KeepsStorage pager.old pager.new }
 {
     let through = clone(pager, reference.handle)?;
@@ -78,9 +78,9 @@ fn take<E: Env<Node: NodeSet<E>>, S: PagableStorage<E>>(
     reference: ArcRef,
 ) -> Result<(HandleNumber, HandleNumber), Error>
     ensures takes { IfOk result (λ t. Takes (values_at E.Node.NodeSet E.Env E.Hash.KeyHash pager.old.environment) reference
-        (state_in (telling S.stored S.is_closed S.failed) pager.old) t.0 t.1 (state_in (telling S.stored S.is_closed S.failed) pager.new)) }
+        (state_in (storage_view S.PagableStorage) pager.old) t.0 t.1 (state_in (storage_view S.PagableStorage) pager.new)) }
     ensures fails { IfErr result (λ e. TakeFails (values_at E.Node.NodeSet E.Env E.Hash.KeyHash pager.old.environment) reference
-        (state_in (telling S.stored S.is_closed S.failed) pager.old) e (state_in (telling S.stored S.is_closed S.failed) pager.new)) }
+        (state_in (storage_view S.PagableStorage) pager.old) e (state_in (storage_view S.PagableStorage) pager.new)) }
     ensures keeps { KeepsStorage pager.old pager.new }
 {
     if reference.kind.0 % 3 == 1 {
@@ -115,7 +115,7 @@ fn write_pinned<E: Env<Node: NodeSet<E>>, S: PagableStorage<E>>(
     pin: HandleNumber,
 ) -> Result<SerializedData, Error>
     ensures { IfOk result (λ d. Writes (values_at E.Node.NodeSet E.Env E.Hash.KeyHash pager.now.environment)
-        (state_in (telling S.stored S.is_closed S.failed) pager.now) reference pin (written_of d)) }
+        (state_in (storage_view S.PagableStorage) pager.now) reference pin (written_of d)) }
 {
     match pager.value(pin) {
         Ok(Some(node)) => {
@@ -139,7 +139,7 @@ fn write_taken<E: Env<Node: NodeSet<E>>, S: PagableStorage<E>>(
     pin: HandleNumber,
 ) -> Result<SerializedData, Error>
     ensures { IfOk result (λ d. WritesTaken (values_at E.Node.NodeSet E.Env E.Hash.KeyHash pager.now.environment)
-        (state_in (telling S.stored S.is_closed S.failed) pager.now) reference through pin (written_of d)) }
+        (state_in (storage_view S.PagableStorage) pager.now) reference through pin (written_of d)) }
 {
     if !is_at(pager, through, reference.node) {
         return Err(Error::NoSuchHandle);
@@ -158,9 +158,9 @@ pub(crate) fn enter<E: Env<Node: NodeSet<E>>, S: PagableStorage<E>>(
     place: u64,
 ) -> Result<OpenNode, Error>
     ensures enters { IfOk result (λ o. Enters (values_at E.Node.NodeSet E.Env E.Hash.KeyHash pager.old.environment) reference
-        (state_in (telling S.stored S.is_closed S.failed) pager.old) o (state_in (telling S.stored S.is_closed S.failed) pager.new)) }
+        (state_in (storage_view S.PagableStorage) pager.old) o (state_in (storage_view S.PagableStorage) pager.new)) }
     ensures fails { IfErr result (λ e. EnterFails (values_at E.Node.NodeSet E.Env E.Hash.KeyHash pager.old.environment) reference
-        (state_in (telling S.stored S.is_closed S.failed) pager.old) e (state_in (telling S.stored S.is_closed S.failed) pager.new)) }
+        (state_in (storage_view S.PagableStorage) pager.old) e (state_in (storage_view S.PagableStorage) pager.new)) }
     ensures keeps { KeepsStorage pager.old pager.new }
 {
     let (through, pin) = match take(pager, reference) {

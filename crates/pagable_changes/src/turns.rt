@@ -3,7 +3,7 @@
 ghost use Rattle.std.specs.Prelude.{[], IfErr, IfNone, IfOk, IfSome, IsSome, IsTrue, OnErr, OnOk, Some, slice_get, ◌++◌, ◌∷◌, ◌≡◌};
 ghost use Rattle.pagable_changes.specs.Changes.{GivesUp, GoesDown, GoesNowhere, IsOver, IsUnset, LeaveFails, Leaves, SetsFor, Turn, TurnFails, Turned, TurnsFail, TurnsOut, Walks, stage};
 ghost use Rattle.{pagable_changes.specs.Keeping.KeepsStorage, pagable_core.specs.Data.blob_of, pagable_load.specs.AccessView.values_at};
-ghost use Rattle.pagable_pager.specs.View.{core_in, state_in, telling};
+ghost use Rattle.pagable_pager.specs.View.{core_in, state_in, storage_view};
 ghost use Rattle.pagable_tables.specs.NumberTable.{place_at, row_by};
 
 use crate::calls::{let_go, set_key, store};
@@ -25,7 +25,7 @@ fn blob_of_node<E: Env<Node: NodeSet<E>>, S: PagableStorage<E>>(
     found: &FoundKeys,
     node: &OpenNode,
 ) -> Result<(PagableData, u64), Error>
-    ensures { IfOk result (λ r. IsOver (λ n. row_by found.now n) (core_in (telling S.stored S.is_closed S.failed) pager.now) node.now (blob_of r.0)) }
+    ensures { IfOk result (λ r. IsOver (λ n. row_by found.now n) (core_in (storage_view S.PagableStorage) pager.now) node.now (blob_of r.0)) }
 {
     let (arcs, height) = collect_keys(alloc, pager, found, &node.written.arcs)?;
     if height > LONGEST_PATH || node.place > LONGEST_PATH - height {
@@ -45,8 +45,8 @@ fn set_for<E: Env<Node: NodeSet<E>>, S: PagableStorage<E>>(
 ) -> Result<(), Error>
     requires ready { IsSome (place_at found.old node.now.reference.node.0) }
     ensures sets { OnOk result (SetsFor (values_at E.Node.NodeSet E.Env E.Hash.KeyHash pager.old.environment) (λ n. row_by found.old n) node.now known.key
-        (state_in (telling S.stored S.is_closed S.failed) pager.old) (λ n. row_by found.new n) (state_in (telling S.stored S.is_closed S.failed) pager.new)) }
-    ensures refused { IfErr result (λ e. IsUnset (values_at E.Node.NodeSet E.Env E.Hash.KeyHash pager.old.environment) node.now known.key (state_in (telling S.stored S.is_closed S.failed) pager.old) e (state_in (telling S.stored S.is_closed S.failed) pager.new)) }
+        (state_in (storage_view S.PagableStorage) pager.old) (λ n. row_by found.new n) (state_in (storage_view S.PagableStorage) pager.new)) }
+    ensures refused { IfErr result (λ e. IsUnset (values_at E.Node.NodeSet E.Env E.Hash.KeyHash pager.old.environment) node.now known.key (state_in (storage_view S.PagableStorage) pager.old) e (state_in (storage_view S.PagableStorage) pager.new)) }
     ensures keeps { KeepsStorage pager.old pager.new }
 {
     if node.reference.kind.0 % 3 == 1 {
@@ -64,9 +64,9 @@ fn leave<E: Env<Node: NodeSet<E>>, S: PagableStorage<E>>(
     node: &OpenNode,
 ) -> Result<DataKey, Error>
     ensures leaves { IsTrue (S.is_honest pager.new.storage) → IfOk result (λ key. Leaves (values_at E.Node.NodeSet E.Env E.Hash.KeyHash pager.old.environment) (λ n. row_by found.old n)
-        (state_in (telling S.stored S.is_closed S.failed) pager.old) node.now key (λ n. row_by found.new n) (state_in (telling S.stored S.is_closed S.failed) pager.new)) }
+        (state_in (storage_view S.PagableStorage) pager.old) node.now key (λ n. row_by found.new n) (state_in (storage_view S.PagableStorage) pager.new)) }
     ensures fails { IsTrue (S.is_honest pager.new.storage) → IfErr result (λ e. LeaveFails (values_at E.Node.NodeSet E.Env E.Hash.KeyHash pager.old.environment) (λ n. row_by found.old n)
-        (state_in (telling S.stored S.is_closed S.failed) pager.old) node.now e (state_in (telling S.stored S.is_closed S.failed) pager.new)) }
+        (state_in (storage_view S.PagableStorage) pager.old) node.now e (state_in (storage_view S.PagableStorage) pager.new)) }
     ensures honest { IsTrue (S.is_honest pager.new.storage) → IsTrue (S.is_honest pager.old.storage) }
     ensures environment { pager.new.environment ≡ pager.old.environment }
 {
@@ -115,8 +115,8 @@ fn go_down<E: Env<Node: NodeSet<E>>, S: PagableStorage<E>>(
     node: &mut OpenNode,
     reference: ArcRef,
 ) -> Result<(), Error>
-    ensures goes { OnOk result (GoesDown (values_at E.Node.NodeSet E.Env E.Hash.KeyHash pager.old.environment) reference path.old.items node.old (state_in (telling S.stored S.is_closed S.failed) pager.old) path.new.items node.new (state_in (telling S.stored S.is_closed S.failed) pager.new)) }
-    ensures fails { IfErr result (λ e. GoesNowhere (values_at E.Node.NodeSet E.Env E.Hash.KeyHash pager.old.environment) reference (state_in (telling S.stored S.is_closed S.failed) pager.old) e (state_in (telling S.stored S.is_closed S.failed) pager.new)) }
+    ensures goes { OnOk result (GoesDown (values_at E.Node.NodeSet E.Env E.Hash.KeyHash pager.old.environment) reference path.old.items node.old (state_in (storage_view S.PagableStorage) pager.old) path.new.items node.new (state_in (storage_view S.PagableStorage) pager.new)) }
+    ensures fails { IfErr result (λ e. GoesNowhere (values_at E.Node.NodeSet E.Env E.Hash.KeyHash pager.old.environment) reference (state_in (storage_view S.PagableStorage) pager.old) e (state_in (storage_view S.PagableStorage) pager.new)) }
     ensures stays { OnErr result ((path.new.items ≡ path.old.items) × (node.new ≡ node.old)) }
     ensures keeps { KeepsStorage pager.old pager.new }
 {
@@ -150,10 +150,10 @@ fn go_on<E: Env<Node: NodeSet<E>>, S: PagableStorage<E>>(
     reference: ArcRef,
 ) -> Result<(), Error>
     requires next { Some reference ≡ slice_get node.old.written.arcs.items node.old.keyed }
-    ensures turns { OnOk result (Turn (values_at E.Node.NodeSet E.Env E.Hash.KeyHash pager.old.environment) (stage path.old.items node.old (λ n. row_by found.now n) (state_in (telling S.stored S.is_closed S.failed) pager.old))
-        (stage path.new.items node.new (λ n. row_by found.now n) (state_in (telling S.stored S.is_closed S.failed) pager.new))) }
-    ensures fails { IfErr result (λ e. TurnFails (values_at E.Node.NodeSet E.Env E.Hash.KeyHash pager.old.environment) (stage path.old.items node.old (λ n. row_by found.now n) (state_in (telling S.stored S.is_closed S.failed) pager.old))
-        e (state_in (telling S.stored S.is_closed S.failed) pager.new)) }
+    ensures turns { OnOk result (Turn (values_at E.Node.NodeSet E.Env E.Hash.KeyHash pager.old.environment) (stage path.old.items node.old (λ n. row_by found.now n) (state_in (storage_view S.PagableStorage) pager.old))
+        (stage path.new.items node.new (λ n. row_by found.now n) (state_in (storage_view S.PagableStorage) pager.new))) }
+    ensures fails { IfErr result (λ e. TurnFails (values_at E.Node.NodeSet E.Env E.Hash.KeyHash pager.old.environment) (stage path.old.items node.old (λ n. row_by found.now n) (state_in (storage_view S.PagableStorage) pager.old))
+        e (state_in (storage_view S.PagableStorage) pager.new)) }
     ensures stays { OnErr result ((path.new.items ≡ path.old.items) × (node.new ≡ node.old)) }
     ensures keeps { KeepsStorage pager.old pager.new }
 {
@@ -190,10 +190,10 @@ fn go_up<E: Env<Node: NodeSet<E>>, S: PagableStorage<E>>(
     path: &mut Vec<OpenNode>,
     node: &mut OpenNode,
 ) -> Result<Option<DataKey>, Error>
-    ensures turns { IsTrue (S.is_honest pager.new.storage) → IfOk result (λ key. Turned (values_at E.Node.NodeSet E.Env E.Hash.KeyHash pager.old.environment) (stage path.old.items node.old (λ n. row_by found.old n) (state_in (telling S.stored S.is_closed S.failed) pager.old))
-        key (stage path.new.items node.new (λ n. row_by found.new n) (state_in (telling S.stored S.is_closed S.failed) pager.new))) }
-    ensures fails { IsTrue (S.is_honest pager.new.storage) → IfErr result (λ e. TurnFails (values_at E.Node.NodeSet E.Env E.Hash.KeyHash pager.old.environment) (stage path.old.items node.old (λ n. row_by found.old n) (state_in (telling S.stored S.is_closed S.failed) pager.old))
-        e (state_in (telling S.stored S.is_closed S.failed) pager.new)) }
+    ensures turns { IsTrue (S.is_honest pager.new.storage) → IfOk result (λ key. Turned (values_at E.Node.NodeSet E.Env E.Hash.KeyHash pager.old.environment) (stage path.old.items node.old (λ n. row_by found.old n) (state_in (storage_view S.PagableStorage) pager.old))
+        key (stage path.new.items node.new (λ n. row_by found.new n) (state_in (storage_view S.PagableStorage) pager.new))) }
+    ensures fails { IsTrue (S.is_honest pager.new.storage) → IfErr result (λ e. TurnFails (values_at E.Node.NodeSet E.Env E.Hash.KeyHash pager.old.environment) (stage path.old.items node.old (λ n. row_by found.old n) (state_in (storage_view S.PagableStorage) pager.old))
+        e (state_in (storage_view S.PagableStorage) pager.new)) }
     ensures stays { OnErr result ((path.new.items ≡ path.old.items) × (node.new ≡ node.old)) }
     ensures honest { IsTrue (S.is_honest pager.new.storage) → IsTrue (S.is_honest pager.old.storage) }
     ensures environment { pager.new.environment ≡ pager.old.environment }
@@ -220,10 +220,10 @@ fn turn<E: Env<Node: NodeSet<E>>, S: PagableStorage<E>>(
     path: &mut Vec<OpenNode>,
     node: &mut OpenNode,
 ) -> Result<Option<DataKey>, Error>
-    ensures turns { IsTrue (S.is_honest pager.new.storage) → IfOk result (λ key. Turned (values_at E.Node.NodeSet E.Env E.Hash.KeyHash pager.old.environment) (stage path.old.items node.old (λ n. row_by found.old n) (state_in (telling S.stored S.is_closed S.failed) pager.old))
-        key (stage path.new.items node.new (λ n. row_by found.new n) (state_in (telling S.stored S.is_closed S.failed) pager.new))) }
-    ensures fails { IsTrue (S.is_honest pager.new.storage) → IfErr result (λ e. TurnFails (values_at E.Node.NodeSet E.Env E.Hash.KeyHash pager.old.environment) (stage path.old.items node.old (λ n. row_by found.old n) (state_in (telling S.stored S.is_closed S.failed) pager.old))
-        e (state_in (telling S.stored S.is_closed S.failed) pager.new)) }
+    ensures turns { IsTrue (S.is_honest pager.new.storage) → IfOk result (λ key. Turned (values_at E.Node.NodeSet E.Env E.Hash.KeyHash pager.old.environment) (stage path.old.items node.old (λ n. row_by found.old n) (state_in (storage_view S.PagableStorage) pager.old))
+        key (stage path.new.items node.new (λ n. row_by found.new n) (state_in (storage_view S.PagableStorage) pager.new))) }
+    ensures fails { IsTrue (S.is_honest pager.new.storage) → IfErr result (λ e. TurnFails (values_at E.Node.NodeSet E.Env E.Hash.KeyHash pager.old.environment) (stage path.old.items node.old (λ n. row_by found.old n) (state_in (storage_view S.PagableStorage) pager.old))
+        e (state_in (storage_view S.PagableStorage) pager.new)) }
     ensures stays { OnErr result ((path.new.items ≡ path.old.items) × (node.new ≡ node.old)) }
     ensures honest { IsTrue (S.is_honest pager.new.storage) → IsTrue (S.is_honest pager.old.storage) }
     ensures environment { pager.new.environment ≡ pager.old.environment }
@@ -245,10 +245,10 @@ fn make_turns<E: Env<Node: NodeSet<E>>, S: PagableStorage<E>>(
     path: &mut Vec<OpenNode>,
     node: &mut OpenNode,
 ) -> Result<DataKey, Error>
-    ensures turns { IsTrue (S.is_honest pager.new.storage) → IfOk result (λ key. TurnsOut (values_at E.Node.NodeSet E.Env E.Hash.KeyHash pager.old.environment) (stage path.old.items node.old (λ n. row_by found.old n) (state_in (telling S.stored S.is_closed S.failed) pager.old))
-        key (stage path.new.items node.new (λ n. row_by found.new n) (state_in (telling S.stored S.is_closed S.failed) pager.new))) }
-    ensures fails { IsTrue (S.is_honest pager.new.storage) → IfErr result (λ e. TurnsFail (values_at E.Node.NodeSet E.Env E.Hash.KeyHash pager.old.environment) (stage path.old.items node.old (λ n. row_by found.old n) (state_in (telling S.stored S.is_closed S.failed) pager.old))
-        e path.new.items node.new (state_in (telling S.stored S.is_closed S.failed) pager.new)) }
+    ensures turns { IsTrue (S.is_honest pager.new.storage) → IfOk result (λ key. TurnsOut (values_at E.Node.NodeSet E.Env E.Hash.KeyHash pager.old.environment) (stage path.old.items node.old (λ n. row_by found.old n) (state_in (storage_view S.PagableStorage) pager.old))
+        key (stage path.new.items node.new (λ n. row_by found.new n) (state_in (storage_view S.PagableStorage) pager.new))) }
+    ensures fails { IsTrue (S.is_honest pager.new.storage) → IfErr result (λ e. TurnsFail (values_at E.Node.NodeSet E.Env E.Hash.KeyHash pager.old.environment) (stage path.old.items node.old (λ n. row_by found.old n) (state_in (storage_view S.PagableStorage) pager.old))
+        e path.new.items node.new (state_in (storage_view S.PagableStorage) pager.new)) }
     ensures honest { IsTrue (S.is_honest pager.new.storage) → IsTrue (S.is_honest pager.old.storage) }
     ensures environment { pager.new.environment ≡ pager.old.environment }
 {
@@ -272,7 +272,7 @@ fn give_up<E: Env<Node: NodeSet<E>>, S: PagableStorage<E>>(
     pager: &mut Pager<E, S>,
     path: &mut Vec<OpenNode>,
 )
-    ensures gives { GivesUp (values_at E.Node.NodeSet E.Env E.Hash.KeyHash pager.old.environment) path.old.items (state_in (telling S.stored S.is_closed S.failed) pager.old) (state_in (telling S.stored S.is_closed S.failed) pager.new) }
+    ensures gives { GivesUp (values_at E.Node.NodeSet E.Env E.Hash.KeyHash pager.old.environment) path.old.items (state_in (storage_view S.PagableStorage) pager.old) (state_in (storage_view S.PagableStorage) pager.new) }
     ensures keeps { KeepsStorage pager.old pager.new }
 {
     while let Some(node) = pop_node(path) {
@@ -287,7 +287,7 @@ pub(crate) fn walk<E: Env<Node: NodeSet<E>>, S: PagableStorage<E>>(
     first: OpenNode,
 ) -> Result<DataKey, Error>
     ensures walks { IsTrue (S.is_honest pager.new.storage) → Walks (values_at E.Node.NodeSet E.Env E.Hash.KeyHash pager.old.environment) first
-        (state_in (telling S.stored S.is_closed S.failed) pager.old) result (state_in (telling S.stored S.is_closed S.failed) pager.new) }
+        (state_in (storage_view S.PagableStorage) pager.old) result (state_in (storage_view S.PagableStorage) pager.new) }
     ensures honest { IsTrue (S.is_honest pager.new.storage) → IsTrue (S.is_honest pager.old.storage) }
     ensures environment { pager.new.environment ≡ pager.old.environment }
 {

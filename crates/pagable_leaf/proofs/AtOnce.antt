@@ -1,5 +1,6 @@
 -- A leaf that is loaded in one call: the numbers of a load and of its handle are taken, and the cell is pinned. A load by steps that begins, fetches and ends
 -- leaves the same.
+use Rattle.pagable_tables.specs.Core.StorageView
 use Rattle.pagable_tables.proofs.{CascadeStep.{aside, turned, unmixed}, Counting.{all-kept, kept-more, left-none, of_list, there-is}}
 use Rattle.pagable_tables.proofs.{HandleTable.found-append, OwnedByLoad.{changed-push, seen-before}, RowCounts.{found-among, sum-none}}
 use Rattle.pagable_tables.proofs.CascadeEnd.{ended}
@@ -28,12 +29,12 @@ numbers-stay q n [] = refl
 numbers-stay q n (x ∷ xs) =
     grind (arith, nat_tests, sum_by-cons (λ h. one (is_handle n h)) x xs, sum_by-cons (λ h. one (is_handle n h)) (if is_handle q x then turned x else x) (changed (is_handle q) turned xs), numbers-stay q n xs)
 
-module _ (t t1 : Tables) (stored : ℕ → Option Blob) (closed lists : Bool) (failures : ℕ) (was : IsWhole t) (whole : IsWhole t1) (e : lists ≡ not closed) (me : Owner) (row : HandleRow) (key type : ℕ) where
+module _ (t t1 : Tables) (storage : StorageView) (lists : Bool) (was : IsWhole t) (whole : IsWhole t1) (e : lists ≡ not storage.closed) (me : Owner) (row : HandleRow) (key type : ℕ) where
   abbrev w : Core
-  w = core_of t stored closed failures
+  w = core_of t storage
 
   abbrev w' : Core
-  w' = core_of t1 stored closed failures
+  w' = core_of t1 storage
 
   -- the number of the load's own handle
   abbrev g : ℕ

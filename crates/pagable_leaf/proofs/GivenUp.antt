@@ -1,4 +1,5 @@
 -- A load of a cell that begins and is dropped leaves only that its number and that of its handle are taken.
+use Rattle.pagable_tables.specs.Core.StorageView
 use Rattle.pagable_tables.proofs.{CascadeEnd.ended, CascadeStep.{aside, unmixed}, Counting.{all-kept, kept-more, left-none, of_list, there-is}}
 use Rattle.pagable_tables.proofs.{HandleTable.found-append, OwnedByLoad.seen-before, RowCounts.{found-among, sum-none}}
 use Rattle.pagable_leaf.proofs.Words.{Alike, BeginCall, Blob, Bool, Core, Falls, HandleNumber, HandleRow, RefCounts, LoadNumber, Mode, MustList, None, Ok, Option, OptionalDataKey, Owner, Owns}
@@ -11,16 +12,16 @@ use Rattle.pagable_tables.specs.{Core.{ArePlaced, IsWhole}, HandleTable.room}
 use Rattle.pagable_leaf.proofs.Words.{length-append}
 use Rattle.pagable_pager_spec.specs.{World.key_at, declared.pinning.Beginning.Beginning}
 
-module _ (t : Tables) (stored : ℕ → Option Blob) (closed lists : Bool) (failures : ℕ) (was : IsWhole t) (e : lists ≡ not closed) (me : Owner) (row : HandleRow) (key type : ℕ) where
+module _ (t : Tables) (storage : StorageView) (lists : Bool) (was : IsWhole t) (e : lists ≡ not storage.closed) (me : Owner) (row : HandleRow) (key type : ℕ) where
   -- the tables afterwards
   abbrev t1 : Tables
   t1 = record t { ref_counts = record t.ref_counts { last_handle = t.ref_counts.last_handle + 1 }; last_load = t.last_load + 1 }
 
   abbrev w : Core
-  w = core_of t stored closed failures
+  w = core_of t storage
 
   abbrev w' : Core
-  w' = core_of t1 stored closed failures
+  w' = core_of t1 storage
 
   -- the number of the load's own handle
   abbrev g : ℕ

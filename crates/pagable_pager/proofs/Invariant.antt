@@ -1,4 +1,7 @@
 -- What keeps the pager's invariant: dropping values with their nodes, calls that neither bring nor drop a value, calls of the storage, and bringing a value.
+use Rattle.pagable_tables.specs.Core.{shut_view}
+use Rattle.pagable_tables.specs.Core.{no_blobs}
+use Rattle.pagable_tables.specs.Core.StorageView
 use Rattle.pagable_theorems.proofs.{HandlesKept.{NotValues, among-found, find-both, found-number, good, low-whole, new-handle, stands-fell}, ReadingSteps.cached-rows, StepBounds.{entered-of, named-among}}
 use Rattle.{pagable_theorems.proofs.LoadProgress.{row-held, row-pins}, pagable_load.{proofs.LoadSteps.begun_is, specs.declared.access.PinStart.PinStart}, std.specs.Option.option_map}
 use Rattle.{either.specs.declared.Either.Either, pagable_load.specs.AccessView.{AsksFor, Brings, IsMade}, pagable_value_spec.specs.{Stored.{Adds, RefusesFetch, RefusesStore}, declared.{data_key.OptionalDataKey.OptionalDataKey, numbers.WorkerNumber.WorkerNumber}}}
@@ -29,8 +32,8 @@ use Rattle.{futures.specs.{Poll.IfReady, declared.task.Poll.Poll}, pagable_pager
 use Rattle.pagable_pager_spec.specs.Pager as pager
 
 -- the plain world is whole, whatever is stored, if nothing is listed or known once the storage is closed
-pub whole-over : (t : Tables) (stored : ℕ → Option Blob) (closed : Bool) (failures : ℕ) → IsWhole t → IsShut (core_of t stored closed failures) → pager.IsWhole (core_of t stored closed failures)
-whole-over t stored closed failures whole shut =
+pub whole-over : (t : Tables) (storage : StorageView) → IsWhole t → IsShut (core_of t storage) → pager.IsWhole (core_of t storage)
+whole-over t storage whole shut =
     let is = whole.core in
     let h = is.handles in
     let o = is.owners_there in
@@ -79,7 +82,7 @@ module _ {N S E : Type 0} {tells : Telling S} {says : E → Values N} {p : Pager
   module _ {step : Core → Core → Type 0} (t : Tables) (call : Does p.tables step t) where
     pub made-by : (step (core_in tells p) (core_in tells (record p { tables = t })) → IsRight (state_in tells (record p { tables = t }))
         → WellFormed (says p.environment) (state_in tells (record p { tables = t }))) → IsPager tells says (record p { tables = t })
-    made-by state = in-step (record p { tables = t }) call.whole (call.later is.later) (state (call.does (tells.stored p.storage) (tells.closed p.storage) (tells.failed p.storage)))
+    made-by state = in-step (record p { tables = t }) call.whole (call.later is.later) (state (call.does (tells p.storage)))
 
     pub called : (step (core_in tells p) (core_in tells (record p { tables = t })) → Rests (core_in tells p) (core_in tells (record p { tables = t }))) → IsPager tells says (record p { tables = t })
     called rests = made-by (λ made. spared is.state (rests made) (λ n. refl))
@@ -105,7 +108,7 @@ module _ {N S E : Type 0} {tells : Telling S} {says : E → Values N} {p : Pager
     only-less sheds = record { values = less sheds; storage = refl; environment = refl }
 
     -- by a call of the tables
-    module _ {b : Bool} {step : Core → Core → Type 0} (call : DoesShed (not b) p.tables p.values step t values) (opens : b ≡ tells.closed p.storage) where
+    module _ {b : Bool} {step : Core → Core → Type 0} (call : DoesShed (not b) p.tables p.values step t values) (opens : b ≡ (tells p.storage).closed) where
       pub release_at-by : (Leaves (value_in p.values) (state_in tells gone) → step (core_in tells p) (core_in tells gone) → WellFormed (says p.environment) (state_in tells gone))
           → IsPager tells says gone × Settles OnlyLess tells says p step gone
       release_at-by state =
@@ -152,8 +155,8 @@ pub asks : {w w' : Core} {me : Owner} {l : LoadNumber} {kind : Kind} {key : ℕ}
 asks {l = l} whole (Ok found) c = recalls whole (not-load l) (Ok found) (record { answers = c.gives.2; refused = tt })
 asks whole (Err e) c = unmoved c.refused.stays whole.shut
 
-module _ {N S E : Type 0} {tells : Telling S} {says : E → Values N} {p : PagerView N S E} (is : IsPager tells says p) (s : S) (stays : tells.closed s ≡ tells.closed p.storage)
-    (more : tells.failed p.storage ≤ tells.failed s) where
+module _ {N S E : Type 0} {tells : Telling S} {says : E → Values N} {p : PagerView N S E} (is : IsPager tells says p) (s : S) (stays : (tells s).closed ≡ (tells p.storage).closed)
+    (more : (tells p.storage).failures ≤ (tells s).failures) where
   abbrev stored-in : PagerView N S E
   stored-in = record p { storage = s }
 
@@ -161,12 +164,12 @@ module _ {N S E : Type 0} {tells : Telling S} {says : E → Values N} {p : Pager
   pub kept-so : IsPager tells says stored-in
   kept-so = in-step stored-in is.tables is.later (spared is.state (record { spares = spares-same refl (λ n. refl) refl; shut = λ shut. is.state.whole.shut (sym stays ∙ shut) }) (λ n. refl))
 
-  pub asked : tells.stored s ≡ tells.stored p.storage → Asked (core_in tells p) (core_in tells stored-in)
+  pub asked : (tells s).stored ≡ (tells p.storage).stored → Asked (core_in tells p) (core_in tells stored-in)
   asked same = grind (arith, nat_tests, still)
 
-  pub store-call : (digest : Blob → ℕ) (blob : Blob) (r : Result ℕ Error) → IfOk r (λ key. key ≡ digest blob) → OnOk r (Adds (digest blob) blob (tells.stored p.storage) (tells.stored s))
-      → OnOk r (tells.closed p.storage ≡ false) → IfErr r (RefusesStore blob (tells.stored p.storage (digest blob)) (tells.closed p.storage) (tells.failed p.storage) (tells.failed s))
-      → OnErr r (tells.stored s ≡ tells.stored p.storage) → StoreCall digest (core_in tells p) blob r (core_in tells stored-in)
+  pub store-call : (digest : Blob → ℕ) (blob : Blob) (r : Result ℕ Error) → IfOk r (λ key. key ≡ digest blob) → OnOk r (Adds (digest blob) blob ((tells p.storage).stored) ((tells s).stored))
+      → OnOk r ((tells p.storage).closed ≡ false) → IfErr r (RefusesStore blob ((tells p.storage).stored (digest blob)) ((tells p.storage).closed) ((tells p.storage).failures) ((tells s).failures))
+      → OnErr r ((tells s).stored ≡ (tells p.storage).stored) → StoreCall digest (core_in tells p) blob r (core_in tells stored-in)
   store-call digest blob r keyed adds was only same = grind (arith, nat_tests, asked, still)
 
   pub asks-it : {honest : S → Bool} {makes : Core → Core → Type 0} → (IsTrue (honest s) → makes (core_in tells p) (core_in tells stored-in)) → (IsTrue (honest s) → IsTrue (honest p.storage))
@@ -193,7 +196,7 @@ module _ {N S E : Type 0} {tells : Telling S} {says : E → Values N} {p : Pager
   roomy = record p { tables = t1; values = values }
 
   pub only-room : OnlyRoom (core_in tells p) (core_in tells roomy)
-  only-room = room.does (tells.stored p.storage) (tells.closed p.storage) (tells.failed p.storage)
+  only-room = room.does (tells p.storage)
 
   pub roomier : ((n : ℕ) → value_in values n ≡ value_in p.values n) → IsPager tells says roomy
   roomier same = in-step roomy room.whole (room.later is.later) (spared is.state (unmoved (room-alike only-room) is.state.whole.shut) same)
@@ -217,11 +220,11 @@ module _ {N S E : Type 0} {tells : Telling S} {says : E → Values N} {p : Pager
         (fit : references_fault (plain_of t1) Owner.Caller [] qs ≡ None) (read : qs ≡ rs) (typed : node_type ≡ (says p.environment).node_type x) (named : rs ≡ (says p.environment).references x) where
       birth : BirthCall (core_in tells p) Owner.Caller x ((says p.environment).node_type x) ((says p.environment).references x) mode (Ok k) (core_in tells after)
       birth =
-          let plain = room.does (λ key. None) false 0 in
+          let plain = room.does no_blobs in
           let fine = fault-by (plain_of p.tables) (core_in tells p) Owner.Caller [] rs ∙ sym (room-fault Owner.Caller rs plain) ∙ subst
           (λ l. references_fault (plain_of t1) Owner.Caller [] l ≡ None) read fit in
           birth-past Owner.Caller node_type ((says p.environment).node_type x) rs ((says p.environment).references x) mode k only-room fine left typed named
-          (bears.does (tells.stored p.storage) (tells.closed p.storage) (tells.failed p.storage))
+          (bears.does (tells p.storage))
 
       pub born-told : BirthCall (core_in tells p) Owner.Caller x ((says p.environment).node_type x) ((says p.environment).references x) mode (Ok k) (core_in tells after) × Moves (λ n z. (z ≡ x) × IsNewNode (core_in tells p) n)
           (state_in tells p) (state_in tells after)
@@ -238,10 +241,10 @@ pub not-adopted : {N : Type 0} {w w' : Core} {me : Owner} {l : LoadNumber} {kind
 not-adopted {me = me} {l} typed named back r = rw (← typed, ← named) (record { adopts = tt; refused = (back, told-later me l r) })
 
 module _ {N S E : Type 0} {tells : Telling S} {says : E → Values N} {p q : PagerView N S E} (is : IsPager tells says p) (viewed : p ≡ q) (me : Owner) (l : LoadNumber) (kind : Kind) (key : ℕ) (x : N)
-    {rs : List ArcRef} (listed : rs ≡ (says p.environment).references x) (fresh : (stored : ℕ → Option Blob) (closed : Bool) (failures : ℕ) → early_fault (core_of q.tables stored closed failures) me l kind
+    {rs : List ArcRef} (listed : rs ≡ (says p.environment).references x) (fresh : (storage : StorageView) → early_fault (core_of q.tables storage) me l kind
     ((says p.environment).node_type x) rs ≡ None) (unknown : usable (plain_of q.tables) kind.0 key ≡ None) where
-  fresh-in : (stored : ℕ → Option Blob) (closed : Bool) (failures : ℕ) → early_fault (core_of p.tables stored closed failures) me l kind ((says p.environment).node_type x) rs ≡ None
-  fresh-in stored closed failures = subst (λ (v : PagerView N S E). early_fault (core_of v.tables stored closed failures) me l kind ((says p.environment).node_type x) rs ≡ None) (sym viewed) (fresh stored closed failures)
+  fresh-in : (storage : StorageView) → early_fault (core_of p.tables storage) me l kind ((says p.environment).node_type x) rs ≡ None
+  fresh-in storage = subst (λ (v : PagerView N S E). early_fault (core_of v.tables storage) me l kind ((says p.environment).node_type x) rs ≡ None) (sym viewed) (fresh storage)
 
   unknown-in : usable (plain_of p.tables) kind.0 key ≡ None
   unknown-in = subst (λ (v : PagerView N S E). usable (plain_of v.tables) kind.0 key ≡ None) (sym viewed) unknown
@@ -251,27 +254,27 @@ module _ {N S E : Type 0} {tells : Telling S} {says : E → Values N} {p q : Pag
   new-refused r = not-adopted refl listed refl (refused-new (core_in tells p) me l kind key ((says p.environment).node_type x) rs (fresh-in _ _ _) unknown-in r)
 
   pub new-asked : {t1 : Tables} → Does p.tables OnlyRoom t1 → early_fault (plain_of t1) me l kind ((says p.environment).node_type x) rs ≡ None
-  new-asked room = early-past me l kind ((says p.environment).node_type x) rs (room.does (λ key. None) false 0) ∙ fresh-in (λ key. None) false 0
+  new-asked room = early-past me l kind ((says p.environment).node_type x) rs (room.does no_blobs) ∙ fresh-in no_blobs
 
   pub new-unknown : {t1 : Tables} → Does p.tables OnlyRoom t1 → usable (plain_of t1) kind.0 key ≡ None
-  new-unknown room = ap (λ (u : Core). usable u kind.0 key) (room.does (λ key. None) false 0).same ∙ unknown-in
+  new-unknown room = ap (λ (u : Core). usable u kind.0 key) (room.does no_blobs).same ∙ unknown-in
 
   module _ {t1 : Tables} (values : ValuesByNode N) (room : Does p.tables OnlyRoom t1) where
     pub new-memory : {y : N} → y ≡ x → AdoptCall (core_in tells p) me l kind key x ((says p.environment).node_type x) ((says p.environment).references x) (Err (Error.OutOfMemory, y)) (core_in tells (record p { tables = t1; values = values }))
     new-memory back = not-adopted refl listed back (refused-memory (core_in tells p) me l kind key ((says p.environment).node_type x) rs (fresh-in _ _ _) (only-room is values room))
 
-    module _ (placed : (n : ℕ) → value_in values n ≡ updated (t1.last_node + 1) (Some x) (value_in p.values) n) (t2 : Tables) {k : HandleNumber} {b : Bool} (opens : b ≡ tells.closed p.storage)
+    module _ (placed : (n : ℕ) → value_in values n ≡ updated (t1.last_node + 1) (Some x) (value_in p.values) n) (t2 : Tables) {k : HandleNumber} {b : Bool} (opens : b ≡ (tells p.storage).closed)
         (left : t1.last_node < greatest) (does : Does t1 (λ w w'. IsNext k w × (not b ≡ not w.closed → Alike (adopted w l kind key (first_key kind.0 key) rs) w')) t2) where
       abbrev learned : PagerView N S E
       learned = record p { tables = t2; values = values }
 
       leaves : Alike (adopted (core_in tells p) l kind key (first_key kind.0 key) rs) (core_in tells learned)
-      leaves = adopted-past l kind key (first_key kind.0 key) rs (only-room is values room) ((does.does (tells.stored p.storage) (tells.closed p.storage) (tells.failed p.storage)).1 (ap not opens))
+      leaves = adopted-past l kind key (first_key kind.0 key) rs (only-room is values room) ((does.does (tells p.storage)).1 (ap not opens))
 
       adopts : Adopts (core_in tells p) me l kind key ((says p.environment).node_type x) ((says p.environment).references x) k (core_in tells learned)
       adopts = subst (λ z. Adopts (core_in tells p) me l kind key ((says p.environment).node_type x) z k (core_in tells learned)) listed
           (made-new (core_in tells p) me l kind key ((says p.environment).node_type x) rs (fresh-in _ _ _) unknown-in k (subst (λ (u : Core). u.last.node < greatest) (only-room is values room).same left)
-          (next-past (only-room is values room) (does.does (tells.stored p.storage) (tells.closed p.storage) (tells.failed p.storage)).0) leaves)
+          (next-past (only-room is values room) (does.does (tells p.storage)).0) leaves)
 
       pub new-told : AdoptCall (core_in tells p) me l kind key x ((says p.environment).node_type x) ((says p.environment).references x) (Ok k) (core_in tells learned) × Moves (λ n z. (z ≡ x) × IsNewNode (core_in tells p) n)
           (state_in tells p) (state_in tells learned)
@@ -295,8 +298,8 @@ ready-told {w} {me} {l} {t} {t'} {refs} {refs'} {r} typed named is = subst (λ k
 module _ {N S E : Type 0} {tells : Telling S} {says : E → Values N} {p : PagerView N S E} (is : IsPager tells says p) (x : N) {t1 t2 : Tables} (mid values : ValuesByNode N) {me : Owner} {l : LoadNumber}
     {node_type : ℕ} {qs rs : List ArcRef} {r : Ending} {k : HandleNumber} {b : Bool} (typed : node_type ≡ (says p.environment).node_type x) (read : qs ≡ rs)
     (listed : rs ≡ (says p.environment).references x) (room : Does p.tables OnlyRoom t1) (nodes : t1.ref_counts.nodes ≡ p.tables.ref_counts.nodes)
-    (prepared : (stored : ℕ → Option Blob) (closed : Bool) (failures : ℕ) → IsReady (core_of t1 stored closed failures) me l node_type qs r)
-    (done : Does t1 (λ w w'. not b ≡ not w.closed → Installs w me l r.row.node r.row.number k rs w') t2) (opens : b ≡ tells.closed p.storage)
+    (prepared : (storage : StorageView) → IsReady (core_of t1 storage) me l node_type qs r)
+    (done : Does t1 (λ w w'. not b ≡ not w.closed → Installs w me l r.row.node r.row.number k rs w') t2) (opens : b ≡ (tells p.storage).closed)
     (placed : (n : ℕ) → value_in mid n ≡ with_value r.is_away r.row.node.0 x (value_in p.values) n)
     (sheds : ShedsBeside r.row.node (counts_at t1.ref_counts.nodes) (row_by mid) (counts_at t2.ref_counts.nodes) (row_by values)) where
   abbrev w : Core
@@ -312,14 +315,14 @@ module _ {N S E : Type 0} {tells : Telling S} {says : E → Values N} {p : Pager
   wider = only-room is values room
 
   ready : IsReady (core_in tells (record p { tables = t1 })) me l ((says p.environment).node_type x) ((says p.environment).references x) r
-  ready = ready-told typed (read ∙ listed) (prepared (tells.stored p.storage) (tells.closed p.storage) (tells.failed p.storage))
+  ready = ready-told typed (read ∙ listed) (prepared (tells p.storage))
 
   may : MayEnd w me l r.row.node r.row.number ((says p.environment).node_type x) ((says p.environment).references x)
   may = may-wider wider ready.may
 
   was : Installs w me l r.row.node r.row.number k ((says p.environment).references x) w'
   was = installs-wider wider (subst (λ z. Installs (core_in tells (record p { tables = t1 })) me l r.row.node r.row.number k z w') listed
-      (done.does (tells.stored p.storage) (tells.closed p.storage) (tells.failed p.storage) (ap not opens)))
+      (done.does (tells p.storage) (ap not opens)))
 
   kept : (n : ℕ) → is_some (value_in p.values n) ≡ has_value (counts_at t1.ref_counts.nodes n)
   kept n = is.state.valued n ∙ here-in is n ∙ ap (λ ns. has_value (counts_at ns n)) (sym nodes)
@@ -329,7 +332,7 @@ module _ {N S E : Type 0} {tells : Telling S} {says : E → Values N} {p : Pager
   there here =
       let n = r.row.node.0 in
       let q = plain_of t1 in
-      let ready = prepared (λ key. None) false 0 in
+      let ready = prepared no_blobs in
       let some = cell-of room.whole.core.handles n (row-held q r.row.number r.row ready.owned.live) in
       sym (here-told (counts_at t1.ref_counts.nodes n) q n refl (sym (room.whole.steady.fits.pinned n))) ∙ ap (λ b. b && is_here q n) some ∙ (let goes = sym ready.away ∙ here in grind (arith, nat_tests, goes))
 
@@ -507,7 +510,7 @@ module _ {N S E : Type 0} (tells : Telling S) (p : PagerView N S E) (rows : p.ta
 
 -- what the storage tells is that it is empty and closed
 module _ {N S E : Type 0} {tells : Telling S} {says : E → Values N} {p : PagerView N S E} (is : IsPager tells says p) (s : S) (t : Tables) (values : ValuesByNode N)
-    (empty : (key : ℕ) → tells.stored s key ≡ None) (shut : tells.closed s ≡ true) (call : CloseCall (core_in tells p) (Ok tt) (core_of t (λ key. None) true (tells.failed s))) (whole : IsWhole t)
+    (empty : (key : ℕ) → (tells s).stored key ≡ None) (shut : (tells s).closed ≡ true) (call : CloseCall (core_in tells p) (Ok tt) (core_of t (shut_view (tells s).failures))) (whole : IsWhole t)
     (sheds : Sheds (counts_at p.tables.ref_counts.nodes) (row_by p.values) (counts_at t.ref_counts.nodes) (row_by values)) where
   abbrev new : PagerView N S E
   new = record p { tables = t; values = values; storage = s }

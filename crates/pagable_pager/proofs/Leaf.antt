@@ -1,4 +1,6 @@
 -- Cells that are pinned without a load's row: the load with the same effect keeps the pager's invariant at each step, and is a run of a pin.
+use Rattle.pagable_tables.specs.Core.{no_blobs}
+use Rattle.pagable_tables.specs.Core.StorageView
 use Rattle.pagable_pager.proofs.Invariant.{here-in, here-told, in-step}
 use Rattle.pagable_pager.specs.{Leaf.{LeafBegun, LeafDropped, LeafFetched, LeafLoads, LeafPinned, LeafUnbegun, rooted_reading}, View.{AsksStorage, IsPager, OnlyStorage, OnlyTables, PagerView, Telling, ValuesByNode, core_in, state_in, value_in, with_value}}
 use Rattle.{pagable_leaf.specs.{Leaf.{DropsLeaf, IsLeaf, PinsLeaf}, declared.leaf.Leaf.Leaf}, pagable_load.{proofs.LoadSteps.begun_is, specs.{Decoding.IsReadAs, PinStart.is_unpinned_at, AccessView.Brings}}, pagable_theorems.proofs.ValuesOwned.{IsShut, begins, installed_away, load_closed, pinned-here, spared}}
@@ -64,13 +66,13 @@ module _ {N S E : Type 0} {tells : Telling S} {says : E → Values N} {p : Pager
     given = record p { tables = t; values = values }
 
     drops : DropsLeaf w Owner.Caller leaf.row leaf.key leaf.node_type (core_in tells given)
-    drops = does.does (tells.stored p.storage) (tells.closed p.storage) (tells.failed p.storage)
+    drops = does.does (tells p.storage)
 
     kept : (n : ℕ) → value_in values n ≡ (if is_some ((core_in tells given).cells n) && is_here (core_in tells given) n then value_in p.values n else None)
     kept n =
         let e = is.state.valued n in
-        let cells = ap (λ (u : Tables). (core_of u (tells.stored p.storage) (tells.closed p.storage) (tells.failed p.storage)).cells n) same in
-        let here = ap (λ (u : Tables). is_here (core_of u (tells.stored p.storage) (tells.closed p.storage) (tells.failed p.storage)) n) same in
+        let cells = ap (λ (u : Tables). (core_of u (tells p.storage)).cells n) same in
+        let here = ap (λ (u : Tables). is_here (core_of u (tells p.storage)) n) same in
         let is-same = sames n in
         grind (arith, nat_tests)
 
@@ -88,8 +90,8 @@ module _ {N S E : Type 0} {tells : Telling S} {says : E → Values N} {p : Pager
 
   -- a load that ends with a value
   module _ (t : Tables) (values : ValuesByNode N) (leaf : Leaf) (x : N) (k : HandleNumber) (found : IsLeaf w Owner.Caller leaf) (typed : (says p.environment).node_type x ≡ leaf.node_type)
-      (bare : (says p.environment).references x ≡ []) (ends : (stored : ℕ → Option Blob) (closed : Bool) (failures : ℕ)
-      → PinsLeaf (core_of p.tables stored closed failures) Owner.Caller leaf.row leaf.key leaf.node_type k (core_of t stored closed failures))
+      (bare : (says p.environment).references x ≡ []) (ends : (storage : StorageView)
+      → PinsLeaf (core_of p.tables storage) Owner.Caller leaf.row leaf.key leaf.node_type k (core_of t storage))
       (come : (n : ℕ) → has_value (counts_at t.ref_counts.nodes n) ≡ has_come (counts_at p.tables.ref_counts.nodes) leaf.row.node n) (whole : IsWhole t) (later : AreLater t)
       (placed : (n : ℕ) → value_in values n ≡ with_value true leaf.row.node.0 x (value_in p.values) n) where
     abbrev after : PagerView N S E
@@ -105,7 +107,7 @@ module _ {N S E : Type 0} {tells : Telling S} {says : E → Values N} {p : Pager
     l = record { 0 = w.last.load + 1 }
 
     leaf-ends : PinsLeaf w Owner.Caller leaf.row leaf.key leaf.node_type k w'
-    leaf-ends = ends (tells.stored p.storage) (tells.closed p.storage) (tells.failed p.storage)
+    leaf-ends = ends (tells p.storage)
 
     abbrev mid : PagerState N E
     mid = at-core leaf-ends.begun
@@ -393,14 +395,14 @@ pub not-begun : {N S E : Type 0} {tells : Telling S} {says : E → Values N} {p 
 not-begun {tells = tells} {p = p} was t {e = e} is call = load-is-refused e (state_in tells (record p { tables = t })) (record { step = call; moves = record { each = λ n x has. inl has; environment = refl }; whole = is.state })
 
 -- what was found is so once the storage was asked
-pub leaf-after : {N S E : Type 0} {p q : PagerView N S E} {t : Tables} {leaf : Leaf} → p ≡ q → q.tables ≡ t → ((stored : ℕ → Option Blob) (closed : Bool) (failures : ℕ) → IsLeaf (core_of t stored closed failures) Owner.Caller leaf)
+pub leaf-after : {N S E : Type 0} {p q : PagerView N S E} {t : Tables} {leaf : Leaf} → p ≡ q → q.tables ≡ t → ((storage : StorageView) → IsLeaf (core_of t storage) Owner.Caller leaf)
     → IsLeaf (plain_of p.tables) Owner.Caller leaf
-leaf-after {N} {S} {E} {leaf = leaf} viewed same found = subst (λ (t : Tables). IsLeaf (plain_of t) Owner.Caller leaf) (sym (ap (λ (x : PagerView N S E). x.tables) viewed ∙ same)) (found (λ key. None) false 0)
+leaf-after {N} {S} {E} {leaf = leaf} viewed same found = subst (λ (t : Tables). IsLeaf (plain_of t) Owner.Caller leaf) (sym (ap (λ (x : PagerView N S E). x.tables) viewed ∙ same)) (found no_blobs)
 
-pub leaf-asked : {N S E : Type 0} (tells : Telling S) (q : PagerView N S E) {t : Tables} {leaf : Leaf} → q.tables ≡ t → ((stored : ℕ → Option Blob) (closed : Bool) (failures : ℕ) → IsLeaf (core_of t stored closed failures) Owner.Caller leaf)
+pub leaf-asked : {N S E : Type 0} (tells : Telling S) (q : PagerView N S E) {t : Tables} {leaf : Leaf} → q.tables ≡ t → ((storage : StorageView) → IsLeaf (core_of t storage) Owner.Caller leaf)
     → IsLeaf (core_in tells q) Owner.Caller leaf
 leaf-asked tells q {leaf = leaf} same found =
-    subst (λ (t : Tables). IsLeaf (core_of t (tells.stored q.storage) (tells.closed q.storage) (tells.failed q.storage)) Owner.Caller leaf) (sym same) (found (tells.stored q.storage) (tells.closed q.storage) (tells.failed q.storage))
+    subst (λ (t : Tables). IsLeaf (core_of t (tells q.storage)) Owner.Caller leaf) (sym same) (found (tells q.storage))
 
 pub pager-in : {N S E : Type 0} {tells : Telling S} {says : E → Values N} {p q : PagerView N S E} → p ≡ q → IsPager tells says p → IsPager tells says q
 pager-in {tells = tells} {says = says} viewed is = subst (λ x. IsPager tells says x) viewed is
@@ -412,13 +414,13 @@ unpinned-so : {w : Core} {leaf : Leaf} → pager.IsWhole w → IsLeaf w Owner.Ca
 unpinned-so whole is = let live = is.owned.live in let away = is.away in grind (arith, nat_tests, pinned-here, row-pins)
 
 module _ {N S E : Type 0} {tells : Telling S} {says : E → Values N} {p p1 : PagerView N S E} (is : IsPager tells says p) (is1 : IsPager tells says p1) (t0 : Tables) (room : Does p.tables OnlyRoom t0) (leaf : Leaf)
-    (found : (stored : ℕ → Option Blob) (closed : Bool) (failures : ℕ) → IsLeaf (core_of t0 stored closed failures) Owner.Caller leaf) (r : Result Blob Error)
+    (found : (storage : StorageView) → IsLeaf (core_of t0 storage) Owner.Caller leaf) (r : Result Blob Error)
     (asks : FetchCall (core_in tells (record p { tables = t0 })) leaf.key r (core_in tells p1)) (only : OnlyStorage (record p { tables = t0 }) p1) where
   abbrev w0 : Core
   w0 = core_in tells (record p { tables = t0 })
 
   roomier-so : OnlyRoom (core_in tells p) w0
-  roomier-so = room.does (tells.stored p.storage) (tells.closed p.storage) (tells.failed p.storage)
+  roomier-so = room.does (tells p.storage)
 
   fetched : FetchCall (core_in tells p) leaf.key r (core_in tells p1)
   fetched =
@@ -451,7 +453,7 @@ module _ {N S E : Type 0} {tells : Telling S} {says : E → Values N} {p p1 : Pa
 
   leaf-still : IsLeaf (core_in tells p) Owner.Caller leaf
   leaf-still =
-      let f : IsLeaf w0 Owner.Caller leaf = found (tells.stored p.storage) (tells.closed p.storage) (tells.failed p.storage) in
+      let f : IsLeaf w0 Owner.Caller leaf = found (tells p.storage) in
       let g : IsLeaf (record (core_in tells p) { places = w0.places }) Owner.Caller leaf = subst (λ u. IsLeaf u Owner.Caller leaf) roomier-so.same f in
       record { owned = record { live = g.owned.live; own = g.owned.own; as_asked = g.owned.as_asked }; away = g.away; keyed = g.keyed; typed = g.typed; load_left = g.load_left; handles_left = g.handles_left }
 

@@ -2,7 +2,8 @@
 use Rattle.std.specs.declared.sync.Arc.{Arc}
 use Rattle.std.specs.{Arc.arc_value, Global.Global, Option.option_map, Prelude.{Bool, IsTrue, None, Option, Some, false, true, ℕ, ◌+◌, ◌≡◌}}
 use Rattle.{either.specs.declared.Either.Either, pagable_value_spec.specs.declared.numbers.{ArcRef.ArcRef, HandleNumber.HandleNumber, LoadNumber.LoadNumber, WorkerNumber.WorkerNumber}}
-use Rattle.pagable_tables.specs.{Core.{AreLater, core_of}, Nodes.{counts_at, pins_in}, NumberTable.row_by}
+use Rattle.pagable_core.specs.declared.storage.traits.PagableStorage.Ghosts as Storages
+use Rattle.pagable_tables.specs.{Core.{AreLater, StorageView, core_of}, Nodes.{counts_at, pins_in}, NumberTable.row_by}
 use Rattle.pagable_tables.specs.declared.{number_table.NumberTable.NumberTable, tables.Tables.Tables}
 use Rattle.pagable_pager_spec.specs.Kinds.{HasKinds, loose_kind}
 use Rattle.pagable_pager_spec.specs.{Events.{IsEntry, with_entry_taken, with_worker}, LoadCalls.{Given, from_cache, from_store}, Pager.{PagerState, WellFormed}, Basics.{Blob, updated}, Refusals.OwnsLoad}
@@ -28,21 +29,19 @@ abbrev pub with_value : {N : Type 0} → Bool → ℕ → N → (ℕ → Option 
 with_value true n x values = updated n (Some x) values
 with_value false n x values = values
 
--- The view of a storage: what it holds under each key, whether it is closed, and how often it has failed.
-pub record Telling (S : Type 0) : Type 0 where
-  pub stored : S → ℕ → Option Blob
-  pub closed : S → Bool
-  pub failed : S → ℕ
+-- how each state of a storage is seen
+abbrev pub Telling : Type 0 → Type 0
+Telling S = S → StorageView
 
 -- the pager's plain state; below: with counts, values and environment
 abbrev pub core_in : {N S E : Type 0} → Telling S → PagerView N S E → Core
-core_in tells p = core_of p.tables (tells.stored p.storage) (tells.closed p.storage) (tells.failed p.storage)
+core_in tells p = core_of p.tables (tells p.storage)
 
 abbrev pub state_in : {N S E : Type 0} → Telling S → PagerView N S E → PagerState N E
 state_in tells p = record { core = core_in tells p; counts = λ n. pins_in (counts_at p.tables.ref_counts.nodes n); values = value_in p.values; environment = p.environment }
 
-abbrev pub telling : {S : Type 0} → (S → ℕ → Option Blob) → (S → Bool) → (S → ℕ) → Telling S
-telling stored closed failed = record { stored = stored; closed = closed; failed = failed }
+abbrev pub storage_view : {S E N H K V : Type 0} → Storages S E N H K V → Telling S
+storage_view g s = record { stored = g.stored s; closed = g.is_closed s; failures = g.failed s }
 
 -- The tables satisfy their invariant; the handles that loads and workers own are in their ranges; and the plain state
 -- satisfies the invariant for the environment's values.
@@ -110,7 +109,7 @@ pub record Calls {N S E : Type 0} (Only : PagerView N S E → PagerView N S E �
 pub record AsksStorage {N S E : Type 0} (is_honest : S → Bool) (tells : Telling S) (old : PagerView N S E) (makes : Core → Core → Type 0) (new : PagerView N S E) : Type 0 where
   pub step : IsTrue (is_honest new.storage) → makes (core_in tells old) (core_in tells new)
   pub honest : IsTrue (is_honest new.storage) → IsTrue (is_honest old.storage)
-  pub closed : tells.closed new.storage ≡ tells.closed old.storage
+  pub closed : (tells new.storage).closed ≡ (tells old.storage).closed
   pub only : OnlyStorage old new
 
 -- a call that brings no value into memory, and keeps the pager's invariant

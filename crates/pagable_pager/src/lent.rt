@@ -4,7 +4,7 @@
 
 ghost use Rattle.std.specs.{Arc.arc_value, Prelude.{IfErr, IfOk, IsTrue, true, ◌≡◌, ◌≤◌}};
 ghost use Rattle.{pagable_core.specs.Data.blob_of, pagable_leaf.specs.Leaf.IsLeaf, pagable_load.specs.AccessView.values_at};
-ghost use Rattle.pagable_pager.specs.{Leaf.{LeafLoads, PinsAway}, View.{Calls, OnlyLess, OnlyTables, core_in, is_at_work, state_in, telling}};
+ghost use Rattle.pagable_pager.specs.{Leaf.{LeafLoads, PinsAway}, View.{Calls, OnlyLess, OnlyTables, core_in, is_at_work, state_in, storage_view}};
 ghost use Rattle.pagable_tables.specs.{HandleTable.room, Soundness.is_sound};
 ghost use Rattle.pagable_pager_spec.specs.{Calls.{ClearCall, OfferCall, RecallCall}, Pager.WellFormed, World.seen_as};
 
@@ -32,7 +32,7 @@ use std::sync::Arc;
 pub struct Lent<'a, E: Env<Node: NodeSet<E>>, S: PagableStorage<E>> {
     pager: &'a mut Pager<E, S>,
     me: Owner,
-    ghost at_work: { is_at_work (core_in (telling S.stored S.is_closed S.failed) pager.now) me ≡ true },
+    ghost at_work: { is_at_work (core_in (storage_view S.PagableStorage) pager.now) me ≡ true },
 }
 
 impl<'a, E: Env<Node: NodeSet<E>>, S: PagableStorage<E>> Lent<'a, E, S> {
@@ -50,7 +50,7 @@ impl<'a, E: Env<Node: NodeSet<E>>, S: PagableStorage<E>> Lent<'a, E, S> {
 
     /// Creates the access of a worker. The caller makes sure that the worker is at work.
     pub fn for_worker(pager: &'a mut Pager<E, S>, worker: WorkerNumber) -> Lent<'a, E, S>
-        requires { (core_in (telling S.stored S.is_closed S.failed) pager.old).workers worker.0 ≡ true }
+        requires { (core_in (storage_view S.PagableStorage) pager.old).workers worker.0 ≡ true }
         ensures lent { result.pager.ghost_name ≡ pager.entry.ghost_name }
         ensures same { result.pager.now ≡ pager.old }
         ensures me { result.me ≡ Owner.Worker worker }
@@ -110,7 +110,7 @@ impl<'a, E: Env<Node: NodeSet<E>>, S: PagableStorage<E>> Lent<'a, E, S> {
     ) -> Result<Option<HandleNumber>, Error>
         requires caller { self.old.me ≡ Owner.Caller }
         ensures goes { IsTrue (S.is_honest self.new.pager.now.storage) → PinsAway (values_at E.Node.NodeSet E.Env E.Hash.KeyHash self.old.pager.now.environment)
-            (state_in (telling S.stored S.is_closed S.failed) self.old.pager.now) handle result (state_in (telling S.stored S.is_closed S.failed) self.new.pager.now) }
+            (state_in (storage_view S.PagableStorage) self.old.pager.now) handle result (state_in (storage_view S.PagableStorage) self.new.pager.now) }
         ensures honest { IsTrue (S.is_honest self.new.pager.now.storage) → IsTrue (S.is_honest self.old.pager.now.storage) }
         ensures lender { self.new.pager.ghost_name ≡ self.old.pager.ghost_name }
         ensures me { self.new.me ≡ self.old.me }
@@ -137,10 +137,10 @@ impl<'a, E: Env<Node: NodeSet<E>>, S: PagableStorage<E>> Lent<'a, E, S> {
         blob: Arc<PagableData>,
     ) -> Result<HandleNumber, Error>
         requires caller { self.old.me ≡ Owner.Caller }
-        requires leaf { IsLeaf (core_in (telling S.stored S.is_closed S.failed) self.old.pager.now) Owner.Caller leaf }
+        requires leaf { IsLeaf (core_in (storage_view S.PagableStorage) self.old.pager.now) Owner.Caller leaf }
         requires place { 1 ≤ room self.old.pager.now.tables.ref_counts.handles }
         ensures loads { IsTrue (S.is_honest self.new.pager.now.storage) → LeafLoads (values_at E.Node.NodeSet E.Env E.Hash.KeyHash self.old.pager.now.environment)
-            (state_in (telling S.stored S.is_closed S.failed) self.old.pager.now) leaf (blob_of (arc_value blob)) result (state_in (telling S.stored S.is_closed S.failed) self.new.pager.now) }
+            (state_in (storage_view S.PagableStorage) self.old.pager.now) leaf (blob_of (arc_value blob)) result (state_in (storage_view S.PagableStorage) self.new.pager.now) }
         ensures honest { IsTrue (S.is_honest self.new.pager.now.storage) → IsTrue (S.is_honest self.old.pager.now.storage) }
         ensures lender { self.new.pager.ghost_name ≡ self.old.pager.ghost_name }
         ensures me { self.new.me ≡ self.old.me }
@@ -160,7 +160,7 @@ fn settled<E: Env<Node: NodeSet<E>>, S: PagableStorage<E>, X: Drop>(
     pager: &Pager<E, S>,
 ) -> X
     ensures same { result ≡ answer }
-    ensures whole { WellFormed (values_at E.Node.NodeSet E.Env E.Hash.KeyHash pager.now.environment) (state_in (telling S.stored S.is_closed S.failed) pager.now) }
+    ensures whole { WellFormed (values_at E.Node.NodeSet E.Env E.Hash.KeyHash pager.now.environment) (state_in (storage_view S.PagableStorage) pager.now) }
 {
     pager.is_whole();
     answer
@@ -168,9 +168,9 @@ fn settled<E: Env<Node: NodeSet<E>>, S: PagableStorage<E>, X: Drop>(
 
 impl<'a, E: Env<Node: NodeSet<E>>, S: PagableStorage<E>> Access<E> for Lent<'a, E, S> {
     ghost use Rattle.std.specs.Prelude.{None, Some, if◌then◌else◌};
-    ghost use Rattle.pagable_pager.specs.View.{state_in, telling};
+    ghost use Rattle.pagable_pager.specs.View.{state_in, storage_view};
 
-    ghost told = { λ l. if S.is_honest l.pager.now.storage then Some (state_in (telling S.stored S.is_closed S.failed) l.pager.now) else None };
+    ghost told = { λ l. if S.is_honest l.pager.now.storage then Some (state_in (storage_view S.PagableStorage) l.pager.now) else None };
 
     ghost acting = { λ l. record { me = l.me; environment = l.pager.now.environment; lender = l.pager.ghost_name } };
 
@@ -424,7 +424,7 @@ impl<'a, E: Env<Node: NodeSet<E>>, S: PagableStorage<E>> DeserializedArcCache<'a
     /// - those of `Pager::cache_get`.
     pub fn get(&mut self, kind: Kind, key: DataKey) -> Result<Option<HandleNumber>, Error>
         ensures lent { self.new.pager.ghost_name ≡ self.old.pager.ghost_name }
-        ensures calls { Calls OnlyTables (telling S.stored S.is_closed S.failed) self.old.pager.now (λ w w'. RecallCall w Owner.Caller kind key result w') self.new.pager.now }
+        ensures calls { Calls OnlyTables (storage_view S.PagableStorage) self.old.pager.now (λ w w'. RecallCall w Owner.Caller kind key result w') self.new.pager.now }
     {
         self.pager.cache_get(kind, key)
     }
@@ -437,7 +437,7 @@ impl<'a, E: Env<Node: NodeSet<E>>, S: PagableStorage<E>> DeserializedArcCache<'a
     pub fn get_or_create_cell(&mut self, kind: Kind, key: DataKey) -> Result<ArcCell, Error>
         ensures lent { self.new.pager.ghost_name ≡ self.old.pager.ghost_name }
         ensures place { IfOk result (λ cell. (cell.kind ≡ kind) × (cell.key ≡ key)) }
-        ensures calls { Calls OnlyTables (telling S.stored S.is_closed S.failed) self.old.pager.now (λ w w'. RecallCall w Owner.Caller kind key (seen_as (λ cell. cell.handle) result) w') self.new.pager.now }
+        ensures calls { Calls OnlyTables (storage_view S.PagableStorage) self.old.pager.now (λ w w'. RecallCall w Owner.Caller kind key (seen_as (λ cell. cell.handle) result) w') self.new.pager.now }
     {
         let handle = self.pager.cache_get(kind, key)?;
         Ok(ArcCell { kind, key, handle })
@@ -455,7 +455,7 @@ impl<'a, E: Env<Node: NodeSet<E>>, S: PagableStorage<E>> DeserializedArcCache<'a
         handle: HandleNumber,
     ) -> Result<Option<HandleNumber>, Error>
         ensures lent { self.new.pager.ghost_name ≡ self.old.pager.ghost_name }
-        ensures calls { Calls OnlyLess (telling S.stored S.is_closed S.failed) self.old.pager.now (λ w w'. OfferCall w Owner.Caller kind key handle result w') self.new.pager.now }
+        ensures calls { Calls OnlyLess (storage_view S.PagableStorage) self.old.pager.now (λ w w'. OfferCall w Owner.Caller kind key handle result w') self.new.pager.now }
     {
         self.pager.on_arc_deserialized(kind, key, handle)
     }
@@ -463,7 +463,7 @@ impl<'a, E: Env<Node: NodeSet<E>>, S: PagableStorage<E>> DeserializedArcCache<'a
     /// Empties the cache. Never fails.
     pub fn clear(&mut self) -> Result<(), Error>
         ensures lent { self.new.pager.ghost_name ≡ self.old.pager.ghost_name }
-        ensures calls { Calls OnlyTables (telling S.stored S.is_closed S.failed) self.old.pager.now (λ w w'. ClearCall w result w') self.new.pager.now }
+        ensures calls { Calls OnlyTables (storage_view S.PagableStorage) self.old.pager.now (λ w w'. ClearCall w result w') self.new.pager.now }
     {
         self.pager.cache_clear()
     }

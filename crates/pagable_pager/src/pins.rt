@@ -3,7 +3,7 @@
 
 ghost use Rattle.std.specs.{Arc.arc_value, Prelude.{IsTrue, true, ◌≡◌}};
 ghost use Rattle.{pagable_core.specs.Data.blob_of, pagable_load.specs.{Frames.reading_of, AccessView.{Acts, values_at}}};
-ghost use Rattle.pagable_pager.specs.{Leaf.{EndsCell, SharesNew, rooted_reading}, View.{state_in, telling}};
+ghost use Rattle.pagable_pager.specs.{Leaf.{EndsCell, SharesNew, rooted_reading}, View.{state_in, storage_view}};
 ghost use Rattle.pagable_pager_spec.specs.{Access.PinsOver, World.seen_as};
 
 use crate::lent::Lent;
@@ -89,8 +89,8 @@ fn pin_lent<'a, E: Env<Node: NodeSet<E>>, S: PagableStorage<E>>(
     handle: HandleNumber,
 ) -> Result<(HandleNumber, Arc<E::Node>), Error>
     requires caller { lent.old.me ≡ Owner.Caller }
-    ensures pins { IsTrue (S.is_honest lent.new.pager.now.storage) → PinsOver (values_at E.Node.NodeSet E.Env E.Hash.KeyHash lent.old.pager.now.environment) (state_in (telling S.stored S.is_closed S.failed) lent.old.pager.now)
-        handle (seen_as (λ a. (a.0, arc_value a.1)) result) (state_in (telling S.stored S.is_closed S.failed) lent.new.pager.now) }
+    ensures pins { IsTrue (S.is_honest lent.new.pager.now.storage) → PinsOver (values_at E.Node.NodeSet E.Env E.Hash.KeyHash lent.old.pager.now.environment) (state_in (storage_view S.PagableStorage) lent.old.pager.now)
+        handle (seen_as (λ a. (a.0, arc_value a.1)) result) (state_in (storage_view S.PagableStorage) lent.new.pager.now) }
     ensures honest { IsTrue (S.is_honest lent.new.pager.now.storage) → IsTrue (S.is_honest lent.old.pager.now.storage) }
     ensures lender { lent.new.pager.ghost_name ≡ lent.old.pager.ghost_name }
 {
@@ -115,8 +115,8 @@ pub fn pin<E: Env<Node: NodeSet<E>>, S: PagableStorage<E>>(
     pager: &mut Pager<E, S>,
     handle: HandleNumber,
 ) -> Result<(HandleNumber, Arc<E::Node>), Error>
-    ensures pins { IsTrue (S.is_honest pager.new.storage) → PinsOver (values_at E.Node.NodeSet E.Env E.Hash.KeyHash pager.old.environment) (state_in (telling S.stored S.is_closed S.failed) pager.old)
-        handle (seen_as (λ a. (a.0, arc_value a.1)) result) (state_in (telling S.stored S.is_closed S.failed) pager.new) }
+    ensures pins { IsTrue (S.is_honest pager.new.storage) → PinsOver (values_at E.Node.NodeSet E.Env E.Hash.KeyHash pager.old.environment) (state_in (storage_view S.PagableStorage) pager.old)
+        handle (seen_as (λ a. (a.0, arc_value a.1)) result) (state_in (storage_view S.PagableStorage) pager.new) }
     ensures honest { IsTrue (S.is_honest pager.new.storage) → IsTrue (S.is_honest pager.old.storage) }
 {
     let mut lent = Lent::new(pager);

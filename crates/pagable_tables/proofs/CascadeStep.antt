@@ -1,4 +1,5 @@
 -- After one handle is removed, handles and nodes agree again.
+use Rattle.pagable_tables.specs.Core.StorageView
 use Rattle.pagable_tables.proofs.Counting.{all-kept, and_one, entries-none, of_list, one-le, ones, sum-most, times-left}
 use Rattle.pagable_tables.proofs.{HandleTable.{length-live-le, none-found, only-row, row-le-live}, RowCounts.{found-among, only-at}}
 use Rattle.pagable_tables.proofs.Words.{AllPairs, Among, ArcRef, Blob, Bool, Chain, Core, Counts, Error, Fits, HandleNumber, HandleRow, HasFallen, HasRoom, RefCounts, IsApart, IsBefore, IsClosed}
@@ -235,16 +236,16 @@ begun before w lists t e many unmixed listed rows list last within places cells 
 }
 
 -- nothing has gone of a whole world, nor of the one with other loads and workers
-abbrev pub begun-less : (t : Tables) (loads : ℕ → Option OpenLoad) (workers : ℕ → Bool) (stored : ℕ → Option Blob) (closed lists : Bool) (failures : ℕ) → IsWhole t → lists ≡ not closed
-    → SoFar (core_of t stored closed failures) (record (core_of t stored closed failures) { loads = loads; workers = workers }) nobody lists (record t.ref_counts { unlisted = None })
-begun-less t loads workers stored closed lists failures w e =
-    begun (core_of t stored closed failures) (record (core_of t stored closed failures) { loads = loads; workers = workers }) lists (record t.ref_counts { unlisted = None })
+abbrev pub begun-less : (t : Tables) (loads : ℕ → Option OpenLoad) (workers : ℕ → Bool) (storage : StorageView) (lists : Bool) → IsWhole t → lists ≡ not storage.closed
+    → SoFar (core_of t storage) (record (core_of t storage) { loads = loads; workers = workers }) nobody lists (record t.ref_counts { unlisted = None })
+begun-less t loads workers storage lists w e =
+    begun (core_of t storage) (record (core_of t storage) { loads = loads; workers = workers }) lists (record t.ref_counts { unlisted = None })
     e (λ p own. refl) (unmixed t w) (λ q. let a = w.core.owners_there.listed q in omega arith) refl refl refl w.core.handles.within.0
     (record { handles = omega arith; entries = omega arith }) (λ n. refl) refl
 
-abbrev pub begun-whole : (t : Tables) (stored : ℕ → Option Blob) (closed lists : Bool) (failures : ℕ) → IsWhole t → lists ≡ not closed
-    → SoFar (core_of t stored closed failures) (core_of t stored closed failures) nobody lists (record t.ref_counts { unlisted = None })
-begun-whole t stored closed lists failures w e = let c = core_of t stored closed failures in begun-less t c.loads c.workers stored closed lists failures w e
+abbrev pub begun-whole : (t : Tables) (storage : StorageView) (lists : Bool) → IsWhole t → lists ≡ not storage.closed
+    → SoFar (core_of t storage) (core_of t storage) nobody lists (record t.ref_counts { unlisted = None })
+begun-whole t storage lists w e = let c = core_of t storage in begun-less t c.loads c.workers storage lists w e
 
 -- cells are listed exactly while the storage is open
 pub closed-is : (lists closed : Bool) → lists ≡ not closed → closed ≡ not lists
@@ -320,9 +321,9 @@ module _ (at at' : ℕ → Option Counts) (refs refs' : ℕ → List ArcRef) (ro
       let right : (m : ℕ) → Right (at' m) (refs' m) = λ m. grind (arith, nat_tests, cases_eq m n, fits.marked, fits.right) in
       grind (arith, nat_tests, cases_eq, named, right, not-zero at n c fits.from_one is)
 
-module _ (T : Tables) (stored : ℕ → Option Blob) (closed lists : Bool) (failures : ℕ) (whole : IsWhole T) (opened : lists ≡ not closed) (node : NodeNumber) (key : ℕ) (new : RefCounts) where
+module _ (T : Tables) (storage : StorageView) (lists : Bool) (whole : IsWhole T) (opened : lists ≡ not storage.closed) (node : NodeNumber) (key : ℕ) (new : RefCounts) where
   abbrev old : Core
-  old = core_of T stored closed failures
+  old = core_of T storage
 
   pub keyed-on : new ≡ record T.ref_counts { unlisted = None; nodes = new.nodes; top = new.top } → GetsKey (counts_at T.ref_counts.nodes) (counts_at new.nodes) node.0 key
       → SoFar old (with_key old node key) nobody lists new

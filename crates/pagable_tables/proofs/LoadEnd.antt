@@ -1,4 +1,5 @@
 -- A node is inserted, and its value becomes the owner of its references' handles; and a pinned node without a value gets one, with its references.
+use Rattle.pagable_tables.specs.Core.StorageView
 use Rattle.std.specs.VecDeque.{deque_capacity}
 use Rattle.pagable_tables.proofs.Words.{Alike, AllPairs, Among, ArcRef, Blob, Bool, Core, Counts, Ending, Error, Falls, Fits, HandleNumber, HandleRow, RefCounts, Installs, IsHandleBefore, IsReady}
 use Rattle.pagable_tables.proofs.Words.{Last, List, LoadNumber, LoadRow, MayEnd, MayOwnLoad, Mode, NodeNumber, None, OnlyRoom, Option, Owner, Places, Result, Right, SoFar, Some, Tables, [], ap, arith}
@@ -134,10 +135,10 @@ row-of : (rows : List HandleRow) → AllPairs IsHandleBefore rows → (row : Han
 row-of rows ordered row found z among is = grind (arith, nat_tests, once rows ordered z row among, found-among row.number.0 rows row found)
 
 -- t1 is t with the pins; then the handles that the references name move to the node's value, and what the load still owns goes.
-module _ (t t1 : Tables) (stored : ℕ → Option Blob) (closed lists : Bool) (failures : ℕ) (was : IsWhole t) (whole : IsWhole t1) (e : lists ≡ not closed) (row : HandleRow)
+module _ (t t1 : Tables) (storage : StorageView) (lists : Bool) (was : IsWhole t) (whole : IsWhole t1) (e : lists ≡ not storage.closed) (row : HandleRow)
     (found : find_row row.number.0 (live t.ref_counts.handles.places.items) ≡ Some row) (me : Owner) (may : MayOwnLoad (plain_of t) me) (l : LoadNumber) (rs : List ArcRef)
     (good : references_fault (plain_of t) (Owner.Load l) [] rs ≡ None)
-    (a : Alike (with_handle (with_mode (core_of t stored closed failures) row.number Mode.LoosePinned) row.node Mode.Pinned me) (core_of t1 stored closed failures))
+    (a : Alike (with_handle (with_mode (core_of t storage) row.number Mode.LoosePinned) row.node Mode.Pinned me) (core_of t1 storage))
     (same : t1 ≡ record t { ref_counts = t1.ref_counts }) where
   abbrev s : ℕ → Bool
   s = is_named_by rs
@@ -146,7 +147,7 @@ module _ (t t1 : Tables) (stored : ℕ → Option Blob) (closed lists : Bool) (f
   o = owner_value row.node.0
 
   abbrev w : Core
-  w = core_of t stored closed failures
+  w = core_of t storage
 
   abbrev x : HandleRow
   x = row_of (t.ref_counts.last_handle + 1) row.node Mode.Pinned me
@@ -206,7 +207,7 @@ module _ (t t1 : Tables) (stored : ℕ → Option Blob) (closed lists : Bool) (f
         → ((before v : Core) → SoFar before v nobody lists (record k { unlisted = None }) → length (live k.handles.places.items) ≤ length v.rows
         → ((q : ℕ) → is_owned_in v (Owner.Load l) q ≡ true → (since < q) × (q ≤ until)) → Falls before v (is_owned_in v (Owner.Load l)) r (with_tables v new))
         → ((q : ℕ) → is_owned_in w (Owner.Load l) q ≡ true → (since < q) × (q ≤ until)) → loads l.0 ≡ None → ((q : ℕ) → q ≢ l.0 → loads q ≡ load_at t1.loads q)
-        → Falls w u given r (record (core_of (record t1 { ref_counts = new }) stored closed failures) { loads = λ q. option_map load_in (loads q) })
+        → Falls w u given r (record (core_of (record t1 { ref_counts = new }) storage) { loads = λ q. option_map load_in (loads q) })
     ended since until new loads r gives within gone others =
         let falls = gives u u begun-pinned (let b = ap length (rows ∙ come) in omega arith)
         (λ q own. within q (and-left (is_owned_in w (Owner.Load l) q) (not (s q)) (sym (owned-pinned q) ∙ own))) in
@@ -215,8 +216,8 @@ module _ (t t1 : Tables) (stored : ℕ → Option Blob) (closed lists : Bool) (f
         grind (arith, nat_tests, cases_eq)
 
 -- t1 is t with the pins
-module _ (t t1 : Tables) (stored : ℕ → Option Blob) (closed : Bool) (failures : ℕ) (row : HandleRow) (me : Owner)
-    (a : Alike (with_handle (with_mode (core_of t stored closed failures) row.number Mode.LoosePinned) row.node Mode.Pinned me) (core_of t1 stored closed failures)) where
+module _ (t t1 : Tables) (storage : StorageView) (row : HandleRow) (me : Owner)
+    (a : Alike (with_handle (with_mode (core_of t storage) row.number Mode.LoosePinned) row.node Mode.Pinned me) (core_of t1 storage)) where
   pub pins-here : 0 < pins row.node.0 (live t1.ref_counts.handles.places.items)
   pins-here = grind (arith, nat_tests, sum_by_push, live)
 

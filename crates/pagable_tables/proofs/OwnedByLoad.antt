@@ -1,4 +1,7 @@
 -- A load is closed or hands handles over, or a worker ends, and what they still own is released.
+use Rattle.pagable_tables.specs.Core.{no_blobs_of}
+use Rattle.pagable_tables.specs.Core.{no_blobs}
+use Rattle.pagable_tables.specs.Core.StorageView
 use Rattle.pagable_value_spec.specs.declared.numbers.WorkerNumber.{WorkerNumber}
 use Rattle.pagable_tables.proofs.{Counting.{and-left, of_list, there-is, times-left}, HandleTable.{at-place, found-append, le_or_lt}, Wholeness.whole-so}
 use Rattle.pagable_tables.proofs.CascadeStep.{begun, closed-is, is_owned, no-value, none-came, owned-by-none, rows-told, unmixed}
@@ -192,15 +195,15 @@ loaded-append l q rows more own = grind (arith, nat_tests, found-append q rows m
 pub not-named : (w : Core) (l : LoadNumber) (refs : List ArcRef) → HandlesAreWhole w → references_fault w (Owner.Load l) [] refs ≡ None → (q : ℕ) → w.last.handle < q → is_named_by refs q ≡ false
 not-named w l refs whole good q above = grind (arith, nat_tests, owned-given w (Owner.Load l) q whole, named-mine w (Owner.Load l) [] refs good q)
 
-module _ (t t1 : Tables) (stored : ℕ → Option Blob) (closed : Bool) (failures : ℕ) (node : NodeNumber) (mode : Mode) (me : Owner) (after : IsWhole t1)
-    (a : Alike (with_handle (core_of t stored closed failures) node mode me) (core_of t1 stored closed failures)) where
+module _ (t t1 : Tables) (storage : StorageView) (node : NodeNumber) (mode : Mode) (me : Owner) (after : IsWhole t1)
+    (a : Alike (with_handle (core_of t storage) node mode me) (core_of t1 storage)) where
   abbrev before : Core
-  before = core_of t stored closed failures
+  before = core_of t storage
 
   abbrev made : Core
   made = with_handle before node mode me
 
-  pub begun-made : (lists : Bool) → lists ≡ not closed → SoFar made made nobody lists (record t1.ref_counts { unlisted = None })
+  pub begun-made : (lists : Bool) → lists ≡ not storage.closed → SoFar made made nobody lists (record t1.ref_counts { unlisted = None })
   begun-made lists e = begun made made lists (record t1.ref_counts { unlisted = None }) e (λ p own. refl)
       (λ n. subst (λ r. (sharing n r ≡ 0) ⊎ (times (is_plain_pin n) r ≡ 0)) a.rows (unmixed t1 after n))
       (λ q. let d = ap (times (λ (h : HandleNumber). h.0 == q)) a.list in let e = ap (times (of_list q)) a.rows in let f = after.core.owners_there.listed q in omega arith)
@@ -208,7 +211,7 @@ module _ (t t1 : Tables) (stored : ℕ → Option Blob) (closed : Bool) (failure
 
   -- others fall then, as seen from before it came
   pub falls-made : t1 ≡ record t { ref_counts = t1.ref_counts } → is_valued me ≡ false → (new : RefCounts) {given : ℕ → Bool} {r : Result (Unit {0}) Error}
-      → Falls made made given r (with_tables made new) → given (t.ref_counts.last_handle + 1) ≡ false → Falls before made given r (core_of (record t1 { ref_counts = new }) stored closed failures)
+      → Falls made made given r (with_tables made new) → given (t.ref_counts.last_handle + 1) ≡ false → Falls before made given r (core_of (record t1 { ref_counts = new }) storage)
   falls-made same plain new {given} {r} f spared =
       let ordered = subst (AllPairs IsHandleBefore) a.rows after.core.handles.ordered in
       let stays = stays-pinned before made (with_tables made new) given r (row_of (t.ref_counts.last_handle + 1) node mode me) refl ordered plain spared f in
@@ -335,12 +338,12 @@ moved-then s s' h o rows a b next = record {
 
 -- the step is made whatever is stored, whether the storage was closed, and however often it failed
 abbrev pub Each : Tables → (Core → Core → Type 0) → Tables → Type 0
-Each old step new = (stored : ℕ → Option Blob) (closed : Bool) (failures : ℕ) → step (core_of old stored closed failures) (core_of new stored closed failures)
+Each old step new = (storage : StorageView) → step (core_of old storage) (core_of new storage)
 
 module _ {old new : Tables} {step : Core → Core → Type 0} where
   pub does-by : Each old step new → IsFalling new.ref_counts [] owns_nothing → (step (plain_of old) (plain_of new) → ArePlaced (plain_of new) → pager.IsWhole (plain_of new))
       → (step (plain_of old) (plain_of new) → AreLater old → AreLater new) → Does old step new
-  does-by does steady whole later = let plain = does (λ key. None) false 0 in record { does = does; whole = whole-so steady (whole plain); later = later plain }
+  does-by does steady whole later = let plain = does no_blobs in record { does = does; whole = whole-so steady (whole plain); later = later plain }
 
   -- loads and workers are those that were
   pub does-so : Each old step new → IsFalling new.ref_counts [] owns_nothing → (step (plain_of old) (plain_of new) → Goes (plain_of old) (plain_of new)) → new.loads ≡ old.loads
@@ -351,23 +354,23 @@ pub nothing-does : {t : Tables} {step : Core → Core → Type 0} → IsWhole t 
 nothing-does whole does = record { does = does; whole = whole; later = λ later. later }
 
 pub does-then : {a b c : Tables} {one two both : Core → Core → Type 0} → Does a one b → Does b two c
-    → ((stored : ℕ → Option Blob) (closed : Bool) (failures : ℕ) → one (core_of a stored closed failures) (core_of b stored closed failures) → two (core_of b stored closed failures) (core_of c stored closed failures)
-    → both (core_of a stored closed failures) (core_of c stored closed failures)) → Does a both c
-does-then p q both = record { does = λ stored closed failures. both stored closed failures (p.does stored closed failures) (q.does stored closed failures); whole = q.whole; later = λ later. q.later (p.later later) }
+    → ((storage : StorageView) → one (core_of a storage) (core_of b storage) → two (core_of b storage) (core_of c storage)
+    → both (core_of a storage) (core_of c storage)) → Does a both c
+does-then p q both = record { does = λ storage. both storage (p.does storage) (q.does storage); whole = q.whole; later = λ later. q.later (p.later later) }
 
 -- the same, of a step that follows from it
 pub does-as : {old new : Tables} {one two : Core → Core → Type 0} → Does old one new → Each old (λ w w'. one w w' → two w w') new → Does old two new
-does-as step so = record { does = λ stored closed failures. so stored closed failures (step.does stored closed failures); whole = step.whole; later = step.later }
+does-as step so = record { does = λ storage. so storage (step.does storage); whole = step.whole; later = step.later }
 
 -- the plain world where cells are listed or not
 abbrev pub listing : Bool → Tables → Core
-listing lists t = core_of t (λ key. None) (not lists) 0
+listing lists t = core_of t (no_blobs_of lists)
 
 -- the same, of a step that is made as cells are listed
 module _ {lists : Bool} {old new : Tables} {step : Core → Core → Type 0} (does : Each old (λ w w'. lists ≡ not w.closed → step w w') new) (steady : IsFalling new.ref_counts [] owns_nothing) where
   pub lazily-by : (step (listing lists old) (listing lists new) → ArePlaced (plain_of new) → pager.IsWhole (plain_of new))
       → (step (listing lists old) (listing lists new) → AreLater old → AreLater new) → Does old (λ w w'. lists ≡ not w.closed → step w w') new
-  lazily-by whole later = let plain = does (λ key. None) (not lists) 0 (closed-is (not lists) lists refl) in record { does = does; whole = whole-so steady (whole plain); later = later plain }
+  lazily-by whole later = let plain = does (no_blobs_of lists) (closed-is (not lists) lists refl) in record { does = does; whole = whole-so steady (whole plain); later = later plain }
 
   pub lazily-so : (step (listing lists old) (listing lists new) → Goes (listing lists old) (listing lists new)) → new.loads ≡ old.loads → new.workers ≡ old.workers
       → new.noted ≡ old.noted → Does old (λ w w'. lists ≡ not w.closed → step w w') new
@@ -387,7 +390,7 @@ pub widens-does : (t : Tables) (h : Handles) (nodes : NumberTable NodeRow) (cach
     → ((n : ℕ) → counts_at nodes n ≡ counts_at t.ref_counts.nodes n) → ((n : ℕ) → refs_at nodes n ≡ refs_at t.ref_counts.nodes n)
     → ((n : ℕ) → work_at nodes n ≡ work_at t.ref_counts.nodes n) → ((kind key : ℕ) → known_at cache kind key ≡ known_at t.cache kind key)
     → Does t OnlyRoom (record t { ref_counts = record t.ref_counts { handles = h; nodes = nodes }; cache = cache })
-widens-does t h nodes cache whole e counts refs work known = does-so (λ stored closed failures. grind (arith, nat_tests, e.rows, e.capacity, counts, known))
+widens-does t h nodes cache whole e counts refs work known = does-so (λ storage. grind (arith, nat_tests, e.rows, e.capacity, counts, known))
     (record {
       sound = e.sound;
       next = e.next (t.ref_counts.last_handle + 1) whole.steady.next;

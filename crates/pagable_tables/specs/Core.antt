@@ -20,16 +20,32 @@ root_in LoadRoot.Key = of_key
 abbrev pub load_in : LoadRow → OpenLoad
 load_in row = record { owner = row.owner; key = row.key; root = root_in row.root }
 
--- the world of these tables, with what is stored, whether the storage is closed, and how often it failed
-abbrev pub core_of : Tables → (ℕ → Option Blob) → Bool → ℕ → Core
-core_of t stored closed failures = record {
+-- The view of a storage: what it holds under each key, whether it is closed, and how often it has failed.
+pub record StorageView : Type 0 where
+  pub stored : ℕ → Option Blob
+  pub closed : Bool
+  pub failures : ℕ
+
+-- a storage without blobs: an open one, one that is open exactly if cells are listed, and a closed one
+abbrev pub no_blobs : StorageView
+no_blobs = record { stored = λ key. None; closed = false; failures = 0 }
+
+abbrev pub no_blobs_of : Bool → StorageView
+no_blobs_of lists = record { stored = λ key. None; closed = not lists; failures = 0 }
+
+abbrev pub shut_view : ℕ → StorageView
+shut_view failures = record { stored = λ key. None; closed = true; failures = failures }
+
+-- the plain state of these tables over a storage
+abbrev pub core_of : Tables → StorageView → Core
+core_of t storage = record {
   rows = live t.ref_counts.handles.places.items;
   cells = λ n. cell_in (counts_at t.ref_counts.nodes n);
   list = t.ref_counts.list.items;
   cache = λ kind key. option_map (λ (n : NodeNumber). n.0) (known_at t.cache kind key);
-  stored = stored;
-  closed = closed;
-  failures = failures;
+  stored = storage.stored;
+  closed = storage.closed;
+  failures = storage.failures;
   loads = λ l. option_map load_in (load_at t.loads l);
   workers = λ v. is_some (worker_at t.workers v);
   last = record { node = t.last_node; handle = t.ref_counts.last_handle; load = t.last_load; worker = t.last_worker };
@@ -38,7 +54,7 @@ core_of t stored closed failures = record {
 
 -- the world of these tables with nothing stored
 abbrev pub plain_of : Tables → Core
-plain_of t = core_of t (λ key. None) false 0
+plain_of t = core_of t no_blobs
 
 -- The tables are whole: handles, nodes and list agree, no node is dying, and the plain world is whole.
 pub record IsWhole (t : Tables) : Type 0 where
@@ -171,14 +187,14 @@ pub record Notes (old new : Tables) : Type 0 where
 -- The plain world makes the step, whatever is stored; the tables stay whole; and loads and workers own only handles
 -- made since they began, if that was so.
 pub record Does (old : Tables) (step : Core → Core → Type 0) (new : Tables) : Type 0 where
-  pub does : (stored : ℕ → Option Blob) (closed : Bool) (failures : ℕ) → step (core_of old stored closed failures) (core_of new stored closed failures)
+  pub does : (storage : StorageView) → step (core_of old storage) (core_of new storage)
   pub whole : IsWhole new
   pub later : AreLater old → AreLater new
 
 -- The same, where `lists` is set exactly while the storage is open; and the value of each node is dropped when it has
 -- to be.
 pub record DoesShed {X : Type 0} (lists : Bool) (old : Tables) (values : NumberTable X) (step : Core → Core → Type 0) (new : Tables) (values' : NumberTable X) : Type 0 where
-  pub does : (stored : ℕ → Option Blob) (closed : Bool) (failures : ℕ) → lists ≡ not closed → step (core_of old stored closed failures) (core_of new stored closed failures)
+  pub does : (storage : StorageView) → lists ≡ not storage.closed → step (core_of old storage) (core_of new storage)
   pub whole : IsWhole new
   pub later : AreLater old → AreLater new
   pub sheds : Sheds (counts_at old.ref_counts.nodes) (row_by values) (counts_at new.ref_counts.nodes) (row_by values')

@@ -1,5 +1,6 @@
 //! The cache: the node that is known under a kind and a key.
 
+ghost use Rattle.pagable_tables.specs.Core.StorageView;
 ghost use Rattle.indexmap.specs.IndexMap.{get, spare};
 ghost use Rattle.pagable_value_spec.specs.declared.numbers.NodeNumber.{NodeNumber};
 ghost use Rattle.pagable_tables.specs.CascadeInvariant.{owns};
@@ -90,7 +91,7 @@ pub fn forget_gone(t: &mut Tables)
 /// or, for the kind of a pin, whose node has no value in memory.
 pub fn usable_of(t: &Tables, kind: Kind, key: DataKey) -> Option<NodeNumber>
     requires { IsWhole t.now }
-    ensures { (stored : ℕ → Option Blob) (closed : Bool) (failures : ℕ) → option_map (λ (n : NodeNumber). n.0) result ≡ usable (core_of t.now stored closed failures) kind.0 key }
+    ensures { (storage : StorageView) → option_map (λ (n : NodeNumber). n.0) result ≡ usable (core_of t.now storage) kind.0 key }
 {
     let node = t.cache.get(&(kind.0, key)).copied()?;
     let counts = nodes::counts_of(&t.ref_counts.nodes, node.0);
@@ -134,7 +135,7 @@ pub fn offered(t: &Tables, me: Owner, kind: Kind, handle: HandleNumber) -> Resul
     requires { IsWhole t.now }
     ensures owns { IfOk result (λ row. Owns (plain_of t.now) me handle (fits_mode kind.0) row) }
     ensures typed { IfOk result (λ row. type_at (plain_of t.now) row.node.0 ≡ Some (type_of kind.0)) }
-    ensures fault { IfErr result (λ e. (stored : ℕ → Option Blob) (closed : Bool) (failures key : ℕ) → offer_fault (core_of t.now stored closed failures) me kind key handle ≡ Some e) }
+    ensures fault { IfErr result (λ e. (storage : StorageView) (key : ℕ) → offer_fault (core_of t.now storage) me kind key handle ≡ Some e) }
 {
     let at = own(t, me, handle)?;
     if !fits_mode(kind, at.row.mode) {
@@ -168,8 +169,8 @@ pub fn offer<N: Drop>(
 ) -> Result<Option<HandleNumber>, Error>
     requires whole { IsWhole t.old }
     requires holder { MayHold (plain_of t.old) me }
-    ensures offered { (stored : ℕ → Option Blob) (closed : Bool) (failures : ℕ) → lists ≡ not closed
-        → OfferCall (core_of t.old stored closed failures) me kind key handle result (core_of t.new stored closed failures) }
+    ensures offered { (storage : StorageView) → lists ≡ not storage.closed
+        → OfferCall (core_of t.old storage) me kind key handle result (core_of t.new storage) }
     ensures whole { IsWhole t.new }
     ensures sheds { ((n : ℕ) → usable (plain_of t.old) kind.0 key ≡ Some n → is_pinning (mode_of kind.0) ≡ true → has_value (counts_at t.old.ref_counts.nodes n) ≡ true)
         → Sheds (counts_at t.old.ref_counts.nodes) (row_by values.old) (counts_at t.new.ref_counts.nodes) (row_by values.new) }

@@ -1,5 +1,6 @@
 //! Makes nodes, handles of live nodes, and pins.
 
+ghost use Rattle.pagable_tables.specs.Core.StorageView;
 ghost use Rattle.indexmap.specs.IndexMap.{get, spare};
 ghost use Rattle.pagable_value_spec.specs.declared.numbers.NodeNumber.{NodeNumber};
 ghost use Rattle.pagable_tables.specs.CascadeInvariant.{IsFalling, is_valued, is_worker, owns, owns_nothing};
@@ -37,7 +38,7 @@ pub fn make_ready_to_learn(t: &mut Tables) -> Result<(), Error>
     ensures ready { OnOk result (IsReady t.new) }
     ensures learns { OnOk result (0 < spare t.new.cache) }
     ensures does { Does t.old OnlyRoom t.new }
-    ensures refused { (stored : ℕ → Option Blob) (closed : Bool) (failures : ℕ) → IfErr result (λ e. Refused (birth_fault (core_of t.old stored closed failures)) (birth_fault (core_of t.old stored closed failures)) (Unit {0}) (core_of t.old stored closed failures) e (core_of t.new stored closed failures)) }
+    ensures refused { (storage : StorageView) → IfErr result (λ e. Refused (birth_fault (core_of t.old storage)) (birth_fault (core_of t.old storage)) (Unit {0}) (core_of t.old storage) e (core_of t.new storage)) }
     ensures loads { t.new.loads ≡ t.old.loads }
     ensures workers { t.new.workers ≡ t.old.workers }
 {
@@ -134,7 +135,7 @@ pub fn prepare(t: &mut Tables, me: Owner, references: &[ArcRef]) -> Result<(), E
     ensures ready { OnOk result (IsReady t.new) }
     ensures fit { OnOk result (references_fault (plain_of t.new) me [] references.now ≡ None) }
     ensures does { Does t.old OnlyRoom t.new }
-    ensures refused { (stored : ℕ → Option Blob) (closed : Bool) (failures : ℕ) → IfErr result (λ e. Refused (earlier (references_fault (core_of t.old stored closed failures) me [] references.now) (birth_fault (core_of t.old stored closed failures))) None (Unit {0}) (core_of t.old stored closed failures) e (core_of t.new stored closed failures)) }
+    ensures refused { (storage : StorageView) → IfErr result (λ e. Refused (earlier (references_fault (core_of t.old storage) me [] references.now) (birth_fault (core_of t.old storage))) None (Unit {0}) (core_of t.old storage) e (core_of t.new storage)) }
 {
     if let Some(e) = references_fault(t, me, references) {
         return Err(e);

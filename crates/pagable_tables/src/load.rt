@@ -1,5 +1,6 @@
 //! Loads: how they begin, and get handles of what they read.
 
+ghost use Rattle.pagable_tables.specs.Core.StorageView;
 ghost use Rattle.indexmap.specs.IndexMap.{get, spare};
 ghost use Rattle.pagable_value_spec.specs.declared.numbers.{LoadNumber.LoadNumber, NodeNumber.NodeNumber};
 ghost use Rattle.pagable_tables.specs.CascadeInvariant.{IsFalling, owns_nothing};
@@ -228,7 +229,7 @@ fn adopt_fault(
     references: &[ArcRef],
 ) -> Option<Error>
     requires { IsWhole t.now }
-    ensures { (stored : ℕ → Option Blob) (closed : Bool) (failures : ℕ) → result ≡ early_fault (core_of t.now stored closed failures) me load kind node_type references.now }
+    ensures { (storage : StorageView) → result ≡ early_fault (core_of t.now storage) me load kind node_type references.now }
 {
     let own = load_fault(load_table::load_of(&t.loads, load.0), me);
     let mode = is_loose_kind(kind).then_some(Error::WrongMode);
@@ -287,13 +288,13 @@ pub fn adopt_if_known<N: Drop>(
     requires whole { IsWhole t.old }
     requires later { AreLater t.old }
     requires valued { (n : ℕ) → usable (plain_of t.old) kind.0 key ≡ Some n → is_loose_kind kind.0 ≡ false → has_value (counts_at t.old.ref_counts.nodes n) ≡ true }
-    ensures known { (stored : ℕ → Option Blob) (closed : Bool) (failures : ℕ) → lists ≡ not closed → IfOk result (λ found. IfSome found (λ k. Adopts (core_of t.old stored closed failures) me load kind key node_type references.now k (core_of t.new stored closed failures))) }
-    ensures fresh { (stored : ℕ → Option Blob) (closed : Bool) (failures : ℕ) → IfOk result (λ found. IfNone found (early_fault (core_of t.old stored closed failures) me load kind node_type references.now ≡ None)) }
+    ensures known { (storage : StorageView) → lists ≡ not storage.closed → IfOk result (λ found. IfSome found (λ k. Adopts (core_of t.old storage) me load kind key node_type references.now k (core_of t.new storage))) }
+    ensures fresh { (storage : StorageView) → IfOk result (λ found. IfNone found (early_fault (core_of t.old storage) me load kind node_type references.now ≡ None)) }
     ensures given { IfOk result (λ found. IfSome found (λ k. (n : ℕ) × (usable (plain_of t.old) kind.0 key ≡ Some n))) }
     ensures unknown { IfOk result (λ found. IfNone found (usable (plain_of t.old) kind.0 key ≡ None)) }
     ensures same { IfOk result (λ found. IfNone found (t.new ≡ t.old)) }
     ensures kept { IfOk result (λ found. IfNone found (values.new ≡ values.old)) }
-    ensures refused { (stored : ℕ → Option Blob) (closed : Bool) (failures : ℕ) → IfErr result (λ e. Refused (adopt_fault (core_of t.old stored closed failures) me load kind key node_type references.now) (load_fault (core_of t.old stored closed failures) me load) (Unit {0}) (core_of t.old stored closed failures) e (core_of t.new stored closed failures)) }
+    ensures refused { (storage : StorageView) → IfErr result (λ e. Refused (adopt_fault (core_of t.old storage) me load kind key node_type references.now) (load_fault (core_of t.old storage) me load) (Unit {0}) (core_of t.old storage) e (core_of t.new storage)) }
     ensures whole { IsWhole t.new }
     ensures later { AreLater t.new }
     ensures sheds { Sheds (counts_at t.old.ref_counts.nodes) (row_by values.old) (counts_at t.new.ref_counts.nodes) (row_by values.new) }

@@ -1,5 +1,6 @@
 //! How a load ends: with a pin, with a hand-over of its handles, or dropped with all that it owns.
 
+ghost use Rattle.pagable_tables.specs.Core.StorageView;
 ghost use Rattle.pagable_value_spec.specs.declared.numbers.{LoadNumber.LoadNumber, NodeNumber.NodeNumber};
 ghost use Rattle.pagable_tables.specs.CascadeInvariant.{AreAtWork, is_worker};
 ghost use Rattle.pagable_tables.specs.Core.{AreLater, Does, DoesShed, IsOwnedAbove, IsOwnedUpTo, IsWhole, OnlyRoom};
@@ -57,8 +58,8 @@ pub enum Unended {
 #[tactic(auto, using(std::proofs::lemmas::Bool::Decides::nat_tests))]
 fn root_fault(t: &Tables, me: Owner, load: LoadNumber, node_type: u32) -> Option<Error>
     requires { IsWhole t.now }
-    ensures { (stored : ℕ → Option Blob) (closed : Bool) (failures : ℕ)
-        → result ≡ if_there (λ (load : OpenLoad). root_fault (core_of t.now stored closed failures) me node_type load.root) None ((core_of t.now stored closed failures).loads load.0) }
+    ensures { (storage : StorageView)
+        → result ≡ if_there (λ (load : OpenLoad). root_fault (core_of t.now storage) me node_type load.root) None ((core_of t.now storage).loads load.0) }
 {
     let LoadRoot::Cell(_, cell_type, handle) = load_table::load_of(&t.loads, load.0)?.root else {
         return Some(Error::WrongMode);
@@ -80,7 +81,7 @@ fn end_fault(
     references: &[ArcRef],
 ) -> Option<Error>
     requires { IsWhole t.now }
-    ensures { (stored : ℕ → Option Blob) (closed : Bool) (failures : ℕ) → result ≡ end_fault (core_of t.now stored closed failures) me load node_type references.now }
+    ensures { (storage : StorageView) → result ≡ end_fault (core_of t.now storage) me load node_type references.now }
 {
     let own = load_fault(load_table::load_of(&t.loads, load.0), me);
     let root = root_fault(t, me, load, node_type);
@@ -108,10 +109,10 @@ pub fn prepare_end(
     references: &[ArcRef],
 ) -> Result<Ending, Unended>
     requires { IsWhole t.old }
-    ensures ready { IfOk result (λ e. (stored : ℕ → Option Blob) (closed : Bool) (failures : ℕ) → IsEndReady (core_of t.new stored closed failures) me load node_type references.now e) }
+    ensures ready { IfOk result (λ e. (storage : StorageView) → IsEndReady (core_of t.new storage) me load node_type references.now e) }
     ensures place { IfOk result (λ e. HasPlace t.new load e) }
-    ensures unended { IfErr result (λ u. (stored : ℕ → Option Blob) (closed : Bool) (failures : ℕ)
-        → Unends (core_of t.old stored closed failures) me load node_type references.now u (core_of t.new stored closed failures)) }
+    ensures unended { IfErr result (λ u. (storage : StorageView)
+        → Unends (core_of t.old storage) me load node_type references.now u (core_of t.new storage)) }
     ensures does { Does t.old OnlyRoom t.new }
     ensures nodes { t.new.ref_counts.nodes ≡ t.old.ref_counts.nodes }
 {
@@ -171,7 +172,7 @@ fn install_up_to<N: Drop>(
     lists: bool,
 ) -> HandleNumber
     requires whole { IsWhole t.old }
-    requires ready { (stored : ℕ → Option Blob) (closed : Bool) (failures : ℕ) → IsEndReady (core_of t.old stored closed failures) me load node_type references.items ending }
+    requires ready { (storage : StorageView) → IsEndReady (core_of t.old storage) me load node_type references.items ending }
     requires place { 1 ≤ room t.old.ref_counts.handles }
     requires above { IsOwnedAbove t.old load ending.load.since }
     requires up_to { IsOwnedUpTo t.old load until }
@@ -214,7 +215,7 @@ pub fn install<N: Drop>(
 ) -> HandleNumber
     requires whole { IsWhole t.old }
     requires later { AreLater t.old }
-    requires ready { (stored : ℕ → Option Blob) (closed : Bool) (failures : ℕ) → IsEndReady (core_of t.old stored closed failures) me load node_type references.items ending }
+    requires ready { (storage : StorageView) → IsEndReady (core_of t.old storage) me load node_type references.items ending }
     requires place { HasPlace t.old load ending }
     ensures does { Does t.old (λ w w'. lists ≡ not w.closed → Installs w me load ending.row.node ending.row.number result references.items w') t.new }
     ensures sheds { ShedsBeside ending.row.node (counts_at t.old.ref_counts.nodes) (row_by values.old) (counts_at t.new.ref_counts.nodes) (row_by values.new) }
@@ -237,8 +238,8 @@ fn drop_up_to<N: Drop>(
     lists: bool,
 ) -> Result<(), Error>
     requires whole { IsWhole t.old }
-    requires own { (stored : ℕ → Option Blob) (closed : Bool) (failures : ℕ)
-        → OwnsLoad (core_of t.old stored closed failures) me load (load_in row) }
+    requires own { (storage : StorageView)
+        → OwnsLoad (core_of t.old storage) me load (load_in row) }
     requires above { IsOwnedAbove t.old load row.since }
     requires up_to { IsOwnedUpTo t.old load until }
     ensures { DoesShed lists t.old values.old (λ w w'. DropCall w me load result w') t.new values.new }
@@ -333,8 +334,8 @@ fn take_up_to<N: Drop>(
 )
     requires whole { IsWhole t.old }
     requires later { AreLater t.old }
-    requires free { (stored : ℕ → Option Blob) (closed : Bool) (failures : ℕ)
-        → hand_over_fault (core_of t.old stored closed failures) me load named.now ≡ None }
+    requires free { (storage : StorageView)
+        → hand_over_fault (core_of t.old storage) me load named.now ≡ None }
     requires up_to { IsOwnedUpTo t.old load until }
     ensures { DoesShed lists t.old values.old (λ w w'. HandOverCall w me load named.now (Ok tt) w') t.new values.new }
 {

@@ -1,5 +1,6 @@
 //! The pending list of cells that wait for page-out: adding entries and taking them.
 
+ghost use Rattle.pagable_tables.specs.Core.StorageView;
 ghost use Rattle.pagable_value_spec.specs.declared.numbers.LoadNumber.{LoadNumber};
 ghost use Rattle.pagable_tables.specs.Core.{AreLater, DoesShed, InReach, IsNoLess, IsWhole, MayHold, core_of};
 ghost use Rattle.pagable_tables.specs.{Core.plain_of, Indexes.{reach_at, worker_at}};
@@ -73,7 +74,7 @@ fn reach_to(workers: &mut Workers, me: Owner, handle: HandleNumber)
 pub fn take_pending(t: &mut Tables, me: Owner, place: usize) -> Option<HandleNumber>
     requires whole { IsWhole t.old }
     requires holder { MayHold (plain_of t.old) me }
-    ensures taken { (stored : ℕ → Option Blob) (closed : Bool) (failures : ℕ) → TakeCall (core_of t.old stored closed failures) me place result (core_of t.new stored closed failures) }
+    ensures taken { (storage : StorageView) → TakeCall (core_of t.old storage) me place result (core_of t.new storage) }
     ensures whole { IsWhole t.new }
     ensures later { ((m : LoadNumber) → is_owner (Owner.Load m) me ≡ false) → AreLater t.old → AreLater t.new }
 {

@@ -1,6 +1,8 @@
 //! Releases handles, one or all that a load, a worker or the list owns; unpins loose ones; sets
 //! keys.
 
+ghost use Rattle.pagable_tables.specs.Core.{shut_view};
+ghost use Rattle.pagable_tables.specs.Core.StorageView;
 ghost use Rattle.indexmap.specs.IndexMap.{get};
 ghost use Rattle.pagable_value_spec.specs.declared.numbers.{LoadNumber.LoadNumber, NodeNumber.NodeNumber};
 ghost use Rattle.pagable_value_spec.specs.declared.numbers.WorkerNumber.{WorkerNumber};
@@ -179,7 +181,7 @@ pub fn release_owned<N: Drop>(
 /// entries and runs the cascade. No cell is listed by that. It takes no memory.
 pub fn close<N: Drop>(t: &mut Tables, values: &mut Arcs<N>)
     requires whole { IsWhole t.old }
-    ensures closed { (stored : ℕ → Option Blob) (closed : Bool) (failures failures' : ℕ) → failures ≤ failures' → CloseCall (core_of t.old stored closed failures) (Ok tt) (core_of t.new (λ key. None) true failures') }
+    ensures closed { (storage : StorageView) (failures : ℕ) → storage.failures ≤ failures → CloseCall (core_of t.old storage) (Ok tt) (core_of t.new (shut_view failures)) }
     ensures whole { IsWhole t.new }
     ensures later { AreLater t.old → AreLater t.new }
     ensures sheds { Sheds (counts_at t.old.ref_counts.nodes) (row_by values.old) (counts_at t.new.ref_counts.nodes) (row_by values.new) }

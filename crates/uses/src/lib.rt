@@ -2,7 +2,7 @@
 #![tactic(auto)]
 
 ghost use Rattle.std.specs.{Arc.arc_value, Prelude.{IfOk, IfSome, IsTrue, ◌≡◌}};
-ghost use Rattle.{pagable_core.specs.Data.blob_of, pagable_load.specs.AccessView.values_at, pagable_value_spec.specs.Blob.key_of, pagable_pager.specs.View.{state_in, telling}};
+ghost use Rattle.{pagable_core.specs.Data.blob_of, pagable_load.specs.AccessView.values_at, pagable_value_spec.specs.Blob.key_of, pagable_pager.specs.View.{state_in, storage_view}};
 ghost use Rattle.{pagable_theorems.specs.CallerLaws.Operations, pagable_pageout.specs.Turns.plain, uses.specs.Again.ShowsSame};
 
 use pagable::paging::{page_out_pending, pin};
@@ -48,7 +48,7 @@ pub trait Work<E: Env<Node: NodeSet<E>>, S: PagableStorage<E>> {
     /// Does the work.
     fn run(&mut self, alloc: Global, pager: &mut Pager<E, S>) -> Result<(), Error>
         ensures operates { IsTrue (S.is_honest pager.new.storage) → Operations (plain (values_at E.Node.NodeSet E.Env E.Hash.KeyHash pager.old.environment))
-            (state_in (telling S.stored S.is_closed S.failed) pager.old) (state_in (telling S.stored S.is_closed S.failed) pager.new) }
+            (state_in (storage_view S.PagableStorage) pager.old) (state_in (storage_view S.PagableStorage) pager.new) }
         ensures honest { IsTrue (S.is_honest pager.new.storage) → IsTrue (S.is_honest pager.old.storage) };
 }
 
@@ -78,7 +78,7 @@ pub fn pinned_again<E: Env<Node: NodeSet<E>>, S: PagableStorage<E>, W: Work<E, S
     work: &mut W,
 ) -> Result<(Arc<E::Node>, (HandleNumber, Arc<E::Node>)), Error>
     ensures same { IsTrue (S.is_honest pager.new.storage) → IfOk result (λ shown. ShowsSame (values_at E.Node.NodeSet E.Env E.Hash.KeyHash pager.old.environment)
-        (state_in (telling S.stored S.is_closed S.failed) pager.old) handle (arc_value shown.0) shown.1.0 (arc_value shown.1.1) (state_in (telling S.stored S.is_closed S.failed) pager.new)) }
+        (state_in (storage_view S.PagableStorage) pager.old) handle (arc_value shown.0) shown.1.0 (arc_value shown.1.1) (state_in (storage_view S.PagableStorage) pager.new)) }
 {
     pager.is_whole();
     let (pinned, first) = pin(alloc, pager, handle)?;

@@ -1,4 +1,4 @@
-use Rattle.{pagable_changes.specs.{Changes.GivesUp, Keeping.KeepsStorage}, pagable_load.specs.AccessView.values_at, pagable_pager.specs.View.{state_in, telling}}
+use Rattle.{pagable_changes.specs.{Changes.GivesUp, Keeping.KeepsStorage}, pagable_load.specs.AccessView.values_at, pagable_pager.specs.View.{state_in, storage_view}}
 use Rattle.{pagable_pager_spec.specs.Pager.PagerState, std.proofs.Common.length}
 use Rattle.pagable_changes.proofs.turns.give_up.Given as goal
 
@@ -6,9 +6,9 @@ use Rattle.pagable_changes.proofs.turns.give_up.Given as goal
 abbrev pub invariant-loop-node : goal.invariant-loop-node
 invariant-loop-node g l = record {
   so : (s' : PagerState g.row.E-Node.Denot g.row.E.Denot) → GivesUp (values_at g.E.Node.NodeSet g.E.Env g.E.Hash.KeyHash l.fn.pager.environment) l.path.items
-      (state_in (telling g.S.PagableStorage.stored g.S.PagableStorage.is_closed g.S.PagableStorage.failed) l.pager) s'
+      (state_in (storage_view g.S.PagableStorage) l.pager) s'
       → GivesUp (values_at g.E.Node.NodeSet g.E.Env g.E.Hash.KeyHash l.fn.pager.environment) l.fn.path.items
-      (state_in (telling g.S.PagableStorage.stored g.S.PagableStorage.is_closed g.S.PagableStorage.failed) l.fn.pager) s';
+      (state_in (storage_view g.S.PagableStorage) l.fn.pager) s';
   keeps : KeepsStorage l.fn.pager l.pager;
 }
 

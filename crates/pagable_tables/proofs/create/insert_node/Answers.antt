@@ -33,7 +33,7 @@ returns-clause-does c =
     let unvalued = not-a-value (plain_of u) me c.requires.holder in
     let fits = born-fits (plain_of u) me rs w.core.handles.ordered c.requires.fit unvalued at (counts_at c.put.new.self) (refs_at t.nodes) (refs_at c.put.new.self) t.top x _ w.steady.fits refl
     refl (elim c.requires.bare [ inl none ↦ inl none | inr so ↦ inr so.1 ]) (omega arith) free here others (ap refers c.put.ensures.here) (λ q ne. ap refers (c.put.ensures.others q ne)) in
-    does-so (λ stored closed failures. grind (arith, nat_tests, same-cache))
+    does-so (λ storage. grind (arith, nat_tests, same-cache))
     (record {
       sound = c.push.ensures.sound;
       next = c.in-Ok.ensures.next;

@@ -8,5 +8,5 @@ add-requires-clause-live c =
     some-held (counts_at c.args.t.now.ref_counts.nodes c.args.node.0) (omega arith)
 
 pub returns-clause-does : Rattle.pagable_tables.proofs.create.make.Goals.returns-clause-does
-returns-clause-does c = does-so (λ stored closed failures. c.add.ensures.made (core_of c.args.t.now stored closed failures)) c.add.ensures.steady
+returns-clause-does c = does-so (λ storage. c.add.ensures.made (core_of c.args.t.now storage)) c.add.ensures.steady
     (makes-goes c.args.node c.args.mode c.args.me c.add.result c.requires.whole.core c.requires.suits c.requires.holder) refl refl refl

@@ -11,9 +11,9 @@ use Rattle.pagable_tables.proofs.load.load_begin.Goals as goal
 
 pub returns-in_err-at : goal.returns-in_err-at
 returns-in_err-at c = rw (failed c.from_residual.result c.from_residual.ensures.1) (nothing-does c.requires.whole
-    (λ stored closed failures.
-    let w = core_of c.args.t.now stored closed failures in
-    record { begins = tt; refused = record { why = inl (handle-first w c.args.me c.args.handle is_loose _ _ (c.in_err-at.ensures.fault stored closed failures is_loose) (λ f is. grind (arith, nat_tests))); stays = still w } }))
+    (λ storage.
+    let w = core_of c.args.t.now storage in
+    record { begins = tt; refused = record { why = inl (handle-first w c.args.me c.args.handle is_loose _ _ (c.in_err-at.ensures.fault storage is_loose) (λ f is. grind (arith, nat_tests))); stays = still w } }))
 
 unbegun : {w w' : Core} (me : Owner) (h : HandleNumber) (row : HandleRow) → find_row h.0 w.rows ≡ Some row → is_owner me row.owner ≡ true → is_loose row.mode ≡ true → is_here w row.node.0 ≡ false
     → w.last.load < greatest → w.last.handle < greatest → Alike w w' → BeginCall w me h (Err Error.OutOfMemory) w'
@@ -23,7 +23,7 @@ unbegun {w} me h row found own loose here loads handles stays =
 
 pub returns-in_err-open : goal.returns-in_err-open
 returns-in_err-open c = rw (failed c.from_residual-in_err-open.result c.from_residual-in_err-open.ensures.1) (does-by
-    (λ stored closed failures. unbegun c.args.me c.args.handle c.in_ok-at.at.row c.in_ok-at.ensures.found c.in_ok-at.ensures.owner (search rules) (search rules) (omega arith) (omega arith)
+    (λ storage. unbegun c.args.me c.args.handle c.in_ok-at.at.row c.in_ok-at.ensures.found c.in_ok-at.ensures.owner (search rules) (search rules) (omega arith) (omega arith)
     (grind (arith, nat_tests, same-cache, c.in_err-open.ensures.err)))
     c.requires.whole.steady (λ begins. settles (roomy-whole c.requires.whole.core) begins.refused.stays)
     (λ begins later. later-less later (newer-alike begins.refused.stays) refl (λ l load is. sym (c.in_err-open.ensures.err l) ∙ is) (still-reaches refl)))
@@ -34,8 +34,8 @@ returns-in-Err c =
     let left : t.ref_counts.last_handle < greatest = omega arith in
     let memory : c.in-Err.e ≡ Error.OutOfMemory = (let why = (c.in-Err.ensures.made (plain_of t)).refused.why in grind (arith, nat_tests, left)) in
     rw memory (does-by
-    (λ stored closed failures.
-    let a = (c.in-Err.ensures.made (core_of (record t { ref_counts = c.add.new.t; loads = c.close.new.rows }) stored closed failures)).refused.stays in
+    (λ storage.
+    let a = (c.in-Err.ensures.made (core_of (record t { ref_counts = c.add.new.t; loads = c.close.new.rows }) storage)).refused.stays in
     unbegun c.args.me c.args.handle c.in_ok-at.at.row c.in_ok-at.ensures.found c.in_ok-at.ensures.owner (search rules) (search rules) (omega arith) left
     (grind (arith, nat_tests, c.requires.whole.core.loads.numbered, c.in_ok-open.ensures.others, c.close.ensures.gone, c.close.ensures.others)))
     c.add.ensures.steady (λ begins. settles (roomy-whole c.requires.whole.core) begins.refused.stays)
@@ -48,9 +48,9 @@ returns c =
     let row = c.in_ok-at.at.row in
     let l = t.last_load + 1 in
     does-by
-    (λ stored closed failures.
-    let w = core_of t stored closed failures in
-    let w' = core_of (record t { ref_counts = c.add.new.t; loads = c.open.new.rows; last_load = l }) stored closed failures in
+    (λ storage.
+    let w = core_of t storage in
+    let w' = core_of (record t { ref_counts = c.add.new.t; loads = c.open.new.rows; last_load = l }) storage in
     let own : Owns w c.args.me c.args.handle is_loose row = record { live = c.in_ok-at.ensures.found; own = owner-same c.args.me row.owner c.in_ok-at.ensures.owner; as_asked = search rules } in
     let away : is_here w row.node.0 ≡ false = search rules in
     let key : key_at w row.node.0 ≡ OptionalDataKey.Some c.unwrap-key.result = grind (arith, nat_tests, c.key_in.ensures, c.unwrap-key.ensures) in

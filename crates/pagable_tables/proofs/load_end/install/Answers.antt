@@ -4,10 +4,10 @@ use Rattle.pagable_tables.specs.{EndingLoads.ShedsBeside, HandleTable.room}
 use Rattle.pagable_tables.proofs.load_end.install.Goals as goal
 
 pub install_up_to-requires-clause-ready : goal.install_up_to-requires-clause-ready
-install_up_to-requires-clause-ready g c stored closed failures =
+install_up_to-requires-clause-ready g c storage =
     let n = c.last_of-until.ensures.notes in
-    subst (λ (w : Core). IsReady w c.args.me c.args.load c.args.node_type c.args.references.items c.args.ending) (sym (core-same c.args.t.now c.last_of-until.new.t n.same n.rows stored closed failures))
-    (c.requires.ready stored closed failures)
+    subst (λ (w : Core). IsReady w c.args.me c.args.load c.args.node_type c.args.references.items c.args.ending) (sym (core-same c.args.t.now c.last_of-until.new.t n.same n.rows storage))
+    (c.requires.ready storage)
 
 pub install_up_to-requires-clause-place : goal.install_up_to-requires-clause-place
 install_up_to-requires-clause-place g c =

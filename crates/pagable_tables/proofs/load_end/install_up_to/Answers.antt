@@ -1,3 +1,5 @@
+use Rattle.pagable_tables.specs.Core.{no_blobs_of}
+use Rattle.pagable_tables.specs.Core.{no_blobs}
 use Rattle.pagable_tables.proofs.{CallsKeepWhole.{installs-goes, may-hold}, CascadeStep.{fits-same, pins-le-held, rows-told, some-held, turned}}
 use Rattle.pagable_tables.proofs.LoadEnd.{ended, has-come, joined-fits, pins-here}
 use Rattle.pagable_tables.proofs.{LoadEnd.ready-owner, OwnedByLoad.{closed-still, later-less, lazily-by, not-named, still-reaches}}
@@ -37,20 +39,20 @@ bare-away (Some c) (r ∷ rs) pinned right still same away = absurd (grind (arit
 
 pub pin_here-requires : goal.pin_here-requires
 pin_here-requires g c =
-    let r = c.requires.ready (λ key. None) false 0 in
+    let r = c.requires.ready no_blobs in
     let holder = may-hold (plain_of c.args.t.now) c.args.me (ready-owner c.args.t.now c.args.me c.args.load c.args.node_type c.args.references.items c.args.ending c.requires.whole r) in
     record { whole = c.requires.whole; holder = holder; owns = r.owned }
 
 pub unreachable-requires : goal.unreachable-requires
 unreachable-requires g c =
-    grind (arith, nat_tests, c.requires.place, c.requires.whole.steady.sound, (c.requires.ready (λ key. None) false 0).left, (c.in_default.ensures.does.does (λ key. None) false 0).refused.why)
+    grind (arith, nat_tests, c.requires.place, c.requires.whole.steady.sound, (c.requires.ready no_blobs).left, (c.in_default.ensures.does.does no_blobs).refused.why)
 
 pub join-requires-clause-live : goal.join-requires-clause-live
 join-requires-clause-live g c =
     let t1 = c.pin_here.new.t in
     let n = c.args.ending.row.node.0 in
     let d = c.in-Ok.ensures.does.whole.steady.fits.holding n in
-    let p = pins-here c.args.t.now t1 (λ key. None) false 0 c.args.ending.row c.args.me (c.in-Ok.ensures.does.does (λ key. None) false 0).pinned.1 in
+    let p = pins-here c.args.t.now t1 no_blobs c.args.ending.row c.args.me (c.in-Ok.ensures.does.does no_blobs).pinned.1 in
     let q = pins-le-held n (live t1.ref_counts.handles.places.items) in
     some-held (counts_at t1.ref_counts.nodes n) (omega arith)
 
@@ -68,8 +70,8 @@ release_owned-requires-clause-steady g c =
     let whole = c.in-Ok.ensures.does.whole in
     let j = c.join.ensures in
     let k = c.join.new.t in
-    let r = c.requires.ready (λ key. None) false 0 in
-    let a = (c.in-Ok.ensures.does.does (λ key. None) false 0).pinned.1 in
+    let r = c.requires.ready no_blobs in
+    let a = (c.in-Ok.ensures.does.does no_blobs).pinned.1 in
     let x = row_of (t.ref_counts.last_handle + 1) row.node Mode.Pinned me in
     elim (cases_Bool c.args.ending.is_away) [
       | inr here ↦ subst (λ (h : RefCounts). IsFalling h [] owns_nothing) (sym (j.none here)) whole.steady
@@ -107,23 +109,23 @@ returns-clause-does g c =
     let row = c.args.ending.row in
     let rs = c.args.references.items in
     let b = c.args.ending.is_away in
-    let p = c.requires.ready (λ key. None) false 0 in
+    let p = c.requires.ready no_blobs in
     let same = c.in-Ok.ensures.same in
     let j = c.join.ensures in
     let good : references_fault (plain_of t) (Owner.Load l) [] (coming b rs) ≡ None = grind (arith, nat_tests, none-named) in
-    let may = (c.requires.ready (λ key. None) (not c.args.lists) 0).may in
+    let may = (c.requires.ready (no_blobs_of c.args.lists)).may in
     lazily-by
-    (λ stored closed failures e.
-    let r = c.requires.ready stored closed failures in
-    let next = (c.in-Ok.ensures.does.does stored closed failures).pinned.0 in
+    (λ storage e.
+    let r = c.requires.ready storage in
+    let next = (c.in-Ok.ensures.does.does storage).pinned.0 in
     record {
       row = row;
       owned = r.owned;
       at = refl;
       next = record { above = next.above; is_left = next.is_left };
-      falls = falls-so b (core_of t stored closed failures) me l row rs c.release_owned.result _ r.away
-          (ended t t1 stored closed c.args.lists failures c.requires.whole c.in-Ok.ensures.does.whole e row p.owned.live me (ready-owner t me l c.args.node_type rs c.args.ending c.requires.whole p) l (coming b rs)
-          good (c.in-Ok.ensures.does.does stored closed failures).pinned.1 same c.join.new.t j.handles.rows (ap (λ (h : RefCounts). h.list) j.same) (ap (λ (h : RefCounts). h.last_handle) j.same)
+      falls = falls-so b (core_of t storage) me l row rs c.release_owned.result _ r.away
+          (ended t t1 storage c.args.lists c.requires.whole c.in-Ok.ensures.does.whole e row p.owned.live me (ready-owner t me l c.args.node_type rs c.args.ending c.requires.whole p) l (coming b rs)
+          good (c.in-Ok.ensures.does.does storage).pinned.1 same c.join.new.t j.handles.rows (ap (λ (h : RefCounts). h.list) j.same) (ap (λ (h : RefCounts). h.last_handle) j.same)
           j.handles.capacity (λ m. ap cell_in (j.counts m)) c.args.ending.load.since c.args.until c.release_owned.new.t (load_at c.close.new.rows)
           c.release_owned.result (λ before v f few between. c.release_owned.ensures.falls before v (record v { loads = λ m. option_map load_in (load_at c.close.new.rows m) }) (λ m. refl) f few
           (λ q own. let b = between q own in let after = b.0 in ((omega arith, inl after), b.1)))
@@ -139,6 +141,6 @@ pub returns-clause-sheds : goal.returns-clause-sheds
 returns-clause-sheds g c = record {
   left = λ kept. c.release_owned.ensures.sheds.left (λ n falls. kept n
       ∙ sym (ap has_value (c.join.ensures.counts n)
-      ∙ has-come c.args.t.now c.pin_here.new.t (λ key. None) (not c.args.lists) 0 c.args.ending.row c.args.me
-      (c.in-Ok.ensures.does.does (λ key. None) (not c.args.lists) 0).pinned.1 c.requires.whole c.in-Ok.ensures.does.whole (c.requires.ready (λ key. None) (not c.args.lists) 0).owned.live n));
+      ∙ has-come c.args.t.now c.pin_here.new.t (no_blobs_of c.args.lists) c.args.ending.row c.args.me
+      (c.in-Ok.ensures.does.does (no_blobs_of c.args.lists)).pinned.1 c.requires.whole c.in-Ok.ensures.does.whole (c.requires.ready (no_blobs_of c.args.lists)).owned.live n));
 }

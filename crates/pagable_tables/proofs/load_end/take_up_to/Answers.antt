@@ -1,3 +1,4 @@
+use Rattle.pagable_tables.specs.Core.{no_blobs}
 use Rattle.pagable_tables.proofs.CallsKeepWhole.{MayHand, hand-over-whole, handed-mine, handed-own, handed-whole, may-hand, may-hold}
 use Rattle.pagable_tables.proofs.{CascadeStep.{begun, unmixed}, Counting.and-left, OwnedByLoad.closed-still}
 use Rattle.pagable_tables.proofs.OwnedByLoad.{later-handed, lazily-by, loads-anew, moved-stands, moved-times, no-load, sheds-with, updated-by}
@@ -11,14 +12,14 @@ use Rattle.pagable_tables.proofs.load_end.take_up_to.Goals as goal
 pub unwrap-row-requires : goal.unwrap-row-requires
 unwrap-row-requires g c =
     let can : MayHand (plain_of c.args.t.now) c.args.me c.args.load c.args.named.now = may-hand c.requires.whole.core c.args.me c.args.load c.args.named.now
-    (c.requires.free (λ key. None) false 0) in
+    (c.requires.free no_blobs) in
     let own = can.own in grind (arith, nat_tests, c.load_of.ensures)
 
 pub release_owned-requires-clause-steady : goal.release_owned-requires-clause-steady
 release_owned-requires-clause-steady g c =
     let w = plain_of c.args.t.now in
     let hs = c.args.named.now in
-    let can : MayHand w c.args.me c.args.load hs = may-hand c.requires.whole.core c.args.me c.args.load hs (c.requires.free (λ key. None) false 0) in
+    let can : MayHand w c.args.me c.args.load hs = may-hand c.requires.whole.core c.args.me c.args.load hs (c.requires.free no_blobs) in
     let t = c.args.t.now.ref_counts in
     let rows = live t.handles.places.items in
     let s = c.requires.whole.steady in
@@ -41,12 +42,12 @@ returns g c =
     let hs = c.args.named.now in
     let s = is_in (numbers_of hs) in
     let p = plain_of t in
-    let can : MayHand p me l hs = may-hand c.requires.whole.core me l hs (c.requires.free (λ key. None) false 0) in
+    let can : MayHand p me l hs = may-hand c.requires.whole.core me l hs (c.requires.free no_blobs) in
     let row : load_at t.loads l.0 ≡ Some c.unwrap-row.result = sym c.load_of.ensures ∙ c.unwrap-row.ensures in
     sheds-with (lazily-by
-    (λ stored closed failures e.
-    let w = core_of t stored closed failures in
-    let w' = core_of (record t { ref_counts = c.release_owned.new.t; loads = c.close.new.rows }) stored closed failures in
+    (λ storage e.
+    let w = core_of t storage in
+    let w' = core_of (record t { ref_counts = c.release_owned.new.t; loads = c.close.new.rows }) storage in
     let u : Core = record (without_load w l) { rows = moved s me w.rows } in
     let left : (q : ℕ) → is_owned_in u (Owner.Load l) q ≡ (is_owned_in w (Owner.Load l) q && not (s q)) = λ q. owned-moved s me (Owner.Load l) q w.rows (no-load p me l can.may) in
     let so-far = begun w u c.args.lists (record t.ref_counts { handles = c.hand_each.new.handles; nodes = c.all_may_work.new.nodes; unlisted = None }) e
@@ -58,7 +59,7 @@ returns g c =
     let after = c.requires.later.since l.0 c.unwrap-row.result q row mine in ((omega arith, inl after), c.requires.up_to q mine)) in
     record {
       hands = (
-        c.requires.free stored closed failures,
+        c.requires.free storage,
         record {
           told = c.release_owned.result;
           falls = loads-anew w u (with_tables u c.release_owned.new.t) (λ q. is_owned_in w (Owner.Load l) q && not (s q)) c.release_owned.result w'.loads

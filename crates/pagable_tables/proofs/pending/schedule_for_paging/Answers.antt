@@ -7,19 +7,19 @@ use Rattle.pagable_tables.proofs.pending.schedule_for_paging.Goals as goal
 
 pub returns-in_err-at : goal.returns-in_err-at
 returns-in_err-at g c =
-    rw (failed c.from_residual.result c.from_residual.ensures.1) (nothing-release_at c.requires.whole (λ stored closed failures e. record { moves = tt; refused = record { why = inl (c.in_err-at.ensures.fault stored closed failures is_unpinned); stays = still _ } }))
+    rw (failed c.from_residual.result c.from_residual.ensures.1) (nothing-release_at c.requires.whole (λ storage e. record { moves = tt; refused = record { why = inl (c.in_err-at.ensures.fault storage is_unpinned); stays = still _ } }))
 
 pub returns-then-not-lists : goal.returns-then-not-lists
 returns-then-not-lists g c =
     let t = c.args.t.now in
     let row = c.in_ok-at.at.row in
     sheds-with (lazily-so {lists = c.args.lists} {old = t} {new = record t { ref_counts = c.try_release_at.new.t }} {step = λ w w'. ScheduleCall w c.args.me c.args.handle (Ok tt) w'}
-    (λ stored closed failures e.
-    let w = core_of t stored closed failures in
-    let falls = rw c.in_ok-at.ensures.number at (c.try_release_at.ensures.falls w w (begun-whole t stored closed c.args.lists failures c.requires.whole e) (omega arith)) in
+    (λ storage e.
+    let w = core_of t storage in
+    let falls = rw c.in_ok-at.ensures.number at (c.try_release_at.ensures.falls w w (begun-whole t storage c.args.lists c.requires.whole e) (omega arith)) in
     let own : Owns w c.args.me c.args.handle is_unpinned row =
     record { live = c.in_ok-at.ensures.found; own = owner-same c.args.me row.owner c.in_ok-at.ensures.owner; as_asked = search rules } in
-    record { moves = (row, own, inr (closed-is c.args.lists closed e ∙ ap not c.if-not-lists.true, record { told = c.try_release_at.result; falls = falls })); refused = tt })
+    record { moves = (row, own, inr (closed-is c.args.lists storage.closed e ∙ ap not c.if-not-lists.true, record { told = c.try_release_at.result; falls = falls })); refused = tt })
     c.try_release_at.ensures.steady (schedule-goes c.args.me c.args.handle c.requires.whole.core c.requires.holder) refl refl refl)
     c.try_release_at.ensures.sheds
 
@@ -33,7 +33,7 @@ returns g c =
     let t = c.args.t.now in
     let new = record t { ref_counts = record t.ref_counts { list = c.push_back.new.self; handles = c.hand_over.new.handles } } in
     sheds-with (lazily-so {lists = c.args.lists} {old = t} {new = new} {step = λ w w'. ScheduleCall w c.args.me c.args.handle (Ok tt) w'}
-    (λ stored closed failures e.
+    (λ storage e.
     grind (arith, nat_tests, owner-same, closed-is, alike, c.in_ok-at.ensures.found, c.in_ok-at.ensures.owner, c.if-not-lists.false, c.hand_over.ensures.becomes.rows, c.in_ok-at.ensures.number))
     steady (schedule-goes c.args.me c.args.handle c.requires.whole.core c.requires.holder) refl refl refl)
     (sheds-still c.args.t.now.ref_counts _ c.requires.whole.steady)
@@ -46,5 +46,5 @@ returns-in_err-reserve g c =
     let new = record t { ref_counts = record t.ref_counts { list = c.reserve.new.self } } in
     rw (failed c.from_residual-in_err-reserve.result c.from_residual-in_err-reserve.ensures.1) (sheds-with
     (lazily-so {lists = c.args.lists} {old = t} {new = new} {step = λ w w'. ScheduleCall w c.args.me c.args.handle (Err Error.OutOfMemory) w'}
-    (λ stored closed failures e1. grind (arith, nat_tests, closed-is, alike, c.in_ok-at.ensures.found, c.in_ok-at.ensures.owner, c.if-not-lists.false, e.items, e.full, e.capacity))
+    (λ storage e1. grind (arith, nat_tests, closed-is, alike, c.in_ok-at.ensures.found, c.in_ok-at.ensures.owner, c.if-not-lists.false, e.items, e.full, e.capacity))
     (record { sound = w.sound; next = w.next; fits = w.fits; worked = w.worked }) (λ call. alike-goes c.requires.whole.core call.refused.stays) refl refl refl) (sheds-still t.ref_counts _ w))

@@ -8,7 +8,7 @@ use Rattle.pagable_tables.proofs.release.set_data_key.Goals as goal
 
 pub returns-in_err-at : goal.returns-in_err-at
 returns-in_err-at g c =
-    rw (failed c.from_residual.result c.from_residual.ensures.1) (nothing-release_at c.requires.whole (λ stored closed failures e. record { does = inl (record { e = c.in_err-at.field-0.0; why = c.in_err-at.ensures.fault stored closed failures any_mode; told = refl; stays = still _ }) }))
+    rw (failed c.from_residual.result c.from_residual.ensures.1) (nothing-release_at c.requires.whole (λ storage e. record { does = inl (record { e = c.in_err-at.field-0.0; why = c.in_err-at.ensures.fault storage any_mode; told = refl; stays = still _ }) }))
 
 pub fall-requires : goal.fall-requires
 fall-requires g c =
@@ -39,7 +39,7 @@ returns g c =
     let stands = unturned (with_key (plain_of t) row.node c.args.key) (keyed-whole c.requires.whole.core row there c.args.key (loose-unshared row.mode loose)) in
     let own = owner-same c.args.me row.owner c.in_ok-at.ensures.owner in
     sheds-with (does-as (lazily-so {lists = c.args.lists} {step = λ w w'. Falls w (with_key w row.node c.args.key) nobody c.fall.result w'}
-    (λ stored closed failures e. c.fall.ensures.falls _ _ nobody (keyed-on t stored closed c.args.lists failures c.requires.whole e row.node c.args.key _ refl cells))
+    (λ storage e. c.fall.ensures.falls _ _ nobody (keyed-on t storage c.args.lists c.requires.whole e row.node c.args.key _ refl cells))
     c.fall.ensures.steady (λ fell. falling fell stands) refl refl refl)
-    (λ stored closed failures fell e. record { does = inr (row, record { live = c.in_ok-at.ensures.found; own = own; as_asked = refl }, inr (loose, fell e)) }))
+    (λ storage fell e. record { does = inr (row, record { live = c.in_ok-at.ensures.found; own = own; as_asked = refl }, inr (loose, fell e)) }))
     (stays-first (λ m. grind (arith, nat_tests, cases_eq m row.node.0, here, is, c.set_counts.ensures.others m)) c.fall.ensures.sheds)

@@ -4,7 +4,7 @@ use Rattle.pagable_tables.proofs.Words.{None, arith, known_at, nat_tests, plain_
 pub returns : Rattle.pagable_tables.proofs.tables.cache_clear.Goals.returns
 returns c =
     let none : (kind key : ℕ) → known_at c.clear.new.self kind key ≡ None = λ kind key. rw c.clear.ensures.empty refl in
-    does-so (λ stored closed failures. grind (arith, nat_tests, same-cache, none)) c.requires.steady
+    does-so (λ storage. grind (arith, nat_tests, same-cache, none)) c.requires.steady
     (λ clears. let a = clears.leaves in record {
       whole = told-whole (plain_of (record c.args.t.now { cache = c.clear.new.self })) c.requires.core a.rows a.cells a.list
           (λ kind key n is. let f = a.cache.only kind key n is in absurd (cc)) a.loads a.workers a.last;

@@ -1,13 +1,13 @@
 use Rattle.pagable_load.specs.AccessView.{AdoptsValue, values_at}
 use Rattle.pagable_pager.proofs.Invariant.{adopted_live, brings-so, told-if}
-use Rattle.pagable_pager.specs.View.{core_in, telling}
+use Rattle.pagable_pager.specs.View.{core_in, storage_view}
 use Rattle.pagable_tables.proofs.SameViews.{failed}
 use Rattle.std.{proofs.Common.{Err, Ok, rules, subst}, specs.Prelude.IsTrue}
 use Rattle.pagable_pager.proofs.lent.LentAccess.load_adopt.Goals as goal
 
 pub returns-in_err-adopted : goal.returns-in_err-adopted
 returns-in_err-adopted g c =
-    let tells = telling g.S.PagableStorage.stored g.S.PagableStorage.is_closed g.S.PagableStorage.failed in
+    let tells = storage_view g.S.PagableStorage in
     let e = c.in_err-adopted.ensures in
     record {
       step = told-if _ _ _ _ (λ h. subst (λ s. IsTrue (g.S.PagableStorage.is_honest s)) c.load_adopt_by-adopted.ensures.storage h) (λ h. brings-so tells (λ e. values_at g.E.Node.NodeSet g.E.Env g.E.Hash.KeyHash e) c.args.self.now.pager.now c.load_adopt_by-adopted.new.self
@@ -18,7 +18,7 @@ returns-in_err-adopted g c =
 
 pub returns : goal.returns
 returns g c =
-    let tells = telling g.S.PagableStorage.stored g.S.PagableStorage.is_closed g.S.PagableStorage.failed in
+    let tells = storage_view g.S.PagableStorage in
     let e = c.in_ok-adopted.ensures in
     record {
       step = told-if _ _ _ _ (λ h. subst (λ s. IsTrue (g.S.PagableStorage.is_honest s)) c.load_adopt_by-adopted.ensures.storage h) (λ h. brings-so tells (λ e. values_at g.E.Node.NodeSet g.E.Env g.E.Hash.KeyHash e) c.args.self.now.pager.now c.load_adopt_by-adopted.new.self

@@ -1,8 +1,8 @@
-use Rattle.{pagable_load.specs.AccessView.{TakesLazily, values_at}, pagable_pager.{proofs.Invariant.{all_there, called_fewer, lazy_live, told-if}, specs.View.{core_in, telling}}, std.{proofs.Common.{Ok, rules, subst}, specs.Prelude.IsTrue}}
+use Rattle.{pagable_load.specs.AccessView.{TakesLazily, values_at}, pagable_pager.{proofs.Invariant.{all_there, called_fewer, lazy_live, told-if}, specs.View.{core_in, storage_view}}, std.{proofs.Common.{Ok, rules, subst}, specs.Prelude.IsTrue}}
 
 pub returns : Rattle.pagable_pager.proofs.lent.LentAccess.load_lazy.Goals.returns
 returns g c =
-    let tells = telling g.S.PagableStorage.stored g.S.PagableStorage.is_closed g.S.PagableStorage.failed in
+    let tells = storage_view g.S.PagableStorage in
     let e = c.in_ok-taken.ensures in
     record {
       step = told-if _ _ _ _ (λ h. subst (λ s. IsTrue (g.S.PagableStorage.is_honest s)) e.only.storage h)

@@ -1,4 +1,4 @@
-use Rattle.{pagable_core.specs.Data.blob_of, pagable_load.specs.AccessView.{AsksFor, values_at}, pagable_pager.{proofs.Invariant.{all_there, called_fewer, found-made, still-at-work, told-if}, specs.View.{core_in, telling}}}
+use Rattle.{pagable_core.specs.Data.blob_of, pagable_load.specs.AccessView.{AsksFor, values_at}, pagable_pager.{proofs.Invariant.{all_there, called_fewer, found-made, still-at-work, told-if}, specs.View.{core_in, storage_view}}}
 use Rattle.{either.specs.declared.Either.Either, std.{proofs.Common.{Ok, rules}, specs.Arc.arc_value}}
 use Rattle.pagable_pager.proofs.lent.LentAccess.load_nested.Goals as goal
 
@@ -7,7 +7,7 @@ invariant_of-self g c = record { at_work = still-at-work c.args.self.now.me c.lo
 
 pub returns-in-Left : goal.returns-in-Left
 returns-in-Left g c =
-    let tells = telling g.S.PagableStorage.stored g.S.PagableStorage.is_closed g.S.PagableStorage.failed in
+    let tells = storage_view g.S.PagableStorage in
     let e = c.in_ok-handle.ensures in
     record {
       step = told-if _ _ _ _ e.honest (λ h. called_fewer tells (λ e. values_at g.E.Node.NodeSet g.E.Env g.E.Hash.KeyHash e) c.args.self.now.pager.now c.load_fetch_by-found.new.self

@@ -1,9 +1,9 @@
-use Rattle.{pagable_core.specs.Data.blob_of, pagable_load.specs.AccessView.values_at, pagable_value_spec.specs.Blob.key_of, pagable_pager.{proofs.Invariant.{all_there, called_fewer, told-if}, specs.View.{core_in, telling}}}
+use Rattle.{pagable_core.specs.Data.blob_of, pagable_load.specs.AccessView.values_at, pagable_value_spec.specs.Blob.key_of, pagable_pager.{proofs.Invariant.{all_there, called_fewer, told-if}, specs.View.{core_in, storage_view}}}
 use Rattle.{pagable_pager_spec.specs.Calls.StoreCall, std.proofs.Common.rules}
 
 pub returns-clause-acts : Rattle.pagable_pager.proofs.lent.LentAccess.store.Goals.returns-clause-acts
 returns-clause-acts g c =
-    let tells = telling g.S.PagableStorage.stored g.S.PagableStorage.is_closed g.S.PagableStorage.failed in
+    let tells = storage_view g.S.PagableStorage in
     let asks = c.store.ensures.asks in
     let digest = key_of g.E.Hash.KeyHash.digest in
     record {

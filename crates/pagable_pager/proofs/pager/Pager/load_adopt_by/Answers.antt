@@ -26,9 +26,9 @@ pub invariant_of-self-in-Ok-None : goal.invariant_of-self-in-Ok-None
 invariant_of-self-in-Ok-None g c = let e = c.in-Ok-None.ensures in none-so c.self.invariant _ _ e.whole e.later e.sheds (rw c.in-Ok-None.field-0-is at e.same)
 
 pub adopt_as_new-requires-clause-fresh : goal.adopt_as_new-requires-clause-fresh
-adopt_as_new-requires-clause-fresh g c stored closed failures =
+adopt_as_new-requires-clause-fresh g c storage =
     let e = c.in-Ok-None.ensures in
-    rw ((rw c.in-Ok-None.field-0-is at e.same), ← c.node_type-node_type.ensures.value, ← c.deref.ensures.value) ((rw c.in-Ok-None.field-0-is at e.fresh) stored closed failures)
+    rw ((rw c.in-Ok-None.field-0-is at e.same), ← c.node_type-node_type.ensures.value, ← c.deref.ensures.value) ((rw c.in-Ok-None.field-0-is at e.fresh) storage)
 
 pub adopt_as_new-requires-clause-unknown : goal.adopt_as_new-requires-clause-unknown
 adopt_as_new-requires-clause-unknown g c = let e = c.in-Ok-None.ensures in rw (rw c.in-Ok-None.field-0-is at e.same) (rw c.in-Ok-None.field-0-is at e.unknown)

@@ -27,7 +27,7 @@ pub returns-in-Err-place-clause-step : goal.returns-in-Err-place-clause-step
 returns-in-Err-place-clause-step g c = rw (← c.self.view_is, c.in-Err-place.ensures.only) (no-room c.self.invariant c.place.new.values c.prepare_end.ensures.does c.in-Err-place.ensures.back (c.in-Ok-prepare_end.ensures.ready _ _ _))
 
 pub install-requires-clause-ready : goal.install-requires-clause-ready
-install-requires-clause-ready g c stored closed failures = ready-told refl c.deref.ensures.value (c.in-Ok-prepare_end.ensures.ready stored closed failures)
+install-requires-clause-ready g c storage = ready-told refl c.deref.ensures.value (c.in-Ok-prepare_end.ensures.ready storage)
 
 pub invariant_of-self-2 : goal.invariant_of-self-2
 invariant_of-self-2 g c =

@@ -1,3 +1,4 @@
+use Rattle.pagable_tables.specs.Core.{no_blobs}
 use Rattle.pagable_pager.proofs.Invariant.{asks-kept}
 use Rattle.pagable_tables.proofs.SameViews.{failed, still}
 use Rattle.pagable_tables.specs.Core.{load_in}
@@ -8,7 +9,7 @@ use Rattle.pagable_pager.proofs.pager.Pager.load_fetch_by.Goals as goal
 pub returns-in_err-row-in-Root-clause-step : goal.returns-in_err-row-in-Root-clause-step
 returns-in_err-row-in-Root-clause-step g c = λ h. rw (← c.self.view_is, c.in-Root.is, failed c.from_residual.result c.from_residual.ensures.1) (record {
   gives = tt;
-  refused = inl (record { why = inl (ap (λ o. earlier o None) (c.in_err-row-in-Root.ensures.fault (λ key. None) false 0)); stays = still _ });
+  refused = inl (record { why = inl (ap (λ o. earlier o None) (c.in_err-row-in-Root.ensures.fault no_blobs)); stays = still _ });
 })
 
 pub returns-in_err-fetch-in-Root-clause-step : goal.returns-in_err-fetch-in-Root-clause-step

@@ -1,3 +1,4 @@
+use Rattle.pagable_tables.specs.Core.{no_blobs}
 use Rattle.pagable_tables.proofs.SameViews.{failed}
 use Rattle.pagable_tables.specs.Core.{load_in}
 use Rattle.std.proofs.Common.{None, false, refl, sym}
@@ -11,4 +12,4 @@ returns-clause-reads g c = rw (← c.self.view_is) (record {
 })
 
 pub returns-in_err-row-clause-fault : Rattle.pagable_pager.proofs.pager.Pager.load_of.Goals.returns-in_err-row-clause-fault
-returns-in_err-row-clause-fault g c = rw (← c.self.view_is, failed c.from_residual.result c.from_residual.ensures.1) (c.in_err-row.ensures.fault (λ key. None) false 0)
+returns-in_err-row-clause-fault g c = rw (← c.self.view_is, failed c.from_residual.result c.from_residual.ensures.1) (c.in_err-row.ensures.fault no_blobs)

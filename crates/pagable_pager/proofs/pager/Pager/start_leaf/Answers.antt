@@ -18,7 +18,7 @@ pub invariant_of-self-in-Err-fetch : goal.invariant_of-self-in-Err-fetch
 invariant_of-self-in-Err-fetch g c = given-so c.self-2.invariant c.give_up.new.t c.self-2.inside.values (λ n. refl) c.in-Ok-Some.leaf c.give_up.ensures.does c.give_up.ensures.same
 
 pub returns-in-Ok-clause-leaf : goal.returns-in-Ok-clause-leaf
-returns-in-Ok-clause-leaf g c = leaf-asked (telling g.S.PagableStorage.stored g.S.PagableStorage.is_closed g.S.PagableStorage.failed) c.fetch.new.self c.in-Ok.ensures.asks.only.tables (rw c.in-Ok-Some.field-0-is at c.in-Ok-Some.ensures.leaf)
+returns-in-Ok-clause-leaf g c = leaf-asked (storage_view g.S.PagableStorage) c.fetch.new.self c.in-Ok.ensures.asks.only.tables (rw c.in-Ok-Some.field-0-is at c.in-Ok-Some.ensures.leaf)
 
 pub returns-in-Ok-clause-fetched : goal.returns-in-Ok-clause-fetched
 returns-in-Ok-clause-fetched g c =
